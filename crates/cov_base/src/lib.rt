@@ -1,0 +1,11 @@
+#![tactic(auto)]
+
+mod error;
+mod list;
+mod number;
+mod option_name;
+
+pub use error::{BadName, Failed, Memory, MemoryOr};
+pub use list::{Numbers, Text, Texts};
+pub use number::OptionId;
+pub use option_name::{OptionName, is_first_byte, is_word_byte, spells_word};
