@@ -1,4 +1,3 @@
-pub mod Bits
 pub mod Bytes
 pub mod Causes
 pub mod Choices

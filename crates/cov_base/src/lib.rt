@@ -1,3 +1,4 @@
+//! Numbers, names, choices and texts: what every crate of the store speaks of.
 #![tactic(auto)]
 
 mod error;
