@@ -1,5 +1,5 @@
 -- How far the reading of lines has come.
-use Rattle.std.specs.Prelude.{◌≡◌, ℕ, ◌+◌, ◌-◌, ◌^◌, ◌≤◌, Bool, true, false, List, length, Option, Some, None}
+use Rattle.std.specs.Prelude.{◌≡◌, ℕ, ◌+◌, ◌-◌, ◌^◌, ◌<◌, ◌≤◌, Bool, true, false, List, length, Option, Some, None}
 use Rattle.cov_base.specs.Causes.{Rose}
 
 -- the bytes taken from the source for items not yet given, how many were taken, and whether some read answered 0
@@ -27,3 +27,8 @@ CountsGiven (Some left) (Some later) old new = length left + old ≡ length late
 -- 2^32 bytes were taken and no read has answered 0
 abbrev pub IsTooMuch : Progress → Type 0
 IsTooMuch p = (2 ^ 32 ≤ p.taken) × (p.ended ≡ false)
+
+-- while the end isn't known fewer than 2^32 + 2^16 bytes were taken, and never as many as 2^64
+pub record IsBounded (ended : Bool) (taken : ℕ) : Type 0 where
+  pub unended : ended ≡ false → taken < 2 ^ 32 + 2 ^ 16
+  pub fits : taken < 2 ^ 64

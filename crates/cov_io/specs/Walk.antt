@@ -2,7 +2,7 @@
 use Rattle.std.specs.Prelude.{◌≡◌, ◌≢◌, ℕ, ◌+◌, ◌<◌, ◌≤◌, Bool, true, false, List, [], ◌∷◌, ◌++◌, length, Option, Some, None, Result, Ok, Err, All}
 use Rattle.std.specs.Io.KnownBytes.{Consumes, IsAtEnd}
 use Rattle.cov_base.specs.Causes.{Rose}
-use Rattle.cov_io.specs.Progress.{Progress, TracksEnd, IsTooMuch}
+use Rattle.cov_io.specs.Progress.{Progress, TracksEnd, IsBounded, IsTooMuch}
 use Rattle.cov_io.specs.Items.{GivesTold, IsShort, IsUnterminated, Shrinks}
 use Rattle.cov_io.specs.declared.buffer.Piece.{Piece}
 use Rattle.cov_io.specs.declared.buffer.Piece.TheVariants.{Ended, Open}
@@ -55,6 +55,12 @@ pub record Took (came : List ℕ) (old new : Progress) (before after : Account) 
   pub given : after.given ≡ before.given + length came
   pub later : before.faults ≤ after.faults
   pub ended : TracksEnd old.ended new.ended before.ends after.ends
+  pub bounded : IsBounded new.ended new.taken
+
+-- where the bytes left are told, none are left
+abbrev pub ReachesEnd : Option (List ℕ) → Option (List ℕ) → Type 0
+ReachesEnd None later = Unit {0}
+ReachesEnd (Some left) later = IsAtEnd later
 
 -- why a call for an item fails
 abbrev pub HasFaultCause : LineFault → Progress → Account → Account → Type 0
@@ -65,7 +71,7 @@ HasFaultCause line_faults.Memory p before after = Unit {0}
 -- one read put what came ahead, or met the end, or failed
 abbrev pub Fills : Result Bool LineFault → Progress → Progress → Account → Account → Type 0
 Fills (Ok true) old new before after = (0 < length new.ahead) × Took new.ahead old new before after
-Fills (Ok false) old new before after = (new.ahead ≡ []) × Took [] old new before after × IsAtEnd after.left
+Fills (Ok false) old new before after = (new.ahead ≡ []) × Took [] old new before after × ReachesEnd before.left after.left
 Fills (Err fault) old new before after = Took [] old new before after × HasFaultCause fault new before after
 
 -- the bytes of a line so far, of which the source gave some in this call

@@ -1,7 +1,7 @@
 // The lines of what a source gives.
 ghost use Rattle.std.specs.Prelude.{◌≡◌, ◌≤◌, ◌+◌, ℕ, Option, [], false, IfOk, IsErrOf, MatchResult};
 ghost use Rattle.cov_base.specs.Causes.{Rose};
-ghost use Rattle.cov_io.specs.Progress.{CountsGiven, IsTooMuch, TracksEnd};
+ghost use Rattle.cov_io.specs.Progress.{CountsGiven, IsBounded, IsTooMuch, TracksEnd};
 ghost use Rattle.cov_io.specs.Items.{GivesTold, IsShort, IsUnterminated, Shrinks};
 ghost use Rattle.cov_io.specs.Walk.{Arrives, Fills, Stops, account, item_of, last_item};
 
@@ -51,11 +51,13 @@ pub struct Lines {
 }
 
 impl Model for Lines {
-    ghost use Rattle.cov_io.specs.Progress.{Progress};
+    ghost use Rattle.cov_io.specs.Progress.{Progress, IsBounded};
 
     ghost Value = { Progress };
 
     ghost view = { λ l. record { ahead = l.buffer; taken = l.taken; ended = l.ended } };
+
+    ghost invariant = { λ l. IsBounded l.ended l.taken };
 }
 
 impl Lines {
@@ -85,6 +87,7 @@ impl Lines {
         ensures later { S.faults source.old ≤ S.faults source.new }
         ensures taken { self.new.taken + S.given source.old ≡ self.old.taken + S.given source.new }
         ensures counted { CountsGiven (S.left source.old) (S.left source.new) (S.given source.old) (S.given source.new) }
+        ensures bounded { IsBounded self.new.ended self.new.taken }
         ensures ended { TracksEnd self.old.ended self.new.ended (S.ends source.old) (S.ends source.new) }
     {
         self.gather(source)
