@@ -1,12 +1,11 @@
 -- The steps of one call for an item.
-use Rattle.std.proofs.Common.{◌≡◌, ◌≢◌, ℕ, zero, suc, ◌+◌, ◌-◌, ◌^◌, ◌<◌, ◌≤◌, Bool, true, false, List, [], ◌∷◌, ◌++◌, length, take, Option, Some, None, refl, sym, ◌∙◌, ap, subst, arith, append_assoc, append-nil, length-append}
-use Rattle.std.specs.Prelude.{All}
-use Rattle.std.specs.Io.KnownBytes.{Consumes, IsAtEnd}
-use Rattle.std.proofs.lemmas.List.Elements.{All-append, All-nil}
+use Rattle.std.proofs.Common.{◌≡◌, ◌≢◌, ℕ, ◌+◌, ◌<◌, Bool, true, false, List, [], ◌∷◌, ◌++◌, length, Option, Some, None, refl, sym, ◌∙◌, ap, subst, arith, append_assoc, append-nil, length-append}
+use Rattle.std.specs.Io.KnownBytes.{Consumes}
+use Rattle.std.proofs.lemmas.List.Elements.{All-append}
 use Rattle.cov_base.specs.Causes.{Rose}
 use Rattle.cov_base.specs.Lines.{lines_of}
 use Rattle.cov_io.specs.Devices.{Reads}
-use Rattle.cov_io.specs.Progress.{Progress, TracksEnd, IsBounded, CountsGiven, potential}
+use Rattle.cov_io.specs.Progress.{Progress, TracksEnd, IsBounded, potential}
 use Rattle.cov_io.specs.Items.{Gives, GivesTold, IsShort, IsUnterminated, Shrinks}
 use Rattle.cov_io.specs.Walk.{IsWithin, Holds, TakesPiece, ReachesEnd, Account, Took, Walks, Arrives, item_of, last_item}
 use Rattle.cov_io.specs.declared.buffer.Piece.TheVariants.{Ended, Open}
