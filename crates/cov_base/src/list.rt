@@ -88,6 +88,18 @@ impl Text {
     }
 }
 
+impl From<String> for Text {
+    ghost use Rattle.std.specs.String.{string_bytes};
+
+    ghost from_gives = { λ string text. text ≡ string_bytes string };
+
+    fn from(string: String) -> Text {
+        Text {
+            bytes: string.into_bytes(),
+        }
+    }
+}
+
 /// A list of texts.
 #[derive(Debug, Drop)]
 pub struct Texts {
