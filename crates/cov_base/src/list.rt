@@ -78,6 +78,13 @@ impl Text {
         self.bytes.as_slice()
     }
 
+    /// The bytes as a Vec. It takes no memory.
+    pub fn into_vec(self) -> Vec<u8>
+        ensures { result.items ≡ self }
+    {
+        self.bytes
+    }
+
     pub fn copy(&self) -> Result<Text, Memory>
         ensures { IfOk result (λ text. text ≡ self.now) }
     {
