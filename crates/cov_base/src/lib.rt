@@ -6,9 +6,11 @@ mod error;
 mod list;
 mod number;
 mod option_name;
+mod steps;
 
 pub use choice::Choice;
 pub use error::{BadName, Failed, Memory, MemoryOr};
 pub use list::{Numbers, Text, Texts};
 pub use number::OptionId;
 pub use option_name::{OptionName, is_first_byte, is_word_byte, spells_word};
+pub use steps::{Counted, Ledger, Steps, Uncounted};
