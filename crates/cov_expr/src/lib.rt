@@ -2,5 +2,7 @@
 #![tactic(auto)]
 
 mod options;
+mod raw_choice;
 
 pub use options::Options;
+pub use raw_choice::{ChoiceSyntax, RawChoice};
