@@ -1,8 +1,12 @@
 //! Options, expressions over them, and choices as texts.
 #![tactic(auto)]
 
+mod binding;
 mod options;
+mod partial;
 mod raw_choice;
 
+pub use binding::BindFault;
 pub use options::Options;
+pub use partial::Partial;
 pub use raw_choice::{ChoiceSyntax, RawChoice};

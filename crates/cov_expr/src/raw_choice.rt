@@ -1,9 +1,12 @@
 // Choices as they are written: bindings of names.
-ghost use Rattle.std.specs.Prelude.{◌≡◌, ◌<◌, ◌∷◌, [], ℕ, List, Bool, true, nat_eq, None, Some, map, length, position, is_some, IfSome, IfNone, IfOk, IsErrOf};
+ghost use Rattle.std.specs.Prelude.{◌≡◌, ◌<◌, ◌∷◌, [], ℕ, List, Bool, true, nat_eq, None, Some, map, length, position, is_some, IfSome, IfNone, IfOk, IfErr, IsErrOf};
 ghost use Rattle.std.specs.Option.{option_map, option_copied};
 ghost use Rattle.std.specs.List.{before_first, after_first, position_or_len, slice_split};
+ghost use Rattle.cov_expr.specs.Binding.{bound, IsFaultOf};
 ghost use Rattle.cov_expr.specs.ChoiceText.{switch_of, binding_of, bindings_between_commas, bindings_of};
 
+use crate::binding::{gather, resolve};
+use crate::{BindFault, Options, Partial};
 use cov_base::{MemoryOr, Text, spells_word};
 use std::alloc::Global;
 use std::marker::Model;
@@ -41,6 +44,20 @@ impl RawChoice {
         match read_bindings(alloc, bytes) {
             Ok(bindings) => Ok(RawChoice { bindings }),
             Err(refusal) => Err(refusal),
+        }
+    }
+}
+
+impl RawChoice {
+    /// Binds the names to the options that have them. A first unknown name comes before any option bound twice; both
+    /// are sought in the order of the text.
+    pub fn bind(&self, alloc: Global, options: &Options) -> Result<Partial, BindFault>
+        ensures ok { IfOk result (λ partial. bound options.now.names self.now ≡ Ok partial) }
+        ensures refused { IfErr result (IsFaultOf (bound options.now.names self.now)) }
+    {
+        match resolve(alloc, self.bindings.as_slice(), options) {
+            Err(fault) => Err(fault),
+            Ok(bindings) => gather(alloc, bindings.as_slice(), options.count()),
         }
     }
 }
