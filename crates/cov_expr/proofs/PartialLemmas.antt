@@ -26,7 +26,7 @@ is_in_order-enumerate_from n [] = refl
 is_in_order-enumerate_from n (v ∷ c) = λ i. enumerated_later n (n + 1) c (omega arith) i && is_in_order-enumerate_from (n + 1) c i
 
 -- a choice from an option on begins with that option's value
-drop-is_on : (c : List Bool) (i : ℕ) → i < length c → drop i c ≡ is_on c i ∷ drop (suc i) c
+pub drop-is_on : (c : List Bool) (i : ℕ) → i < length c → drop i c ≡ is_on c i ∷ drop (suc i) c
 drop-is_on [] i h = absurd (omega (arith, h))
 drop-is_on (b ∷ c) zero h = refl
 drop-is_on (b ∷ c) (suc i) h = drop-is_on c i (omega (arith, h))

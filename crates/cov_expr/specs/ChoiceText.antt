@@ -1,8 +1,8 @@
 -- The texts of choices.
-use Rattle.std.specs.Prelude.{ℕ, Bool, true, false, nat_eq, List, [], ◌∷◌, map, Option, Some, None, if◌then◌else◌, codes}
+use Rattle.std.specs.Prelude.{ℕ, Bool, true, false, nat_eq, List, [], ◌∷◌, ◌++◌, map, Option, Some, None, if◌then◌else◌, codes}
 use Rattle.std.specs.Str.{bytes_eq}
 use Rattle.std.specs.Option.{option_map}
-use Rattle.std.specs.List.{slice_split, before_first, after_first}
+use Rattle.std.specs.List.{slice_split, before_first, after_first, zip, join_with_byte}
 use Rattle.cov_base.specs.Spelling.{is_word}
 
 -- what on and off stand for
@@ -33,3 +33,16 @@ bindings_between_commas text = all_some (map binding_of (slice_split (λ b. nat_
 -- the bindings that a text spells: none for -, else those between its commas
 abbrev pub bindings_of : List ℕ → Option (List (List ℕ × Bool))
 bindings_of text = if bytes_eq text (codes "-") then Some [] else bindings_between_commas text
+
+-- the text of a binding: the name, =, and on or off
+abbrev pub binding_text : List ℕ → Bool → List ℕ
+binding_text name on = name ++ 61 ∷ (if on then codes "on" else codes "off")
+
+-- the texts of a choice's bindings, in order of options
+abbrev pub binding_texts : List (List ℕ) → List Bool → List (List ℕ)
+binding_texts names choice = map (λ b. binding_text b.0 b.1) (zip names choice)
+
+-- the text of a choice: - where it binds no option, else its bindings with one comma between two
+abbrev pub choice_text : List (List ℕ) → List Bool → List ℕ
+choice_text names [] = codes "-"
+choice_text names (on ∷ choice) = join_with_byte 44 (binding_texts names (on ∷ choice))

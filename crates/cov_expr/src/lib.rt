@@ -4,9 +4,11 @@
 mod binding;
 mod options;
 mod partial;
+mod print;
 mod raw_choice;
 
 pub use binding::BindFault;
 pub use options::Options;
 pub use partial::Partial;
+pub use print::print_choice;
 pub use raw_choice::{ChoiceSyntax, RawChoice};

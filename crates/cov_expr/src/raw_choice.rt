@@ -2,12 +2,12 @@
 ghost use Rattle.std.specs.Prelude.{◌≡◌, ◌<◌, ◌∷◌, [], ℕ, List, Bool, true, nat_eq, None, Some, map, length, position, is_some, IfSome, IfNone, IfOk, IfErr, IsErrOf};
 ghost use Rattle.std.specs.Option.{option_map, option_copied};
 ghost use Rattle.std.specs.List.{before_first, after_first, position_or_len, slice_split};
-ghost use Rattle.cov_expr.specs.Binding.{bound, IsFaultOf};
+ghost use Rattle.cov_expr.specs.Binding.{bound, full_choice, IsFaultOf};
 ghost use Rattle.cov_expr.specs.ChoiceText.{switch_of, binding_of, bindings_between_commas, bindings_of};
 
 use crate::binding::{gather, resolve};
 use crate::{BindFault, Options, Partial};
-use cov_base::{MemoryOr, Text, spells_word};
+use cov_base::{Choice, MemoryOr, OptionId, Text, spells_word};
 use std::alloc::Global;
 use std::marker::Model;
 
@@ -60,6 +60,31 @@ impl RawChoice {
             Ok(bindings) => gather(alloc, bindings.as_slice(), options.count()),
         }
     }
+
+    /// The choice that the bindings are, None exactly where they don't bind each option once and in order of
+    /// declaration. It takes no memory.
+    pub fn bind_full(&self, options: &Options) -> Option<Choice>
+        ensures { result ≡ full_choice options.now.names self.now }
+    {
+        full_choice_of(self.bindings.as_slice(), options)
+    }
+}
+
+fn full_choice_of(bindings: &[(Text, bool)], options: &Options) -> Option<Choice>
+    ensures { result ≡ full_choice options.now.names bindings.now }
+{
+    if bindings.len() != options.count() as usize {
+        return None;
+    }
+    let mut choice = Choice::new(0, options.count());
+    for (number, (name, on)) in bindings.iter().enumerate() {
+        let option = OptionId::new(number as u8);
+        if name.as_slice() != options.name(option) {
+            return None;
+        }
+        choice = choice.with(option, *on);
+    }
+    Some(choice)
 }
 
 // Reads bindings with one comma between two.
