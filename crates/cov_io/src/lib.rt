@@ -2,8 +2,13 @@
 #![tactic(auto)]
 
 mod buffer;
+mod count;
 mod device;
+mod in_memory;
 mod reading;
+mod standard;
 
 pub use device::{Sink, Source};
+pub use in_memory::{MemorySink, MemorySource};
 pub use reading::{Item, LineFault, Lines};
+pub use standard::{StdSink, StdSource};
