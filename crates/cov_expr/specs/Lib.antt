@@ -1,1 +1,4 @@
 pub mod Options
+pub mod ChoiceText
+pub mod Partials
+pub mod Binding
