@@ -1,9 +1,9 @@
 // Expressions of a bounded size.
-ghost use Rattle.std.specs.Prelude.{◌≡◌, ◌<◌, ◌≤◌, IfOk, OnErr};
-ghost use Rattle.cov_expr.specs.Formula.{part_count};
+ghost use Rattle.std.specs.Prelude.{◌≡◌, ◌<◌, ◌≤◌, IfOk, OnErr, length};
+ghost use Rattle.cov_expr.specs.Formula.{part_count, reach, value};
 
-use crate::part::{Part, copy_part, room_after};
-use cov_base::Memory;
+use crate::part::{Part, copy_part, room_after, value_of};
+use cov_base::{Choice, Memory};
 use std::alloc::Global;
 use std::marker::Model;
 
@@ -73,5 +73,13 @@ impl Expr {
         Ok(Expr {
             part: copy_part(alloc, &self.part)?,
         })
+    }
+
+    /// The truth value on a choice that binds each option of the expression. Takes no memory.
+    pub fn value(&self, choice: Choice) -> bool
+        requires { reach self.now ≤ length choice }
+        ensures { result ≡ value self.now choice }
+    {
+        value_of(&self.part, &choice)
     }
 }

@@ -1,9 +1,9 @@
 // The parts that an expression consists of.
-ghost use Rattle.std.specs.Prelude.{◌≡◌, ◌+◌, ◌<◌, MatchOption, IfOk};
-ghost use Rattle.cov_expr.specs.Formula.{part_count};
+ghost use Rattle.std.specs.Prelude.{◌≡◌, ◌+◌, ◌<◌, ◌≤◌, MatchOption, IfOk, length};
+ghost use Rattle.cov_expr.specs.Formula.{part_count, reach, value};
 ghost use Rattle.cov_expr.specs.Parts.{formula};
 
-use cov_base::{Memory, OptionId};
+use cov_base::{Choice, Memory, OptionId};
 use std::alloc::Global;
 
 /// A Boolean expression over options, with no bound on its size.
@@ -53,5 +53,20 @@ pub(crate) fn copy_part(alloc: Global, part: &Part) -> Result<Part, Memory>
             Box::new(alloc, copy_part(alloc, left)?)?,
             Box::new(alloc, copy_part(alloc, right)?)?,
         )),
+    }
+}
+
+/// The truth value of the part on a choice.
+pub(crate) fn value_of(part: &Part, choice: &Choice) -> bool
+    requires { reach (formula part.now) ≤ length choice.now }
+    ensures { result ≡ value (formula part.now) choice.now }
+{
+    match part {
+        Part::False => false,
+        Part::True => true,
+        Part::Option(option) => choice.get(*option),
+        Part::Not(inner) => !value_of(inner, choice),
+        Part::And(left, right) => value_of(left, choice) && value_of(right, choice),
+        Part::Or(left, right) => value_of(left, choice) || value_of(right, choice),
     }
 }
