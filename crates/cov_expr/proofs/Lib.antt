@@ -1,1 +1,4 @@
+mod Examples
+pub mod Fronts
 pub mod PartCounts
+pub mod Spelt

@@ -1,2 +1,5 @@
 pub mod Formula
+pub mod Grammar
 pub mod Parts
+pub mod Reading
+pub mod Tokens

@@ -3,6 +3,10 @@
 
 mod expr;
 mod part;
+mod reading;
+mod token;
+mod tree;
 
 pub use expr::{Expr, TooManyParts};
 pub use part::Part;
+pub use token::Token;
