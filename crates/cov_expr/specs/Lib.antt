@@ -3,4 +3,6 @@ pub mod Grammar
 pub mod Lexemes
 pub mod Parts
 pub mod Reading
+pub mod Readings
+pub mod Sizes
 pub mod Tokens

@@ -2,11 +2,13 @@
 #![tactic(auto)]
 
 mod expr;
+mod parse;
 mod part;
 mod reading;
 mod token;
 mod tree;
 
 pub use expr::{Expr, TooManyParts};
+pub use parse::ExprFault;
 pub use part::Part;
 pub use token::Token;
