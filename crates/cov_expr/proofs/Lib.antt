@@ -1,5 +1,6 @@
 mod Examples
 pub mod Fronts
 pub mod Lexing
+pub mod Parsing
 pub mod PartCounts
 pub mod Spelt

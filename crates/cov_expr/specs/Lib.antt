@@ -1,6 +1,7 @@
 pub mod Formula
 pub mod Grammar
 pub mod Lexemes
+pub mod Parsing
 pub mod Parts
 pub mod Reading
 pub mod Readings
