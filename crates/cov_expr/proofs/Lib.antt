@@ -4,3 +4,4 @@ pub mod Lexing
 pub mod Parsing
 pub mod PartCounts
 pub mod Spelt
+pub mod Steps

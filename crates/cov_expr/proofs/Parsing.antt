@@ -1,18 +1,18 @@
 -- Reading a text token by token gives what it is by the grammar.
-use Rattle.std.proofs.Common.{◌≡◌, ℕ, ◌≤◌, List, [], ◌∷◌, ◌++◌, length, refl, ap, sym, ◌∙◌, subst, inl, inr, append_assoc}
+use Rattle.std.proofs.Common.{◌≡◌, ℕ, ◌≤◌, List, [], ◌∷◌, ◌++◌, length, refl, ap, sym, ◌∙◌, subst, inl, inr, append_assoc, arith}
 use Rattle.std.specs.Prelude.{Option, Some, None, option_and_then, Result, Ok, Err, Bool, true, false, cond, nat_lt}
 use Rattle.std.proofs.lemmas.Bool.{ltb-true, ltb-false, lt-ltb, le-ltb}
-use Rattle.std.proofs.lemmas.List.{append-nil, map-append}
-use Rattle.cov_expr.specs.Formula.{Formula}
+use Rattle.std.proofs.lemmas.List.{append-nil, map-append, length-map}
+use Rattle.cov_expr.specs.Formula.{Formula, part_count}
 use Rattle.cov_expr.specs.Grammar.{IsExpression, BeginsExpression}
 use Rattle.cov_expr.specs.Parsing.{bare, IsStuckAt, IsUnfinished, IsParsed}
 use Rattle.cov_expr.specs.Reading.{State, start, next, finished, run, at_end, go_on, read_from, read_lexed, read_counted, parsed, IsAnswer}
 use Rattle.cov_expr.specs.Tokens.{Lexed, Tokens, BadByte, tokens_of, token_count}
-use Rattle.cov_expr.specs.declared.parse.ExprFault.{ExprFault}
-use Rattle.cov_expr.specs.declared.parse.ExprFault.TheVariants.{Syntax, TooLong, Memory}
+use Rattle.cov_expr.specs.declared.spelling.ExprFault.{ExprFault}
+use Rattle.cov_expr.specs.declared.spelling.ExprFault.TheVariants.{Syntax, TooLong, Memory}
 use Rattle.cov_expr.specs.declared.token.Token.{Token}
 use Rattle.cov_expr.proofs.Spelt.{run-after, spelt-finished}
-use Rattle.cov_expr.proofs.Fronts.{run-spelt, run-begins, stuck-begins_none}
+use Rattle.cov_expr.proofs.Fronts.{run-spelt, run-begins, stuck-begins_none, part_count-spelt}
 
 bare-append : (ts us : List (ℕ × Token)) → bare (ts ++ us) ≡ bare ts ++ bare us
 bare-append ts us = map-append (λ t. t.1) ts us
@@ -74,6 +74,14 @@ parsed-answer wanted (Err Memory) size (BadByte at) p a = tt
 -- what is read is what the grammar says
 pub answer-parsed : (bytes : List ℕ) (r : Result (Formula (List ℕ)) ExprFault) → IsAnswer (parsed bytes) r → IsParsed (length bytes) (tokens_of bytes) r
 answer-parsed bytes r a = parsed-answer (parsed bytes) r (length bytes) (tokens_of bytes) (lexed-parsed (length bytes) (tokens_of bytes)) a
+
+IsParsed-parts : (size : ℕ) (lexed : Lexed) (e : Formula (List ℕ)) → IsParsed size lexed (Ok e) → part_count e ≤ 256
+IsParsed-parts size (Tokens ts) e (short, spelt) = omega (arith, part_count-spelt spelt, length-map ts (λ (t : ℕ × Token). t.1))
+IsParsed-parts size (BadByte at) e h = absurd h
+
+-- an expression that was read has at most as many parts as there may be tokens
+pub answer-parts : (bytes : List ℕ) (e : Formula (List ℕ)) → IsAnswer (parsed bytes) (Ok e) → part_count e ≤ 256
+answer-parts bytes e a = IsParsed-parts (length bytes) (tokens_of bytes) e (answer-parsed bytes (Ok e) a)
 
 -- tokens that were read may be passed over
 read_from-run : (ts us : List (ℕ × Token)) (size : ℕ) (s m : State) → run (bare ts) s ≡ Some m → read_from (ts ++ us) size s ≡ read_from us size m

@@ -6,4 +6,5 @@ pub mod Parts
 pub mod Reading
 pub mod Readings
 pub mod Sizes
+pub mod Steps
 pub mod Tokens

@@ -3,8 +3,8 @@ use Rattle.std.specs.Prelude.{◌≡◌, ◌⊎◌, ℕ, ◌<◌, ◌≤◌, Lis
 use Rattle.cov_expr.specs.Formula.{Formula}
 use Rattle.cov_expr.specs.Grammar.{IsExpression, BeginsExpression}
 use Rattle.cov_expr.specs.Tokens.{Lexed, Tokens, BadByte}
-use Rattle.cov_expr.specs.declared.parse.ExprFault.{ExprFault}
-use Rattle.cov_expr.specs.declared.parse.ExprFault.TheVariants.{Syntax, TooLong, Memory}
+use Rattle.cov_expr.specs.declared.spelling.ExprFault.{ExprFault}
+use Rattle.cov_expr.specs.declared.spelling.ExprFault.TheVariants.{Syntax, TooLong, Memory}
 use Rattle.cov_expr.specs.declared.token.Token.{Token}
 
 -- tokens without their places

@@ -3,8 +3,8 @@ use Rattle.std.specs.Prelude.{◌≡◌, ℕ, zero, suc, ◌+◌, nat_lt, List, 
 use Rattle.cov_expr.specs.Formula.{Formula, Not, And, Or}
 use Rattle.cov_expr.specs.Grammar.{word_formula}
 use Rattle.cov_expr.specs.Tokens.{Lexed, Tokens, BadByte, tokens_of, token_count}
-use Rattle.cov_expr.specs.declared.parse.ExprFault.{ExprFault}
-use Rattle.cov_expr.specs.declared.parse.ExprFault.TheVariants.{Syntax, TooLong, Memory}
+use Rattle.cov_expr.specs.declared.spelling.ExprFault.{ExprFault}
+use Rattle.cov_expr.specs.declared.spelling.ExprFault.TheVariants.{Syntax, TooLong, Memory}
 use Rattle.cov_expr.specs.declared.reading.Level.{Level}
 use Rattle.cov_expr.specs.declared.token.Token.{Token}
 use Rattle.cov_expr.specs.declared.token.Token.TheVariants.{Word, Bang, Amp, Bar, Open, Close}

@@ -1,7 +1,7 @@
 -- How much stands at the front of a text.
 use Rattle.std.specs.Prelude.{◌≡◌, ℕ, ◌+◌, ◌<◌, ◌≤◌, List, length, drop, Option, Some, None, Result, Ok, Err}
 use Rattle.cov_expr.specs.Tokens.{Lexed, Tokens, BadByte, tokens_from}
-use Rattle.cov_expr.specs.declared.parse.Size.{Size}
+use Rattle.cov_expr.specs.declared.spelling.Size.{Size}
 
 -- how many tokens there are after a number of others, or the place of the first byte that is no space and begins no token
 abbrev pub counted : ℕ → Lexed → Result ℕ ℕ

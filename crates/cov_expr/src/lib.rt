@@ -2,13 +2,15 @@
 #![tactic(auto)]
 
 mod expr;
-mod parse;
 mod part;
+mod raw_expr;
 mod reading;
+mod spelling;
 mod token;
 mod tree;
 
 pub use expr::{Expr, TooManyParts};
-pub use parse::ExprFault;
 pub use part::Part;
+pub use raw_expr::RawExpr;
+pub use spelling::{ExprFault, parse};
 pub use token::Token;

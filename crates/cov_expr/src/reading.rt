@@ -17,7 +17,7 @@ pub(crate) struct Level {
     /// The left part of an `&`.
     and_left: Option<Tree>,
     /// How many `!` stand directly before the operand.
-    nots: usize,
+    pub(crate) nots: usize,
 }
 
 /// What was read of an expression.
@@ -25,7 +25,7 @@ pub(crate) struct Level {
 pub(crate) struct Reading {
     /// The levels round the innermost parentheses that are open, the innermost last.
     outer: Vec<Level>,
-    level: Level,
+    pub(crate) level: Level,
     /// The operand that was read last, None where one is awaited.
     operand: Option<Tree>,
 }

@@ -1,7 +1,7 @@
 use Rattle.std.proofs.Common.{◌≡◌, ◌-◌, ◌≤◌, length, drop}
 use Rattle.cov_expr.specs.Tokens.{tokens_of, tokens_from, token_count}
 use Rattle.cov_expr.specs.Sizes.{counted}
-use Rattle.cov_expr.proofs.parse.count_tokens.Given as goal
+use Rattle.cov_expr.proofs.spelling.count_tokens.Given as goal
 
 abbrev pub invariant-loop-at : goal.invariant-loop-at
 invariant-loop-at l = record {
