@@ -1,4 +1,4 @@
-use Rattle.std.proofs.Common.{◌∙◌, ◌<◌, ◌≤◌, ◌≡◌, ◌≢◌, ℕ, sym, ap, subst, length, arith, ◌==◌}
+use Rattle.std.proofs.Common.{◌∙◌, ◌<◌, ◌≡◌, ◌≢◌, ℕ, sym, ap, length, arith, ◌==◌}
 use Rattle.std.proofs.lemmas.Nat.Bits.{bit_at_above}
 use Rattle.std.specs.Int.{bit_at}
 use Rattle.cov_base.specs.Bits.{length-bits_of, bits_of-with, below_from_bits}
