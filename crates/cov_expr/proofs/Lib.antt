@@ -1,7 +1,14 @@
-pub mod ListLemmas
-pub mod SplitLemmas
-pub mod ReadingBindings
-pub mod PartialLemmas
-pub mod Gathering
-pub mod Printing
+mod Examples
+pub mod Fronts
 pub mod FullChoices
+pub mod Gathering
+pub mod Lexing
+pub mod ListLemmas
+pub mod Parsing
+pub mod PartCounts
+pub mod PartialLemmas
+pub mod Printing
+pub mod ReadingBindings
+pub mod Spelt
+pub mod SplitLemmas
+pub mod Steps
