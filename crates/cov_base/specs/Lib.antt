@@ -1,5 +1,9 @@
+pub mod Addresses
+pub mod Bits
 pub mod Bytes
 pub mod Causes
 pub mod Choices
+pub mod Faults
 pub mod Lines
+pub mod Rows
 pub mod Spelling

@@ -1,7 +1,7 @@
 -- The spellings of names.
-use Rattle.std.specs.Prelude.{ℕ, Bool, true, false, ◌&&◌, ◌||◌, not, nat_le, List, [], ◌∷◌, length, codes}
-use Rattle.std.specs.Str.{bytes_eq}
-use Rattle.std.specs.List.{list_any, list_all}
+use Rattle.std.specs.Prelude.{ℕ, Bool, false, ◌&&◌, ◌||◌, not, nat_eq, nat_lt, nat_le, List, [], ◌∷◌, length, Option, Some, None, if◌then◌else◌, codes}
+use Rattle.std.specs.Str.{bytes_eq, is_utf8}
+use Rattle.std.specs.List.{list_any, list_all, slice_split}
 use Rattle.cov_base.specs.Bytes.{is_letter, is_digit}
 
 -- a letter or _, and then letters, digits and _
@@ -16,3 +16,35 @@ reserved_words = codes "true" ∷ codes "false" ∷ codes "on" ∷ codes "off" �
 -- a word of at most 64 bytes that isn't reserved
 abbrev pub is_option_name : List ℕ → Bool
 is_option_name bytes = is_word bytes && (nat_le (length bytes) 64 && not (list_any (bytes_eq bytes) reserved_words))
+
+-- a control character, a space or a slash, none of which a name has
+abbrev pub is_outside_names : ℕ → Bool
+is_outside_names b = nat_lt b 33 || (nat_eq b 127 || nat_eq b 47)
+
+-- the names that every directory keeps for itself and its parent
+abbrev pub dot_names : List (List ℕ)
+dot_names = codes "." ∷ codes ".." ∷ []
+
+-- one to 255 bytes of UTF-8 without control characters, spaces and slashes, and neither . nor ..
+abbrev pub is_name : List ℕ → Bool
+is_name bytes =
+    (nat_le 1 (length bytes) && nat_le (length bytes) 255)
+    && (is_utf8 bytes && (not (list_any is_outside_names bytes) && not (list_any (bytes_eq bytes) dot_names)))
+
+-- the parts of bytes between slashes
+abbrev pub parts_of : List ℕ → List (List ℕ)
+parts_of bytes = slice_split (λ b. nat_eq b 47) bytes
+
+-- the names, if all of them are spelt as names
+abbrev pub if_names : List (List ℕ) → Option (List (List ℕ))
+if_names names = if list_all is_name names then Some names else None
+
+-- the path whose parts between slashes are these
+abbrev pub path_from : List (List ℕ) → Option (List (List ℕ))
+path_from ([] ∷ [] ∷ []) = Some []
+path_from ([] ∷ name ∷ names) = if_names (name ∷ names)
+path_from _ = None
+
+-- the path that bytes spell: none for a slash alone, and else one or more of a slash and a name
+abbrev pub path_of : List ℕ → Option (List (List ℕ))
+path_of bytes = path_from (parts_of bytes)

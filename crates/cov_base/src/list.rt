@@ -3,7 +3,7 @@ ghost use Rattle.std.specs.Prelude.{◌≡◌, List, ℕ, [], ◌∷◌, ◌++�
 ghost use Rattle.std.specs.List.{list_any};
 ghost use Rattle.std.specs.Option.{option_copied};
 
-use crate::Memory;
+use crate::{LineNo, Memory};
 use std::alloc::Global;
 use std::marker::Model;
 
@@ -78,6 +78,13 @@ impl Text {
         self.bytes.as_slice()
     }
 
+    /// The bytes as a Vec. It takes no memory.
+    pub fn into_vec(self) -> Vec<u8>
+        ensures { result.items ≡ self }
+    {
+        self.bytes
+    }
+
     pub fn copy(&self) -> Result<Text, Memory>
         ensures { IfOk result (λ text. text ≡ self.now) }
     {
@@ -85,6 +92,18 @@ impl Text {
         Ok(Text {
             bytes: Vec::from_slice(alloc, self.bytes.as_slice())?,
         })
+    }
+}
+
+impl From<String> for Text {
+    ghost use Rattle.std.specs.String.{string_bytes};
+
+    ghost from_gives = { λ string text. text ≡ string_bytes string };
+
+    fn from(string: String) -> Text {
+        Text {
+            bytes: string.into_bytes(),
+        }
     }
 }
 
@@ -189,5 +208,54 @@ impl Numbers {
         ensures { result ≡ list_any (λ n. nat_eq n number) self.now }
     {
         self.items.contains(&number)
+    }
+}
+
+/// A list of line numbers.
+#[derive(Debug, Drop)]
+pub struct LineNos {
+    items: Vec<LineNo>,
+}
+
+impl Model for LineNos {
+    ghost Value = { List ℕ };
+
+    ghost view = { λ n. n.items.items };
+}
+
+impl LineNos {
+    pub fn new(alloc: Global) -> LineNos
+        ensures { result ≡ [] }
+    {
+        LineNos {
+            items: Vec::new(alloc),
+        }
+    }
+
+    pub fn push(&mut self, line: LineNo) -> Result<(), Memory>
+        ensures ok { OnOk result (self.new ≡ self.old ++ line ∷ []) }
+        ensures err { OnErr result (self.new ≡ self.old) }
+    {
+        self.items.push(line)?;
+        Ok(())
+    }
+
+    pub fn len(&self) -> usize
+        ensures { result ≡ length self.now }
+    {
+        self.items.len()
+    }
+
+    pub fn is_empty(&self) -> bool
+        ensures { result ≡ (length self.now == 0) }
+    {
+        self.items.is_empty()
+    }
+
+    /// The line number at an index, None exactly where the index isn't below the length.
+    pub fn get(&self, index: usize) -> Option<LineNo>
+        ensures { result ≡ slice_get self.now index }
+    {
+        self.items.get(index).copied()
     }
 }

@@ -34,3 +34,108 @@ impl OptionId {
         self.number
     }
 }
+
+/// The number of a line, from 1 over the whole store; 0 is the head of a file.
+#[derive(Clone, Copy, Debug, PartialEq, Eq, PartialOrd, Ord, Hash)]
+pub struct LineNo {
+    number: u32,
+}
+
+impl Model for LineNo {
+    ghost Value = { ℕ };
+
+    ghost view = { λ l. l.number };
+
+    ghost inverse = { λ n. record { number = n } };
+}
+
+impl LineNo {
+    pub fn new(number: u32) -> LineNo
+        ensures { result ≡ number }
+    {
+        LineNo { number }
+    }
+
+    pub fn number(self) -> u32
+        ensures { result ≡ self }
+    {
+        self.number
+    }
+}
+
+/// The number of a file or directory, from 1 over the whole store; 0 is the root directory.
+#[derive(Clone, Copy, Debug, PartialEq, Eq, PartialOrd, Ord, Hash)]
+pub struct NodeNo {
+    number: u32,
+}
+
+impl Model for NodeNo {
+    ghost Value = { ℕ };
+
+    ghost view = { λ n. n.number };
+
+    ghost inverse = { λ n. record { number = n } };
+}
+
+impl NodeNo {
+    pub fn new(number: u32) -> NodeNo
+        ensures { result ≡ number }
+    {
+        NodeNo { number }
+    }
+
+    pub fn number(self) -> u32
+        ensures { result ≡ self }
+    {
+        self.number
+    }
+}
+
+/// How many commands of a history are meant, from its first.
+#[derive(Clone, Copy, Debug, PartialEq, Eq, PartialOrd, Ord, Hash)]
+pub struct Position {
+    number: u32,
+}
+
+impl Model for Position {
+    ghost Value = { ℕ };
+
+    ghost view = { λ p. p.number };
+
+    ghost inverse = { λ n. record { number = n } };
+}
+
+impl Position {
+    pub fn new(number: u32) -> Position
+        ensures { result ≡ number }
+    {
+        Position { number }
+    }
+
+    pub fn number(self) -> u32
+        ensures { result ≡ self }
+    {
+        self.number
+    }
+}
+
+/// What a node is; it never changes.
+#[derive(Clone, Copy, Debug, PartialEq, Eq)]
+pub enum Kind {
+    File,
+    Dir,
+}
+
+/// A node that a history has, or the i-th node, from 0, that the same list of edits makes.
+#[derive(Clone, Copy, Debug, PartialEq, Eq)]
+pub enum NodeRef {
+    Old(NodeNo),
+    New(u32),
+}
+
+/// A line that a history has, or the i-th line, from 0, that the same list of edits makes.
+#[derive(Clone, Copy, Debug, PartialEq, Eq)]
+pub enum LineRef {
+    Old(LineNo),
+    New(u32),
+}

@@ -1,0 +1,14 @@
+pub mod Binding
+pub mod ChoiceText
+pub mod Formula
+pub mod Grammar
+pub mod Lexemes
+pub mod Options
+pub mod Parsing
+pub mod Partials
+pub mod Parts
+pub mod Reading
+pub mod Readings
+pub mod Sizes
+pub mod Steps
+pub mod Tokens
