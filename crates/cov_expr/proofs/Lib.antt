@@ -5,3 +5,4 @@ pub mod PartialLemmas
 pub mod Gathering
 pub mod Printing
 pub mod FullChoices
+mod ChoiceExamples

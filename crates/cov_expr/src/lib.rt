@@ -12,3 +12,6 @@ pub use options::Options;
 pub use partial::Partial;
 pub use print::print_choice;
 pub use raw_choice::{ChoiceSyntax, RawChoice};
+
+#[cfg(test)]
+mod choice_tests;
