@@ -1,3 +1,4 @@
+mod ChoiceExamples
 mod Examples
 pub mod Fronts
 pub mod FullChoices

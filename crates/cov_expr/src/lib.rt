@@ -24,3 +24,6 @@ pub use raw_choice::{ChoiceSyntax, RawChoice};
 pub use raw_expr::RawExpr;
 pub use spelling::{ExprFault, parse};
 pub use token::Token;
+
+#[cfg(test)]
+mod choice_tests;
