@@ -1,0 +1,5 @@
+mod Examples
+pub mod Fronts
+pub mod Lexing
+pub mod PartCounts
+pub mod Spelt

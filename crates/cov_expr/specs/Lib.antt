@@ -1,0 +1,6 @@
+pub mod Formula
+pub mod Grammar
+pub mod Lexemes
+pub mod Parts
+pub mod Reading
+pub mod Tokens
