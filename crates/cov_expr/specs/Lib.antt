@@ -4,3 +4,4 @@ pub mod Lexemes
 pub mod Parts
 pub mod Reading
 pub mod Tokens
+pub mod Validity
