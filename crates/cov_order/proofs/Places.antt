@@ -1,40 +1,10 @@
 -- Where a line is put, and that each line stands once.
-use Rattle.std.proofs.Common.{◌≡◌, ℕ, zero, suc, ◌+◌, ◌<◌, ◌≤◌, Bool, true, false, cond, ◌||◌, not, nat_eq, nat_lt, List, [], ◌∷◌, length, Some, None, position, refl, sym, ap, ◌∙◌, arith}
-use Rattle.std.specs.List.{insert, position_or_len}
+use Rattle.std.proofs.Common.{◌≡◌, ℕ, zero, suc, ◌+◌, ◌<◌, Bool, true, false, cond, ◌||◌, nat_eq, List, [], ◌∷◌, length, Some, None, position, refl, sym, ◌∙◌, arith}
+use Rattle.std.specs.List.{insert}
 use Rattle.std.proofs.lemmas.Bool.Decides.{nat_tests}
 use Rattle.cov_base.specs.Addresses.{after_first, after_anchor}
+use Rattle.cov_base.proofs.Inserting.{insert_behind, insert_last}
 use Rattle.cov_order.specs.Orders.{has_line, AreLines}
-
-after_found : (t : ℕ → Bool) (xs : List ℕ) (x : ℕ) → position_or_len t xs < length xs → insert xs (suc (position_or_len t xs)) x ≡ after_first t x xs
-after_found t [] x h = absurd (omega (arith, h))
-after_found t (y ∷ ys) x h = at (t y) h (λ k. after_found t ys x k)
-  where
-    at : (b : Bool) → cond (not b) (1 + position_or_len t ys) 0 < suc (length ys) → (position_or_len t ys < length ys → insert ys (suc (position_or_len t ys)) x ≡ after_first t x ys)
-        → insert (y ∷ ys) (suc (cond (not b) (1 + position_or_len t ys) 0)) x ≡ cond b (y ∷ x ∷ ys) (y ∷ after_first t x ys)
-    at true k rest = refl
-    at false k rest =
-        let one : 1 + position_or_len t ys ≡ suc (position_or_len t ys) = omega arith in
-        ap (λ i. insert (y ∷ ys) (suc i) x) one ∙ ap (λ l. y ∷ l) (rest (omega (arith, k)))
-
-after_none : (t : ℕ → Bool) (xs : List ℕ) (x : ℕ) → length xs ≤ position_or_len t xs → insert xs (length xs) x ≡ after_first t x xs
-after_none t [] x h = refl
-after_none t (y ∷ ys) x h = at (t y) h (λ k. after_none t ys x k)
-  where
-    at : (b : Bool) → suc (length ys) ≤ cond (not b) (1 + position_or_len t ys) 0 → (length ys ≤ position_or_len t ys → insert ys (length ys) x ≡ after_first t x ys)
-        → insert (y ∷ ys) (suc (length ys)) x ≡ cond b (y ∷ x ∷ ys) (y ∷ after_first t x ys)
-    at true k rest = absurd (omega (arith, k))
-    at false k rest = ap (λ l. y ∷ l) (rest (omega (arith, k)))
-
-module _ (t : ℕ → Bool) (xs : List ℕ) (x : ℕ) where
-  some_case : (i : ℕ) (b : Bool) → nat_lt (position_or_len t xs) (length xs) ≡ b → cond b (Some (position_or_len t xs)) None ≡ Some i → insert xs (i + 1) x ≡ after_first t x xs
-  some_case i true e h =
-      let same : suc (position_or_len t xs) ≡ i + 1 = (let s : position_or_len t xs ≡ i = cc in omega (arith, s)) in
-      ap (λ j. insert xs j x) (sym same) ∙ after_found t xs x (grind (arith, nat_tests, e))
-  some_case i false e h = absurd (cc)
-
-  none_case : (b : Bool) → nat_lt (position_or_len t xs) (length xs) ≡ b → cond b (Some (position_or_len t xs)) None ≡ None → insert xs (length xs) x ≡ after_first t x xs
-  none_case true e h = absurd (cc)
-  none_case false e h = after_none t xs x (grind (arith, nat_tests, e))
 
 after_other : (anchor line : ℕ) (xs : List ℕ) → (anchor ≡ 0 → ⊥) → after_anchor anchor line xs ≡ after_first (λ n. nat_eq n anchor) line xs
 after_other zero line xs h = absurd (h refl)
@@ -43,12 +13,12 @@ after_other (suc anchor) line xs h = refl
 pub behind_found : (anchor : ℕ) (xs : List ℕ) (i : ℕ) → (anchor ≡ 0 → ⊥) → position (λ n. nat_eq n anchor) xs ≡ Some i
     → (line : ℕ) → insert xs (i + 1) line ≡ after_anchor anchor line xs
 behind_found anchor xs i other h line =
-    some_case (λ n. nat_eq n anchor) xs line i (nat_lt (position_or_len (λ n. nat_eq n anchor) xs) (length xs)) refl h ∙ sym (after_other anchor line xs other)
+    insert_behind (λ n. nat_eq n anchor) xs line i h ∙ sym (after_other anchor line xs other)
 
 pub behind_all : (anchor : ℕ) (xs : List ℕ) → (anchor ≡ 0 → ⊥) → position (λ n. nat_eq n anchor) xs ≡ None
     → (line : ℕ) → insert xs (length xs) line ≡ after_anchor anchor line xs
 behind_all anchor xs other h line =
-    none_case (λ n. nat_eq n anchor) xs line (nat_lt (position_or_len (λ n. nat_eq n anchor) xs) (length xs)) refl h ∙ sym (after_other anchor line xs other)
+    insert_last (λ n. nat_eq n anchor) xs line h ∙ sym (after_other anchor line xs other)
 
 or_both : (a b : Bool) → a ≡ false → b ≡ false → (a || b) ≡ false
 or_both false b e f = f
