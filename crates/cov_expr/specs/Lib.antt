@@ -12,3 +12,4 @@ pub mod Readings
 pub mod Sizes
 pub mod Steps
 pub mod Tokens
+pub mod Validity
