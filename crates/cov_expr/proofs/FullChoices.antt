@@ -1,5 +1,5 @@
 -- A full choice that is read one binding after another.
-use Rattle.std.proofs.Common.{◌≡◌, ℕ, zero, suc, ◌+◌, ◌/◌, ◌<◌, ◌≤◌, Bool, true, false, not, ◌&&◌, List, [], ◌∷◌, ◌++◌, length, take, drop, map, get_or, slice_get, Option, Some, None, if◌then◌else◌, refl, sym, ap, ◌∙◌, arith, append_assoc, add-one}
+use Rattle.std.proofs.Common.{◌≡◌, ℕ, zero, suc, ◌+◌, ◌/◌, ◌<◌, ◌≤◌, Bool, true, false, ◌&&◌, List, [], ◌∷◌, ◌++◌, length, take, drop, map, get_or, slice_get, Some, None, if◌then◌else◌, refl, sym, ap, ◌∙◌, arith, append_assoc, add-one}
 use Rattle.std.specs.Str.{bytes_eq}
 use Rattle.std.specs.Cmp.Lexicographic.{pointwise}
 use Rattle.std.proofs.Math.Seq.{drop-cons}
@@ -42,15 +42,15 @@ module _ (bs : List (List ℕ × Bool)) where
     with_option-next zs o same below =
         let long : length (values (take i bs)) ≡ i = omega (arith, length-map (take i bs) (λ (c : List ℕ × Bool). c.1), length-take i bs, here) in
         (λ j. with_option (values (take i bs) ++ drop-is_on zs i below j) ((same ∙ sym long) j) b.1)
-          ∙ with_option-append (values (take i bs)) (drop (suc i) zs) (is_on zs i) b.1
-          ∙ sym (append_assoc (values (take i bs)) (b.1 ∷ []) (drop (suc i) zs))
-          ∙ (λ j. sym values_more j ++ drop (sym (add-one i) j) zs)
+        ∙ with_option-append (values (take i bs)) (drop (suc i) zs) (is_on zs i) b.1
+        ∙ sym (append_assoc (values (take i bs)) (b.1 ∷ []) (drop (suc i) zs))
+        ∙ (λ j. sym values_more j ++ drop (sym (add-one i) j) zs)
 
     -- one more name is compared
     pub names_next : (names : List (List ℕ)) (n : List ℕ) → slice_get names i ≡ Some n → pointwise bytes_eq (names_of (drop i bs)) (drop i names) ≡ (bytes_eq b.0 n && pointwise bytes_eq (names_of (drop (i + 1) bs)) (drop (i + 1) names))
     names_next names n found =
         (λ j. pointwise bytes_eq (names_of ((drop-cons bs i b here ∙ ap (λ c. c ∷ drop (suc i) bs) (sym at)) j)) (drop-slice_get names i n found j))
-          ∙ ap (λ k. bytes_eq b.0 n && pointwise bytes_eq (names_of (drop k bs)) (drop k names)) (sym (add-one i))
+        ∙ ap (λ k. bytes_eq b.0 n && pointwise bytes_eq (names_of (drop k bs)) (drop k names)) (sym (add-one i))
 
   -- a name that differs
   pub full_choice-differs : (names : List (List ℕ)) → pointwise bytes_eq (names_of bs) names ≡ false → None ≡ full_choice names bs
@@ -61,4 +61,4 @@ module _ (bs : List (List ℕ × Bool)) where
   full_choice-same names choice zs i all named long written compared =
       let same : pointwise bytes_eq (names_of bs) names ≡ true = compared ∙ (λ j. pointwise bytes_eq (names_of (drop_all i bs all j)) (drop_all i names named j)) in
       ap Some (written ∙ (λ j. values (take_all i bs all j) ++ drop_all i zs long j) ∙ append-nil (values bs))
-        ∙ sym (ap (λ t. if t then Some (values bs) else None) same)
+      ∙ sym (ap (λ t. if t then Some (values bs) else None) same)

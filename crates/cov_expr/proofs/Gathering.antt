@@ -1,12 +1,11 @@
 -- Bindings that are gathered one after another.
-use Rattle.std.proofs.Common.{◌≡◌, ℕ, zero, suc, ◌+◌, ◌<◌, ◌≤◌, Bool, true, false, cond, ◌||◌, nat_eq, List, [], ◌∷◌, ◌++◌, length, take, drop, map, get_or, Option, Some, None, is_some, if◌then◌else◌, ◌⊎◌, inl, inr, refl, sym, ap, ◌∙◌, arith, add-one}
+use Rattle.std.proofs.Common.{◌≡◌, ℕ, ◌+◌, ◌<◌, Bool, true, false, cond, ◌||◌, nat_eq, List, [], ◌∷◌, ◌++◌, length, take, drop, map, get_or, Option, Some, None, is_some, if◌then◌else◌, ◌⊎◌, inl, inr, refl, sym, ap, ◌∙◌, arith, add-one}
 use Rattle.std.specs.Option.{option_map}
 use Rattle.std.specs.List.{find, list_any}
 use Rattle.std.proofs.Math.ListN.{set}
 use Rattle.std.proofs.Math.Seq.{drop-cons}
 use Rattle.std.proofs.lemmas.List.{take_more, map-append, get_or-set_other}
 use Rattle.std.proofs.lemmas.Grind.{get_or-set_at}
-use Rattle.std.proofs.lemmas.Bool.{eq-eqb}
 use Rattle.std.proofs.lemmas.Bool.Decides.{eqb_tells}
 use Rattle.cov_expr.specs.Partials.{bound_value}
 use Rattle.cov_expr.specs.Binding.{first_again}
@@ -61,8 +60,8 @@ module _ (bs : List (ℕ × Bool)) (i : ℕ) (b : ℕ × Bool) (here : i < lengt
     pub first_again_later : (whole : Option ℕ) → whole ≡ first_from i → whole ≡ first_from (i + 1)
     first_again_later whole so_far =
         so_far ∙ look
-          ∙ ap (λ t. if t then Some b.0 else first_again (map (λ (c : ℕ × Bool). c.0) (take i bs) ++ b.0 ∷ []) (map (λ (c : ℕ × Bool). c.0) (drop (i + 1) bs))) (sym (is_some-bound_value (take i bs) b.0) ∙ new)
-          ∙ ap (λ cs. first_again cs (map (λ (c : ℕ × Bool). c.0) (drop (i + 1) bs))) (sym (ap (map (λ (c : ℕ × Bool). c.0)) taken ∙ map-append (λ (c : ℕ × Bool). c.0) (take i bs) (b ∷ [])))
+        ∙ ap (λ t. if t then Some b.0 else first_again (map (λ (c : ℕ × Bool). c.0) (take i bs) ++ b.0 ∷ []) (map (λ (c : ℕ × Bool). c.0) (drop (i + 1) bs))) (sym (is_some-bound_value (take i bs) b.0) ∙ new)
+        ∙ ap (λ cs. first_again cs (map (λ (c : ℕ × Bool). c.0) (drop (i + 1) bs))) (sym (ap (map (λ (c : ℕ × Bool). c.0)) taken ∙ map-append (λ (c : ℕ × Bool). c.0) (take i bs) (b ∷ [])))
 
     value_after : (k : ℕ) → bound_value (take (i + 1) bs) k ≡ or_value (bound_value (take i bs) k) (bound_value (b ∷ []) k)
     value_after k = ap (λ cs. bound_value cs k) taken ∙ bound_value-append (take i bs) b k
@@ -85,8 +84,8 @@ module _ (bs : List (ℕ × Bool)) (i : ℕ) (b : ℕ × Bool) (here : i < lengt
         by : ((nat_eq k b.0 ≡ true) × (k ≡ b.0)) ⊎ ((nat_eq k b.0 ≡ false) × (k ≡ b.0 → ⊥)) → get_or (set values n (Some b.1)) k None ≡ bound_value (take (i + 1) bs) k
         by (inl e) =
             get_or-set_at values n k (Some b.1) None (e.1 ∙ sym same) (omega (arith, e.1, same, below))
-              ∙ sym (value_after k ∙ (λ j. or_value ((ap (bound_value (take i bs)) e.1 ∙ none-of (bound_value (take i bs) b.0) new) j) (last_value k true e.0 j)))
+            ∙ sym (value_after k ∙ (λ j. or_value ((ap (bound_value (take i bs)) e.1 ∙ none-of (bound_value (take i bs) b.0) new) j) (last_value k true e.0 j)))
         by (inr e) =
             get_or-set_other values n k (Some b.1) None (λ q. e.1 (q ∙ same))
-              ∙ before k below
-              ∙ sym (value_after k ∙ ap (or_value (bound_value (take i bs) k)) (last_value k false e.0) ∙ none_more (bound_value (take i bs) k))
+            ∙ before k below
+            ∙ sym (value_after k ∙ ap (or_value (bound_value (take i bs) k)) (last_value k false e.0) ∙ none_more (bound_value (take i bs) k))

@@ -40,7 +40,7 @@ module _ (done whole : List (ℕ × Bool)) where
     pub enumerate_more : i < length c → done ++ enumerate_from i (drop i c) ≡ whole → (done ++ (i, is_on c i) ∷ []) ++ enumerate_from (i + 1) (drop (i + 1) c) ≡ whole
     enumerate_more h =
         joined (i, is_on c i) (enumerate_from (i + 1) (drop (i + 1) c)) (enumerate_from i (drop i c))
-          (ap (enumerate_from i) (drop-is_on c i h) ∙ ap (λ k. (i, is_on c i) ∷ enumerate_from (i + 1) (drop k c)) (sym (add-one i)))
+        (ap (enumerate_from i) (drop-is_on c i h) ∙ ap (λ k. (i, is_on c i) ∷ enumerate_from (i + 1) (drop k c)) (sym (add-one i)))
 
     -- at the end all are bound
     pub enumerate_all : length c ≤ i → done ++ enumerate_from i (drop i c) ≡ whole → done ≡ whole

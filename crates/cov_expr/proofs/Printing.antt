@@ -55,9 +55,9 @@ module _ (names : List (List ℕ)) (choice : List Bool) where
         let piece = binding_text (option_name names k) (is_on choice k) in
         let rest = after_commas (drop (k + 1) (binding_texts names choice)) in
         append_assoc (text ++ 44 ∷ []) piece rest
-          ∙ append_assoc text (44 ∷ []) (piece ++ rest)
-          ∙ ap (λ r. text ++ r) (sym (ap after_commas (drop-binding_texts names choice k below fits) ∙ ap (λ n. 44 ∷ piece ++ after_commas (drop n (binding_texts names choice))) (sym (add-one k))))
-          ∙ e
+        ∙ append_assoc text (44 ∷ []) (piece ++ rest)
+        ∙ ap (λ r. text ++ r) (sym (ap after_commas (drop-binding_texts names choice k below fits) ∙ ap (λ n. 44 ∷ piece ++ after_commas (drop n (binding_texts names choice))) (sym (add-one k))))
+        ∙ e
 
   -- all are printed
   pub printed_all : (text : List ℕ) (k : ℕ) → length choice ≤ k → text ++ after_commas (drop k (binding_texts names choice)) ≡ choice_text names choice → text ≡ choice_text names choice

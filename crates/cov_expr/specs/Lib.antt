@@ -3,6 +3,7 @@ pub mod ChoiceText
 pub mod Formula
 pub mod Grammar
 pub mod Lexemes
+pub mod Naming
 pub mod Options
 pub mod Parsing
 pub mod Partials

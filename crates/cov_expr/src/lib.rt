@@ -3,6 +3,7 @@
 
 mod binding;
 mod expr;
+mod naming;
 mod options;
 mod part;
 mod partial;
@@ -16,6 +17,7 @@ mod tree;
 
 pub use binding::BindFault;
 pub use expr::{Expr, TooManyParts};
+pub use naming::NameFault;
 pub use options::Options;
 pub use part::Part;
 pub use partial::Partial;

@@ -26,7 +26,12 @@ pub fn print_choice(alloc: Global, options: &Options, choice: Choice) -> Result<
 }
 
 // Appends the binding of one option.
-fn append_binding(text: &mut Text, options: &Options, choice: Choice, number: u8) -> Result<(), Memory>
+fn append_binding(
+    text: &mut Text,
+    options: &Options,
+    choice: Choice,
+    number: u8,
+) -> Result<(), Memory>
     requires bound { number < length choice }
     requires declared { number < length options.now.names }
     requires small { number < 128 }

@@ -6,4 +6,4 @@ use Rattle.cov_expr.proofs.partial.Partial.of_values.Goals as goal
 pub invariant_of-result : goal.invariant_of-result
 invariant_of-result c =
     places_in_order c.loop-number.bindings.items c.args.values.now
-      (places_all c.loop-number.bindings.items (places_from 0 c.args.values.now) c.args.values.now c.loop-number.number (omega arith) c.loop-number.invariant)
+    (places_all c.loop-number.bindings.items (places_from 0 c.args.values.now) c.args.values.now c.loop-number.number (omega arith) c.loop-number.invariant)
