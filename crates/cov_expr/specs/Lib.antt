@@ -2,6 +2,7 @@ pub mod Binding
 pub mod ChoiceText
 pub mod Formula
 pub mod Grammar
+pub mod Laws
 pub mod Lexemes
 pub mod Naming
 pub mod Options

@@ -3,6 +3,7 @@
 
 mod binding;
 mod expr;
+mod laws;
 mod naming;
 mod options;
 mod part;
@@ -17,6 +18,7 @@ mod tree;
 
 pub use binding::BindFault;
 pub use expr::{Expr, TooManyParts};
+pub use laws::{reading_follows_grammar, tokens_spell_one_expression};
 pub use naming::NameFault;
 pub use options::Options;
 pub use part::Part;

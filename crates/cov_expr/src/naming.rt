@@ -1,5 +1,6 @@
 // Expressions over names as expressions over options.
-ghost use Rattle.std.specs.Prelude.{◌≡◌, None, IfOk, IfErr, OnOk};
+ghost use Rattle.std.specs.Prelude.{◌≡◌, ◌≤◌, length, None, IfOk, IfErr, OnOk};
+ghost use Rattle.cov_expr.specs.Formula.{reach};
 ghost use Rattle.cov_expr.specs.Naming.{first_unknown, with_numbers, IsUnknownName};
 ghost use Rattle.cov_expr.specs.Parts.{formula, raw_formula};
 
@@ -40,6 +41,7 @@ impl<T: Drop> From<AllocFailed<T>> for NameFault {
 pub(crate) fn bind_tree(alloc: Global, tree: &Tree, options: &Options) -> Result<Part, NameFault>
     ensures known { OnOk result (first_unknown options.now.names tree.now ≡ None) }
     ensures part { IfOk result (λ bound. formula bound ≡ with_numbers options.now.names tree.now) }
+    ensures within { IfOk result (λ bound. reach (formula bound) ≤ length options.now.names) }
     ensures unknown { IfErr result (IsUnknownName (first_unknown options.now.names tree.now)) }
 {
     bind_part(alloc, &tree.part, options)
@@ -48,6 +50,7 @@ pub(crate) fn bind_tree(alloc: Global, tree: &Tree, options: &Options) -> Result
 fn bind_part(alloc: Global, part: &RawPart, options: &Options) -> Result<Part, NameFault>
     ensures known { OnOk result (first_unknown options.now.names (raw_formula part.now) ≡ None) }
     ensures part { IfOk result (λ bound. formula bound ≡ with_numbers options.now.names (raw_formula part.now)) }
+    ensures within { IfOk result (λ bound. reach (formula bound) ≤ length options.now.names) }
     ensures unknown { IfErr result (IsUnknownName (first_unknown options.now.names (raw_formula part.now))) }
 {
     match part {

@@ -26,8 +26,8 @@ impl Model for RawExpr {
 }
 
 impl RawExpr {
-    ghost use Rattle.std.specs.Prelude.{◌≡◌, ◌≤◌};
-    ghost use Rattle.cov_expr.specs.Formula.{part_count};
+    ghost use Rattle.std.specs.Prelude.{◌≡◌, ◌≤◌, length, IfOk};
+    ghost use Rattle.cov_expr.specs.Formula.{part_count, reach};
     ghost use Rattle.cov_expr.specs.Naming.{bound_expression, IsBound};
 
     pub(crate) fn new(tree: Tree) -> RawExpr
@@ -40,7 +40,8 @@ impl RawExpr {
     /// The expression with options in place of their names; `UnknownOption` has the first name, from the left, that no
     /// option has.
     pub fn bind(&self, alloc: Global, options: &Options) -> Result<Expr, NameFault>
-        ensures { IsBound (bound_expression options.now.names self.now) result }
+        ensures answer { IsBound (bound_expression options.now.names self.now) result }
+        ensures within { IfOk result (λ expr. reach expr ≤ length options.now.names) }
     {
         match bind_tree(alloc, &self.tree, options) {
             Ok(part) => Ok(Expr::from_part(part)),
