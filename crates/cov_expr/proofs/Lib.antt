@@ -5,6 +5,7 @@ pub mod FullChoices
 pub mod Gathering
 pub mod Lexing
 pub mod ListLemmas
+pub mod NameLemmas
 pub mod Parsing
 pub mod PartCounts
 pub mod PartialLemmas

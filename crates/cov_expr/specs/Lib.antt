@@ -2,7 +2,9 @@ pub mod Binding
 pub mod ChoiceText
 pub mod Formula
 pub mod Grammar
+pub mod Laws
 pub mod Lexemes
+pub mod Naming
 pub mod Options
 pub mod Parsing
 pub mod Partials

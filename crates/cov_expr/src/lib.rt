@@ -3,6 +3,8 @@
 
 mod binding;
 mod expr;
+mod laws;
+mod naming;
 mod options;
 mod part;
 mod partial;
@@ -16,6 +18,8 @@ mod tree;
 
 pub use binding::BindFault;
 pub use expr::{Expr, TooManyParts};
+pub use laws::{reading_follows_grammar, tokens_spell_one_expression};
+pub use naming::NameFault;
 pub use options::Options;
 pub use part::Part;
 pub use partial::Partial;

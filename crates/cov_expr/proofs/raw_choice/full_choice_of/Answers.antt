@@ -1,4 +1,4 @@
-use Rattle.std.proofs.Common.{◌≡◌, ◌&&◌, ◌+◌, Bool, Some, drop, map, not, length, slice_get, ap, sym, refl, ◌∙◌, false, true, arith}
+use Rattle.std.proofs.Common.{◌≡◌, ◌&&◌, ◌+◌, Some, drop, map, length, slice_get, ap, sym, refl, ◌∙◌, false, true, arith}
 use Rattle.std.proofs.lemmas.Bool.{not-true, not-false}
 use Rattle.std.specs.Str.{bytes_eq}
 use Rattle.std.specs.Cmp.Lexicographic.{pointwise}
