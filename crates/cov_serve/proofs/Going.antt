@@ -4,14 +4,19 @@ use Rattle.std.specs.Prelude.{if◌then◌else◌, length}
 use Rattle.std.specs.Str.{bytes_eq}
 use Rattle.std.specs.List.{list_any}
 use Rattle.cov_base.specs.Lines.{lines_of}
+use Rattle.cov_expr.specs.Binding.{full_choice}
+use Rattle.cov_expr.specs.Formula.{Formula}
+use Rattle.cov_expr.specs.Naming.{bound_expression}
+use Rattle.cov_expr.specs.Validity.{first_false}
+use Rattle.cov_expr.specs.declared.naming.NameFault.{NameFault}
 use Rattle.cov_io.specs.Progress.{Progress}
 use Rattle.cov_serve.specs.Outcome.{Outcome, answers}
-use Rattle.cov_serve.specs.Step.{State, step, served, refused, declared_in}
+use Rattle.cov_serve.specs.Step.{State, bound_in, completed_in, judged, served, step}
 use Rattle.cov_serve.specs.Reading.{form_of}
 use Rattle.cov_serve.specs.Turns.{EndsWith, GoesOn, IsWhole, ServesFirst, Turns, WritesFront, ahead_of, answer_of, is_refusal, status_at_end}
 use Rattle.cov_serve.specs.declared.answer.Answer.{Answer}
 use Rattle.cov_serve.specs.declared.form.Form.{Form}
-use Rattle.cov_serve.specs.declared.form.Form.TheVariants.{Silent, Declaration, TooLong, Unknown}
+use Rattle.cov_serve.specs.declared.form.Form.TheVariants.{Silent, Declaration, Constraint, Completion, TooLong, Unknown}
 use Rattle.cov_serve.specs.declared.status.Status.{Status}
 use Rattle.cov_serve.specs.declared.turn.Turn.TheVariants.{Ended, Served}
 
@@ -23,10 +28,24 @@ either_says : (b : Bool) (x y : Outcome State) → SaysRefusal x → SaysRefusal
 either_says true x y p q = p
 either_says false x y p q = q
 
+bound_says : (state : State) (bound : Result (Formula ℕ) NameFault) → SaysRefusal (bound_in state bound)
+bound_says state (Ok expr) = either_says (nat_le 256 (length state.constraints)) _ _ refl refl
+bound_says state (Err fault) = refl
+
+judged_says : (state : State) (choice : List Bool) (broken : Option ℕ) → SaysRefusal (judged state choice broken)
+judged_says state choice (Some rule) = refl
+judged_says state choice None = refl
+
+completed_says : (state : State) (choice : Option (List Bool)) → SaysRefusal (completed_in state choice)
+completed_says state None = refl
+completed_says state (Some choice) = judged_says state choice (first_false state.constraints choice)
+
 form_says : (state : State) (form : Form) → SaysRefusal (served state form)
 form_says state Silent = refl
 form_says state (Declaration name) =
     either_says (nat_le 64 (length state.options)) _ _ refl (either_says (list_any (bytes_eq name) state.options) _ _ refl refl)
+form_says state (Constraint expr) = bound_says state (bound_expression state.options expr)
+form_says state (Completion bindings) = completed_says state (full_choice state.options bindings)
 form_says state TooLong = refl
 form_says state Unknown = refl
 

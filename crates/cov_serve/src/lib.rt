@@ -6,6 +6,7 @@ mod code;
 mod form;
 mod line;
 mod program;
+mod reply;
 mod server;
 mod status;
 mod turn;

@@ -46,7 +46,7 @@ fn expect(rt: &impl Abort, alloc: Global, setting: Setting, case: Case) -> Resul
     Ok(())
 }
 
-const CASES: [Case; 4] = [
+const CASES: [Case; 7] = [
     (
         b"option a\noption b\n",
         b"ok option 0\nok option 1\n",
@@ -58,6 +58,21 @@ const CASES: [Case; 4] = [
         Status::SomeRefused,
     ),
     (b"", b"", Status::Done),
+    (
+        b"option a\noption b\nconstraint !(a & b)\ncomplete a=on,b=off\n",
+        b"ok option 0\nok option 1\nok constraint 1\nok a=on,b=off\n",
+        Status::Done,
+    ),
+    (
+        b"option a\noption b\nconstraint !(a & b)\ncomplete a=on,b=on\n",
+        b"ok option 0\nok option 1\nok constraint 1\nrefused invalid 1\n",
+        Status::SomeRefused,
+    ),
+    (
+        b"complete -\noption a\noption b\nconstraint a | b\nconstraint a & !b\ncomplete a=off,b=off\ncomplete b=on,a=on\ncomplete a=on\ncomplete a=on,b=off,a=on\ncomplete a=on,c=off\nconstraint c\nconstraint  a&(b|a )\nconstraint a &\ncomplete a=on,b=off",
+        b"ok -\nok option 0\nok option 1\nok constraint 1\nok constraint 2\nrefused invalid 1\nrefused not-built\nrefused not-built\nrefused not-built\nrefused not-built\nrefused not-built\nok constraint 3\nrefused not-built\nok a=on,b=off\n",
+        Status::SomeRefused,
+    ),
     (
         b"\n# note\noptoin a\noption\noption a b\noption 9x\noption a\noption a\r\noption for\n\xff\xfe",
         b"refused not-built\nrefused not-built\nrefused not-built\nrefused not-built\nok option 0\nrefused not-built\nrefused not-built\nrefused not-built\n",
@@ -98,6 +113,45 @@ fn limits_are_kept(rt: HostRuntime) -> Result<(), Fail> {
         alloc,
         SERVED,
         (&too_long, b"refused long\n", Status::SomeRefused),
+    )
+}
+
+#[test]
+fn constraints_are_limited(rt: HostRuntime) -> Result<(), Fail> {
+    let alloc = rt.alloc();
+    let mut script = String::from_str(alloc, "option a\n")?;
+    let mut written = String::from_str(alloc, "ok option 0\n")?;
+    for number in 1..257u32 {
+        script.push_str("constraint a\n")?;
+        writeln!(written, "ok constraint {number}")?;
+    }
+    script.push_str("constraint a\nconstraint b\nconstraint a a\ncomplete a=off\n")?;
+    written.push_str("refused full\nrefused not-built\nrefused not-built\nrefused invalid 1\n")?;
+    let case = (script.as_bytes(), written.as_bytes(), Status::SomeRefused);
+    expect(&rt, alloc, SERVED, case)
+}
+
+#[test]
+fn long_expressions_are_no_form(rt: HostRuntime) -> Result<(), Fail> {
+    let alloc = rt.alloc();
+    let mut script = String::from_str(alloc, "option a\nconstraint ")?;
+    for _ in 0..255u32 {
+        script.push('!')?;
+    }
+    script.push_str("a\nconstraint ")?;
+    for _ in 0..256u32 {
+        script.push('!')?;
+    }
+    script.push_str("a\nconstraint ")?;
+    for _ in 0..8000u32 {
+        script.push('(')?;
+    }
+    let written: &[u8] = b"ok option 0\nok constraint 1\nrefused not-built\nrefused not-built\n";
+    expect(
+        &rt,
+        alloc,
+        SERVED,
+        (script.as_bytes(), written, Status::SomeRefused),
     )
 }
 
