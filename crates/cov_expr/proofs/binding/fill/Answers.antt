@@ -1,4 +1,4 @@
-use Rattle.std.proofs.Common.{◌≡◌, ◌<◌, ◌∙◌, true, is_some, length, take, sym, ap, subst, None, nat_lt, arith}
+use Rattle.std.proofs.Common.{◌<◌, ◌∙◌, is_some, length, take, sym, ap, None, arith}
 use Rattle.std.proofs.lemmas.Grind.{common_steps}
 use Rattle.std.proofs.lemmas.List.{take_all, length-set}
 use Rattle.std.proofs.lemmas.List.FromFn.{fill_by_all}

@@ -1,4 +1,4 @@
-use Rattle.std.proofs.Common.{◌++◌, ◌+◌, ◌∷◌, [], ◌<◌, drop, length, ap, ◌∙◌, arith}
+use Rattle.std.proofs.Common.{◌++◌, ◌+◌, drop, ap, ◌∙◌, arith}
 use Rattle.cov_base.specs.Choices.{is_on}
 use Rattle.cov_expr.specs.Options.{option_name}
 use Rattle.cov_expr.specs.ChoiceText.{binding_text, binding_texts}

@@ -1,4 +1,4 @@
-use Rattle.std.proofs.Common.{sym, ap, ◌∙◌, nat_eq, ◌∷◌}
+use Rattle.std.proofs.Common.{sym, ◌∙◌, nat_eq, ◌∷◌}
 use Rattle.std.specs.List.{slice_split}
 use Rattle.std.proofs.lemmas.List.Splits.{slice_split_first}
 use Rattle.cov_expr.proofs.SplitLemmas.{slice_split-absent}

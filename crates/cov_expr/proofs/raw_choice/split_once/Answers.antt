@@ -1,4 +1,4 @@
-use Rattle.std.proofs.Common.{sym, ap, nat_eq, take, drop, ◌+◌, arith}
+use Rattle.std.proofs.Common.{sym, ap, nat_eq, take, arith}
 use Rattle.std.proofs.lemmas.Grind.{common_steps}
 use Rattle.cov_expr.proofs.SplitLemmas.{position_or_len-found}
 use Rattle.cov_expr.proofs.raw_choice.split_once.Goals as goal
