@@ -1,4 +1,5 @@
 pub mod Examples
+pub mod Inserting
 pub mod Ordered
 pub mod Paths
 pub mod Placing

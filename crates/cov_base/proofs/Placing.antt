@@ -117,7 +117,7 @@ module _ {X : Type 0} (address : X → List ℕ) where
   order-insert t n anchor new ks table below own link o lines (inl e) =
       let at_head : address new ≡ suc n ∷ [] = own ∙ link ∙ ap (λ a. address_in t a ++ suc n ∷ []) e in
       placed-at_head address (number_by address) new (suc n) ks at_head
-      (all-map (λ k. IsLineOf t n (address k)) (λ k. (0 < length (address k)) × AllByRecursion (λ m. m < suc n) (address k)) (λ k h. inside t n (address k) table below h) ks lines)
+      (all-map (λ k. IsLineOf t n (address k)) (λ k. (0 < length (address k)) × AllByRecursion (λ m. m < suc n) (address k)) (λ k h. inside t n (address k) table (omega (arith, below)) h) ks lines)
       ∙ ap (λ a. after_anchor_by (number_by address) a new ks) (sym e)
   order-insert t n zero new ks table below own link o lines (inr h) =
       absurd (at_one (λ k. nat_eq (number_by address k) 0) ⊥ ks h
@@ -128,7 +128,7 @@ module _ {X : Type 0} (address : X → List ℕ) where
       (own ∙ link ∙ ap (λ m. address_in t (suc anchor) ++ m ∷ []) (sym number))
       o
       (all-map (λ k. IsLineOf t n (address k)) (λ k. AllByRecursion (λ m. m < number_by address new) (address k))
-      (λ k l. subst (λ m. AllByRecursion (λ i. i < m) (address k)) (sym number) (inside t n (address k) table below l).1) ks lines)
+      (λ k l. subst (λ m. AllByRecursion (λ i. i < m) (address k)) (sym number) (inside t n (address k) table (omega (arith, below)) l).1) ks lines)
       (all-map (λ k. IsLineOf t n (address k)) (λ k. number_by address k ≡ suc anchor → address k ≡ address_in t (suc anchor))
       (λ k l e. one_address t n (suc anchor) (address k) table (omega (arith, below)) l e) ks lines)
       h

@@ -16,7 +16,7 @@ pub line_of-in : (t : List (List ℕ)) (x : ℕ) → IsTable t → x < length t 
 line_of-in t x table h = let e = table x h in ap line_of e.1 ∙ line_of-last e.0 (suc x)
 
 -- the address of a line below n of a table isn't empty, and its numbers are at most n
-pub inside : (t : List (List ℕ)) (n : ℕ) (address : List ℕ) → IsTable t → n < length t → IsLineOf t n address → (0 < length address) × AllByRecursion (λ m. m < suc n) address
+pub inside : (t : List (List ℕ)) (n : ℕ) (address : List ℕ) → IsTable t → n ≤ length t → IsLineOf t n address → (0 < length address) × AllByRecursion (λ m. m < suc n) address
 inside t n address table below line =
     let e = table line.0 (omega (arith, below, line.1)) in
     let less : line.0 < n = line.1 in

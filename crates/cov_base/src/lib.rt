@@ -16,3 +16,6 @@ pub use name::{Name, Path};
 pub use number::{Kind, LineNo, LineRef, NodeNo, NodeRef, OptionId, Position};
 pub use option_name::{OptionName, is_first_byte, is_word_byte, spells_word};
 pub use steps::{Counted, Ledger, Steps, Uncounted};
+
+#[cfg(test)]
+mod tests;

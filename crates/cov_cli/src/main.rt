@@ -5,7 +5,7 @@ use cov_base::{Memory, Text, Texts};
 use cov_io::{StdSink, StdSource};
 use cov_serve::{Status, run};
 use std::alloc::Global;
-use std::env;
+use std::env::{self, Args};
 use std::io::ErrorKind;
 use std::process::ExitCode;
 
@@ -26,15 +26,15 @@ fn serve(rt: &HostRuntime, words: &Texts) -> Status {
 // The words after the program's name. Words that can't be told are of no form, and so is no word.
 fn words(rt: &HostRuntime) -> Result<Texts, Memory> {
     match env::args(rt) {
-        Ok(args) => texts(rt.alloc(), args.skip(1)),
+        Ok(args) => texts(rt.alloc(), args),
         Err(error) if error.kind() == ErrorKind::OutOfMemory => Err(Memory),
         Err(_) => Ok(Texts::new(rt.alloc())),
     }
 }
 
-fn texts(alloc: Global, args: impl Iterator<Item = String>) -> Result<Texts, Memory> {
+fn texts(alloc: Global, args: Args) -> Result<Texts, Memory> {
     let mut texts = Texts::new(alloc);
-    for arg in args {
+    for arg in args.skip(1) {
         texts.push(Text::from(arg))?;
     }
     Ok(texts)

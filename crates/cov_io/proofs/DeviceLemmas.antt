@@ -1,9 +1,9 @@
 -- What is read from the front of a text, and written in parts.
-use Rattle.std.proofs.Common.{◌≡◌, ℕ, ◌+◌, ◌-◌, ◌<◌, ◌≤◌, List, [], ◌∷◌, ◌++◌, length, take, drop, Option, Some, None, refl, sym, ◌∙◌, ap, arith, append_assoc, append-nil, length-take, length-drop}
-use Rattle.std.specs.Io.KnownBytes.{Appends, Keeps}
+use Rattle.std.proofs.Common.{◌≡◌, ℕ, ◌+◌, ◌-◌, ◌≤◌, List, ◌++◌, length, take, drop, Option, Some, None, sym, ◌∙◌, ap, arith, append_assoc, length-take, length-drop}
+use Rattle.std.specs.Io.KnownBytes.{Appends}
 use Rattle.std.proofs.lemmas.List.{take-append-le, take-append-drop, take_all, take_rest}
 use Rattle.std.proofs.lemmas.List.Folds.{drop_split}
-use Rattle.cov_io.specs.Devices.{AppendsAll, AppendsSome}
+use Rattle.cov_io.specs.Devices.{AppendsAll}
 
 -- a buffer whose front was overwritten by the front of what is left
 pub front_read : (bytes into : List ℕ) (at n : ℕ) → at + n ≤ length bytes
@@ -22,18 +22,6 @@ appends_more first more (Some old) (Some mid) None all appends = absurd appends
 appends_more first more (Some old) (Some mid) (Some new) all appends =
     let same : mid ≡ old ++ first = cc in
     ap (λ t. Some t) (appends ∙ ap (λ t. t ++ more) same ∙ append_assoc old first more)
-
--- what was written, and then kept
-pub appends_kept : (first : List ℕ) (old mid new : Option (List ℕ)) → AppendsAll first old mid → Keeps mid new → AppendsAll first old new
-appends_kept first None mid new all keeps = tt
-appends_kept first (Some old) None new all keeps = absurd (cc)
-appends_kept first (Some old) (Some mid) None all keeps = absurd keeps
-appends_kept first (Some old) (Some mid) (Some new) all keeps = ap (λ t. Some t) keeps ∙ all
-
--- what was written of all
-pub appends_some : (first rest all : List ℕ) (old new : Option (List ℕ)) → all ≡ first ++ rest → AppendsAll first old new → AppendsSome all old new
-appends_some first rest all None new parts appends = tt
-appends_some first rest all (Some old) new parts appends = (first, rest, parts, appends)
 
 -- the parts of all, with n bytes more in the first of them
 pub parts_more : (all first rest : List ℕ) (n : ℕ) → all ≡ first ++ rest → all ≡ (first ++ take n rest) ++ take (length rest - n) (drop n rest)

@@ -1,12 +1,11 @@
 -- The steps of one call for an item.
-use Rattle.std.proofs.Common.{◌≡◌, ◌≢◌, ℕ, zero, suc, ◌+◌, ◌-◌, ◌^◌, ◌<◌, ◌≤◌, Bool, true, false, List, [], ◌∷◌, ◌++◌, length, take, Option, Some, None, refl, sym, ◌∙◌, ap, subst, arith, append_assoc, append-nil, length-append}
-use Rattle.std.specs.Prelude.{All}
-use Rattle.std.specs.Io.KnownBytes.{Consumes, IsAtEnd}
-use Rattle.std.proofs.lemmas.List.Elements.{All-append, All-nil}
+use Rattle.std.proofs.Common.{◌≡◌, ◌≢◌, ℕ, ◌+◌, ◌<◌, Bool, true, false, List, [], ◌∷◌, ◌++◌, length, Option, Some, None, refl, sym, ◌∙◌, ap, subst, arith, append_assoc, append-nil, length-append}
+use Rattle.std.specs.Io.KnownBytes.{Consumes}
+use Rattle.std.proofs.lemmas.List.Elements.{All-append}
 use Rattle.cov_base.specs.Causes.{Rose}
 use Rattle.cov_base.specs.Lines.{lines_of}
 use Rattle.cov_io.specs.Devices.{Reads}
-use Rattle.cov_io.specs.Progress.{Progress, TracksEnd, IsBounded, CountsGiven, potential}
+use Rattle.cov_io.specs.Progress.{Progress, TracksEnd, IsBounded, potential}
 use Rattle.cov_io.specs.Items.{Gives, GivesTold, IsShort, IsUnterminated, Shrinks}
 use Rattle.cov_io.specs.Walk.{IsWithin, Holds, TakesPiece, ReachesEnd, Account, Took, Walks, Arrives, item_of, last_item}
 use Rattle.cov_io.specs.declared.buffer.Piece.TheVariants.{Ended, Open}
@@ -14,6 +13,7 @@ use Rattle.cov_io.specs.declared.reading.Item.{Item}
 use Rattle.cov_io.specs.declared.reading.Item.TheVariants.{End}
 use Rattle.cov_io.proofs.LineLemmas.{lines_of-ended, lines_of-last}
 
+-- how far the reading has come, by its parts
 abbrev pub progress : List ℕ → ℕ → Bool → Progress
 progress ahead taken ended = record { ahead = ahead; taken = taken; ended = ended }
 
@@ -23,15 +23,18 @@ consumes_zero None later n bytes e read = tt
 consumes_zero (Some l) None n bytes e read = absurd read
 consumes_zero (Some l) (Some m) n bytes e read = rw e at read.0
 
+-- the same read met the end
 pub end_at_zero : (left later : Option (List ℕ)) (n : ℕ) (bytes : List ℕ) → n ≡ 0 → Reads n bytes left later → ReachesEnd left later
 end_at_zero None later n bytes e read = tt
 end_at_zero (Some l) None n bytes e read = absurd read
 end_at_zero (Some l) (Some m) n bytes e read = sym (consumes_zero (Some l) (Some m) n bytes e read) ∙ read.1 e
 
+-- nothing came
 consumes_none : (left : Option (List ℕ)) → Consumes left left []
 consumes_none None = tt
 consumes_none (Some l) = refl
 
+-- two reads came to one
 consumes_both : (a b c : Option (List ℕ)) (first second : List ℕ) → Consumes a b first → Consumes b c second → Consumes a c (first ++ second)
 consumes_both None b c first second one two = tt
 consumes_both (Some l) None c first second one two = absurd one
@@ -39,6 +42,7 @@ consumes_both (Some l) (Some m) None first second one two = absurd two
 consumes_both (Some l) (Some m) (Some n) first second one two =
     one ∙ ap (λ t. first ++ t) two ∙ sym (append_assoc first second n)
 
+-- the end is known over two steps
 tracks_both : (a b c : Bool) (p q r : ℕ) → TracksEnd a b p q → TracksEnd b c q r → TracksEnd a c p r
 tracks_both a true c p q r one two = record {
   later = omega (arith, one.later, two.later);
@@ -86,22 +90,27 @@ took_ahead came old ahead ahead' taken ended before after took = record {
   bounded = took.bounded;
 }
 
+-- what is held is short
 short_of : (held : Option (List ℕ)) (line : List ℕ) → Holds held line → IsShort (item_of held)
 short_of (Some l) line holds = rw holds.0 holds.1
 short_of None line holds = tt
 
+-- what is held has no end
 unterminated_of : (held : Option (List ℕ)) (line : List ℕ) → Holds held line → IsWithin line → IsUnterminated (item_of held)
 unterminated_of (Some l) line holds within = subst IsWithin (sym holds.0) within
 unterminated_of None line holds within = tt
 
+-- an item of what is held makes the bound fall
 shrinks_of : (held : Option (List ℕ)) (old new : Progress) → potential new < potential old → Shrinks old new (item_of held)
 shrinks_of (Some l) old new less = less
 shrinks_of None old new less = less
 
+-- the item of what is held is the first line
 gives_of : (held : Option (List ℕ)) (line text rest : List ℕ) → Holds held line → lines_of text ≡ line ∷ lines_of rest → Gives text rest (item_of held)
 gives_of (Some l) line text rest holds lines = rw holds.0 (lines, holds.1)
 gives_of None line text rest holds lines = (line, lines, holds)
 
+-- the item of told bytes
 gives_told : (left later : Option (List ℕ)) (came : List ℕ) (old new : Progress) (item : Item) → Consumes left later came
     → ((l m : List ℕ) → left ≡ Some l → later ≡ Some m → l ≡ came ++ m → Gives (old.ahead ++ l) (new.ahead ++ m) item)
     → GivesTold old new left later item
@@ -128,6 +137,7 @@ arrived held line came old new before after within holds took fewer lines = reco
   took = took;
 }
 
+-- the text up to the byte 10 that was met
 text_at_end : (ahead came piece a more a' left later : List ℕ)
     → ahead ++ came ≡ piece ++ a → a ≡ more ++ 10 ∷ a' → left ≡ came ++ later
     → ahead ++ left ≡ (piece ++ more) ++ 10 ∷ (a' ++ later)
@@ -177,6 +187,7 @@ line_filled line old mid new before between after walks empty took = record {
   took = took_both walks.came new.ahead old mid new before between after walks.took took;
 }
 
+-- nothing is left at the end
 none_left : (first second third : Option (List ℕ)) (came left later : List ℕ)
     → Consumes first second came → ReachesEnd second third → first ≡ Some left → third ≡ Some later → later ≡ []
 none_left None second third came left later consumes ends is is' = absurd (cc)
@@ -227,6 +238,7 @@ last (Some (b ∷ bs)) (p ∷ ps) came old new before after within holds took jo
 last None (p ∷ ps) came old new before after within holds took joined empty ends =
     last_line None p ps came old new before after within holds took joined empty ends
 
+-- the end of input was met
 pub line_last : (line : Option (List ℕ)) (old mid new : Progress) (before between after : Account)
     → Walks line old mid before between → mid.ahead ≡ [] → new.ahead ≡ [] → Took [] mid new between after
     → ReachesEnd between.left after.left

@@ -45,6 +45,7 @@ pub record Account : Type 0 where
   pub faults : ℕ
   pub ends : ℕ
 
+-- a source's account of these parts
 abbrev pub account : Option (List ℕ) → ℕ → ℕ → ℕ → Account
 account left given faults ends = record { left = left; given = given; faults = faults; ends = ends }
 

@@ -25,6 +25,7 @@ pub(crate) enum Piece {
     Open(Option<Text>),
 }
 
+/// A block of bytes, of which a range is pending.
 #[derive(Debug, Drop)]
 pub(crate) struct Buffer {
     bytes: Vec<u8>,

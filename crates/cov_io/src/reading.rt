@@ -72,7 +72,8 @@ impl Lines {
         })
     }
 
-    /// The next line. After `End` a further call reads again.
+    /// The next line. After `End` a further call reads again. `TooMuch` comes where more would have
+    /// to be read after 2^32 bytes, `Memory` also where that is so after 2^63 bytes and an end.
     pub fn next<S: Source>(&mut self, source: &mut S) -> Result<Item, LineFault>
         ensures items { IfOk result (GivesTold self.old self.new (S.left source.old) (S.left source.new)) }
         ensures short { IfOk result IsShort }
@@ -93,6 +94,7 @@ impl Lines {
         self.gather(source)
     }
 
+    /// Takes pieces of one line until its end or the end of input.
     fn gather<S: Source>(&mut self, source: &mut S) -> Result<Item, LineFault>
         ensures { let before = account (S.left source.old) (S.given source.old) (S.faults source.old) (S.ends source.old) in
             let after = account (S.left source.new) (S.given source.new) (S.faults source.new) (S.ends source.new) in
@@ -142,6 +144,7 @@ impl Lines {
     }
 }
 
+/// The item of a line, None being one that is too long.
 fn item_of(line: Option<Text>) -> Item
     ensures { result ≡ item_of line }
 {
@@ -151,6 +154,7 @@ fn item_of(line: Option<Text>) -> Item
     }
 }
 
+/// The item of what stands before the end of input, which is a line only where it isn't empty.
 fn last_item(line: Option<Text>) -> Item
     ensures { result ≡ last_item line }
 {

@@ -1,5 +1,4 @@
-// Devices over std's readers and writers. What these give and take is what std says of them, and
-// over a file or a terminal that is nothing: there the bytes are trusted.
+// Devices over std's readers and writers.
 ghost use Rattle.std.specs.Prelude.{◌≡◌, OnOk, OnErr};
 ghost use Rattle.cov_io.specs.Devices.{AppendsAll, AppendsSome};
 
@@ -8,8 +7,10 @@ use crate::{Sink, Source};
 use cov_base::Failed;
 use std::io::{Read, Write};
 
-/// A source over a reader. A read whose bytes could pass the greatest count fails; that a reader
-/// gives no more than the buffer holds is a clause of std's `Read`.
+/// A source over a reader, of which each error is a fault. It tells the bytes that the reader tells:
+/// all of them over a slice, and none over a file, a pipe or a terminal, where what the system gives
+/// is trusted to be the input. That a reader answers no more than the buffer holds is a clause of
+/// std's `Read`. A read that could pass the greatest count of bytes fails before the reader is asked.
 #[derive(Debug, Drop)]
 pub struct StdSource<R> {
     reader: R,
@@ -62,7 +63,9 @@ impl<R: Read> Source for StdSource<R> {
     }
 }
 
-/// A sink over a writer, which is flushed behind each `put`.
+/// A sink over a writer, which writes and flushes in each `put`, and of which each error is a fault.
+/// It tells the bytes that the writer tells: none over a file, a pipe or a terminal, where what was
+/// written is trusted to arrive.
 #[derive(Debug, Drop)]
 pub struct StdSink<W> {
     writer: W,

@@ -57,9 +57,9 @@ goes_on start text before state next was is answer ahead ahead' written written'
     let later : Outcome State = answers step next (lines_of s.rest) in
     let split : (answers step state (lines_of so_far.rest)) ≡ (answers step state (s.line ∷ lines_of s.rest)) = ap (answers step state) s.lines in
     let replies : (answers step state (lines_of so_far.rest)).reply ≡ now.reply ++ later.reply =
-        ap (λ (o : Outcome State). o.reply) split ∙ ap (λ st. now.reply ++ (answers step st (lines_of s.rest)).reply) (sym s.served.state_is) in
+    ap (λ (o : Outcome State). o.reply) split ∙ ap (λ st. now.reply ++ (answers step st (lines_of s.rest)).reply) (sym s.served.state_is) in
     let refusals : (answers step state (lines_of so_far.rest)).is_refused ≡ (now.is_refused || later.is_refused) =
-        ap (λ (o : Outcome State). o.is_refused) split ∙ ap (λ st. now.is_refused || (answers step st (lines_of s.rest)).is_refused) (sym s.served.state_is) in
+    ap (λ (o : Outcome State). o.is_refused) split ∙ ap (λ st. now.is_refused || (answers step st (lines_of s.rest)).is_refused) (sym s.served.state_is) in
     let said : is_refusal answer ≡ now.is_refused = ap is_refusal s.served.answer_is ∙ step_says state s.line in
     record {
       rest = s.rest;
@@ -79,9 +79,9 @@ pub ended : (start : State) (text before : List ℕ) (state : State) (was : Bool
 ended start text before state was ahead ahead' written written' so_far turn =
     let t : (so_far.rest ≡ []) × (ahead' ≡ Some []) × (written' ≡ Some (before ++ so_far.bytes)) = turn so_far.rest (before ++ so_far.bytes) so_far.ahead_is so_far.written_is in
     let replies : (answers step start (lines_of text)).reply ≡ so_far.bytes =
-        so_far.replies ∙ ap (λ r. so_far.bytes ++ (answers step state (lines_of r)).reply) t.0 ∙ append_nil so_far.bytes in
+    so_far.replies ∙ ap (λ r. so_far.bytes ++ (answers step state (lines_of r)).reply) t.0 ∙ append_nil so_far.bytes in
     let refusals : (answers step start (lines_of text)).is_refused ≡ was =
-        so_far.refusals ∙ ap (λ r. was || (answers step state (lines_of r)).is_refused) t.0 ∙ or_false was in
+    so_far.refusals ∙ ap (λ r. was || (answers step state (lines_of r)).is_refused) t.0 ∙ or_false was in
     (t.1, t.2 ∙ ap (λ xs. Some (before ++ xs)) (sym replies), refusals)
 
 -- what is written whole is a front

@@ -55,7 +55,7 @@ line_turn state text before line old new (Some left) None out written r given ah
 line_turn state text before line old new (Some left) (Some later) out written r given ahead told served all some =
     let here : old.ahead ++ left ≡ text = cc in
     first_served state text before line (new.ahead ++ later) (Some (new.ahead ++ later)) written r
-      (rw (← here) given.0) refl served (rw told at all) (rw told at some)
+    (rw (← here) given.0) refl served (rw told at all) (rw told at some)
 
 -- a line that a reader skipped was refused
 pub long_turn : (state : State) (text before : List ℕ) (old new : Progress) (left later out written : Option (List ℕ)) (r : Result (State × Answer) Status)
@@ -72,7 +72,7 @@ long_turn state text before old new (Some left) (Some later) out written r given
     let here : old.ahead ++ left ≡ text = cc in
     let skipped : refused state Long ≡ step state given.0 = sym (long_step state given.0 given.2) in
     first_served state text before given.0 (new.ahead ++ later) (Some (new.ahead ++ later)) written r
-      (rw (← here) given.1) refl
-      (subst (λ (o : Outcome State). IfOk r (λ next. IsServed o next.0 next.1)) skipped is)
-      (subst (λ (o : Outcome State). OnOk r (AppendsAll o.reply (Some before) written)) skipped (rw told at all))
-      (subst (λ (o : Outcome State). OnErr r (AppendsSome o.reply (Some before) written)) skipped (rw told at some))
+    (rw (← here) given.1) refl
+    (subst (λ (o : Outcome State). IfOk r (λ next. IsServed o next.0 next.1)) skipped is)
+    (subst (λ (o : Outcome State). OnOk r (AppendsAll o.reply (Some before) written)) skipped (rw told at all))
+    (subst (λ (o : Outcome State). OnErr r (AppendsSome o.reply (Some before) written)) skipped (rw told at some))

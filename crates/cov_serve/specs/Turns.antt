@@ -23,6 +23,7 @@ answer_of outcome = by_reply outcome.reply outcome.is_refused
     by_refusal : Bool → Answer
     by_refusal true = Refused
     by_refusal false = Accepted
+
     by_reply : List ℕ → Bool → Answer
     by_reply [] is_refused = Nothing
     by_reply (b ∷ bs) is_refused = by_refusal is_refused

@@ -2,7 +2,6 @@
 ghost use Rattle.std.specs.Prelude.{◌≡◌};
 ghost use Rattle.cov_serve.specs.Replies.{code_text};
 
-
 /// The rule by which a line is refused.
 #[derive(Clone, Copy, Debug, PartialEq, Eq)]
 pub enum Code {

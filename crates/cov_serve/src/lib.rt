@@ -15,3 +15,6 @@ pub use line::serve_line;
 pub use program::run;
 pub use server::Server;
 pub use status::Status;
+
+#[cfg(test)]
+mod tests;

@@ -14,7 +14,11 @@ use cov_base::{Failed, Memory};
 use cov_io::Sink;
 
 /// Serves one line, and puts its reply in one call. At an `Err` the server is gone and the run ends.
-pub fn serve_line<K: Sink>(mut server: Server, line: &[u8], out: &mut K) -> Result<(Server, Answer), Status>
+pub fn serve_line<K: Sink>(
+    mut server: Server,
+    line: &[u8],
+    out: &mut K,
+) -> Result<(Server, Answer), Status>
     ensures served { IfOk result (λ next. IsServed (step server line.now) next.0 next.1) }
     ensures all { OnOk result (AppendsAll (step server line.now).reply (K.written out.old) (K.written out.new)) }
     ensures some { OnErr result (AppendsSome (step server line.now).reply (K.written out.old) (K.written out.new)) }

@@ -22,7 +22,12 @@ pub enum Turn {
 }
 
 // Serves the next line, if there is one.
-fn serve_next<S: Source, K: Sink>(server: Server, lines: &mut Lines, script: &mut S, out: &mut K) -> Result<Turn, Status>
+fn serve_next<S: Source, K: Sink>(
+    server: Server,
+    lines: &mut Lines,
+    script: &mut S,
+    out: &mut K,
+) -> Result<Turn, Status>
     ensures told { (text before : List ℕ) →
         ahead_of lines.old (S.left script.old) ≡ Some text → K.written out.old ≡ Some before →
         Turns server text before (ahead_of lines.new (S.left script.new)) (K.written out.new) result }
@@ -63,7 +68,12 @@ fn status_of(fault: LineFault) -> Status
 }
 
 /// Serves the lines that are ahead, to the end of the script or to the first failing call.
-pub fn serve_all<S: Source, K: Sink>(server: Server, lines: Lines, script: &mut S, out: &mut K) -> Status
+pub fn serve_all<S: Source, K: Sink>(
+    server: Server,
+    lines: Lines,
+    script: &mut S,
+    out: &mut K,
+) -> Status
     ensures prefix { (text before : List ℕ) →
         ahead_of lines (S.left script.old) ≡ Some text → K.written out.old ≡ Some before →
         WritesFront before (answers step server (lines_of text)).reply (K.written out.new) }

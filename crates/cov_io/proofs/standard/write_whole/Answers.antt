@@ -1,4 +1,4 @@
-use Rattle.std.proofs.Common.{List, ℕ, ◌++◌, take}
+use Rattle.std.proofs.Common.{◌++◌, take}
 use Rattle.cov_io.proofs.DeviceLemmas.{appends_more, parts_more}
 use Rattle.cov_io.proofs.standard.write_whole.Goals as goal
 

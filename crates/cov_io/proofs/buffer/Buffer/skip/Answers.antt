@@ -1,4 +1,4 @@
-use Rattle.std.proofs.Common.{◌+◌, ◌-◌, ◌≤◌, ap, arith, ◌∙◌, drop, length-take, length-drop, length}
+use Rattle.std.proofs.Common.{◌+◌, ◌-◌, ◌≤◌, ap, arith, ◌∙◌, drop, length-take, length}
 use Rattle.cov_io.proofs.LineLemmas.{range-skip}
 use Rattle.cov_io.proofs.buffer.Buffer.skip.Goals as goal
 

@@ -1,4 +1,4 @@
-use Rattle.std.proofs.Common.{take, sym, rules}
+use Rattle.std.proofs.Common.{take}
 use Rattle.cov_io.proofs.LineLemmas.{within_before, within_all, cut_at_end}
 use Rattle.cov_io.proofs.buffer.Buffer.take_piece.Goals as goal
 

@@ -1,4 +1,4 @@
-use Rattle.std.proofs.Common.{◌≡◌, ◌+◌, ◌≤◌, ℕ, List, length, drop, ap, arith, sym, ◌∙◌, length-drop}
+use Rattle.std.proofs.Common.{◌≡◌, ◌+◌, ◌≤◌, length, drop, ap, arith, sym, ◌∙◌, length-drop}
 use Rattle.std.proofs.lemmas.List.{nil_from_length}
 use Rattle.cov_io.specs.InMemory.{SourceState}
 use Rattle.cov_io.proofs.DeviceLemmas.{front_read}

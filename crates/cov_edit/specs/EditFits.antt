@@ -1,0 +1,20 @@
+-- What the types keep of every edit: a name well spelt, a text that a line can have.
+use Rattle.std.specs.Prelude.{ℕ, Bool, true, ◌&&◌, not, nat_eq, nat_le, List, length}
+use Rattle.std.specs.List.{list_any}
+use Rattle.cov_base.specs.Spelling.{is_name}
+use Rattle.cov_edit.specs.declared.edit.Edit.{Edit}
+use Rattle.cov_edit.specs.declared.edit.Edit.TheVariants as edits
+
+-- whether bytes can be a line's text: at most 4,096 of them, and no end of a line
+abbrev pub is_line_text : List ℕ → Bool
+is_line_text bytes = nat_le (length bytes) 4096 && not (list_any (λ b. nat_eq b 10) bytes)
+
+-- whether the text that an edit inserts, if it inserts one, can be a line's
+abbrev pub has_line_text : Edit → Bool
+has_line_text (edits.New kind parent name) = true
+has_line_text (edits.Insert file after text) = is_line_text text
+
+-- whether an edit's name is well spelt and its text can be a line's
+abbrev pub fits_edit : Edit → Bool
+fits_edit (edits.New kind parent name) = is_name name
+fits_edit (edits.Insert file after text) = is_line_text text

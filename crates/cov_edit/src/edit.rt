@@ -1,0 +1,55 @@
+// Edits of one variant, by references.
+ghost use Rattle.std.specs.Prelude.{◌≡◌, IfOk};
+ghost use Rattle.cov_edit.specs.EditFits.{has_line_text, fits_edit};
+
+use cov_base::{Kind, LineRef, Memory, Name, NodeRef, Text};
+use std::alloc::Global;
+
+/// One edit of a variant. The text of a line has at most 4,096 bytes and no byte 10.
+#[derive(Debug, Drop)]
+pub enum Edit {
+    /// Makes a file or directory in a directory.
+    New {
+        kind: Kind,
+        parent: NodeRef,
+        name: Name,
+    },
+    /// Makes a line directly after another, or first where that is the head, line 0.
+    Insert {
+        file: NodeRef,
+        after: LineRef,
+        text: Text,
+    },
+}
+
+impl Edit {
+    /// The same edit, in memory of its own.
+    pub fn copy(&self, alloc: Global) -> Result<Edit, Memory>
+        ensures { IfOk result (λ edit. edit ≡ self.now) }
+    {
+        match self {
+            Edit::New { kind, parent, name } => Ok(Edit::New {
+                kind: *kind,
+                parent: *parent,
+                name: name.copy()?,
+            }),
+            Edit::Insert { file, after, text } => Ok(Edit::Insert {
+                file: *file,
+                after: *after,
+                text: Text::from_slice(alloc, text.as_slice())?,
+            }),
+        }
+    }
+
+    // Does nothing; it tells that a name is well spelt, which its type keeps.
+    pub(crate) fn spelling_is_kept(&self)
+        ensures { fits_edit self.now ≡ has_line_text self.now }
+    {
+        match self {
+            Edit::New { name, .. } => {
+                let _spelling = name.as_slice();
+            }
+            Edit::Insert { .. } => {}
+        }
+    }
+}

@@ -1,0 +1,92 @@
+// Expressions of a bounded size.
+ghost use Rattle.std.specs.Prelude.{◌≡◌, ◌<◌, ◌≤◌, IfOk, OnErr, length};
+ghost use Rattle.cov_expr.specs.Formula.{part_count, reach, value};
+
+use crate::part::{Part, copy_part, room_after, value_of};
+use cov_base::{Choice, Memory};
+use std::alloc::Global;
+use std::marker::Model;
+
+/// The greatest number of parts of an expression.
+const MOST_PARTS: u32 = 256;
+
+/// A part that consists of more than 256 parts, itself included.
+#[derive(Clone, Copy, Debug, PartialEq, Eq)]
+pub struct TooManyParts;
+
+/// A Boolean expression over options, of at most 256 parts.
+#[derive(Debug, Drop)]
+pub struct Expr {
+    part: Part,
+}
+
+impl Model for Expr {
+    ghost use Rattle.std.specs.Prelude.{ℕ, ◌≤◌};
+    ghost use Rattle.std.specs.Coded.{coded_ℕ};
+    ghost use Rattle.cov_expr.specs.Formula.{Formula, formula_code, part_count};
+
+    ghost Value = { Formula ℕ };
+
+    ghost coded = { formula_code coded_ℕ };
+
+    ghost use Rattle.cov_expr.specs.Parts.{formula};
+
+    ghost view = { λ e. formula e.part };
+
+    ghost invariant = { λ e. part_count (formula e.part) ≤ 256 };
+}
+
+impl Expr {
+    ghost use Rattle.cov_expr.specs.Parts.{formula};
+
+    /// The expression that the part is. `TooManyParts` comes exactly where it consists of more than 256 parts.
+    pub fn new(part: Part) -> Result<Expr, TooManyParts>
+        ensures ok { IfOk result (λ expr. expr ≡ formula part) }
+        ensures fits { IfOk result (λ expr. part_count expr ≤ 256) }
+        ensures refused { OnErr result (256 < part_count (formula part)) }
+    {
+        match room_after(&part, MOST_PARTS) {
+            Some(_) => Ok(Expr { part }),
+            None => Err(TooManyParts),
+        }
+    }
+
+    pub(crate) fn from_part(part: Part) -> Expr
+        requires { part_count (formula part) ≤ 256 }
+        ensures { result ≡ formula part }
+    {
+        Expr { part }
+    }
+
+    pub fn part(&self) -> &Part
+        ensures part { formula result.now ≡ self.now }
+        ensures fits { part_count self.now ≤ 256 }
+    {
+        &self.part
+    }
+
+    pub fn into_part(self) -> Part
+        ensures part { formula result ≡ self }
+        ensures fits { part_count self ≤ 256 }
+    {
+        let Expr { part } = self;
+        part
+    }
+
+    /// The same expression, in memory of its own.
+    pub fn copy(&self, alloc: Global) -> Result<Expr, Memory>
+        ensures { IfOk result (λ expr. expr ≡ self.now) }
+    {
+        Ok(Expr {
+            part: copy_part(alloc, &self.part)?,
+        })
+    }
+
+    /// The truth value on a choice that binds each option of the expression. Takes no memory.
+    pub fn value(&self, choice: Choice) -> bool
+        requires { reach self.now ≤ length choice }
+        ensures { result ≡ value self.now choice }
+    {
+        value_of(&self.part, &choice)
+    }
+}
