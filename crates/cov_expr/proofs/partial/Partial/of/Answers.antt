@@ -1,4 +1,4 @@
-use Rattle.std.proofs.Common.{◌++◌, ◌+◌, ◌∷◌, [], drop, ap, ◌∙◌, arith}
+use Rattle.std.proofs.Common.{◌≡◌, ◌++◌, ◌+◌, ◌∷◌, [], drop, ap, ◌∙◌, arith}
 use Rattle.std.specs.List.{enumerate_from}
 use Rattle.cov_base.specs.Choices.{is_on}
 use Rattle.cov_expr.proofs.PartialLemmas.{enumerate_more, enumerate_all, enumerated_in_order, enumerated_within}
