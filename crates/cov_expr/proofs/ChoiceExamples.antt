@@ -1,10 +1,9 @@
 -- Worked cases of options and choices.
-use Rattle.std.specs.Prelude.{◌≡◌, ℕ, Bool, true, false, List, [], ◌∷◌, Option, Some, None, Result, Ok, Err, codes, refl}
+use Rattle.std.specs.Prelude.{◌≡◌, ℕ, true, false, List, [], ◌∷◌, Some, None, Ok, Err, codes, refl}
 use Rattle.cov_expr.specs.Options.{is_declared, option_number, option_name}
 use Rattle.cov_expr.specs.ChoiceText.{bindings_of, choice_text}
 use Rattle.cov_expr.specs.Partials.{bound_value}
 use Rattle.cov_expr.specs.Binding.{bound, full_choice}
-use Rattle.cov_expr.specs.declared.binding.BindFault.{BindFault}
 use Rattle.cov_expr.specs.declared.binding.BindFault.TheVariants.{UnknownOption, Repeated}
 
 abbrev names : List (List ℕ)

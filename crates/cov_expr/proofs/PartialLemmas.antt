@@ -56,3 +56,19 @@ enumerated_in_order done c e = ap is_in_order e ∙ is_in_order-enumerate_from 0
 
 pub places_in_order : (done : List (ℕ × Bool)) (vs : List (Option Bool)) → done ≡ places_from 0 vs → is_in_order done ≡ true
 places_in_order done vs e = ap is_in_order e ∙ is_in_order-places_from 0 vs
+
+places_below : (k n : ℕ) (vs : List (Option Bool)) → k + length vs ≤ n → list_all (λ b. nat_lt b.0 n) (places_from k vs) ≡ true
+places_below k n [] h = refl
+places_below k n (None ∷ vs) h = places_below (k + 1) n vs (omega (arith, h))
+places_below k n (Some v ∷ vs) h = λ i. lt-ltb k n (omega (arith, h)) i && places_below (k + 1) n vs (omega (arith, h)) i
+
+enumerated_below : (k n : ℕ) (c : List Bool) → k + length c ≤ n → list_all (λ b. nat_lt b.0 n) (enumerate_from k c) ≡ true
+enumerated_below k n [] h = refl
+enumerated_below k n (v ∷ c) h = λ i. lt-ltb k n (omega (arith, h)) i && enumerated_below (k + 1) n c (omega (arith, h)) i
+
+-- no option at or above the count is bound
+pub places_within : (done : List (ℕ × Bool)) (vs : List (Option Bool)) → done ≡ places_from 0 vs → list_all (λ b. nat_lt b.0 (length vs)) done ≡ true
+places_within done vs e = ap (list_all (λ b. nat_lt b.0 (length vs))) e ∙ places_below 0 (length vs) vs (omega arith)
+
+pub enumerated_within : (done : List (ℕ × Bool)) (c : List Bool) → done ≡ enumerate_from 0 c → list_all (λ b. nat_lt b.0 (length c)) done ≡ true
+enumerated_within done c e = ap (list_all (λ b. nat_lt b.0 (length c))) e ∙ enumerated_below 0 (length c) c (omega arith)

@@ -25,6 +25,7 @@ first_again before (o ∷ os) = if list_any (nat_eq o) before then Some o else f
 abbrev pub first_repeated : List (ℕ × Bool) → Option ℕ
 first_repeated bindings = first_again [] (map (λ b. b.0) bindings)
 
+-- the answer by what is wrong: an unknown name, then an option bound twice, then nothing
 abbrev pub partial_unless : Option (List ℕ) → Option ℕ → List (ℕ × Bool) → Result (List (ℕ × Bool)) BindFault
 partial_unless (Some name) repeated partial = Err (faults.UnknownOption name)
 partial_unless None (Some option) partial = Err (faults.Repeated option)

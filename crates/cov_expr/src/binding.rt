@@ -79,6 +79,7 @@ pub(crate) fn gather(
     requires within { list_all (λ b. nat_lt b.0 count) bindings.now ≡ true }
     ensures once { OnOk result (first_repeated bindings.now ≡ None) }
     ensures partial { IfOk result (λ partial. partial ≡ partial_of count bindings.now) }
+    ensures below { IfOk result (λ partial. list_all (λ b. nat_lt b.0 count) partial ≡ true) }
     ensures repeated { IfErr result (IsRepetition (first_repeated bindings.now)) }
 {
     let mut values = vec![in alloc; None; count as usize]?;

@@ -1,6 +1,6 @@
 // Choices that bind some of the options.
-ghost use Rattle.std.specs.Prelude.{◌≡◌, ◌<◌, ◌≤◌, ℕ, List, Bool, true, length, IfOk};
-ghost use Rattle.std.specs.List.{enumerate_from};
+ghost use Rattle.std.specs.Prelude.{◌≡◌, ◌<◌, ◌≤◌, ℕ, List, Bool, true, nat_lt, length, IfOk};
+ghost use Rattle.std.specs.List.{enumerate_from, list_all};
 ghost use Rattle.cov_expr.specs.Partials.{is_in_order, bound_value, places_from};
 
 use cov_base::{Choice, Memory, OptionId};
@@ -28,7 +28,8 @@ impl Model for Partial {
 impl Partial {
     /// Binds what the choice binds.
     pub fn of(alloc: Global, choice: Choice) -> Result<Partial, Memory>
-        ensures { IfOk result (λ partial. partial ≡ enumerate_from 0 choice) }
+        ensures bindings { IfOk result (λ partial. partial ≡ enumerate_from 0 choice) }
+        ensures within { IfOk result (λ partial. list_all (λ b. nat_lt b.0 (length choice)) partial ≡ true) }
     {
         let mut bindings = Vec::new(alloc);
         for number in 0..choice.count() {
@@ -41,7 +42,8 @@ impl Partial {
     /// Binds each option for whose number there is a value.
     pub(crate) fn of_values(alloc: Global, values: &[Option<bool>]) -> Result<Partial, Memory>
         requires { length values.now ≤ 128 }
-        ensures { IfOk result (λ partial. partial ≡ places_from 0 values.now) }
+        ensures bindings { IfOk result (λ partial. partial ≡ places_from 0 values.now) }
+        ensures within { IfOk result (λ partial. list_all (λ b. nat_lt b.0 (length values.now)) partial ≡ true) }
     {
         let mut bindings = Vec::new(alloc);
         for (number, value) in values.iter().enumerate() {

@@ -1,7 +1,7 @@
 // Choices as they are written: bindings of names.
-ghost use Rattle.std.specs.Prelude.{◌≡◌, ◌<◌, ◌∷◌, [], ℕ, List, Bool, true, nat_eq, None, Some, map, length, position, is_some, IfSome, IfNone, IfOk, IfErr, IsErrOf};
+ghost use Rattle.std.specs.Prelude.{◌≡◌, ◌<◌, ◌∷◌, [], ℕ, List, Bool, true, nat_eq, nat_lt, None, Some, map, length, position, is_some, IfSome, IfNone, IfOk, IfErr, IsErrOf};
 ghost use Rattle.std.specs.Option.{option_map, option_copied};
-ghost use Rattle.std.specs.List.{before_first, after_first, position_or_len, slice_split};
+ghost use Rattle.std.specs.List.{before_first, after_first, list_all, position_or_len, slice_split};
 ghost use Rattle.cov_expr.specs.Binding.{bound, full_choice, IsFaultOf};
 ghost use Rattle.cov_expr.specs.ChoiceText.{switch_of, binding_of, bindings_between_commas, bindings_of};
 
@@ -53,6 +53,7 @@ impl RawChoice {
     /// are sought in the order of the text.
     pub fn bind(&self, alloc: Global, options: &Options) -> Result<Partial, BindFault>
         ensures ok { IfOk result (λ partial. bound options.now.names self.now ≡ Ok partial) }
+        ensures within { IfOk result (λ partial. list_all (λ b. nat_lt b.0 (length options.now.names)) partial ≡ true) }
         ensures refused { IfErr result (IsFaultOf (bound options.now.names self.now)) }
     {
         match resolve(alloc, self.bindings.as_slice(), options) {
@@ -64,14 +65,16 @@ impl RawChoice {
     /// The choice that the bindings are, None exactly where they don't bind each option once and in order of
     /// declaration. It takes no memory.
     pub fn bind_full(&self, options: &Options) -> Option<Choice>
-        ensures { result ≡ full_choice options.now.names self.now }
+        ensures choice { result ≡ full_choice options.now.names self.now }
+        ensures count { IfSome result (λ choice. length choice ≡ length options.now.names) }
     {
         full_choice_of(self.bindings.as_slice(), options)
     }
 }
 
 fn full_choice_of(bindings: &[(Text, bool)], options: &Options) -> Option<Choice>
-    ensures { result ≡ full_choice options.now.names bindings.now }
+    ensures choice { result ≡ full_choice options.now.names bindings.now }
+    ensures count { IfSome result (λ choice. length choice ≡ length options.now.names) }
 {
     if bindings.len() != options.count() as usize {
         return None;

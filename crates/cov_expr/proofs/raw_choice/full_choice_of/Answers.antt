@@ -12,8 +12,8 @@ loop-number-init c =
     let blank = c.new-choice.ensures ∙ ap (λ n. bits_of n 0) count in
     (blank, refl, ap length blank ∙ length-bits_of (length c.args.options.now.names) 0)
 
-pub returns-then-ne : goal.returns-then-ne
-returns-then-ne c =
+pub returns-then-ne-clause-choice : goal.returns-then-ne-clause-choice
+returns-then-ne-clause-choice c =
     let bs = c.args.bindings.now in
     let names = c.args.options.now.names in
     let number = c.loop-number.number in
@@ -44,8 +44,8 @@ loop-number-preserved c =
       ap length c.with-choice.ensures ∙ length-with_option c.loop-number.choice c.new-option.result c.index-bindings-number.result.1 ∙ c.loop-number.invariant.2,
     )
 
-pub returns : goal.returns
-returns c =
+pub returns-clause-choice : goal.returns-clause-choice
+returns-clause-choice c =
     let names = c.args.options.now.names in
     full_choice-same c.args.bindings.now names c.loop-number.choice (bits_of (length names) 0) c.loop-number.number
     (omega arith) (omega (arith, c.count.ensures.count, c.if-bindings-count.false)) (omega (arith, length-bits_of (length names) 0, c.count.ensures.count, c.if-bindings-count.false)) c.loop-number.invariant.0 c.loop-number.invariant.1
