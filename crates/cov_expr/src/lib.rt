@@ -3,6 +3,8 @@
 
 mod binding;
 mod expr;
+#[cfg(test)]
+mod expr_tests;
 mod laws;
 mod naming;
 mod options;

@@ -36,7 +36,7 @@ impl Reading {
     {
         Reading {
             outer: Vec::new(alloc),
-            level: fresh(),
+            level: level_after(None),
             operand: None,
         }
     }
@@ -76,12 +76,12 @@ impl Reading {
     }
 }
 
-// A level of which nothing was read.
-fn fresh() -> Level
-    ensures { result ≡ record { or_left = None; and_left = None; nots = 0 } }
+// A level of which only the left part of an `|` was read, if anything.
+fn level_after(or_left: Option<Tree>) -> Level
+    ensures { result ≡ record { or_left = or_left; and_left = None; nots = 0 } }
 {
     Level {
-        or_left: None,
+        or_left,
         and_left: None,
         nots: 0,
     }
@@ -112,7 +112,7 @@ fn read_operand(
             outer.push(level)?;
             Ok(Some(Reading {
                 outer,
-                level: fresh(),
+                level: level_after(None),
                 operand: None,
             }))
         }
@@ -169,15 +169,11 @@ fn settle(alloc: Global, outer: Vec<Level>, level: Level, operand: Tree) -> Resu
         and_left,
         nots,
     } = level;
-    let negated = negated(alloc, nots, operand)?;
+    let negation = negated(alloc, nots, operand)?;
     Ok(Reading {
         outer,
-        level: Level {
-            or_left,
-            and_left: None,
-            nots: 0,
-        },
-        operand: Some(and_joined(alloc, and_left, negated)?),
+        level: level_after(or_left),
+        operand: Some(and_joined(alloc, and_left, negation)?),
     })
 }
 
