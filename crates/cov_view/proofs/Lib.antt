@@ -1,0 +1,5 @@
+pub mod Changes
+pub mod Naming
+pub mod Paths
+pub mod Places
+pub mod Refusing
