@@ -1,8 +1,7 @@
 -- Rows that change.
-use Rattle.std.proofs.Common.{◌≡◌, ℕ, suc, ◌+◌, ◌<◌, ◌≤◌, Bool, true, false, cond, ◌||◌, not, nat_eq, nat_lt, List, [], ◌∷◌, ◌++◌, length, get_or, set, Option, Some, None, Result, Ok, Err, OnOk, OnErr, option_map, position, refl, sym, ap, subst, ◌∙◌, arith}
-use Rattle.std.specs.List.{find, list_any, position_or_len}
+use Rattle.std.proofs.Common.{◌≡◌, ℕ, suc, ◌+◌, ◌<◌, ◌≤◌, Bool, true, false, cond, ◌||◌, not, nat_lt, List, [], ◌∷◌, ◌++◌, length, get_or, set, Some, None, Result, Ok, Err, OnOk, OnErr, option_map, position, refl, sym, ap, subst, ◌∙◌, arith}
+use Rattle.std.specs.List.{position_or_len}
 use Rattle.std.proofs.lemmas.Bool.Decides.{nat_tests}
-use Rattle.cov_base.specs.declared.number.Kind.{Kind}
 use Rattle.cov_base.specs.declared.number.Kind.TheVariants as kinds
 use Rattle.cov_base.specs.declared.number.NodeRef.{NodeRef}
 use Rattle.cov_base.specs.declared.number.NodeRef.TheVariants as nodes
@@ -22,10 +21,11 @@ set_first node f (r ∷ rows) d h = at (same_node r.node node) h (λ k. set_firs
   where
     p : ℕ
     p = position_or_len (λ r. same_node r.node node) rows
+
     at : (b : Bool) → cond (not b) (1 + position_or_len (λ r. same_node r.node node) rows) 0 < suc (length rows)
         → (position_or_len (λ r. same_node r.node node) rows < length rows → set rows (position_or_len (λ r. same_node r.node node) rows) (f (get_or rows (position_or_len (λ r. same_node r.node node) rows) d)) ≡ at_row node f rows)
         → set (r ∷ rows) (cond (not b) (1 + position_or_len (λ r. same_node r.node node) rows) 0) (f (get_or (r ∷ rows) (cond (not b) (1 + position_or_len (λ r. same_node r.node node) rows) 0) d))
-          ≡ cond b (f r ∷ rows) (r ∷ at_row node f rows)
+        ≡ cond b (f r ∷ rows) (r ∷ at_row node f rows)
     at true k rest = refl
     at false k rest =
         let one : 1 + position_or_len (λ r. same_node r.node node) rows ≡ suc (position_or_len (λ r. same_node r.node node) rows) = omega arith in
@@ -107,12 +107,12 @@ has_row-append n (q ∷ rows) r h e =
 pub rows-append : (made : ℕ) (rows : List ViewRow) (r : ViewRow) → AreRows made rows → is_root r.node ≡ false → is_new_below made r.node ≡ true → has_row rows r.node ≡ false
     → AreRows made (rows ++ r ∷ [])
 rows-append made [] r h root below fresh = (root, below, refl, tt)
-rows-append made (q ∷ rows) r h root below fresh =
-    ( h.0
-    , h.1
-    , has_row-append q.node rows r h.2 (same_node-sym r.node q.node ∙ left (same_node q.node r.node) (has_row rows r.node) fresh)
-    , rows-append made rows r h.3 root below (right (same_node q.node r.node) (has_row rows r.node) fresh)
-    )
+rows-append made (q ∷ rows) r h root below fresh = (
+  h.0,
+  h.1,
+  has_row-append q.node rows r h.2 (same_node-sym r.node q.node ∙ left (same_node q.node r.node) (has_row rows r.node) fresh),
+  rows-append made rows r h.3 root below (right (same_node q.node r.node) (has_row rows r.node) fresh),
+)
 
 below_more : (made : ℕ) (node : NodeRef) → is_new_below made node ≡ true → is_new_below (made + 1) node ≡ true
 below_more made (nodes.Old x) h = refl

@@ -1,6 +1,6 @@
 -- References and the numbers that they name.
-use Rattle.std.proofs.Common.{◌≡◌, ℕ, zero, suc, ◌+◌, ◌<◌, ◌≤◌, Bool, true, false, cond, ◌&&◌, ◌||◌, not, nat_eq, nat_lt, nat_le, List, [], ◌∷◌, ◌++◌, length, map, Option, Some, None, is_some, option_map, refl, sym, ap, subst, ◌∙◌, arith}
-use Rattle.std.specs.List.{find, list_any, AllByRecursion}
+use Rattle.std.proofs.Common.{◌≡◌, ℕ, zero, suc, ◌+◌, ◌<◌, ◌≤◌, Bool, true, false, cond, ◌&&◌, ◌||◌, nat_eq, nat_le, List, [], ◌∷◌, map, Option, Some, None, is_some, option_map, refl, sym, ap, ◌∙◌, arith}
+use Rattle.std.specs.List.{list_any, AllByRecursion}
 use Rattle.std.specs.Str.{bytes_eq}
 use Rattle.std.proofs.lemmas.Bool.Decides.{nat_tests}
 use Rattle.cov_base.specs.declared.number.Kind.{Kind}
@@ -11,11 +11,10 @@ use Rattle.cov_base.specs.declared.number.LineRef.{LineRef}
 use Rattle.cov_base.specs.declared.number.LineRef.TheVariants as lines
 use Rattle.cov_base.specs.Rows.{Row, row_of, is_present}
 use Rattle.cov_edit.specs.Numbering.{Numbers, node_number, line_number}
-use Rattle.cov_view.specs.References.{is_root, is_head, is_dir_kind, same_node, same_line, is_known_node, is_known_line, is_made_node, is_made_line}
+use Rattle.cov_view.specs.References.{is_root, is_dir_kind, same_node, same_line, is_known_node, is_known_line, is_made_node, is_made_line}
 use Rattle.cov_view.specs.Refusals.{row_is_dir, is_dir, has_name}
 use Rattle.cov_view.specs.Seen.{Seen, row_at, kind_in, has_child}
 use Rattle.cov_view.specs.Views.{row_by_number, IsMade}
-use Rattle.cov_view.specs.declared.line.ViewLine.{ViewLine}
 use Rattle.cov_view.specs.declared.row.ViewRow.{ViewRow}
 
 pub and-left : (a b : Bool) → (a && b) ≡ true → a ≡ true
@@ -194,6 +193,7 @@ module _ (ns : Numbers) (s : Seen) (rows : List ViewRow) (made : AllByRecursion 
       of_row : (o : Option ViewRow) → row_is_dir (option_map (row_by_number ns) o) ≡ kind_is_dir (option_map (λ (r : ViewRow). r.kind) o)
       of_row None = refl
       of_row (Some r) = refl
+
       at : (b : Bool) → is_root node ≡ b → is_dir (map (row_by_number ns) rows) (node_number ns.nodes node) ≡ kind_is_dir (kind_in rows node)
       at true root = dir_root node root
       at false root =

@@ -1,5 +1,5 @@
 -- Where a line is put.
-use Rattle.std.proofs.Common.{◌≡◌, ℕ, ◌+◌, Bool, true, false, cond, List, ◌∷◌, length, Option, Some, None, position, refl, sym, ap, ◌∙◌}
+use Rattle.std.proofs.Common.{◌≡◌, ℕ, ◌+◌, false, cond, List, ◌∷◌, length, Some, None, position, sym, ap, ◌∙◌}
 use Rattle.std.specs.List.{insert}
 use Rattle.cov_base.proofs.Inserting.{insert_behind, insert_last}
 use Rattle.cov_base.specs.Addresses.{after_first}

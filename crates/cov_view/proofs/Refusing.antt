@@ -1,5 +1,5 @@
 -- What a view refuses is what each variant that it shows refuses.
-use Rattle.std.proofs.Common.{◌≡◌, ℕ, zero, suc, ◌+◌, Bool, true, false, cond, ◌&&◌, ◌||◌, not, nat_eq, List, [], ◌∷◌, length, map, Option, Some, None, is_some, option_map, refl, sym, ap, subst, ◌∙◌}
+use Rattle.std.proofs.Common.{◌≡◌, ℕ, Bool, true, false, cond, ◌&&◌, ◌||◌, not, nat_eq, List, [], ◌∷◌, length, map, Option, Some, None, is_some, option_map, refl, sym, ap, subst, ◌∙◌}
 use Rattle.std.specs.Option.{option_map_or}
 use Rattle.std.specs.List.{filter, list_any, AllByRecursion}
 use Rattle.cov_base.specs.declared.number.Kind.{Kind}
@@ -12,7 +12,7 @@ use Rattle.cov_edit.specs.declared.edit.Edit.{Edit}
 use Rattle.cov_edit.specs.declared.edit.Edit.TheVariants as edits
 use Rattle.cov_edit.specs.Numbering.{Numbers, node_number, line_number}
 use Rattle.cov_edit.specs.Variant.{Variant, Line, lines_of}
-use Rattle.cov_view.specs.References.{is_root, is_head, is_dir_kind, same_node, same_line, is_known_node, is_known_line, is_made_line}
+use Rattle.cov_view.specs.References.{is_root, is_head, is_dir_kind, same_node, same_line, is_known_line, is_made_line}
 use Rattle.cov_view.specs.Refusals.{when, first_of, has_node, is_dir, has_line, has_name, refusal}
 use Rattle.cov_view.specs.Lines.{is_among}
 use Rattle.cov_view.specs.Seen.{Seen, row_at, kind_in, has_child, has_line_in, new_fault, insert_fault, seen_fault}
@@ -32,7 +32,7 @@ found P (q ∷ rows) node r all e = at (same_node q.node node) refl e (λ k. fou
     at true t k rest = let same : q ≡ r = cc in subst (λ (x : ViewRow). P x × (same_node x.node node ≡ true)) same (all.0, t)
     at false t k rest = rest k
 
-any-filter : {X : Type 0} (p t : X → Bool) (xs : List X) → list_any (λ x. p x && t x) xs ≡ list_any t (filter p xs)
+pub any-filter : {X : Type 0} (p t : X → Bool) (xs : List X) → list_any (λ x. p x && t x) xs ≡ list_any t (filter p xs)
 any-filter p t [] = refl
 any-filter p t (x ∷ xs) = at (p x) (any-filter p t xs)
   where
@@ -40,12 +40,12 @@ any-filter p t (x ∷ xs) = at (p x) (any-filter p t xs)
     at true rest = ap (λ c. t x || c) rest
     at false rest = rest
 
-any-map : {X Y : Type 0} (g : X → Y) (t : Y → Bool) (xs : List X) → list_any (λ x. t (g x)) xs ≡ list_any t (map g xs)
+pub any-map : {X Y : Type 0} (g : X → Y) (t : Y → Bool) (xs : List X) → list_any (λ x. t (g x)) xs ≡ list_any t (map g xs)
 any-map g t [] = refl
 any-map g t (x ∷ xs) = ap (λ b. t (g x) || b) (any-map g t xs)
 
 module _ (n made : ℕ) (line : LineRef) where
-  among-known : (ls : List ViewLine) → is_known_line n line ≡ true → AllByRecursion (λ l. is_made_line n made l.line ≡ true) ls
+  pub among-known : (ls : List ViewLine) → is_known_line n line ≡ true → AllByRecursion (λ l. is_made_line n made l.line ≡ true) ls
       → list_any (λ l. nat_eq (line_number n l.line) (line_number n line)) ls ≡ is_among line ls
   among-known [] known all = refl
   among-known (l ∷ ls) known all =
@@ -73,6 +73,7 @@ file_row rows file h = at (is_root file) h
     of_row : (o : Option ViewRow) → option_map (λ (r : ViewRow). r.kind) o ≡ Some kinds.File → (r : ViewRow) × (o ≡ Some r) × (r.kind ≡ kinds.File)
     of_row None k = absurd (cc)
     of_row (Some r) k = (r, refl, (let e : r.kind ≡ kinds.File = cc in e))
+
     at : (b : Bool) → cond b (Some kinds.Dir) (option_map (λ (r : ViewRow). r.kind) (row_at rows file)) ≡ Some kinds.File → (r : ViewRow) × (row_at rows file ≡ Some r) × (r.kind ≡ kinds.File)
     at true k = absurd (let e : kinds.Dir ≡ kinds.File = cc in cc)
     at false k = of_row (row_at rows file) k
@@ -85,7 +86,7 @@ module _ (ns : Numbers) (table : List (List ℕ)) (s : Seen) (v : Variant) (show
       let own = found (ShowsLines ns v) s.rows file r shows.lines at in
       ap (λ x. map by_number (lines_of v (node_number ns.nodes x))) (sym (node-same r.node file own.1)) ∙ own.0 (ap is_dir_kind kind)
 
-  made_lines : (file : NodeRef) (r : ViewRow) → row_at s.rows file ≡ Some r → AllByRecursion (λ l. is_made_line (length ns.addresses) s.lines_made l.line ≡ true) r.lines
+  pub made_lines : (file : NodeRef) (r : ViewRow) → row_at s.rows file ≡ Some r → AllByRecursion (λ l. is_made_line (length ns.addresses) s.lines_made l.line ≡ true) r.lines
   made_lines file r at = (found (IsMade ns s) s.rows file r shows.made at).0.1
 
   pub line-there : (file : NodeRef) (after : LineRef) → kind_in s.rows file ≡ Some kinds.File
@@ -94,10 +95,10 @@ module _ (ns : Numbers) (table : List (List ℕ)) (s : Seen) (v : Variant) (show
       let r = file_row s.rows file h in
       let number = line_number (length ns.addresses) after in
       ap (λ b. is_known_line (length ns.addresses) after && b)
-        (any-filter (λ (l : Line). nat_eq l.file (node_number ns.nodes file)) (λ l. nat_eq (line_of l.address) number) v.lines
-        ∙ any-map by_number (λ p. nat_eq p.0 number) (lines_of v (node_number ns.nodes file))
-        ∙ ap (list_any (λ p. nat_eq p.0 number)) (shown_lines file r.0 r.1 r.2)
-        ∙ sym (any-map (line_by_number ns) (λ p. nat_eq p.0 number) r.0.lines))
+      (any-filter (λ (l : Line). nat_eq l.file (node_number ns.nodes file)) (λ l. nat_eq (line_of l.address) number) v.lines
+      ∙ any-map by_number (λ p. nat_eq p.0 number) (lines_of v (node_number ns.nodes file))
+      ∙ ap (list_any (λ p. nat_eq p.0 number)) (shown_lines file r.0 r.1 r.2)
+      ∙ sym (any-map (line_by_number ns) (λ p. nat_eq p.0 number) r.0.lines))
       ∙ among (length ns.addresses) s.lines_made after r.0.lines (made_lines file r.0 r.1)
       ∙ sym (ap (λ o. option_map_or (λ (q : ViewRow). is_among after q.lines) o false) r.1)
 
@@ -141,14 +142,14 @@ module _ (ns : Numbers) (table : List (List ℕ)) (s : Seen) (v : Variant) (show
   pub refused-as : (e : Edit) → refusal ns v e ≡ seen_fault s.rows e
   refused-as (edits.New kind parent name) =
       refuse_new (kind_in s.rows parent) (has_node ns v parent) (is_dir v.rows (node_number ns.nodes parent)) (has_name v.rows (node_number ns.nodes parent) name) (has_child s.rows parent name)
-        (here parent)
-        (λ h. is_dir-rows parent ∙ dir ns s s.rows shows.made parent h)
-        (λ h. ap (λ (rows : List Row). has_name rows (node_number ns.nodes parent) name) shows.rows ∙ child-known ns s parent name s.rows (there-known ns s s.rows shows.made parent h) shows.made)
+      (here parent)
+      (λ h. is_dir-rows parent ∙ dir ns s s.rows shows.made parent h)
+      (λ h. ap (λ (rows : List Row). has_name rows (node_number ns.nodes parent) name) shows.rows ∙ child-known ns s parent name s.rows (there-known ns s s.rows shows.made parent h) shows.made)
   refused-as (edits.Insert file after text) =
       refuse_insert (kind_in s.rows file) (has_node ns v file) (is_dir v.rows (node_number ns.nodes file)) (is_head after || has_line ns v (node_number ns.nodes file) after) (is_head after || has_line_in s.rows file after)
-        (here file)
-        (λ h. is_dir-rows file ∙ dir ns s s.rows shows.made file h)
-        (λ h. ap (λ b. is_head after || b) (line-there file after h))
+      (here file)
+      (λ h. is_dir-rows file ∙ dir ns s s.rows shows.made file h)
+      (λ h. ap (λ b. is_head after || b) (line-there file after h))
 
 -- a fault that is the refusal, or want of memory
 pub fault-by : (f : EditFault) (refused : Option EditFault) → refused ≡ Some f → FaultBy f refused

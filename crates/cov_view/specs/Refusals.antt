@@ -54,13 +54,13 @@ abbrev pub refusal : Numbers → Variant → Edit → Option EditFault
 refusal ns v (edits.New kind parent name) =
     let dir = node_number ns.nodes parent in
     first_of (when (not (has_node ns v parent)) faults.NoSuchNode
-      ∷ when (not (is_dir v.rows dir)) faults.NotDirectory
-      ∷ when (has_name v.rows dir name) faults.NameTaken ∷ [])
+    ∷ when (not (is_dir v.rows dir)) faults.NotDirectory
+    ∷ when (has_name v.rows dir name) faults.NameTaken ∷ [])
 refusal ns v (edits.Insert file after text) =
     let f = node_number ns.nodes file in
     first_of (when (not (has_node ns v file)) faults.NoSuchNode
-      ∷ when (is_dir v.rows f) faults.NotFile
-      ∷ when (not (is_head after || has_line ns v f after)) faults.NoSuchLine ∷ [])
+    ∷ when (is_dir v.rows f) faults.NotFile
+    ∷ when (not (is_head after || has_line ns v f after)) faults.NoSuchLine ∷ [])
 
 -- a refusal of edit i, or else that of those after it
 abbrev pub refused_at : ℕ → Option EditFault → Option (ℕ × EditFault) → Option (ℕ × EditFault)

@@ -1,5 +1,5 @@
 -- The variants that a view shows.
-use Rattle.std.specs.Prelude.{◌≡◌, ℕ, ◌+◌, ◌≤◌, Bool, true, false, ◌&&◌, List, [], ◌∷◌, length, map, Option, Some}
+use Rattle.std.specs.Prelude.{◌≡◌, ℕ, ◌+◌, ◌≤◌, true, false, ◌&&◌, List, [], ◌∷◌, length, map, Option, Some}
 use Rattle.std.specs.List.{AllByRecursion}
 use Rattle.cov_base.specs.Addresses.{line_of, with_line, AreInOrder, IsLineOf}
 use Rattle.cov_base.specs.Rows.{Row}

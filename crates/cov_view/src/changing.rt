@@ -8,7 +8,11 @@ use crate::row::{ViewRow, find};
 use cov_base::{LineRef, Memory, NodeRef};
 
 /// Puts a line at the end of a file.
-pub(crate) fn append_line(rows: &mut [ViewRow], file: &NodeRef, line: ViewLine) -> Result<(), Memory>
+pub(crate) fn append_line(
+    rows: &mut [ViewRow],
+    file: &NodeRef,
+    line: ViewLine,
+) -> Result<(), Memory>
     ensures ok { OnOk result (rows.new ≡ at_row file.now (with_lines_by (λ ls. ls ++ line ∷ [])) rows.old) }
     ensures err { OnErr result (rows.new ≡ rows.old) }
 {

@@ -10,7 +10,7 @@ ghost use Rattle.cov_edit.specs.Variant.{Variant, edited};
 ghost use Rattle.cov_view.specs.References.{is_head};
 ghost use Rattle.cov_view.specs.Lines.{after_ref};
 ghost use Rattle.cov_view.specs.Refusals.{refusal};
-ghost use Rattle.cov_view.specs.Seen.{Seen, kind_in, node_at, lines_in, has_child, has_line_in, new_fault, insert_fault, seen_fault, seen_after, at_row, with_lines_by};
+ghost use Rattle.cov_view.specs.Seen.{Seen, kind_in, node_at, lines_in, has_child, has_line_in, new_fault, insert_fault, seen_fault, seen_after, at_row, with_lines_by, AreRows};
 ghost use Rattle.cov_view.specs.Views.{Shows, table_after, next_by_number, FaultBy};
 
 use crate::changing::{append_line, insert_line};
@@ -161,10 +161,35 @@ impl View {
         }
     }
 
+    /// Applies an edit, unless each variant that the view shows refuses it; then the view stays as it is.
+    /// It takes time in the number of nodes and in the lines of the file.
+    pub fn apply(&mut self, edit: &Edit) -> Result<(), EditFault>
+        requires nodes { self.old.nodes_made < 2 ^ 32 - 1 }
+        requires lines { self.old.lines_made < 2 ^ 32 - 1 }
+        ensures accepted { OnOk result ((ns : Numbers) (table : List (List ℕ)) (v : Variant) → Shows ns table self.old v → refusal ns v edit.now ≡ None) }
+        ensures applied { OnOk result ((ns : Numbers) (table : List (List ℕ)) (v : Variant) → IsTable table → Shows ns table self.old v →
+            Shows ns (table_after ns table edit.now) self.new (fold edited v (next_by_number ns table self.old edit.now))) }
+        ensures made { OnOk result (self.new ≡ seen_after self.old edit.now) }
+        ensures nodes { OnOk result (self.new.nodes_made ≡ self.old.nodes_made + nodes_made (edit.now ∷ [])) }
+        ensures lines { OnOk result (self.new.lines_made ≡ self.old.lines_made + length (anchors_of 0 (edit.now ∷ []))) }
+        ensures refused { IfErr result (λ f. (ns : Numbers) (table : List (List ℕ)) (v : Variant) → Shows ns table self.old v → FaultBy f (refusal ns v edit.now)) }
+        ensures same { OnErr result (self.new ≡ self.old) }
+    {
+        match self.fault(edit) {
+            Some(fault) => Err(fault),
+            None => match self.act(edit) {
+                Ok(()) => Ok(()),
+                Err(Memory) => Err(EditFault::Memory),
+            },
+        }
+    }
+
     // The refusal of an edit.
     fn fault(&self, edit: &Edit) -> Option<EditFault>
-        ensures { result ≡ seen_fault self.now.rows edit.now }
+        ensures fault { result ≡ seen_fault self.now.rows edit.now }
+        ensures once { AreRows self.now.nodes_made self.now.rows }
     {
+        let _ = &self.rows;
         match edit {
             Edit::New { parent, name, .. } => self.new_fault(parent, name.as_slice()),
             Edit::Insert { file, after, .. } => self.insert_fault(file, after),
@@ -232,5 +257,20 @@ impl View {
         insert_line(&mut self.rows, file, after, line)?;
         self.lines_made += 1;
         Ok(())
+    }
+
+    // Does what an edit does.
+    fn act(&mut self, edit: &Edit) -> Result<(), Memory>
+        requires nodes { self.old.nodes_made < 2 ^ 32 - 1 }
+        requires lines { self.old.lines_made < 2 ^ 32 - 1 }
+        ensures rows { OnOk result (self.new.rows ≡ (seen_after self.old edit.now).rows) }
+        ensures nodes_made { OnOk result (self.new.nodes_made ≡ (seen_after self.old edit.now).nodes_made) }
+        ensures lines_made { OnOk result (self.new.lines_made ≡ (seen_after self.old edit.now).lines_made) }
+        ensures err { OnErr result (self.new ≡ self.old) }
+    {
+        match edit {
+            Edit::New { kind, parent, name } => self.make(*kind, parent, name),
+            Edit::Insert { file, after, text } => self.insert(file, after, text),
+        }
     }
 }

@@ -10,4 +10,4 @@ invariant_of-self-2 c =
     let rows = c.self.inside.rows.items in
     let below : nat_lt made (made + 1) ≡ true = grind (arith, nat_tests) in
     subst (AreRows (made + 1)) (sym c.in_ok-push.ensures.items)
-      (rows-append (made + 1) rows _ (rows-more made rows c.self.invariant) refl below (next_fresh made rows c.self.invariant))
+    (rows-append (made + 1) rows _ (rows-more made rows c.self.invariant) refl below (next_fresh made rows c.self.invariant))
