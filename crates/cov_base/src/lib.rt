@@ -7,6 +7,7 @@ mod list;
 mod name;
 mod number;
 mod option_name;
+mod steps;
 
 pub use choice::Choice;
 pub use error::{BadName, Failed, Memory, MemoryOr};
@@ -14,3 +15,7 @@ pub use list::{LineNos, Numbers, Text, Texts};
 pub use name::{Name, Path};
 pub use number::{Kind, LineNo, LineRef, NodeNo, NodeRef, OptionId, Position};
 pub use option_name::{OptionName, is_first_byte, is_word_byte, spells_word};
+pub use steps::{Counted, Ledger, Steps, Uncounted};
+
+#[cfg(test)]
+mod tests;

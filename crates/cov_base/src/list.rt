@@ -78,6 +78,13 @@ impl Text {
         self.bytes.as_slice()
     }
 
+    /// The bytes as a Vec. It takes no memory.
+    pub fn into_vec(self) -> Vec<u8>
+        ensures { result.items ≡ self }
+    {
+        self.bytes
+    }
+
     pub fn copy(&self) -> Result<Text, Memory>
         ensures { IfOk result (λ text. text ≡ self.now) }
     {
@@ -85,6 +92,18 @@ impl Text {
         Ok(Text {
             bytes: Vec::from_slice(alloc, self.bytes.as_slice())?,
         })
+    }
+}
+
+impl From<String> for Text {
+    ghost use Rattle.std.specs.String.{string_bytes};
+
+    ghost from_gives = { λ string text. text ≡ string_bytes string };
+
+    fn from(string: String) -> Text {
+        Text {
+            bytes: string.into_bytes(),
+        }
     }
 }
 

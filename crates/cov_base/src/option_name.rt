@@ -48,6 +48,14 @@ impl OptionName {
         self.text.as_slice()
     }
 
+    /// The bytes as a Vec. It takes no memory.
+    pub fn into_vec(self) -> Vec<u8>
+        ensures bytes { result.items ≡ self }
+        ensures spelling { is_option_name self ≡ true }
+    {
+        self.text.into_vec()
+    }
+
     pub fn copy(&self) -> Result<OptionName, Memory>
         ensures { IfOk result (λ name. name ≡ self.now) }
     {

@@ -6,11 +6,11 @@ use Rattle.std.proofs.lemmas.List.{append-nil, length-replicate, replicate-appen
 use Rattle.std.proofs.lemmas.Slice.Eq.{bytes_eq-Decides}
 use Rattle.cov_expr.specs.Formula.{Formula, part_count}
 use Rattle.cov_expr.specs.Grammar.{Rule, OrRule, AndRule, NotRule, AtomRule, Spells, lone_and, either, lone_not, both, negated, single, named, always, never, in_parentheses, IsExpression, BeginsExpression, constant_of, constant_or_name, word_formula}
-use Rattle.cov_expr.specs.Reading.{State, fresh, start, with_nots, after_and, after_or, settled, after_token, next, whole, finished}
+use Rattle.cov_expr.specs.Reading.{State, run, fresh, start, with_nots, after_and, after_or, settled, after_token, next, whole, finished}
 use Rattle.cov_expr.specs.declared.reading.Level.{Level}
 use Rattle.cov_expr.specs.declared.token.Token.{Token}
 use Rattle.cov_expr.specs.declared.token.Token.TheVariants.{Word, Bang, Amp, Bar, Open, Close}
-use Rattle.cov_expr.proofs.Spelt.{run, run-append, run-after, spelt-finished}
+use Rattle.cov_expr.proofs.Spelt.{run-append, run-after, spelt-finished}
 
 -- a left part and the operator after it
 abbrev IsLeft : Rule → Token → Option (Formula (List ℕ)) → List Token → Type 0

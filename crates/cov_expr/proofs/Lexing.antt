@@ -28,3 +28,8 @@ word_lexed at (b ∷ bs) some letter =
     let place : at + 1 + prefix_len goes_on bs ≡ at + suc (prefix_len goes_on bs) = omega arith in
     let later = tokens-after_word (prefix_len goes_on bs) (at + 1) bs (prefix_len-le-length goes_on bs) ∙ ap (λ n. tokens_from n 0 (drop (prefix_len goes_on bs) bs)) place in
     rw (len, letter) (ap (token_then (at, Word (b ∷ take_while goes_on bs))) later)
+
+-- a word has a byte
+pub word_moves : (text : List ℕ) → 0 < length text → is_letter (get_or text 0 0) ≡ true → 0 < prefix_len goes_on text
+word_moves [] some letter = absurd (omega arith)
+word_moves (b ∷ bs) some letter = rw (goes_on-letter b letter) (omega arith)

@@ -3,15 +3,10 @@ use Rattle.std.proofs.Common.{◌≡◌, ℕ, zero, suc, ◌+◌, List, [], ◌�
 use Rattle.std.specs.Prelude.{Option, Some, None, option_and_then}
 use Rattle.cov_expr.specs.Formula.{Formula, Not}
 use Rattle.cov_expr.specs.Grammar.{Rule, OrRule, AndRule, NotRule, AtomRule, Spells, lone_and, either, lone_not, both, negated, single, named, always, never, in_parentheses, IsExpression, constant_or_name}
-use Rattle.cov_expr.specs.Reading.{State, fresh, start, with_nots, after_and, after_or, settled, next, finished}
+use Rattle.cov_expr.specs.Reading.{State, run, fresh, start, with_nots, after_and, after_or, settled, next, finished}
 use Rattle.cov_expr.specs.declared.reading.Level.{Level}
 use Rattle.cov_expr.specs.declared.token.Token.{Token}
 use Rattle.cov_expr.specs.declared.token.Token.TheVariants.{Amp, Bar, Close}
-
--- the state after tokens
-abbrev pub run : List Token → State → Option State
-run [] s = Some s
-run (t ∷ ts) s = option_and_then (run ts) (next s t)
 
 pub run-append : (ts us : List Token) (s : State) → run (ts ++ us) s ≡ option_and_then (run us) (run ts s)
 run-append [] us s = refl

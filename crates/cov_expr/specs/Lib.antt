@@ -1,7 +1,17 @@
+pub mod Binding
+pub mod ChoiceText
 pub mod Formula
 pub mod Grammar
+pub mod Laws
 pub mod Lexemes
+pub mod Naming
+pub mod Options
+pub mod Parsing
+pub mod Partials
 pub mod Parts
 pub mod Reading
+pub mod Readings
+pub mod Sizes
+pub mod Steps
 pub mod Tokens
 pub mod Validity

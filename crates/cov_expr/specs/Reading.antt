@@ -1,7 +1,10 @@
 -- How the tokens of an expression are read one after another, with a stack of the parentheses that are open.
-use Rattle.std.specs.Prelude.{ℕ, zero, suc, ◌+◌, List, [], ◌∷◌, Option, Some, None}
+use Rattle.std.specs.Prelude.{◌≡◌, ℕ, zero, suc, ◌+◌, nat_lt, List, [], ◌∷◌, length, Option, Some, None, option_and_then, Result, Ok, Err, if◌then◌else◌}
 use Rattle.cov_expr.specs.Formula.{Formula, Not, And, Or}
 use Rattle.cov_expr.specs.Grammar.{word_formula}
+use Rattle.cov_expr.specs.Tokens.{Lexed, Tokens, BadByte, tokens_of, token_count}
+use Rattle.cov_expr.specs.declared.spelling.ExprFault.{ExprFault}
+use Rattle.cov_expr.specs.declared.spelling.ExprFault.TheVariants.{Syntax, TooLong, Memory}
 use Rattle.cov_expr.specs.declared.reading.Level.{Level}
 use Rattle.cov_expr.specs.declared.token.Token.{Token}
 use Rattle.cov_expr.specs.declared.token.Token.TheVariants.{Word, Bang, Amp, Bar, Open, Close}
@@ -74,3 +77,44 @@ whole (l ∷ outer) level operand = None
 
 abbrev pub finished : State → Option (Formula (List ℕ))
 finished s = whole s.outer s.level s.operand
+
+-- the state after tokens
+abbrev pub run : List Token → State → Option State
+run [] s = Some s
+run (t ∷ ts) s = option_and_then (run ts) (next s t)
+
+-- what a text of a size is, when all its tokens were read
+abbrev pub at_end : ℕ → Option (Formula (List ℕ)) → Result (Formula (List ℕ)) ExprFault
+at_end size None = Err (Syntax size)
+at_end size (Some e) = Ok e
+
+-- what a text is, by the state after a token at a place and what follows from it
+abbrev pub go_on : ℕ → (State → Result (Formula (List ℕ)) ExprFault) → Option State → Result (Formula (List ℕ)) ExprFault
+go_on at later None = Err (Syntax at)
+go_on at later (Some s) = later s
+
+-- what a text of a size is, by its tokens from a state on
+abbrev pub read_from : List (ℕ × Token) → ℕ → State → Result (Formula (List ℕ)) ExprFault
+read_from [] size s = at_end size (finished s)
+read_from (t ∷ ts) size s = go_on t.0 (read_from ts size) (next s t.1)
+
+abbrev pub read_lexed : Lexed → ℕ → State → Result (Formula (List ℕ)) ExprFault
+read_lexed (Tokens ts) size s = read_from ts size s
+read_lexed (BadByte at) size s = Err (Syntax at)
+
+abbrev pub read_counted : Result ℕ ℕ → Result (Formula (List ℕ)) ExprFault → Result (Formula (List ℕ)) ExprFault
+read_counted (Ok count) read = if nat_lt 256 count then Err TooLong else read
+read_counted (Err at) read = read
+
+-- the expression that a text spells, or why it spells none
+abbrev pub parsed : List ℕ → Result (Formula (List ℕ)) ExprFault
+parsed bytes =
+    let lexed = tokens_of bytes in
+    read_counted (token_count lexed) (read_lexed lexed (length bytes) start)
+
+-- the same answer, or want of memory
+abbrev pub IsAnswer : Result (Formula (List ℕ)) ExprFault → Result (Formula (List ℕ)) ExprFault → Type 0
+IsAnswer wanted (Ok e) = wanted ≡ Ok e
+IsAnswer wanted (Err (Syntax at)) = wanted ≡ Err (Syntax at)
+IsAnswer wanted (Err TooLong) = wanted ≡ Err TooLong
+IsAnswer wanted (Err Memory) = Unit {0}

@@ -1,5 +1,5 @@
 -- The tokens of a text, and their places.
-use Rattle.std.specs.Prelude.{ℕ, zero, suc, ◌+◌, Bool, ◌||◌, nat_eq, List, [], ◌∷◌, length, Option, Some, None, if◌then◌else◌}
+use Rattle.std.specs.Prelude.{ℕ, zero, suc, ◌+◌, Bool, ◌||◌, nat_eq, List, [], ◌∷◌, length, Option, Some, None, Result, Ok, Err, if◌then◌else◌}
 use Rattle.std.specs.List.{prefix_len, take_while}
 use Rattle.cov_base.specs.Bytes.{is_letter, is_digit}
 use Rattle.cov_expr.specs.declared.token.Token.{Token}
@@ -47,12 +47,7 @@ tokens_from at zero (b ∷ bs) =
 abbrev pub tokens_of : List ℕ → Lexed
 tokens_of bytes = tokens_from 0 0 bytes
 
--- whether every byte is a space or part of a token
-abbrev pub HasTokens : Lexed → Type 0
-HasTokens (Tokens ts) = Unit {0}
-HasTokens (BadByte at) = ⊥
-
--- how many tokens there are
-abbrev pub token_count : Lexed → ℕ
-token_count (Tokens ts) = length ts
-token_count (BadByte at) = 0
+-- how many tokens there are, or the place of the first byte that is no space and begins no token
+abbrev pub token_count : Lexed → Result ℕ ℕ
+token_count (Tokens ts) = Ok (length ts)
+token_count (BadByte at) = Err at

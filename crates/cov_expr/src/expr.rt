@@ -51,6 +51,13 @@ impl Expr {
         }
     }
 
+    pub(crate) fn from_part(part: Part) -> Expr
+        requires { part_count (formula part) ≤ 256 }
+        ensures { result ≡ formula part }
+    {
+        Expr { part }
+    }
+
     pub fn part(&self) -> &Part
         ensures part { formula result.now ≡ self.now }
         ensures fits { part_count self.now ≤ 256 }

@@ -1,12 +1,35 @@
-//! Boolean expressions over options, and their texts.
+//! Options, expressions over them, and choices as texts.
 #![tactic(auto)]
 
+mod binding;
 mod expr;
+#[cfg(test)]
+mod expr_tests;
+mod laws;
+mod naming;
+mod options;
 mod part;
+mod partial;
+mod print;
+mod raw_choice;
+mod raw_expr;
 mod reading;
+mod spelling;
 mod token;
 mod tree;
 
+pub use binding::BindFault;
 pub use expr::{Expr, TooManyParts};
+pub use laws::{reading_follows_grammar, tokens_spell_one_expression};
+pub use naming::NameFault;
+pub use options::Options;
 pub use part::Part;
+pub use partial::Partial;
+pub use print::print_choice;
+pub use raw_choice::{ChoiceSyntax, RawChoice};
+pub use raw_expr::RawExpr;
+pub use spelling::{ExprFault, parse};
 pub use token::Token;
+
+#[cfg(test)]
+mod choice_tests;

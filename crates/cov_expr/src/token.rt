@@ -30,10 +30,41 @@ pub(crate) enum Lexeme {
     Bad,
 }
 
+impl Lexeme {
+    ghost use Rattle.cov_expr.specs.Lexemes.{is_bad, lexeme_len, lexeme_tokens};
+
+    pub(crate) fn is_bad(&self) -> bool
+        ensures { result ≡ is_bad self.now }
+    {
+        matches!(self, Lexeme::Bad)
+    }
+
+    /// How many bytes it takes.
+    pub(crate) fn len(&self) -> usize
+        ensures { result ≡ lexeme_len self.now }
+    {
+        match self {
+            Lexeme::Space | Lexeme::Sign(_) | Lexeme::Bad => 1,
+            Lexeme::Word(len) => *len,
+        }
+    }
+
+    /// How many tokens it is.
+    pub(crate) fn tokens(&self) -> u32
+        ensures { result ≡ lexeme_tokens self.now }
+    {
+        match self {
+            Lexeme::Space | Lexeme::Bad => 0,
+            Lexeme::Word(_) | Lexeme::Sign(_) => 1,
+        }
+    }
+}
+
 /// What stands at the front of a text that isn't empty.
 pub(crate) fn lexeme_of(text: &[u8]) -> Lexeme
     requires { 0 < length text.now }
     ensures lexed { (at : ℕ) → tokens_from at 0 text.now ≡ lexed_by at text.now result }
+    ensures moves { 0 < lexeme_len result }
     ensures fits { lexeme_len result ≤ length text.now }
 {
     let first = text[0];

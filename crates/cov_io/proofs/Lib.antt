@@ -1,0 +1,4 @@
+pub mod DeviceLemmas
+mod Examples
+pub mod LineLemmas
+pub mod WalkLemmas

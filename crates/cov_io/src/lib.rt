@@ -1,0 +1,16 @@
+//! Devices that give and take bytes, and the lines of what they give.
+#![tactic(auto)]
+
+mod buffer;
+mod count;
+mod device;
+mod in_memory;
+mod reading;
+mod standard;
+#[cfg(test)]
+mod tests;
+
+pub use device::{Sink, Source};
+pub use in_memory::{MemorySink, MemorySource};
+pub use reading::{Item, LineFault, Lines};
+pub use standard::{StdSink, StdSource};

@@ -1,0 +1,21 @@
+//! Serves the lines of a script, one after another, and is the whole program but for its real devices.
+#![tactic(auto)]
+
+mod answer;
+mod code;
+mod form;
+mod line;
+mod program;
+mod reply;
+mod server;
+mod status;
+mod turn;
+
+pub use answer::Answer;
+pub use line::serve_line;
+pub use program::run;
+pub use server::Server;
+pub use status::Status;
+
+#[cfg(test)]
+mod tests;

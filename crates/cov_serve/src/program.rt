@@ -1,0 +1,107 @@
+// The program: what its words say is done with the devices that it is handed.
+ghost use Rattle.std.specs.Prelude.{◌≡◌, ◌≢◌, ◌⊎◌, ◌<◌, ◌≤◌, ◌+◌, ◌^◌, ◌++◌, List, ℕ, Some, length};
+ghost use Rattle.cov_base.specs.Causes.{Rose};
+ghost use Rattle.cov_io.specs.Progress.{CountsGiven};
+ghost use Rattle.cov_serve.specs.Step.{model};
+ghost use Rattle.cov_serve.specs.Turns.{IsWhole, Later, StopsScript, WritesFront, counts};
+ghost use Rattle.cov_serve.specs.Program.{run_words, usage_line, EndsServed, StopsUsage, at_first, is_run_words};
+ghost use Rattle.cov_serve.specs.declared.status.Status.TheVariants.{Usage, NoMemory, ReadFault, WriteFault, TooMuch};
+
+use crate::server::Server;
+use crate::status::Status;
+use crate::turn::serve_all;
+use cov_base::{Failed, Memory, Texts};
+use cov_io::{Lines, Sink, Source};
+use std::alloc::Global;
+
+/// The line that tells the words.
+const USAGE: &[u8] = b"usage: covstore run\n";
+
+/// Does what the words after the program's name say: `run` serves the script, line by line, and puts each reply
+/// in one call; all else writes the usage line. The first failing call ends the run. Want of memory may come at
+/// any moment.
+pub fn run<S: Source, K: Sink>(alloc: Global, words: &Texts, script: &mut S, out: &mut K) -> Status
+    // What is written is a front of the model's replies, with every status.
+    ensures prefix { (text before : List ℕ) → words.now ≡ run_words →
+        S.left script.old ≡ Some text → K.written out.old ≡ Some before →
+        WritesFront before (model text).reply (K.written out.new) }
+
+    // With status 0 or 1 it is all of it, and the script is read to its end.
+    ensures whole { (text before : List ℕ) → words.now ≡ run_words →
+        S.left script.old ≡ Some text → K.written out.old ≡ Some before →
+        IsWhole result (model text) before (S.left script.new) (K.written out.new) }
+
+    // Words of no form: the usage line, and the source is as before.
+    ensures usage { (before : List ℕ) → words.now ≢ run_words → K.written out.old ≡ Some before →
+        WritesFront before usage_line (K.written out.new) }
+    ensures usage_whole { (before : List ℕ) → result ≡ Usage → K.written out.old ≡ Some before →
+        K.written out.new ≡ Some (before ++ usage_line) }
+    ensures unread { words.now ≢ run_words → script.new ≡ script.old }
+
+    // The cause of each status.
+    ensures served { EndsServed result → words.now ≡ run_words }
+    ensures usage_words { result ≡ Usage → words.now ≢ run_words }
+    ensures read_fault { result ≡ ReadFault → (words.now ≡ run_words) × Rose (S.faults script.old) (S.faults script.new) }
+    ensures write_fault { result ≡ WriteFault → Rose (K.faults out.old) (K.faults out.new) }
+    ensures too_much { result ≡ TooMuch →
+        (words.now ≡ run_words) × (S.given script.old + 2 ^ 32 ≤ S.given script.new) × (S.ends script.new ≡ S.ends script.old) }
+    ensures source_later { S.faults script.old ≤ S.faults script.new }
+    ensures sink_later { K.faults out.old ≤ K.faults out.new }
+
+    // Where nothing fails and the script isn't too long, the whole of it is served, unless memory is wanting.
+    ensures complete { (text : List ℕ) → words.now ≡ run_words →
+        S.left script.old ≡ Some text → length text < 2 ^ 32 →
+        ¬ (Rose (S.faults script.old) (S.faults script.new)) → ¬ (Rose (K.faults out.old) (K.faults out.new)) →
+        EndsServed result ⊎ (result ≡ NoMemory) }
+    // With words of no form, the line is written, unless the sink fails or memory is wanting.
+    ensures told { words.now ≢ run_words → ¬ (Rose (K.faults out.old) (K.faults out.new)) →
+        (result ≡ Usage) ⊎ (result ≡ NoMemory) }
+{
+    match are_run_words(words) {
+        true => serve_script(alloc, script, out),
+        false => put_usage(out),
+    }
+}
+
+fn are_run_words(words: &Texts) -> bool
+    ensures { result ≡ is_run_words words.now }
+{
+    match words.get(0) {
+        Some(word) => words.len() == 1 && matches!(word.as_slice(), b"run"),
+        None => false,
+    }
+}
+
+fn serve_script<S: Source, K: Sink>(alloc: Global, script: &mut S, out: &mut K) -> Status
+    ensures prefix { (text before : List ℕ) →
+        S.left script.old ≡ Some text → K.written out.old ≡ Some before →
+        WritesFront before (model text).reply (K.written out.new) }
+    ensures whole { (text before : List ℕ) →
+        S.left script.old ≡ Some text → K.written out.old ≡ Some before →
+        IsWhole result (model text) before (S.left script.new) (K.written out.new) }
+    ensures later { Later
+        (counts (S.faults script.old) (K.faults out.old) (S.given script.old) (S.ends script.old))
+        (counts (S.faults script.new) (K.faults out.new) (S.given script.new) (S.ends script.new)) }
+    ensures left { CountsGiven (S.left script.old) (S.left script.new) (S.given script.old) (S.given script.new) }
+    ensures stopped { StopsScript result at_first
+        (counts (S.faults script.old) (K.faults out.old) (S.given script.old) (S.ends script.old))
+        (counts (S.faults script.new) (K.faults out.new) (S.given script.new) (S.ends script.new)) }
+{
+    match Lines::new(alloc) {
+        Ok(lines) => serve_all(Server::new(alloc), lines, script, out),
+        Err(Memory) => Status::NoMemory,
+    }
+}
+
+fn put_usage<K: Sink>(out: &mut K) -> Status
+    ensures prefix { (before : List ℕ) → K.written out.old ≡ Some before → WritesFront before usage_line (K.written out.new) }
+    ensures whole { (before : List ℕ) → result ≡ Usage → K.written out.old ≡ Some before →
+        K.written out.new ≡ Some (before ++ usage_line) }
+    ensures stopped { StopsUsage result (K.faults out.old) (K.faults out.new) }
+    ensures later { K.faults out.old ≤ K.faults out.new }
+{
+    match out.put(USAGE) {
+        Ok(()) => Status::Usage,
+        Err(Failed) => Status::WriteFault,
+    }
+}

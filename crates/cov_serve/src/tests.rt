@@ -1,0 +1,204 @@
+// Scripts that a whole run serves in memory, and devices that fail in it.
+ghost use Rattle.std.specs.Prelude.{◌≤◌};
+
+use crate::{Status, run};
+use cov_base::{Numbers, Text, Texts};
+use cov_io::{MemorySink, MemorySource};
+use std::alloc::Global;
+use std::fmt::Write;
+use std::process::Abort;
+use std::test::Fail;
+
+/// A script, what is written, and the status.
+type Case<'a> = (&'a [u8], &'a [u8], Status);
+
+fn words_of(alloc: Global, words: &[&str]) -> Result<Texts, Fail> {
+    let mut texts = Texts::new(alloc);
+    for word in words {
+        texts.push(Text::from_slice(alloc, word.as_bytes())?)?;
+    }
+    Ok(texts)
+}
+
+fn numbers_of(alloc: Global, numbers: &[u64]) -> Result<Numbers, Fail> {
+    let mut list = Numbers::new(alloc);
+    for number in numbers {
+        list.push(*number)?;
+    }
+    Ok(list)
+}
+
+/// The words, the size of pieces, the calls of the source that fail, and those of the sink.
+type Setting<'a> = (&'a [&'a str], usize, &'a [u64], &'a [u64]);
+
+// Runs the program on a script, and compares what is written and the status.
+fn expect(rt: &impl Abort, alloc: Global, setting: Setting, case: Case) -> Result<(), Fail>
+    requires { 1 ≤ setting.1 }
+{
+    let (words, piece, fail_to_read, fail_to_write) = setting;
+    let (script, written, status) = case;
+    let words = words_of(alloc, words)?;
+    let text = Text::from_slice(alloc, script)?;
+    let mut source = MemorySource::new(alloc, text, piece, numbers_of(alloc, fail_to_read)?);
+    let mut sink = MemorySink::new(alloc, numbers_of(alloc, fail_to_write)?);
+    assert_eq!(rt; run(alloc, &words, &mut source, &mut sink), status);
+    assert_eq!(rt; sink.written(), written);
+    Ok(())
+}
+
+const CASES: [Case; 7] = [
+    (
+        b"option a\noption b\n",
+        b"ok option 0\nok option 1\n",
+        Status::Done,
+    ),
+    (
+        b"option a\ncomplete -",
+        b"ok option 0\nrefused not-built\n",
+        Status::SomeRefused,
+    ),
+    (b"", b"", Status::Done),
+    (
+        b"option a\noption b\nconstraint !(a & b)\ncomplete a=on,b=off\n",
+        b"ok option 0\nok option 1\nok constraint 1\nok a=on,b=off\n",
+        Status::Done,
+    ),
+    (
+        b"option a\noption b\nconstraint !(a & b)\ncomplete a=on,b=on\n",
+        b"ok option 0\nok option 1\nok constraint 1\nrefused invalid 1\n",
+        Status::SomeRefused,
+    ),
+    (
+        b"complete -\noption a\noption b\nconstraint a | b\nconstraint a & !b\ncomplete a=off,b=off\ncomplete b=on,a=on\ncomplete a=on\ncomplete a=on,b=off,a=on\ncomplete a=on,c=off\nconstraint c\nconstraint  a&(b|a )\nconstraint a &\ncomplete a=on,b=off",
+        b"ok -\nok option 0\nok option 1\nok constraint 1\nok constraint 2\nrefused invalid 1\nrefused not-built\nrefused not-built\nrefused not-built\nrefused not-built\nrefused not-built\nok constraint 3\nrefused not-built\nok a=on,b=off\n",
+        Status::SomeRefused,
+    ),
+    (
+        b"\n# note\noptoin a\noption\noption a b\noption 9x\noption a\noption a\r\noption for\n\xff\xfe",
+        b"refused not-built\nrefused not-built\nrefused not-built\nrefused not-built\nok option 0\nrefused not-built\nrefused not-built\nrefused not-built\n",
+        Status::SomeRefused,
+    ),
+];
+
+const SERVED: Setting = (&["run"], 65536, &[], &[]);
+
+#[test]
+fn scripts_are_served(rt: HostRuntime) -> Result<(), Fail> {
+    for case in &CASES {
+        expect(&rt, rt.alloc(), SERVED, *case)?;
+        expect(&rt, rt.alloc(), (&["run"], 1, &[], &[]), *case)?;
+    }
+    Ok(())
+}
+
+#[test]
+fn limits_are_kept(rt: HostRuntime) -> Result<(), Fail> {
+    let alloc = rt.alloc();
+    let mut script = String::new(alloc);
+    let mut written = String::new(alloc);
+    for number in 0..64u32 {
+        writeln!(script, "option o{number}")?;
+        writeln!(written, "ok option {number}")?;
+    }
+    script.push_str("option o64\noption o3\n")?;
+    written.push_str("refused full\nrefused full\n")?;
+    let case = (script.as_bytes(), written.as_bytes(), Status::SomeRefused);
+    expect(&rt, alloc, SERVED, case)?;
+
+    let longest = [b'#'; 8192];
+    expect(&rt, alloc, SERVED, (&longest, b"", Status::Done))?;
+    let too_long = [b'#'; 8193];
+    expect(
+        &rt,
+        alloc,
+        SERVED,
+        (&too_long, b"refused long\n", Status::SomeRefused),
+    )
+}
+
+#[test]
+fn constraints_are_limited(rt: HostRuntime) -> Result<(), Fail> {
+    let alloc = rt.alloc();
+    let mut script = String::from_str(alloc, "option a\n")?;
+    let mut written = String::from_str(alloc, "ok option 0\n")?;
+    for number in 1..257u32 {
+        script.push_str("constraint a\n")?;
+        writeln!(written, "ok constraint {number}")?;
+    }
+    script.push_str("constraint a\nconstraint b\nconstraint a a\ncomplete a=off\n")?;
+    written.push_str("refused full\nrefused not-built\nrefused not-built\nrefused invalid 1\n")?;
+    let case = (script.as_bytes(), written.as_bytes(), Status::SomeRefused);
+    expect(&rt, alloc, SERVED, case)
+}
+
+#[test]
+fn long_expressions_are_no_form(rt: HostRuntime) -> Result<(), Fail> {
+    let alloc = rt.alloc();
+    let mut script = String::from_str(alloc, "option a\nconstraint ")?;
+    for _ in 0..255u32 {
+        script.push('!')?;
+    }
+    script.push_str("a\nconstraint ")?;
+    for _ in 0..256u32 {
+        script.push('!')?;
+    }
+    script.push_str("a\nconstraint ")?;
+    for _ in 0..8000u32 {
+        script.push('(')?;
+    }
+    let written: &[u8] = b"ok option 0\nok constraint 1\nrefused not-built\nrefused not-built\n";
+    expect(
+        &rt,
+        alloc,
+        SERVED,
+        (script.as_bytes(), written, Status::SomeRefused),
+    )
+}
+
+#[test]
+fn other_words_are_told_the_words(rt: HostRuntime) -> Result<(), Fail> {
+    let others: [&[&str]; 7] = [
+        &[],
+        &["run", "x"],
+        &["demo", "07"],
+        &["demo", "-1"],
+        &["--help"],
+        &["--version"],
+        &["Run"],
+    ];
+    for words in others {
+        let case: Case = (b"option a\n", b"usage: covstore run\n", Status::Usage);
+        expect(&rt, rt.alloc(), (words, 1, &[1], &[]), case)?;
+    }
+    expect(
+        &rt,
+        rt.alloc(),
+        (&[], 1, &[], &[1]),
+        (b"", b"", Status::WriteFault),
+    )
+}
+
+#[test]
+fn the_first_failing_call_ends_the_run(rt: HostRuntime) -> Result<(), Fail> {
+    let alloc = rt.alloc();
+    let script: &[u8] = b"option a\noption b\n";
+    let first: &[u8] = b"ok option 0\n";
+    expect(
+        &rt,
+        alloc,
+        (&["run"], 64, &[], &[2]),
+        (script, first, Status::WriteFault),
+    )?;
+    expect(
+        &rt,
+        alloc,
+        (&["run"], 64, &[1], &[]),
+        (script, b"", Status::ReadFault),
+    )?;
+    expect(
+        &rt,
+        alloc,
+        (&["run"], 9, &[2], &[]),
+        (script, first, Status::ReadFault),
+    )
+}
