@@ -1,0 +1,5 @@
+pub mod Canonical
+pub mod Insertion
+pub mod Nodes
+pub mod Pairs
+pub mod Settings

@@ -1,0 +1,2 @@
+// Boolean operations.
+use crate::operation::shortcut;
