@@ -3,3 +3,4 @@ pub mod Insertion
 pub mod Nodes
 pub mod Pairs
 pub mod Settings
+pub mod Walks

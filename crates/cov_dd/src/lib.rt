@@ -2,10 +2,8 @@
 #![tactic(auto)]
 
 mod choices;
-mod combining;
 mod memo;
 mod operation;
-mod search;
 mod table;
 mod triple;
 

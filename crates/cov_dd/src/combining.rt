@@ -1,2 +1,0 @@
-// Boolean operations.
-use crate::operation::shortcut;
