@@ -41,7 +41,7 @@ node_count-append [] ts = omega arith
 node_count-append (t ∷ more) ts = omega (arith, node_count-append more ts)
 
 module _ (more ts : List Triple) (a : ℕ) (h : a < node_count ts) where
-  older : a < node_count (more ++ ts)
+  pub older : a < node_count (more ++ ts)
   older = omega (arith, h, node_count-append more ts)
 
 pub top-append : (more ts : List Triple) (a : ℕ) → a < node_count ts → top (more ++ ts) a ≡ top ts a
@@ -225,5 +225,13 @@ value-none (t ∷ ts) a c h = by (a == node_count ts) h (value-none ts a c)
   where
     by : (b : Bool) → cond b (Some t) (entry_in ts a) ≡ None → (entry_in ts a ≡ None → value_in ts a c ≡ (a == 1))
         → cond b (cond (is_on c t.option) (value_in ts t.on c) (value_in ts t.off c)) (value_in ts a c) ≡ (a == 1)
+    by true is rest = absurd (cc)
+    by false is rest = rest is
+
+pub top-none : (ts : List Triple) (a : ℕ) → entry_in ts a ≡ None → top ts a ≡ 128
+top-none [] a h = refl
+top-none (t ∷ ts) a h = by (a == node_count ts) h (top-none ts a)
+  where
+    by : (b : Bool) → cond b (Some t) (entry_in ts a) ≡ None → (entry_in ts a ≡ None → top ts a ≡ 128) → cond b t.option (top ts a) ≡ 128
     by true is rest = absurd (cc)
     by false is rest = rest is

@@ -32,7 +32,7 @@ IsKey-append (e ∷ es) fs p (inl (inl h)) = inl h
 IsKey-append (e ∷ es) fs p (inl (inr h)) = inr (IsKey-append es fs p (inl h))
 IsKey-append (e ∷ es) fs p (inr h) = inr (IsKey-append es fs p (inr h))
 
-IsKey-split : (es fs : List (Pair × ℕ)) (p : Pair) → IsKey (es ++ fs) p → IsKey es p ⊎ IsKey fs p
+pub IsKey-split : (es fs : List (Pair × ℕ)) (p : Pair) → IsKey (es ++ fs) p → IsKey es p ⊎ IsKey fs p
 IsKey-split [] fs p h = inr h
 IsKey-split (e ∷ es) fs p (inl h) = inl (inl h)
 IsKey-split (e ∷ es) fs p (inr h) = elim (IsKey-split es fs p h) [ inl k ↦ inl (inr k) | inr k ↦ inr k ]

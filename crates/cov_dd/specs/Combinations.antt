@@ -54,6 +54,7 @@ pub record IsSides (ts : List Triple) (a o off on : ℕ) : Type 0 where
   pub off_most : off ≤ a
   pub on_most : on ≤ a
   pub falls : top ts a ≡ o → (off < a) × (on < a)
+  pub spanned : top ts a ≡ o → o < span ts a
   pub value : (c : List Bool) → value_in ts a c ≡ cond (is_on c o) (value_in ts on c) (value_in ts off c)
   pub off_reached : (n : ℕ) → reaches ts off n ≡ true → reaches ts a n ≡ true
   pub on_reached : (n : ℕ) → reaches ts on n ≡ true → reaches ts a n ≡ true
@@ -68,12 +69,13 @@ pub record Runs (w : Operation) (ts us : List Triple) (a b : ℕ) (m n : List (P
   pub steps : l ≡ k + length more
   pub entries : node_count us ≤ node_count ts + length more
   pub reached : (p : Pair) → IsKey more p → (reaches ts a p.left ≡ true) × (reaches ts b p.right ≡ true)
+  pub before : (p : Pair) → IsKey more p → (p.left ≤ a) × (p.right ≤ b)
 
--- one node was made for a pair
-pub record Joins (ts us : List Triple) (pair : Pair) (o most off on : ℕ) (m n : List (Pair × ℕ)) (k l r : ℕ) : Type 0 where
+-- the node of a triple was made for a pair
+pub record Joins (ts us : List Triple) (pair : Pair) (t : Triple) (m n : List (Pair × ℕ)) (k l r : ℕ) : Type 0 where
   pub extends : Extends ts us
   pub one : node_count us ≤ node_count ts + 1
-  pub stands : Stands us r o most (λ c. cond (is_on c o) (value_in ts on c) (value_in ts off c))
+  pub stands : Stands us r t.option (max (t.option + 1) (max (span ts t.off) (span ts t.on))) (λ c. cond (is_on c t.option) (value_in ts t.on c) (value_in ts t.off c))
   pub memo : n ≡ (pair, r) ∷ m
   pub steps : l ≡ k + 1
 

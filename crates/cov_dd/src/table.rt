@@ -4,6 +4,7 @@ ghost use Rattle.cov_base.specs.Choices.{is_on};
 ghost use Rattle.cov_dd.specs.declared.triple.Triple.{Triple};
 ghost use Rattle.cov_dd.specs.Diagrams.{node_count, entry_in, top, span, value_in, Extends, IsEntry, Stands, Placed, IsDiagram, AgreeIn};
 
+mod combining;
 mod search;
 
 use crate::choices::is_set;
