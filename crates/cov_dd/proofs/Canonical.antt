@@ -1,7 +1,6 @@
 -- Nodes with the same values are the same.
-use Rattle.std.proofs.Common.{◌≡◌, ◌≢◌, ℕ, zero, suc, ◌+◌, ◌<◌, ◌≤◌, ◌==◌, Bool, true, false, cond, List, [], ◌∷◌, ◌++◌, length, replicate, Option, Some, None, refl, sym, ap, ◌∙◌, inl, inr, ◌⊎◌, subst, arith}
-use Rattle.std.proofs.lemmas.Bool.{eq-eqb, eqb-true}
-use Rattle.cov_base.specs.Choices.{is_on, with_option}
+use Rattle.std.proofs.Common.{◌≡◌, ℕ, zero, suc, ◌<◌, ◌==◌, Bool, true, false, cond, List, [], ◌∷◌, length, replicate, Some, refl, sym, ap, ◌∙◌, inl, inr, ◌⊎◌, arith}
+use Rattle.cov_base.specs.Choices.{with_option}
 use Rattle.cov_dd.specs.declared.triple.Triple.{Triple}
 use Rattle.cov_dd.specs.Diagrams.{node_count, entry_in, top, value_in, IsNew, IsDiagram, IsEntry, AgreeIn}
 use Rattle.cov_dd.proofs.Settings.{is_on-same, length-with_option}
@@ -14,13 +13,13 @@ module _ (ts : List Triple) (d : IsDiagram ts) (a : ℕ) (t : Triple) (e : IsEnt
 
   on_child : value_in ts a (with_option c t.option true) ≡ value_in ts t.on c
   on_child = e.value (with_option c t.option true)
-    ∙ ap (λ b. cond b (value_in ts t.on (with_option c t.option true)) (value_in ts t.off (with_option c t.option true))) (is_on-same c t.option true own)
-    ∙ independent ts d t.on t.option true c e.on_above
+      ∙ ap (λ b. cond b (value_in ts t.on (with_option c t.option true)) (value_in ts t.off (with_option c t.option true))) (is_on-same c t.option true own)
+      ∙ independent ts d t.on t.option true c e.on_above
 
   off_child : value_in ts a (with_option c t.option false) ≡ value_in ts t.off c
   off_child = e.value (with_option c t.option false)
-    ∙ ap (λ b. cond b (value_in ts t.on (with_option c t.option false)) (value_in ts t.off (with_option c t.option false))) (is_on-same c t.option false own)
-    ∙ independent ts d t.off t.option false c e.off_above
+      ∙ ap (λ b. cond b (value_in ts t.on (with_option c t.option false)) (value_in ts t.off (with_option c t.option false))) (is_on-same c t.option false own)
+      ∙ independent ts d t.off t.option false c e.off_above
 
 module _ (ts : List Triple) (same : (a b : ℕ) → a < node_count ts → b < node_count ts → AgreeIn ts a b → a ≡ b)
     (us : List Triple) (d : IsDiagram us) (kept : (n : ℕ) (c : List Bool) → n < node_count ts → value_in us n c ≡ value_in ts n c) where
@@ -28,27 +27,27 @@ module _ (ts : List Triple) (same : (a b : ℕ) → a < node_count ts → b < no
   apart : (a b : ℕ) (t : Triple) → IsEntry us a t → AgreeIn us a b → t.option < top us b → t.off < node_count ts → t.on < node_count ts → ⊥
   apart a b t is agree unread off on =
       is.differ (same t.off t.on off on (λ c long.
-        sym (kept t.off c off) ∙ sym (off_child us d a t is c long)
-        ∙ agree (with_option c t.option false) (length-with_option c t.option false ∙ long)
-        ∙ independent us d b t.option false c unread
-        ∙ sym (independent us d b t.option true c unread)
-        ∙ sym (agree (with_option c t.option true) (length-with_option c t.option true ∙ long))
-        ∙ on_child us d a t is c long ∙ kept t.on c on))
+      sym (kept t.off c off) ∙ sym (off_child us d a t is c long)
+      ∙ agree (with_option c t.option false) (length-with_option c t.option false ∙ long)
+      ∙ independent us d b t.option false c unread
+      ∙ sym (independent us d b t.option true c unread)
+      ∙ sym (agree (with_option c t.option true) (length-with_option c t.option true ∙ long))
+      ∙ on_child us d a t is c long ∙ kept t.on c on))
 
   -- two entries with one option that agree are the same triple
   alike : (a b : ℕ) (t u : Triple) → IsEntry us a t → IsEntry us b u → AgreeIn us a b → t.option ≡ u.option
       → t.off < node_count ts → t.on < node_count ts → u.off < node_count ts → u.on < node_count ts → t ≡ u
   alike a b t u is iu agree o toff ton uoff uon =
       let off : t.off ≡ u.off = same t.off u.off toff uoff (λ c long.
-        sym (kept t.off c toff) ∙ sym (off_child us d a t is c long)
-        ∙ agree (with_option c t.option false) (length-with_option c t.option false ∙ long)
-        ∙ ap (λ n. value_in us b (with_option c n false)) o
-        ∙ off_child us d b u iu c long ∙ kept u.off c uoff) in
+      sym (kept t.off c toff) ∙ sym (off_child us d a t is c long)
+      ∙ agree (with_option c t.option false) (length-with_option c t.option false ∙ long)
+      ∙ ap (λ n. value_in us b (with_option c n false)) o
+      ∙ off_child us d b u iu c long ∙ kept u.off c uoff) in
       let on : t.on ≡ u.on = same t.on u.on ton uon (λ c long.
-        sym (kept t.on c ton) ∙ sym (on_child us d a t is c long)
-        ∙ agree (with_option c t.option true) (length-with_option c t.option true ∙ long)
-        ∙ ap (λ n. value_in us b (with_option c n true)) o
-        ∙ on_child us d b u iu c long ∙ kept u.on c uon) in
+      sym (kept t.on c ton) ∙ sym (on_child us d a t is c long)
+      ∙ agree (with_option c t.option true) (length-with_option c t.option true ∙ long)
+      ∙ ap (λ n. value_in us b (with_option c n true)) o
+      ∙ on_child us d b u iu c long ∙ kept u.on c uon) in
       λ j. record { option = o j; off = off j; on = on j }
 
 -- the newest entry doesn't agree with an older node
@@ -74,7 +73,7 @@ module _ (ts : List Triple) (d : IsDiagram ts) (same : (a b : ℕ) → a < node_
   by_entry u at (level h) =
       let e : IsEntry ts b u = entry_facts ts d b u at in
       let is : t ≡ u = alike ts same (t ∷ ts) (d, new) kept_below (node_count ts) b t u (newest_entry ts t new) (entry_later (t ∷ []) ts b u e) agree
-        (h ∙ e.option) new.off_within new.on_within (omega (arith, hb, e.off_before)) (omega (arith, hb, e.on_before)) in
+      (h ∙ e.option) new.off_within new.on_within (omega (arith, hb, e.off_before)) (omega (arith, hb, e.on_before)) in
       new.absent b (at ∙ ap Some (sym is))
 
   separate : Order t.option (top ts b) → ⊥

@@ -1,16 +1,16 @@
 -- One step down two nodes.
-use Rattle.std.proofs.Common.{◌≡◌, ◌≢◌, ℕ, zero, suc, ◌+◌, ◌-◌, ◌<◌, ◌≤◌, ◌*◌, ◌&&◌, not, min, max, Bool, true, false, cond, List, [], ◌∷◌, ◌++◌, length, Option, Some, None, IfSome, Result, Ok, Err, IfOk, OnErr, refl, sym, ap, ◌∙◌, inl, inr, ◌⊎◌, subst, arith, append_assoc, length-append}
+use Rattle.std.proofs.Common.{◌≡◌, ℕ, ◌-◌, ◌<◌, ◌≤◌, ◌*◌, ◌&&◌, not, min, max, Bool, true, false, cond, List, [], ◌∷◌, ◌++◌, length, Option, Some, None, IfSome, Result, Ok, Err, IfOk, OnErr, refl, sym, ap, ◌∙◌, inl, inr, ◌⊎◌, subst, arith, append_assoc, length-append}
 use Rattle.std.proofs.lemmas.List.{append-nil}
 use Rattle.cov_base.specs.Choices.{is_on}
 use Rattle.cov_dd.specs.declared.operation.Operation.{Operation}
-use Rattle.cov_dd.specs.declared.operation.Operation.TheVariants.{And, Or, Without}
+use Rattle.cov_dd.specs.declared.operation.Operation.TheVariants.{Without}
 use Rattle.cov_dd.specs.declared.triple.Triple.{Triple}
 use Rattle.cov_dd.specs.declared.memo.Pair.{Pair}
 use Rattle.cov_dd.specs.Diagrams.{node_count, top, span, value_in, IsDiagram, Extends, Stands}
 use Rattle.cov_dd.specs.Memos.{IsKey, IsMade, IsDistinct}
 use Rattle.cov_dd.specs.Reached.{reaches, size}
-use Rattle.cov_dd.specs.Combinations.{applied, both_in, IsShortcut, first_option, joint_span, IsRight, AreRight, IsSides, Runs, Joins, Rests}
-use Rattle.cov_dd.proofs.Nodes.{below, level, above, ordered, some_nodes, value-constant, top-constant, span-constant, top-most, extends_by, extends_none, stands_later}
+use Rattle.cov_dd.specs.Combinations.{applied, both_in, IsShortcut, first_option, joint_span, AreRight, IsSides, Runs, Joins, Rests}
+use Rattle.cov_dd.proofs.Nodes.{below, level, above, ordered, some_nodes, value-constant, top-constant, span-constant, top-most, extends_by, extends_none}
 use Rattle.cov_dd.proofs.Reaching.{reaches-append, reaches-itself}
 use Rattle.cov_dd.proofs.Pairs.{IsKey-split}
 use Rattle.cov_dd.proofs.Grid.{fits_product}
@@ -31,7 +31,7 @@ shortcut_stands w ts d a b r ha hb s = record {
   where
     at : (P : ℕ → Type 0) → P a → P b → (r < 2 → P r) → P r
     at P pa pb pr = elim s.place as (λ _. P r) [
-      inl is ↦ subst P (sym is) pa
+      | inl is ↦ subst P (sym is) pa
       | inr other ↦ elim other as (λ _. P r) [ inl is ↦ subst P (sym is) pb | inr h ↦ pr h ]
     ]
 
@@ -124,7 +124,7 @@ module _ (w : Operation) (ts : List Triple) (a b o a₀ a₁ b₀ b₁ : ℕ) (m
       reached₂ : (p : Pair) → IsKey (second.more ++ first.more) p → (reaches ts a p.left ≡ true) × (reaches ts b p.right ≡ true)
       unfolding off_runs
       reached₂ p h = elim (IsKey-split second.more first.more p h) [
-        inl key ↦ (
+        | inl key ↦ (
           left.on_reached p.left (sym (reaches-later ts t₁ first.extends a₁ p.left left.on_within) ∙ (second.reached p key).0),
           right.on_reached p.right (sym (reaches-later ts t₁ first.extends b₁ p.right right.on_within) ∙ (second.reached p key).1),
         )
@@ -134,7 +134,7 @@ module _ (w : Operation) (ts : List Triple) (a b o a₀ a₁ b₀ b₁ : ℕ) (m
       before₂ : (p : Pair) → IsKey (second.more ++ first.more) p → (p.left ≤ a) × (p.right ≤ b)
       unfolding off_runs
       before₂ p h = elim (IsKey-split second.more first.more p h) [
-        inl key ↦ (omega (arith, (second.before p key).0, left.on_most), omega (arith, (second.before p key).1, right.on_most))
+        | inl key ↦ (omega (arith, (second.before p key).0, left.on_most), omega (arith, (second.before p key).1, right.on_most))
         | inr key ↦ off_runs.before p key
       ]
 
@@ -156,16 +156,16 @@ module _ (w : Operation) (ts : List Triple) (a b o a₀ a₁ b₀ b₁ : ℕ) (m
       -- one of the two nodes has the option
       deeper : (a ≤ a₁) × (b ≤ b₁) ⊎ (a ≤ a₀) × (b ≤ b₀) → ⊥
       deeper h = elim (has_option (top ts a) (top ts b) o at) [
-        inl here ↦ elim h [ inl on ↦ absurd (omega (arith, on.0, (left.falls here).1)) | inr off ↦ absurd (omega (arith, off.0, (left.falls here).0)) ]
+        | inl here ↦ elim h [ inl on ↦ absurd (omega (arith, on.0, (left.falls here).1)) | inr off ↦ absurd (omega (arith, off.0, (left.falls here).0)) ]
         | inr here ↦ elim h [ inl on ↦ absurd (omega (arith, on.1, (right.falls here).1)) | inr off ↦ absurd (omega (arith, off.1, (right.falls here).0)) ]
       ]
 
       -- the pair itself isn't met below
       pub still_fresh : (p : Pair) → p.left ≡ a → p.right ≡ b → (IsKey m p → ⊥) → IsKey m₂ p → ⊥
       still_fresh p la rb fresh key = elim (IsKey-split (second.more ++ first.more) m p (subst (λ l. IsKey l p) is₂ key)) [
-        inr old ↦ fresh old
+        | inr old ↦ fresh old
         | inl new ↦ elim (IsKey-split second.more first.more p new) [
-          inl on ↦ deeper (inl (omega (arith, (second.before p on).0, la), omega (arith, (second.before p on).1, rb)))
+          | inl on ↦ deeper (inl (omega (arith, (second.before p on).0, la), omega (arith, (second.before p on).1, rb)))
           | inr off ↦ deeper (inr (omega (arith, (first.before p off).0, la), omega (arith, (first.before p off).1, rb)))
         ]
       ]
@@ -187,7 +187,7 @@ module _ (w : Operation) (ts : List Triple) (a b o a₀ a₁ b₀ b₁ : ℕ) (m
 
         span_own : o < joint_span ts a b
         span_own = elim (has_option (top ts a) (top ts b) o at) [
-          inl here ↦ omega (arith, left.spanned here)
+          | inl here ↦ omega (arith, left.spanned here)
           | inr here ↦ omega (arith, right.spanned here)
         ]
 
@@ -199,10 +199,10 @@ module _ (w : Operation) (ts : List Triple) (a b o a₀ a₁ b₀ b₁ : ℕ) (m
             above = omega (arith, j.stands.above, to, at);
             below = omega (arith, j.stands.below, to, ap (span t₂) toff, ap (span t₂) ton, span_off, span_on, span_own);
             value = λ c. j.stands.value c
-              ∙ (λ i. cond (is_on c (to i)) (value_in t₂ (ton i) c) (value_in t₂ (toff i) c))
-              ∙ (λ i. cond (is_on c o) (value_on c i) (value_off c i))
-              ∙ cond-applied w (is_on c o) (value_in ts a₁ c) (value_in ts a₀ c) (value_in ts b₁ c) (value_in ts b₀ c)
-              ∙ (λ i. applied w (sym (left.value c) i) (sym (right.value c) i));
+                ∙ (λ i. cond (is_on c (to i)) (value_in t₂ (ton i) c) (value_in t₂ (toff i) c))
+                ∙ (λ i. cond (is_on c o) (value_on c i) (value_off c i))
+                ∙ cond-applied w (is_on c o) (value_in ts a₁ c) (value_in ts a₀ c) (value_in ts b₁ c) (value_in ts b₀ c)
+                ∙ (λ i. applied w (sym (left.value c) i) (sym (right.value c) i));
           }
 
           node_runs : (r : ℕ) → Joins t₂ t₃ pair t m₂ m₃ k₂ k₃ r → Runs w ts t₃ a b m m₃ k k₃
@@ -215,7 +215,7 @@ module _ (w : Operation) (ts : List Triple) (a b o a₀ a₁ b₀ b₁ : ℕ) (m
                     left = omega (arith, la, ha, x.count);
                     right = omega (arith, rb, hb, x.count);
                     stands = subst (λ (q : ℕ × ℕ). Stands t₃ r (first_option t₃ q.0 q.1) (joint_span t₃ q.0 q.1) (both_in w t₃ q.0 q.1)) (λ i. (sym la i, sym rb i))
-                      (again r (node_stands r j) x);
+                        (again r (node_stands r j) x);
                   },
                   right_later w t₂ t₃ j.extends m₂ second.right,
                 );
@@ -224,12 +224,12 @@ module _ (w : Operation) (ts : List Triple) (a b o a₀ a₁ b₀ b₁ : ℕ) (m
                 steps = omega (arith, j.steps, first.steps, second.steps, length-append second.more first.more);
                 entries = omega (arith, j.one, first.entries, second.entries, length-append second.more first.more);
                 reached = λ p h. elim h [
-                  inl is ↦ subst (λ (q : Pair). (reaches ts a q.left ≡ true) × (reaches ts b q.right ≡ true)) is
-                    (ap (reaches ts a) la ∙ reaches-itself ts a, ap (reaches ts b) rb ∙ reaches-itself ts b)
+                  | inl is ↦ subst (λ (q : Pair). (reaches ts a q.left ≡ true) × (reaches ts b q.right ≡ true)) is
+                      (ap (reaches ts a) la ∙ reaches-itself ts a, ap (reaches ts b) rb ∙ reaches-itself ts b)
                   | inr key ↦ reached₂ p key
                 ];
                 before = λ p h. elim h [
-                  inl is ↦ subst (λ (q : Pair). (q.left ≤ a) × (q.right ≤ b)) is (omega (arith, la), omega (arith, rb))
+                  | inl is ↦ subst (λ (q : Pair). (q.left ≤ a) × (q.right ≤ b)) is (omega (arith, la), omega (arith, rb))
                   | inr key ↦ before₂ p key
                 ];
               }

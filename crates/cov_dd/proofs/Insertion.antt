@@ -1,5 +1,5 @@
 -- The entries of a set of triples, read from the newest.
-use Rattle.std.proofs.Common.{◌≡◌, ◌≢◌, ℕ, zero, suc, ◌+◌, ◌-◌, ◌<◌, ◌≤◌, ◌==◌, ◌&&◌, ◌||◌, nat_eq, max, Bool, true, false, cond, List, [], ◌∷◌, ◌++◌, length, reverse, slice_get, Option, Some, None, Result, Ok, Err, IfOk, OnErr, refl, sym, ap, ◌∙◌, inl, inr, ◌⊎◌, subst, arith, true≢false}
+use Rattle.std.proofs.Common.{◌≡◌, ◌≢◌, ℕ, zero, suc, ◌+◌, ◌-◌, ◌<◌, ◌≤◌, ◌==◌, ◌&&◌, ◌||◌, nat_eq, max, Bool, true, false, cond, List, [], ◌∷◌, ◌++◌, length, reverse, slice_get, Some, Result, Ok, Err, IfOk, OnErr, refl, sym, ap, ◌∙◌, inl, inr, ◌⊎◌, subst, arith, true≢false}
 use Rattle.std.proofs.lemmas.Bool.{eq-eqb, eqb-true, eqb-false}
 use Rattle.std.proofs.lemmas.Grind.{reverse_onto}
 use Rattle.std.proofs.lemmas.List.{reverse-append, reverse-reverse, length-reverse}
@@ -9,8 +9,8 @@ use Rattle.std.specs.List.{list_any}
 use Rattle.indexmap.specs.IndexSet.{insert_key}
 use Rattle.cov_base.specs.Choices.{is_on}
 use Rattle.cov_dd.specs.declared.triple.Triple.{Triple}
-use Rattle.cov_dd.specs.Diagrams.{node_count, entry_in, top, span, value_in, IsNew, IsDiagram, Extends, IsEntry, Stands, Placed}
-use Rattle.cov_dd.proofs.Nodes.{below, level, above, ordered, extends_by, extends_none, entry_facts}
+use Rattle.cov_dd.specs.Diagrams.{node_count, entry_in, top, span, value_in, IsDiagram, Extends, IsEntry, Stands, Placed}
+use Rattle.cov_dd.proofs.Nodes.{below, level, above, ordered, extends_by, entry_facts}
 
 -- the derived test of equality
 abbrev pub same_triple : Triple → Triple → Bool
@@ -55,14 +55,18 @@ entry-reverse (t ∷ ts) i = by ((i + 2) == node_count ts) refl (entry-reverse t
   where
     long : length (reverse ts) ≡ length ts
     long = length-reverse ts
+
     past : length ts < i → entry_in ts (i + 2) ≡ slice_get (reverse ts) i → entry_in ts (i + 2) ≡ slice_get (reverse ts ++ t ∷ []) i
     past h rest =
         let whole : length (reverse ts ++ t ∷ []) ≡ suc (length ts) = ap length (sym (reverse_onto ts t [])) ∙ length-reverse (t ∷ ts) in
         rest ∙ slice_get_past (reverse ts) i (omega (arith, h, long)) ∙ sym (slice_get_past (reverse ts ++ t ∷ []) i (omega (arith, h, whole)))
+
     front : i < length ts → entry_in ts (i + 2) ≡ slice_get (reverse ts) i → entry_in ts (i + 2) ≡ slice_get (reverse ts ++ t ∷ []) i
     front h rest = rest ∙ sym (slice_get-front (reverse ts) (t ∷ []) i (omega (arith, h, long)))
+
     apart : i ≢ length ts → entry_in ts (i + 2) ≡ slice_get (reverse ts) i → entry_in ts (i + 2) ≡ slice_get (reverse ts ++ t ∷ []) i
     apart ne rest = elim (ordered i (length ts)) [ below h ↦ front h rest | level h ↦ absurd (ne h) | above h ↦ past h rest ]
+
     by : (b : Bool) → ((i + 2) == node_count ts) ≡ b → entry_in ts (i + 2) ≡ slice_get (reverse ts) i → cond b (Some t) (entry_in ts (i + 2)) ≡ slice_get (reverse ts ++ t ∷ []) i
     by true e rest =
         let at : length (reverse ts) ≡ i = omega (arith, eqb-true (i + 2) (node_count ts) e, node_count-length ts, long) in
@@ -102,19 +106,19 @@ module _ (ts us : List Triple) (d : IsDiagram ts) (t : Triple) (r : ℕ) (p : Pl
     (off : t.off < node_count ts) (on : t.on < node_count ts) (off_above : t.option < top ts t.off) (on_above : t.option < top ts t.on) (differ : t.off ≢ t.on) where
   pub makes_diagram : IsDiagram us
   makes_diagram = elim p.grown [
-    inl same ↦ subst IsDiagram (sym same) d
+    | inl same ↦ subst IsDiagram (sym same) d
     | inr new ↦ subst IsDiagram (sym new.0) (d, record { off_within = off; on_within = on; off_above = off_above; on_above = on_above; differ = differ; absent = new.1 })
   ]
 
   pub makes_extends : Extends ts us
   makes_extends = elim p.grown [
-    inl same ↦ extends_by [] ts us same
+    | inl same ↦ extends_by [] ts us same
     | inr new ↦ extends_by (t ∷ []) ts us new.0
   ]
 
   pub makes_one : node_count us ≤ node_count ts + 1
   makes_one = elim p.grown [
-    inl same ↦ omega (arith, ap node_count same)
+    | inl same ↦ omega (arith, ap node_count same)
     | inr new ↦ omega (arith, ap node_count new.0)
   ]
 

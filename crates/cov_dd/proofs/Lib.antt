@@ -1,5 +1,6 @@
 pub mod Canonical
 pub mod Descent
+mod Examples
 pub mod Grid
 pub mod Insertion
 pub mod Nodes

@@ -117,9 +117,9 @@ module _ (ts : List Triple) (t : Triple) (new : IsNew t ts) where
     on_above = omega (arith, new.on_above, top-append (t ∷ []) ts t.on new.on_within);
     differ = new.differ;
     value = λ c. cond-newest (node_count ts) _ (value_in ts (node_count ts) c)
-      ∙ (λ j. cond (is_on c t.option) (sym (value-append (t ∷ []) ts t.on c new.on_within) j) (sym (value-append (t ∷ []) ts t.off c new.off_within) j));
+        ∙ (λ j. cond (is_on c t.option) (sym (value-append (t ∷ []) ts t.on c new.on_within) j) (sym (value-append (t ∷ []) ts t.off c new.off_within) j));
     spans = cond-newest (node_count ts) _ (span ts (node_count ts))
-      ∙ (λ j. max (t.option + 1) (max (sym (span-append (t ∷ []) ts t.off new.off_within) j) (sym (span-append (t ∷ []) ts t.on new.on_within) j)));
+        ∙ (λ j. max (t.option + 1) (max (sym (span-append (t ∷ []) ts t.off new.off_within) j) (sym (span-append (t ∷ []) ts t.on new.on_within) j)));
   }
 
 -- an entry stays one
@@ -137,9 +137,9 @@ entry_later more ts a t e =
       on_above = omega (arith, e.on_above, top-append more ts t.on on);
       differ = e.differ;
       value = λ c. value-append more ts a c e.within ∙ e.value c
-        ∙ (λ j. cond (is_on c t.option) (sym (value-append more ts t.on c on) j) (sym (value-append more ts t.off c off) j));
+          ∙ (λ j. cond (is_on c t.option) (sym (value-append more ts t.on c on) j) (sym (value-append more ts t.off c off) j));
       spans = span-append more ts a e.within ∙ e.spans
-        ∙ (λ j. max (t.option + 1) (max (sym (span-append more ts t.off off) j) (sym (span-append more ts t.on on) j)));
+          ∙ (λ j. max (t.option + 1) (max (sym (span-append more ts t.off off) j) (sym (span-append more ts t.on on) j)));
     }
 
 -- what is known of each entry
@@ -182,7 +182,7 @@ independent (t ∷ ts) d a o on c h = by (a == node_count ts) h (independent ts 
         → (o < top ts t.on → value_in ts t.on (with_option c o on) ≡ value_in ts t.on c)
         → (o < top ts t.off → value_in ts t.off (with_option c o on) ≡ value_in ts t.off c)
         → cond b (cond (is_on (with_option c o on) t.option) (value_in ts t.on (with_option c o on)) (value_in ts t.off (with_option c o on))) (value_in ts a (with_option c o on))
-            ≡ cond b (cond (is_on c t.option) (value_in ts t.on c) (value_in ts t.off c)) (value_in ts a c)
+        ≡ cond b (cond (is_on c t.option) (value_in ts t.on c) (value_in ts t.off c)) (value_in ts a c)
     by true h here left right =
         let other : t.option ≢ o = omega (arith, h) in
         λ j. cond (is_on-other c o t.option on other j) (left (omega (arith, h, d.1.on_above)) j) (right (omega (arith, h, d.1.off_above)) j)
@@ -198,6 +198,7 @@ no_entry ts a r within e = (λ none. by (ordered a 2) none, λ inner. ap is_some
   where
     inside : 1 < a → IsNone r → a < 2
     inside inner none = let t = has_entry ts a inner within in absurd (true≢false (sym (ap is_some (e ∙ t.1)) ∙ none))
+
     by : Order a 2 → IsNone r → a < 2
     by (below h) none = h
     by (level h) none = inside (omega (arith, h)) none
@@ -235,3 +236,12 @@ top-none (t ∷ ts) a h = by (a == node_count ts) h (top-none ts a)
     by : (b : Bool) → cond b (Some t) (entry_in ts a) ≡ None → (entry_in ts a ≡ None → top ts a ≡ 128) → cond b t.option (top ts a) ≡ 128
     by true is rest = absurd (cc)
     by false is rest = rest is
+
+-- FALSE and TRUE stand in each diagram
+pub constant_stands : (ts : List Triple) (a : ℕ) (b : Bool) → a < 2 → (a == 1) ≡ b → Stands ts a 128 0 (λ _. b)
+constant_stands ts a b h is = record {
+  within = omega (arith, h, some_nodes ts);
+  above = omega (arith, top-constant ts a h);
+  below = omega (arith, span-constant ts a h);
+  value = λ c. value-constant ts a c h ∙ is;
+}

@@ -6,7 +6,7 @@ use Rattle.std.proofs.lemmas.List.{reverse-append}
 use Rattle.std.specs.Map.{lookup}
 use Rattle.indexmap.specs.IndexMap.{insert_entry}
 use Rattle.cov_dd.specs.declared.memo.Pair.{Pair}
-use Rattle.cov_dd.specs.Memos.{IsKey, IsMade, IsDistinct}
+use Rattle.cov_dd.specs.Memos.{IsKey, IsMade}
 
 -- the derived test of equality
 abbrev pub same_pair : Pair → Pair → Bool

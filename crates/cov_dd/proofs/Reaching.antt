@@ -1,5 +1,5 @@
 -- The nodes that are reached from a node.
-use Rattle.std.proofs.Common.{◌≡◌, ◌≢◌, ℕ, zero, suc, ◌+◌, ◌<◌, ◌≤◌, ◌==◌, ◌||◌, ◌⊎◌, inl, inr, Bool, true, false, cond, List, [], ◌∷◌, ◌++◌, Option, Some, None, refl, sym, ap, ◌∙◌, subst, arith, true≢false}
+use Rattle.std.proofs.Common.{◌≡◌, ℕ, ◌<◌, ◌≤◌, ◌==◌, ◌||◌, ◌⊎◌, inl, inr, Bool, true, false, cond, List, [], ◌∷◌, ◌++◌, Some, refl, sym, ap, ◌∙◌, arith, true≢false}
 use Rattle.std.proofs.lemmas.Bool.{eq-eqb, eqb-true}
 use Rattle.cov_dd.specs.declared.triple.Triple.{Triple}
 use Rattle.cov_dd.specs.Diagrams.{node_count, entry_in, IsDiagram, IsEntry}
@@ -18,6 +18,7 @@ reaches-entry (s ∷ ts) d a t n h = by (a == node_count ts) h (λ is. (entry_fa
   where
     kept : (b : ℕ) → b < node_count ts → reaches (s ∷ ts) b n ≡ reaches ts b n
     kept b h = reaches-append (s ∷ []) ts b n h
+
     by : (b : Bool) → cond b (Some s) (entry_in ts a) ≡ Some t
         → (entry_in ts a ≡ Some t → IsEntry ts a t × (reaches ts a n ≡ (a == n || (reaches ts t.off n || reaches ts t.on n))))
         → cond b (a == n || (reaches ts s.off n || reaches ts s.on n)) (reaches ts a n) ≡ (a == n || (reaches (s ∷ ts) t.off n || reaches (s ∷ ts) t.on n))
@@ -66,9 +67,9 @@ reaches-most (t ∷ ts) d a n h = by (a == node_count ts) refl h (reaches-most t
     by true e h here off on =
         let at = eqb-true a (node_count ts) e in
         elim (or-true (a == n) _ h) [
-          inl itself ↦ omega (arith, eqb-true a n itself)
+          | inl itself ↦ omega (arith, eqb-true a n itself)
           | inr below ↦ elim (or-true (reaches ts t.off n) (reaches ts t.on n) below) [
-            inl by_off ↦ omega (arith, off by_off, at, d.1.off_within)
+            | inl by_off ↦ omega (arith, off by_off, at, d.1.off_within)
             | inr by_on ↦ omega (arith, on by_on, at, d.1.on_within)
           ]
         ]

@@ -1,6 +1,6 @@
 -- Choices with one option set.
-use Rattle.std.proofs.Common.{◌≡◌, ◌≢◌, ℕ, zero, suc, ◌+◌, ◌<◌, ◌≤◌, Bool, true, false, List, [], ◌∷◌, length, replicate, refl, ap, arith}
-use Rattle.cov_base.specs.Choices.{bits_of, is_on, with_option}
+use Rattle.std.proofs.Common.{◌≡◌, ◌≢◌, ℕ, zero, suc, ◌<◌, ◌≤◌, Bool, false, List, [], ◌∷◌, length, refl, ap, arith}
+use Rattle.cov_base.specs.Choices.{is_on, with_option}
 
 pub is_on-same : (c : List Bool) (o : ℕ) (on : Bool) → o < length c → is_on (with_option c o on) o ≡ on
 is_on-same [] o on h = absurd (omega (arith, h))

@@ -1,8 +1,8 @@
 -- Nodes taken apart at an option.
-use Rattle.std.proofs.Common.{◌≡◌, ◌≢◌, ℕ, ◌+◌, ◌<◌, ◌≤◌, max, Bool, true, false, cond, List, Option, Some, None, refl, sym, ap, ◌∙◌, subst, arith}
+use Rattle.std.proofs.Common.{◌≡◌, ℕ, ◌<◌, Bool, true, false, cond, List, Some, refl, ap, ◌∙◌, arith}
 use Rattle.cov_base.specs.Choices.{is_on}
 use Rattle.cov_dd.specs.declared.triple.Triple.{Triple}
-use Rattle.cov_dd.specs.Diagrams.{node_count, entry_in, top, span, value_in, IsDiagram, IsEntry}
+use Rattle.cov_dd.specs.Diagrams.{node_count, entry_in, top, value_in, IsDiagram, IsEntry}
 use Rattle.cov_dd.specs.Combinations.{IsSides}
 use Rattle.cov_dd.proofs.Nodes.{entry_facts}
 use Rattle.cov_dd.proofs.Reaching.{reaches-off, reaches-on}

@@ -1,12 +1,12 @@
 -- The first choice on which a node is true.
-use Rattle.std.proofs.Common.{◌≡◌, ◌≢◌, ℕ, zero, suc, ◌+◌, ◌<◌, ◌≤◌, ◌==◌, max, Bool, true, false, cond, List, [], ◌∷◌, ◌++◌, length, replicate, map, Option, Some, None, IsNone, ◌↔◌, is_some, refl, sym, ap, ◌∙◌, subst, arith, true≢false, append_assoc, length-append}
+use Rattle.std.proofs.Common.{◌≡◌, ◌≢◌, ℕ, zero, suc, ◌+◌, ◌<◌, ◌≤◌, ◌==◌, Bool, true, false, cond, List, [], ◌∷◌, ◌++◌, length, replicate, map, Some, None, refl, sym, ap, ◌∙◌, arith, true≢false, append_assoc, length-append}
 use Rattle.std.specs.List.{find}
 use Rattle.std.proofs.lemmas.Bool.{eq-eqb, ne_eqb, eqb-true, eqb-false}
 use Rattle.cov_base.specs.Choices.{all_choices, bits_of, is_on, with_option}
 use Rattle.cov_dd.specs.declared.triple.Triple.{Triple}
 use Rattle.cov_dd.specs.Diagrams.{node_count, entry_in, top, span, value_in, IsDiagram, IsEntry}
 use Rattle.cov_dd.proofs.Settings.{length-with_option}
-use Rattle.cov_dd.proofs.Nodes.{Order, below, level, above, ordered, cond-older, cond-newest, value-constant, top-constant, span-constant, entry-constant, entry_facts, has_entry, top-most}
+use Rattle.cov_dd.proofs.Nodes.{Order, below, level, above, ordered, cond-older, value-constant, top-constant, entry-constant, entry_facts, has_entry}
 
 -- the choice c with the options on that a walk through the nodes sets, where it goes off unless that is FALSE
 abbrev pub walked : List Triple → ℕ → List Bool → List Bool
@@ -30,10 +30,11 @@ walked-entry (s ∷ ts) d a t c h = by (a == node_count ts) refl h (λ is. (entr
   where
     older : (n : ℕ) (v : List Bool) → n < node_count ts → walked (s ∷ ts) n v ≡ walked ts n v
     older n v h = cond-older n (node_count ts) _ (walked ts n v) h
+
     by : (b : Bool) → (a == node_count ts) ≡ b → cond b (Some s) (entry_in ts a) ≡ Some t
         → (entry_in ts a ≡ Some t → IsEntry ts a t × (walked ts a c ≡ cond (t.off == 0) (walked ts t.on (with_option c t.option true)) (walked ts t.off c)))
         → cond b (cond (s.off == 0) (walked ts s.on (with_option c s.option true)) (walked ts s.off c)) (walked ts a c)
-            ≡ cond (t.off == 0) (walked (s ∷ ts) t.on (with_option c t.option true)) (walked (s ∷ ts) t.off c)
+        ≡ cond (t.off == 0) (walked (s ∷ ts) t.on (with_option c t.option true)) (walked (s ∷ ts) t.off c)
     by true e is rest =
         let same : s ≡ t = cc in
         (λ j. cond (s.off == 0) (sym (older s.on (with_option c s.option true) d.1.on_within) j) (sym (older s.off c d.1.off_within) j))
@@ -101,22 +102,22 @@ module _ (ts : List Triple) (d : IsDiagram ts) (k : ℕ) (p : List Bool) where
   passed a f = record {
     rest = false ∷ f.rest;
     found = find_first (λ x. value_in ts a (p ++ x)) (map (λ x. false ∷ x) (all_choices k)) (map (λ x. true ∷ x) (all_choices k)) (false ∷ f.rest)
-      (find_longer (λ x. value_in ts a (p ++ x)) (λ x. value_in ts a ((p ++ false ∷ []) ++ x)) false (all_choices k) f.rest (λ x. sym (longer false a x)) f.found);
+        (find_longer (λ x. value_in ts a (p ++ x)) (λ x. value_in ts a ((p ++ false ∷ []) ++ x)) false (all_choices k) f.rest (λ x. sym (longer false a x)) f.found);
     whole = sym (snoc false f.rest) ∙ f.whole ∙ ap (walked ts a) (snoc false (replicate k false));
   }
 
   module _ (a : ℕ) (t : Triple) (is : entry_in ts a ≡ Some t) (e : IsEntry ts a t) (at : t.option ≡ length p) where
     reads : (b : Bool) (x : List Bool) → value_in ts a (p ++ (b ∷ x)) ≡ cond b (value_in ts t.on (p ++ (b ∷ x))) (value_in ts t.off (p ++ (b ∷ x)))
     reads b x = e.value (p ++ (b ∷ x))
-      ∙ ap (λ r. cond r (value_in ts t.on (p ++ (b ∷ x))) (value_in ts t.off (p ++ (b ∷ x)))) (ap (is_on (p ++ (b ∷ x))) at ∙ is_on-middle p x b)
+        ∙ ap (λ r. cond r (value_in ts t.on (p ++ (b ∷ x))) (value_in ts t.off (p ++ (b ∷ x)))) (ap (is_on (p ++ (b ∷ x))) at ∙ is_on-middle p x b)
 
     off_taken : t.off ≢ 0 → First ts t.off k (p ++ false ∷ []) → First ts a (suc k) p
     off_taken ne f = record {
       rest = false ∷ f.rest;
       found = find_first (λ x. value_in ts a (p ++ x)) (map (λ x. false ∷ x) (all_choices k)) (map (λ x. true ∷ x) (all_choices k)) (false ∷ f.rest)
-        (find_longer (λ x. value_in ts a (p ++ x)) (λ x. value_in ts t.off ((p ++ false ∷ []) ++ x)) false (all_choices k) f.rest (λ x. reads false x ∙ sym (longer false t.off x)) f.found);
+          (find_longer (λ x. value_in ts a (p ++ x)) (λ x. value_in ts t.off ((p ++ false ∷ []) ++ x)) false (all_choices k) f.rest (λ x. reads false x ∙ sym (longer false t.off x)) f.found);
       whole = sym (snoc false f.rest) ∙ f.whole ∙ ap (walked ts t.off) (snoc false (replicate k false))
-        ∙ sym (walked-entry ts d a t (p ++ (false ∷ replicate k false)) is
+          ∙ sym (walked-entry ts d a t (p ++ (false ∷ replicate k false)) is
           ∙ ap (λ b. cond b (walked ts t.on (with_option (p ++ (false ∷ replicate k false)) t.option true)) (walked ts t.off (p ++ (false ∷ replicate k false)))) (ne_eqb t.off 0 ne));
     }
 
@@ -124,11 +125,11 @@ module _ (ts : List Triple) (d : IsDiagram ts) (k : ℕ) (p : List Bool) where
     on_taken zero_off f = record {
       rest = true ∷ f.rest;
       found = find_past (λ x. value_in ts a (p ++ x)) (map (λ x. false ∷ x) (all_choices k)) (map (λ x. true ∷ x) (all_choices k))
-        (find_nowhere (λ x. value_in ts a (p ++ x)) false (all_choices k)
+          (find_nowhere (λ x. value_in ts a (p ++ x)) false (all_choices k)
           (λ x. reads false x ∙ ap (λ n. value_in ts n (p ++ (false ∷ x))) zero_off ∙ value-constant ts 0 (p ++ (false ∷ x)) (omega arith)))
-        ∙ find_longer (λ x. value_in ts a (p ++ x)) (λ x. value_in ts t.on ((p ++ true ∷ []) ++ x)) true (all_choices k) f.rest (λ x. reads true x ∙ sym (longer true t.on x)) f.found;
+          ∙ find_longer (λ x. value_in ts a (p ++ x)) (λ x. value_in ts t.on ((p ++ true ∷ []) ++ x)) true (all_choices k) f.rest (λ x. reads true x ∙ sym (longer true t.on x)) f.found;
       whole = sym (snoc true f.rest) ∙ f.whole ∙ ap (walked ts t.on) (snoc true (replicate k false))
-        ∙ sym (walked-entry ts d a t (p ++ (false ∷ replicate k false)) is
+          ∙ sym (walked-entry ts d a t (p ++ (false ∷ replicate k false)) is
           ∙ ap (λ b. cond b (walked ts t.on (with_option (p ++ (false ∷ replicate k false)) t.option true)) (walked ts t.off (p ++ (false ∷ replicate k false)))) (eq-eqb t.off 0 zero_off)
           ∙ ap (walked ts t.on) (ap (λ o. with_option (p ++ (false ∷ replicate k false)) o true) at ∙ with_option-middle p (replicate k false) false true));
     }
@@ -150,6 +151,7 @@ module _ (ts : List Triple) (d : IsDiagram ts) where
           let t = has_entry ts a inner within in
           let e : IsEntry ts a t.0 = entry_facts ts d a t.0 t.1 in
           absurd (omega (arith, after, spans, e.option, e.spans))
+
       by : Order a 1 → a ≡ 1
       by (below h) = absurd (ne (omega (arith, h)))
       by (level h) = h
@@ -170,16 +172,18 @@ module _ (ts : List Triple) (d : IsDiagram ts) where
       at_entry t is e at false z =
           let ne : t.off ≢ 0 = eqb-false t.off 0 z in
           off_taken ts d k p a t is e at ne (off t e at ne)
+
       level_at : length p ≡ top ts a → First ts a (suc k) p
       level_at h =
           let inner : 1 < a = elim (ordered a 2) as (λ _. 1 < a) [
-            below c ↦ absurd (omega (arith, h, small, top-constant ts a c))
+            | below c ↦ absurd (omega (arith, h, small, top-constant ts a c))
             | level c ↦ omega (arith, c)
             | above c ↦ omega (arith, c)
           ] in
           let t = has_entry ts a inner within in
           let e : IsEntry ts a t.0 = entry_facts ts d a t.0 t.1 in
           at_entry t.0 t.1 e (sym e.option ∙ sym h) (t.0.off == 0) refl
+
       by : Order (length p) (top ts a) → First ts a (suc k) p
       by (below h) = passed ts d k p a (here h)
       by (level h) = level_at h

@@ -8,4 +8,7 @@ mod table;
 mod triple;
 
 pub use table::Table;
-pub use triple::{FALSE, Node, TRUE, Triple};
+pub use triple::{FALSE, Node, TRUE, Triple, constant};
+
+#[cfg(test)]
+mod tests;

@@ -1,5 +1,7 @@
 // The nodes of a table and their entries.
-ghost use Rattle.std.specs.Prelude.{◌≡◌, if◌then◌else◌};
+ghost use Rattle.std.specs.Prelude.{◌≡◌, List, if◌then◌else◌};
+ghost use Rattle.cov_dd.specs.declared.triple.Triple.{Triple};
+ghost use Rattle.cov_dd.specs.Diagrams.{Stands};
 
 use cov_base::OptionId;
 
@@ -11,6 +13,13 @@ pub const FALSE: Node = 0;
 
 /// The node that is true on every choice.
 pub const TRUE: Node = 1;
+
+/// The node with the same truth value on every choice, in any table.
+pub fn constant(on: bool) -> Node
+    ensures { (ts : List Triple) → Stands ts result 128 0 (λ _. on) }
+{
+    if on { TRUE } else { FALSE }
+}
 
 /// The entry of a node: it has the value of `on` where the choice has the option on, else that of `off`.
 #[derive(Clone, Copy, Debug, PartialEq, Eq, Hash)]

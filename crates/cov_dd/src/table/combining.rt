@@ -22,12 +22,7 @@ struct Sides {
 
 impl Table {
     /// The node that is true where both are. There is one tick for each `make`.
-    pub fn and<L: Ledger>(
-        &mut self,
-        a: Node,
-        b: Node,
-        steps: &mut Steps<L>,
-    ) -> Result<Node, Memory>
+    pub fn and<L: Ledger>(&mut self, a: Node, b: Node, steps: &mut Steps<L>) -> Result<Node, Memory>
         requires a { a < node_count self.old }
         requires b { b < node_count self.old }
         ensures extends { Extends self.old self.new }

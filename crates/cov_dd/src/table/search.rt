@@ -46,5 +46,9 @@ fn switched(choice: Choice, option: OptionId, on: bool) -> Choice
     requires { option < length choice }
     ensures { result ≡ (if on then with_option choice option true else choice) }
 {
-    if on { choice.with(option, true) } else { choice }
+    if on {
+        choice.with(option, true)
+    } else {
+        choice
+    }
 }

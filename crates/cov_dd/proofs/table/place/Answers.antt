@@ -1,4 +1,3 @@
-use Rattle.std.proofs.Common.{arith}
 use Rattle.cov_dd.proofs.Insertion.{placed}
 use Rattle.cov_dd.proofs.table.place.Goals as goal
 

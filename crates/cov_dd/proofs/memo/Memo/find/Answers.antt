@@ -1,4 +1,4 @@
-use Rattle.std.proofs.Common.{◌≡◌, ap, ◌∙◌}
+use Rattle.std.proofs.Common.{ap, ◌∙◌}
 use Rattle.cov_dd.proofs.Pairs.{found_some, found_none}
 use Rattle.cov_dd.proofs.memo.Memo.find.Goals as goal
 

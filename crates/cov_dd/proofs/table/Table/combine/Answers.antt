@@ -1,4 +1,4 @@
-use Rattle.std.proofs.Common.{ap, subst}
+use Rattle.std.proofs.Common.{subst}
 use Rattle.cov_dd.specs.Memos.{IsDistinct, MemoValue}
 use Rattle.cov_dd.proofs.Descent.{combined_bound}
 use Rattle.cov_dd.proofs.table.Table.combine.Goals as goal

@@ -17,9 +17,9 @@ loop-triple-preserved c =
     let d = subst IsDiagram c.self.view_is c.self.invariant in
     record {
       walk = ap (λ n. walked c.args.self.now n c.switched-choice.result) c.child-node.ensures
-        ∙ ap (walked c.args.self.now (cond (nat_eq t.off 0) t.on t.off)) c.switched-choice.ensures
-        ∙ walked-step c.args.self.now c.loop-triple.node t c.loop-triple.choice d (sym c.in-Some.ensures.entry)
-        ∙ c.loop-triple.invariant.walk;
+          ∙ ap (walked c.args.self.now (cond (nat_eq t.off 0) t.on t.off)) c.switched-choice.ensures
+          ∙ walked-step c.args.self.now c.loop-triple.node t c.loop-triple.choice d (sym c.in-Some.ensures.entry)
+          ∙ c.loop-triple.invariant.walk;
       long = ap length c.switched-choice.ensures ∙ length-step c.args.self.now c.loop-triple.node t c.loop-triple.choice (nat_eq t.off 0) ∙ c.loop-triple.invariant.long;
       options = omega (arith, c.loop-triple.invariant.options, ap (span c.args.self.now) c.child-node.ensures, span-step c.args.self.now c.loop-triple.node t c.loop-triple.choice (nat_eq t.off 0) c.in-Some.ensures.known);
     }

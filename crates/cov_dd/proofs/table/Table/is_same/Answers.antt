@@ -1,4 +1,4 @@
-use Rattle.std.proofs.Common.{ap, subst, arith}
+use Rattle.std.proofs.Common.{ap, subst}
 use Rattle.std.proofs.lemmas.Bool.{eq-eqb, eqb-true}
 use Rattle.cov_dd.specs.Diagrams.{value_in, IsDiagram}
 use Rattle.cov_dd.proofs.Canonical.{canonical}

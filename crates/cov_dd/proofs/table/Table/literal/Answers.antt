@@ -1,4 +1,4 @@
-use Rattle.std.proofs.Common.{arith, IfOk}
+use Rattle.std.proofs.Common.{arith}
 use Rattle.std.proofs.lemmas.Result.{IfOk-weaker}
 use Rattle.cov_dd.proofs.Nodes.{some_nodes, top-constant, literal_stands}
 use Rattle.cov_dd.proofs.table.Table.literal.Goals as goal

@@ -1,4 +1,4 @@
-use Rattle.std.proofs.Common.{ap, subst, sym, ◌∙◌, reverse, IfOk}
+use Rattle.std.proofs.Common.{ap, subst, ◌∙◌, reverse, IfOk}
 use Rattle.std.proofs.lemmas.Result.{on_err_weaker}
 use Rattle.cov_dd.specs.declared.triple.Triple.{Triple}
 use Rattle.cov_dd.specs.Diagrams.{Placed, IsDiagram}

@@ -1,4 +1,4 @@
-use Rattle.std.proofs.Common.{Option, Some, None, IfSome, subst}
+use Rattle.std.proofs.Common.{subst}
 use Rattle.cov_dd.specs.Diagrams.{IsDiagram}
 use Rattle.cov_dd.proofs.Descent.{settled_stands}
 use Rattle.cov_dd.proofs.table.Table.settled.Goals as goal
