@@ -10,7 +10,7 @@ use Rattle.cov_dd.specs.Diagrams.{node_count, top, span, value_in, IsDiagram, Ex
 use Rattle.cov_dd.specs.Memos.{IsKey, IsMade, IsDistinct}
 use Rattle.cov_dd.specs.Reached.{reaches, size}
 use Rattle.cov_dd.specs.Combinations.{applied, both_in, IsShortcut, first_option, joint_span, AreRight, IsSides, Runs, Joins, Rests}
-use Rattle.cov_dd.proofs.Nodes.{below, level, above, ordered, some_nodes, value-constant, top-constant, span-constant, top-most, extends_by, extends_none}
+use Rattle.cov_dd.proofs.Nodes.{extends_trans, below, level, above, ordered, some_nodes, value-constant, top-constant, span-constant, top-most, extends_none}
 use Rattle.cov_dd.proofs.Reaching.{reaches-append, reaches-itself}
 use Rattle.cov_dd.proofs.Pairs.{IsKey-split}
 use Rattle.cov_dd.proofs.Grid.{fits_product}
@@ -76,9 +76,6 @@ right_later w ts us x (e ∷ es) right = (
   },
   right_later w ts us x es right.1,
 )
-
-extends_trans : (ts us vs : List Triple) → Extends ts us → Extends us vs → Extends ts vs
-extends_trans ts us vs x y = extends_by (y.more ++ x.more) ts vs (y.is ∙ ap (λ l. y.more ++ l) x.is ∙ sym (append_assoc y.more x.more ts))
 
 reaches-later : (ts us : List Triple) → Extends ts us → (a n : ℕ) → a < node_count ts → reaches us a n ≡ reaches ts a n
 reaches-later ts us x a n h = ap (λ vs. reaches vs a n) x.is ∙ reaches-append x.more ts a n h

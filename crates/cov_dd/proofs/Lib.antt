@@ -1,3 +1,4 @@
+pub mod CallerLemmas
 pub mod Canonical
 pub mod Descent
 mod Examples

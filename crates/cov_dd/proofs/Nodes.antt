@@ -1,5 +1,5 @@
 -- Nodes as a list of entries grows.
-use Rattle.std.proofs.Common.{◌≡◌, ◌≢◌, ℕ, zero, suc, ◌+◌, ◌<◌, ◌≤◌, ◌==◌, max, Bool, true, false, cond, List, [], ◌∷◌, ◌++◌, length, Option, Some, None, IfSome, IsNone, is_some, ◌↔◌, true≢false, refl, sym, ap, ◌∙◌, inl, inr, ◌⊎◌, subst, arith}
+use Rattle.std.proofs.Common.{◌≡◌, ◌≢◌, ℕ, zero, suc, ◌+◌, ◌<◌, ◌≤◌, ◌==◌, max, Bool, true, false, cond, List, [], ◌∷◌, ◌++◌, length, Option, Some, None, IfSome, IsNone, is_some, ◌↔◌, true≢false, refl, sym, ap, ◌∙◌, inl, inr, ◌⊎◌, subst, arith, append_assoc}
 use Rattle.std.proofs.lemmas.Bool.{eq-eqb, ne_eqb, eqb-true, eqb-false}
 use Rattle.cov_base.specs.Choices.{is_on, with_option}
 use Rattle.cov_dd.specs.declared.triple.Triple.{Triple}
@@ -68,6 +68,10 @@ extends_by more ts us e = record {
 
 pub extends_none : (ts : List Triple) → Extends ts ts
 extends_none ts = extends_by [] ts ts refl
+
+-- one growth after another
+pub extends_trans : (ts us vs : List Triple) → Extends ts us → Extends us vs → Extends ts vs
+extends_trans ts us vs x y = extends_by (y.more ++ x.more) ts vs (y.is ∙ ap (λ l. y.more ++ l) x.is ∙ sym (append_assoc y.more x.more ts))
 
 -- a node that stands keeps standing
 pub stands_later : {ts us : List Triple} {r least most : ℕ} {f : List Bool → Bool} → Extends ts us → Stands ts r least most f → Stands us r least most f
