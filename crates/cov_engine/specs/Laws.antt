@@ -1,10 +1,16 @@
 -- Laws of what a history holds.
-use Rattle.std.specs.Prelude.{◌≡◌, ℕ, Bool, List, take, length}
-use Rattle.cov_base.specs.Addresses.{IsTable}
+use Rattle.std.specs.Prelude.{◌≡◌, ℕ, ◌+◌, Bool, true, false, nat_eq, List, [], ◌∷◌, ◌++◌, take, length}
+use Rattle.std.specs.List.{fold, list_any}
+use Rattle.cov_base.specs.Addresses.{IsTable, number_by, after_anchor_by}
+use Rattle.cov_expr.specs.Formula.{Formula}
+use Rattle.cov_edit.specs.declared.edit.Edit.{Edit}
 use Rattle.cov_edit.specs.declared.command.Command.{Command}
-use Rattle.cov_edit.specs.Numbering.{numbers_of}
+use Rattle.cov_edit.specs.declared.command.Command.TheVariants as commands
+use Rattle.cov_edit.specs.Numbering.{numbers_of, numbered}
+use Rattle.cov_edit.specs.Variant.{line_address, lines_of}
 use Rattle.cov_edit.specs.Replay.{replay}
-use Rattle.cov_engine.specs.Kept.{variant_seen, held_by, lines_seen, rows_seen, kept_of, entries_of, Stands}
+use Rattle.cov_engine.specs.Kept.{kept_number, kept_after, entries_after, held_from, held_by, kept_of, entries_of, lines_seen, rows_seen, variant_seen, file_kept, is_kept_anchor, Stands}
+use Rattle.cov_engine.specs.Insertions.{Insertion, lines_begun, file_of, anchor_of, line_with, held_before, held_behind}
 
 -- at each position, the lines seen on a choice are those of the replay of the history up to there
 abbrev pub LinesFollowReplay : Type 0
@@ -22,3 +28,49 @@ HoldingFollowsReplay = (c : List Bool) (p : ℕ) (history : List Command) → va
 abbrev pub HoldingStands : Type 0
 HoldingStands = (history : List Command)
     → IsTable (numbers_of history).addresses × Stands (numbers_of history).addresses (length (numbers_of history).addresses) (length history) (held_by history)
+
+-- what a longer history holds comes after what the shorter holds
+abbrev pub HoldingGoesOn : Type 0
+HoldingGoesOn = (history later : List Command) → held_by (history ++ later) ≡ held_from (length history) (held_by history) (numbers_of history) later
+
+-- a commit changes the lines edit by edit, from its own position on
+abbrev pub CommitKeepsLines : Type 0
+CommitKeepsLines = (history : List Command) (base : ℕ) (choice : List Bool) (ambition : Formula ℕ) (es : List Edit)
+    → kept_of (history ++ commands.Commit base choice ambition es ∷ []) ≡ fold (kept_after (length history + 1) ambition) (kept_of history) (numbered (numbers_of history) es)
+
+-- a commit changes the rows edit by edit, from its own position on
+abbrev pub CommitKeepsRows : Type 0
+CommitKeepsRows = (history : List Command) (base : ℕ) (choice : List Bool) (ambition : Formula ℕ) (es : List Edit)
+    → entries_of (history ++ commands.Commit base choice ambition es ∷ []) ≡ fold (entries_after (length history + 1) ambition) (entries_of history) (numbered (numbers_of history) es)
+
+-- at each position, the lines of a file in the replay are those seen of the file's kept lines
+abbrev pub FileFollowsReplay : Type 0
+FileFollowsReplay = (c : List Bool) (p file : ℕ) (history : List Command) → lines_of (replay c (take p history)) file ≡ lines_seen c p (file_kept file (kept_of history))
+
+-- a line that some choice has at some position is kept in its file
+abbrev pub ShownIsKept : Type 0
+ShownIsKept = (c : List Bool) (p file line : ℕ) (history : List Command)
+    → list_any (λ l. nat_eq (number_by line_address l) line) (lines_of (replay c (take p history)) file) ≡ true → is_kept_anchor file line (kept_of history) ≡ true
+
+-- an insert puts its line directly after the anchor, or first where that is the head
+abbrev pub InsertAfterAnchor : Type 0
+InsertAfterAnchor = (history : List Command) (ambition : Formula ℕ) (i : Insertion)
+    → is_kept_anchor (file_of history i) (anchor_of history i) (held_before history ambition i).lines ≡ true
+    → file_kept (file_of history i) (held_behind history ambition i).lines
+    ≡ after_anchor_by kept_number (anchor_of history i) (line_with history ambition i) (file_kept (file_of history i) (held_before history ambition i).lines)
+
+-- an insert leaves the other files as they are
+abbrev pub InsertInOneFile : Type 0
+InsertInOneFile = (history : List Command) (ambition : Formula ℕ) (i : Insertion) (file : ℕ)
+    → nat_eq (file_of history i) file ≡ false
+    → file_kept file (held_behind history ambition i).lines ≡ file_kept file (held_before history ambition i).lines
+
+-- a new line has the next number
+abbrev pub InsertIsNumbered : Type 0
+InsertIsNumbered = (history : List Command) (ambition : Formula ℕ) (i : Insertion) → kept_number (line_with history ambition i) ≡ lines_begun history i + 1
+
+-- after an insert, each anchor still is one, and the new line is one of its file
+abbrev pub AnchorsStay : Type 0
+AnchorsStay = (history : List Command) (ambition : Formula ℕ) (i : Insertion)
+    → ((file line : ℕ) → is_kept_anchor file line (held_before history ambition i).lines ≡ true → is_kept_anchor file line (held_behind history ambition i).lines ≡ true)
+    × (is_kept_anchor (file_of history i) (lines_begun history i + 1) (held_behind history ambition i).lines ≡ true)

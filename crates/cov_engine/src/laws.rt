@@ -1,5 +1,5 @@
 //! Laws of what a history holds. Each function does nothing; what it ensures is the law.
-ghost use Rattle.cov_engine.specs.Laws.{LinesFollowReplay, RowsFollowReplay, HoldingFollowsReplay, HoldingStands};
+ghost use Rattle.cov_engine.specs.Laws.{LinesFollowReplay, RowsFollowReplay, HoldingFollowsReplay, HoldingStands, HoldingGoesOn, CommitKeepsLines, CommitKeepsRows, FileFollowsReplay, ShownIsKept, InsertAfterAnchor, InsertInOneFile, InsertIsNumbered, AnchorsStay};
 
 /// At each position, the lines seen on a choice are those of the replay of the history up to there.
 pub fn lines_follow_replay()
@@ -19,4 +19,49 @@ pub fn holding_follows_replay()
 /// What a history holds has all of its lines, in order, and no change that is later than the history.
 pub fn holding_stands()
     ensures { HoldingStands }
+{}
+
+/// What a longer history holds comes after what the shorter holds.
+pub fn holding_goes_on()
+    ensures { HoldingGoesOn }
+{}
+
+/// A commit changes the lines edit by edit, from its own position on.
+pub fn commit_keeps_lines()
+    ensures { CommitKeepsLines }
+{}
+
+/// A commit changes the rows edit by edit, from its own position on.
+pub fn commit_keeps_rows()
+    ensures { CommitKeepsRows }
+{}
+
+/// At each position, the lines of a file in the replay are those seen of the file's kept lines.
+pub fn file_follows_replay()
+    ensures { FileFollowsReplay }
+{}
+
+/// A line that some choice has at some position is kept in its file.
+pub fn shown_is_kept()
+    ensures { ShownIsKept }
+{}
+
+/// An insert puts its line directly after the anchor, or first where that is the head.
+pub fn insert_after_anchor()
+    ensures { InsertAfterAnchor }
+{}
+
+/// An insert leaves the other files as they are.
+pub fn insert_in_one_file()
+    ensures { InsertInOneFile }
+{}
+
+/// A new line has the next number.
+pub fn insert_is_numbered()
+    ensures { InsertIsNumbered }
+{}
+
+/// After an insert, each anchor still is one, and the new line is one of its file.
+pub fn anchors_stay()
+    ensures { AnchorsStay }
 {}
