@@ -181,6 +181,13 @@ impl Path {
     {
         self.names.get(index)
     }
+
+    /// The names in order.
+    pub fn as_slice(&self) -> &[Name]
+        ensures { result.now ≡ self.now }
+    {
+        self.names.as_slice()
+    }
 }
 
 // What stands before the first slash, and what stands after it if there is one.

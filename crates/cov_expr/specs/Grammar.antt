@@ -12,6 +12,7 @@ constant_of word =
     else (if bytes_eq word (codes "false") then Some false
     else None)
 
+-- a constant, or a name where there is none
 abbrev pub constant_or_name : Option Bool → List ℕ → Formula (List ℕ)
 constant_or_name (Some true) word = True
 constant_or_name (Some false) word = False

@@ -14,6 +14,7 @@ first_unknown names e = find (λ name. not (is_declared names name)) (names_in e
 abbrev pub with_numbers : List (List ℕ) → Formula (List ℕ) → Formula ℕ
 with_numbers names e = renamed (option_number names) e
 
+-- an expression, unless a name of it is unknown
 abbrev pub known_or : Option (List ℕ) → Formula ℕ → Result (Formula ℕ) NameFault
 known_or None e = Ok e
 known_or (Some name) e = Err (UnknownOption name)

@@ -51,7 +51,7 @@ abbrev pub after_close : List Level → Formula (List ℕ) → Option State
 after_close [] e = None
 after_close (level ∷ outer) e = Some (settled outer level e)
 
--- the state after one token more; none where no expression goes on with it
+-- what was read with one token more; none where no expression goes on with it
 abbrev pub after_token : List Level → Level → Option (Formula (List ℕ)) → Token → Option State
 after_token outer level None (Word word) = Some (settled outer level (word_formula word))
 after_token outer level None Bang = Some (record { outer = outer; level = record level { nots = level.nots + 1 }; operand = None })
@@ -66,15 +66,17 @@ after_token outer level (Some e) (Word word) = None
 after_token outer level (Some e) Bang = None
 after_token outer level (Some e) Open = None
 
+-- the state after one token more; none where no expression goes on with it
 abbrev pub next : State → Token → Option State
 next s t = after_token s.outer s.level s.operand t
 
--- the expression that was read, if it is a whole one
+-- what was read, if it is a whole expression
 abbrev pub whole : List Level → Level → Option (Formula (List ℕ)) → Option (Formula (List ℕ))
 whole [] level (Some e) = Some (after_or level.or_left e)
 whole [] level None = None
 whole (l ∷ outer) level operand = None
 
+-- the expression that a state has read, if it is a whole one
 abbrev pub finished : State → Option (Formula (List ℕ))
 finished s = whole s.outer s.level s.operand
 
@@ -98,10 +100,12 @@ abbrev pub read_from : List (ℕ × Token) → ℕ → State → Result (Formula
 read_from [] size s = at_end size (finished s)
 read_from (t ∷ ts) size s = go_on t.0 (read_from ts size) (next s t.1)
 
+-- what a text of a size is, by its tokens or a byte that begins none
 abbrev pub read_lexed : Lexed → ℕ → State → Result (Formula (List ℕ)) ExprFault
 read_lexed (Tokens ts) size s = read_from ts size s
 read_lexed (BadByte at) size s = Err (Syntax at)
 
+-- too many tokens come before what reading them gives, and a byte that begins none before both
 abbrev pub read_counted : Result ℕ ℕ → Result (Formula (List ℕ)) ExprFault → Result (Formula (List ℕ)) ExprFault
 read_counted (Ok count) read = if nat_lt 256 count then Err TooLong else read
 read_counted (Err at) read = read

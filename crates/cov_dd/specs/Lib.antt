@@ -1,0 +1,4 @@
+pub mod Combinations
+pub mod Diagrams
+pub mod Memos
+pub mod Reached

@@ -1,0 +1,14 @@
+//! Shared diagrams: reduced ordered binary decision diagrams in one table, where equal functions are equal nodes.
+#![tactic(auto)]
+
+mod choices;
+mod memo;
+mod operation;
+mod table;
+mod triple;
+
+pub use table::Table;
+pub use triple::{FALSE, Node, TRUE, Triple, constant};
+
+#[cfg(test)]
+mod tests;

@@ -1,0 +1,192 @@
+// Boolean operations on nodes. Each goes down both nodes option by option, and no deeper than there are options.
+ghost use Rattle.std.specs.Prelude.{◌≡◌, ◌<◌, ◌≤◌, ◌+◌, ◌-◌, ◌*◌, ℕ, Bool, min, max, not, ◌&&◌, ◌||◌, IfOk, IfSome, IfNone, OnErr};
+ghost use Rattle.cov_base.specs.Choices.{is_on};
+ghost use Rattle.cov_dd.specs.declared.operation.Operation.{Operation};
+ghost use Rattle.cov_dd.specs.Diagrams.{node_count, top, span, value_in, Extends, Stands};
+ghost use Rattle.cov_dd.specs.Memos.{IsKey};
+ghost use Rattle.cov_dd.specs.Reached.{size};
+ghost use Rattle.cov_dd.specs.Combinations.{first_option, joint_span, both_in, AreRight, IsSides, Runs, Joins, Rests};
+
+use super::Table;
+use crate::memo::{Memo, Pair};
+use crate::operation::{Operation, shortcut};
+use crate::{Node, TRUE, Triple};
+use cov_base::{Ledger, Memory, OptionId, Steps, Uncounted};
+
+/// The nodes that a node is where an option is off and where it is on.
+#[derive(Clone, Copy, Debug)]
+struct Sides {
+    off: Node,
+    on: Node,
+}
+
+impl Table {
+    /// The node that is true where both are. There is one tick for each `make`.
+    pub fn and<L: Ledger>(&mut self, a: Node, b: Node, steps: &mut Steps<L>) -> Result<Node, Memory>
+        requires a { a < node_count self.old }
+        requires b { b < node_count self.old }
+        ensures extends { Extends self.old self.new }
+        ensures stands { IfOk result (λ r. Stands self.new r (first_option self.old a b) (joint_span self.old a b) (λ c. value_in self.old a c && value_in self.old b c)) }
+        ensures rising { steps.old ≤ steps.new }
+        ensures bound { steps.new - steps.old ≤ size self.old a * size self.old b }
+        ensures entries { node_count self.new ≤ node_count self.old + (steps.new - steps.old) }
+    {
+        self.combine(Operation::And, a, b, steps)
+    }
+
+    /// The node that is true where one of both is.
+    pub fn or(&mut self, a: Node, b: Node) -> Result<Node, Memory>
+        requires a { a < node_count self.old }
+        requires b { b < node_count self.old }
+        ensures extends { Extends self.old self.new }
+        ensures stands { IfOk result (λ r. Stands self.new r (first_option self.old a b) (joint_span self.old a b) (λ c. value_in self.old a c || value_in self.old b c)) }
+    {
+        self.combine(Operation::Or, a, b, &mut Steps::<Uncounted>::new())
+    }
+
+    /// The node that is true where the first is and the second isn't.
+    pub fn without(&mut self, a: Node, b: Node) -> Result<Node, Memory>
+        requires a { a < node_count self.old }
+        requires b { b < node_count self.old }
+        ensures extends { Extends self.old self.new }
+        ensures stands { IfOk result (λ r. Stands self.new r (first_option self.old a b) (joint_span self.old a b) (λ c. value_in self.old a c && not (value_in self.old b c))) }
+    {
+        self.combine(Operation::Without, a, b, &mut Steps::<Uncounted>::new())
+    }
+
+    /// The node that is true where the node isn't.
+    pub fn not(&mut self, a: Node) -> Result<Node, Memory>
+        requires { a < node_count self.old }
+        ensures extends { Extends self.old self.new }
+        ensures stands { IfOk result (λ r. Stands self.new r (top self.old a) (span self.old a) (λ c. not (value_in self.old a c))) }
+    {
+        let _ = &self.entries;
+        self.without(TRUE, a)
+    }
+
+    fn combine<L: Ledger>(
+        &mut self,
+        operation: Operation,
+        a: Node,
+        b: Node,
+        steps: &mut Steps<L>,
+    ) -> Result<Node, Memory>
+        requires a { a < node_count self.old }
+        requires b { b < node_count self.old }
+        ensures extends { Extends self.old self.new }
+        ensures stands { IfOk result (λ r. Stands self.new r (first_option self.old a b) (joint_span self.old a b) (both_in operation self.old a b)) }
+        ensures rising { steps.old ≤ steps.new }
+        ensures bound { steps.new - steps.old ≤ size self.old a * size self.old b }
+        ensures entries { node_count self.new ≤ node_count self.old + (steps.new - steps.old) }
+    {
+        let mut memo = Memo::new(*self.entries.allocator());
+        self.descend(operation, a, b, &mut memo, steps)
+    }
+
+    // One step down both nodes at their first option. The memo keeps a pair from being met twice.
+    fn descend<L: Ledger>(
+        &mut self,
+        operation: Operation,
+        a: Node,
+        b: Node,
+        memo: &mut Memo,
+        steps: &mut Steps<L>,
+    ) -> Result<Node, Memory>
+        requires a { a < node_count self.old }
+        requires b { b < node_count self.old }
+        requires right { AreRight operation self.old memo.old.made }
+        ensures runs { Runs operation self.old self.new a b memo.old.made memo.new.made steps.old steps.new }
+        ensures stands { IfOk result (λ r. Stands self.new r (first_option self.old a b) (joint_span self.old a b) (both_in operation self.old a b)) }
+    {
+        if let Some(node) = self.settled(operation, a, b) {
+            return Ok(node);
+        }
+        let pair = Pair { left: a, right: b };
+        if let Some(node) = memo.find(pair) {
+            return Ok(node);
+        }
+        let option = self.first_of(a, b);
+        let left = self.sides(a, option);
+        let right = self.sides(b, option);
+        let off = match self.descend(operation, left.off, right.off, memo, steps) {
+            Ok(off) => off,
+            Err(error) => return Err(error),
+        };
+        let on = match self.descend(operation, left.on, right.on, memo, steps) {
+            Ok(on) => on,
+            Err(error) => return Err(error),
+        };
+        self.join(pair, Triple { option, off, on }, memo, steps)
+    }
+
+    // The result where it needs no entry. Else the second node has one.
+    fn settled(&self, operation: Operation, a: Node, b: Node) -> Option<Node>
+        requires a { a < node_count self.now }
+        requires b { b < node_count self.now }
+        ensures some { IfSome result (λ r. Stands self.now r (first_option self.now a b) (joint_span self.now a b) (both_in operation self.now a b)) }
+        ensures none { IfNone result (1 < b) }
+    {
+        let _ = &self.entries;
+        shortcut(operation, a, b)
+    }
+
+    // Makes the node of a triple for a pair, or changes nothing.
+    fn join<L: Ledger>(
+        &mut self,
+        pair: Pair,
+        triple: Triple,
+        memo: &mut Memo,
+        steps: &mut Steps<L>,
+    ) -> Result<Node, Memory>
+        requires off { triple.off < node_count self.old }
+        requires on { triple.on < node_count self.old }
+        requires off_above { triple.option < top self.old triple.off }
+        requires on_above { triple.option < top self.old triple.on }
+        requires fresh { IsKey memo.old.made pair → ⊥ }
+        ensures ok { IfOk result (Joins self.old self.new pair triple memo.old.made memo.new.made steps.old steps.new) }
+        ensures err { OnErr result (Rests self.old self.new memo.old.made memo.new.made steps.old steps.new) }
+    {
+        memo.reserve()?;
+        let node = self.make(triple.option, triple.off, triple.on)?;
+        steps.tick();
+        memo.put(pair, node);
+        Ok(node)
+    }
+
+    // The first option of two nodes, of which the second has one.
+    fn first_of(&self, a: Node, b: Node) -> OptionId
+        requires within { b < node_count self.now }
+        requires inner { 1 < b }
+        ensures first { result ≡ first_option self.now a b }
+        ensures below { result < 128 }
+    {
+        OptionId::new(self.top_of(a).min(self.top_of(b)))
+    }
+
+    // The option of a node, 128 for FALSE and TRUE.
+    fn top_of(&self, a: Node) -> u8
+        ensures top { result ≡ top self.now a }
+        ensures inner { 1 < a → a < node_count self.now → result < 128 }
+    {
+        match self.entry(a) {
+            Some(triple) => triple.option.number(),
+            None => 128,
+        }
+    }
+
+    fn sides(&self, a: Node, option: OptionId) -> Sides
+        requires within { a < node_count self.now }
+        requires first { option ≤ top self.now a }
+        requires below { option < 128 }
+        ensures { IsSides self.now a option result.off result.on }
+    {
+        let _ = &self.entries;
+        match self.entry(a) {
+            Some(triple) if triple.option == option => Sides {
+                off: triple.off,
+                on: triple.on,
+            },
+            _ => Sides { off: a, on: a },
+        }
+    }
+}

@@ -1,0 +1,55 @@
+-- A view after an accepted edit shows the edited variant.
+use Rattle.std.proofs.Common.{◌≡◌, ℕ, Bool, true, false, ◌||◌, List, length, Option, Some, None, is_some, refl, sym, ap, ◌∙◌}
+use Rattle.std.specs.Option.{option_map_or}
+use Rattle.std.specs.List.{fold}
+use Rattle.cov_base.specs.Addresses.{IsTable}
+use Rattle.cov_base.specs.declared.number.Kind.{Kind}
+use Rattle.cov_base.specs.declared.number.Kind.TheVariants as kinds
+use Rattle.cov_edit.specs.declared.edit.Edit.{Edit}
+use Rattle.cov_edit.specs.declared.edit.Edit.TheVariants as edits
+use Rattle.cov_edit.specs.Numbering.{Numbers}
+use Rattle.cov_edit.specs.Variant.{Variant, edited}
+use Rattle.cov_view.specs.References.{is_head}
+use Rattle.cov_view.specs.Lines.{is_among}
+use Rattle.cov_view.specs.Seen.{Seen, row_at, kind_in, has_line_in, has_child, new_fault, insert_fault, seen_fault, seen_after, AreRows}
+use Rattle.cov_view.specs.Views.{Shows, table_after, next_by_number}
+use Rattle.cov_view.specs.declared.row.ViewRow.{ViewRow}
+use Rattle.cov_view.proofs.Refusing.{file_row, made_lines}
+use Rattle.cov_view.proofs.Showing.{there-made, shows-new}
+use Rattle.cov_view.proofs.Inserts.{anchor-made, shows-insert}
+
+is_there : (k : Option Kind) (taken : Bool) → new_fault k taken ≡ None → is_some k ≡ true
+is_there None taken h = absurd (cc)
+is_there (Some kinds.File) taken h = refl
+is_there (Some kinds.Dir) taken h = refl
+
+is_file : (k : Option Kind) (anchor : Bool) → insert_fault k anchor ≡ None → k ≡ Some kinds.File
+is_file None anchor h = absurd (cc)
+is_file (Some kinds.File) anchor h = refl
+is_file (Some kinds.Dir) anchor h = absurd (cc)
+
+is_anchor : (k : Option Kind) (anchor : Bool) → insert_fault k anchor ≡ None → anchor ≡ true
+is_anchor None anchor h = absurd (cc)
+is_anchor (Some kinds.Dir) anchor h = absurd (cc)
+is_anchor (Some kinds.File) true h = refl
+is_anchor (Some kinds.File) false h = absurd (cc)
+
+module _ (ns : Numbers) (table : List (List ℕ)) (s : Seen) (v : Variant) (shows : Shows ns table s v) where
+  -- an edit that a view accepts keeps it a view of the edited variant
+  pub shows-after : (e : Edit) → IsTable table → AreRows s.nodes_made s.rows → seen_fault s.rows e ≡ None
+      → Shows ns (table_after ns table e) (seen_after s e) (fold edited v (next_by_number ns table s e))
+  shows-after (edits.New kind parent name) tab once accepted =
+      shows-new ns table s v shows kind parent name
+      (there-made ns s parent shows.made (is_there (kind_in s.rows parent) (has_child s.rows parent name) accepted))
+  shows-after (edits.Insert file after text) tab once accepted =
+      let anchor = is_head after || has_line_in s.rows file after in
+      let file_is : kind_in s.rows file ≡ Some kinds.File = is_file (kind_in s.rows file) anchor accepted in
+      let row = file_row s.rows file file_is in
+      let behind : (r : ViewRow) → row_at s.rows file ≡ Some r → (is_head after || is_among after r.lines) ≡ true =
+      λ r at.
+      sym (ap (λ o. is_head after || option_map_or (λ (q : ViewRow). is_among after q.lines) o false) at)
+      ∙ is_anchor (kind_in s.rows file) anchor accepted in
+      shows-insert ns table s v shows tab file after text
+      (there-made ns s file shows.made (ap is_some file_is))
+      (anchor-made (length ns.addresses) s.lines_made after row.0.lines (behind row.0 row.1) (made_lines ns table s v shows file row.0 row.1))
+      once behind

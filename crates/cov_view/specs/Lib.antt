@@ -1,0 +1,5 @@
+pub mod Lines
+pub mod References
+pub mod Refusals
+pub mod Seen
+pub mod Views

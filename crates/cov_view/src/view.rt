@@ -1,0 +1,276 @@
+// One variant with edits on top.
+ghost use Rattle.std.specs.Prelude.{◌≡◌, ◌<◌, ◌-◌, ◌^◌, ◌+◌, ◌||◌, List, ℕ, [], ◌∷◌, ◌++◌, length, None, Some, IfOk, IfErr, IsErrOf, OnOk, OnErr};
+ghost use Rattle.std.specs.List.{fold};
+ghost use Rattle.cov_base.specs.Addresses.{IsTable};
+ghost use Rattle.cov_base.specs.declared.number.Kind.TheVariants.{File, Dir};
+ghost use Rattle.cov_base.specs.declared.number.NodeRef.TheVariants.{Old};
+ghost use Rattle.cov_base.specs.declared.number.LineRef.TheVariants as lines;
+ghost use Rattle.cov_edit.specs.Numbering.{Numbers, nodes_made, anchors_of};
+ghost use Rattle.cov_edit.specs.Variant.{Variant, edited};
+ghost use Rattle.cov_view.specs.References.{is_head};
+ghost use Rattle.cov_view.specs.Lines.{after_ref};
+ghost use Rattle.cov_view.specs.Refusals.{refusal};
+ghost use Rattle.cov_view.specs.Seen.{Seen, kind_in, node_at, lines_in, has_child, has_line_in, new_fault, insert_fault, seen_fault, seen_after, at_row, with_lines_by, AreRows};
+ghost use Rattle.cov_view.specs.Views.{Shows, table_after, next_by_number, FaultBy};
+
+use crate::changing::{append_line, insert_line};
+use crate::row::{ViewRow, child_in, has_anchor, has_child, is_root, row_at};
+use crate::{EditFault, ReadFaultOfView, ViewLine, ViewLines};
+use cov_base::{Kind, LineNo, LineRef, Memory, Name, NodeNo, NodeRef, Path, Text};
+use cov_edit::Edit;
+use std::alloc::Global;
+use std::marker::Model;
+
+/// One variant: its nodes, the lines of each of its files in order, and how many nodes and lines the edits applied so
+/// far have made. The next node or line made is `New` of that number.
+#[derive(Debug, Drop)]
+pub struct View {
+    rows: Vec<ViewRow>,
+    nodes_made: u32,
+    lines_made: u32,
+}
+
+impl Model for View {
+    ghost use Rattle.cov_view.specs.Seen.{Seen, AreRows};
+
+    ghost Value = { Seen };
+
+    ghost view = { λ v. record { rows = v.rows.items; nodes_made = v.nodes_made; lines_made = v.lines_made } };
+
+    ghost invariant = { λ v. AreRows v.nodes_made v.rows.items };
+}
+
+impl View {
+    /// The root alone, nothing made.
+    pub fn new(alloc: Global) -> Result<View, Memory>
+        ensures { IfOk result (λ view. view ≡ record { rows = []; nodes_made = 0; lines_made = 0 }) }
+    {
+        Ok(View {
+            rows: Vec::new(alloc),
+            nodes_made: 0,
+            lines_made: 0,
+        })
+    }
+
+    /// Appends a node that a history has.
+    pub fn add_row(
+        &mut self,
+        node: NodeNo,
+        kind: Kind,
+        parent: NodeNo,
+        name: &Name,
+    ) -> Result<(), Memory>
+        requires { kind_in self.old.rows (NodeRef.Old node) ≡ None }
+        ensures rows { OnOk result (self.new.rows ≡ self.old.rows ++ record { node = NodeRef.Old node; kind = kind; parent = NodeRef.Old parent; name = name.now; lines = [] } ∷ []) }
+        ensures nodes { self.new.nodes_made ≡ self.old.nodes_made }
+        ensures lines { self.new.lines_made ≡ self.old.lines_made }
+        ensures err { OnErr result (self.new ≡ self.old) }
+    {
+        let row = ViewRow {
+            node: NodeRef::Old(node),
+            kind,
+            parent: NodeRef::Old(parent),
+            name: name.copy()?,
+            lines: ViewLines::new(*self.rows.allocator()),
+        };
+        self.rows.push(row)?;
+        Ok(())
+    }
+
+    /// Appends a line that a history has to its file, which was added before.
+    pub fn add_line(&mut self, file: NodeNo, line: LineNo, text: &Text) -> Result<(), Memory>
+        requires { kind_in self.old.rows (NodeRef.Old file) ≡ Some File }
+        ensures rows { OnOk result (self.new.rows ≡ at_row (NodeRef.Old file) (with_lines_by (λ ls. ls ++ record { line = lines.Old line; text = text.now } ∷ [])) self.old.rows) }
+        ensures nodes { self.new.nodes_made ≡ self.old.nodes_made }
+        ensures lines { self.new.lines_made ≡ self.old.lines_made }
+        ensures err { OnErr result (self.new ≡ self.old) }
+    {
+        let added = ViewLine {
+            line: LineRef::Old(line),
+            text: text.copy()?,
+        };
+        append_line(&mut self.rows, &NodeRef::Old(file), added)
+    }
+
+    /// How many nodes edits have made.
+    pub fn nodes_made(&self) -> u32
+        ensures { result ≡ self.now.nodes_made }
+    {
+        self.nodes_made
+    }
+
+    /// How many lines edits have made.
+    pub fn lines_made(&self) -> u32
+        ensures { result ≡ self.now.lines_made }
+    {
+        self.lines_made
+    }
+
+    /// The kind of a node, None exactly where it isn't there.
+    pub fn kind(&self, node: NodeRef) -> Option<Kind>
+        ensures { result ≡ kind_in self.now.rows node }
+    {
+        self.kind_of(&node)
+    }
+
+    fn kind_of(&self, node: &NodeRef) -> Option<Kind>
+        ensures { result ≡ kind_in self.now.rows node.now }
+    {
+        if is_root(node) {
+            return Some(Kind::Dir);
+        }
+        match row_at(&self.rows, node) {
+            Some(row) => Some(row.kind),
+            None => None,
+        }
+    }
+
+    /// The node to which a path leads, None exactly where a name on it isn't there. It takes no memory.
+    pub fn resolve(&self, path: &Path) -> Option<NodeRef>
+        ensures { result ≡ node_at self.now.rows (NodeRef.Old 0) path.now }
+    {
+        let mut node = NodeRef::Old(NodeNo::new(0));
+        'names: for name in path.as_slice() {
+            match child_in(&self.rows, &node, name.as_slice()) {
+                Some(child) => node = child,
+                None => return None,
+            }
+        }
+        Some(node)
+    }
+
+    /// The lines of a file in order. `NoSuchNode` and `NotFile` come exactly where the node isn't there and where it
+    /// is a directory.
+    pub fn lines(&self, file: NodeRef) -> Result<ViewLines, ReadFaultOfView>
+        ensures lines { IfOk result (λ lines. lines_in self.now.rows file ≡ Some lines) }
+        ensures absent { IsErrOf result ReadFaultOfView.NoSuchNode → kind_in self.now.rows file ≡ None }
+        ensures not_file { IsErrOf result ReadFaultOfView.NotFile → kind_in self.now.rows file ≡ Some Dir }
+    {
+        if is_root(&file) {
+            return Err(ReadFaultOfView::NotFile);
+        }
+        let Some(row) = row_at(&self.rows, &file) else {
+            return Err(ReadFaultOfView::NoSuchNode);
+        };
+        match row.kind {
+            Kind::Dir => Err(ReadFaultOfView::NotFile),
+            Kind::File => match row.lines.copy() {
+                Ok(lines) => Ok(lines),
+                Err(Memory) => Err(ReadFaultOfView::Memory),
+            },
+        }
+    }
+
+    /// Applies an edit, unless each variant that the view shows refuses it; then the view stays as it is.
+    /// It takes time in the number of nodes and in the lines of the file.
+    pub fn apply(&mut self, edit: &Edit) -> Result<(), EditFault>
+        requires nodes { self.old.nodes_made < 2 ^ 32 - 1 }
+        requires lines { self.old.lines_made < 2 ^ 32 - 1 }
+        ensures accepted { OnOk result ((ns : Numbers) (table : List (List ℕ)) (v : Variant) → Shows ns table self.old v → refusal ns v edit.now ≡ None) }
+        ensures applied { OnOk result ((ns : Numbers) (table : List (List ℕ)) (v : Variant) → IsTable table → Shows ns table self.old v →
+            Shows ns (table_after ns table edit.now) self.new (fold edited v (next_by_number ns table self.old edit.now))) }
+        ensures made { OnOk result (self.new ≡ seen_after self.old edit.now) }
+        ensures nodes { OnOk result (self.new.nodes_made ≡ self.old.nodes_made + nodes_made (edit.now ∷ [])) }
+        ensures lines { OnOk result (self.new.lines_made ≡ self.old.lines_made + length (anchors_of 0 (edit.now ∷ []))) }
+        ensures refused { IfErr result (λ f. (ns : Numbers) (table : List (List ℕ)) (v : Variant) → Shows ns table self.old v → FaultBy f (refusal ns v edit.now)) }
+        ensures same { OnErr result (self.new ≡ self.old) }
+    {
+        match self.fault(edit) {
+            Some(fault) => Err(fault),
+            None => match self.act(edit) {
+                Ok(()) => Ok(()),
+                Err(Memory) => Err(EditFault::Memory),
+            },
+        }
+    }
+
+    // The refusal of an edit.
+    fn fault(&self, edit: &Edit) -> Option<EditFault>
+        ensures fault { result ≡ seen_fault self.now.rows edit.now }
+        ensures once { AreRows self.now.nodes_made self.now.rows }
+    {
+        let _ = &self.rows;
+        match edit {
+            Edit::New { parent, name, .. } => self.new_fault(parent, name.as_slice()),
+            Edit::Insert { file, after, .. } => self.insert_fault(file, after),
+        }
+    }
+
+    fn new_fault(&self, parent: &NodeRef, name: &[u8]) -> Option<EditFault>
+        ensures { result ≡ new_fault (kind_in self.now.rows parent.now) (has_child self.now.rows parent.now name.now) }
+    {
+        match self.kind_of(parent) {
+            None => Some(EditFault::NoSuchNode),
+            Some(Kind::File) => Some(EditFault::NotDirectory),
+            Some(Kind::Dir) => match has_child(&self.rows, parent, name) {
+                true => Some(EditFault::NameTaken),
+                false => None,
+            },
+        }
+    }
+
+    fn insert_fault(&self, file: &NodeRef, after: &LineRef) -> Option<EditFault>
+        ensures { result ≡ insert_fault (kind_in self.now.rows file.now) (is_head after.now || has_line_in self.now.rows file.now after.now) }
+    {
+        match self.kind_of(file) {
+            None => Some(EditFault::NoSuchNode),
+            Some(Kind::Dir) => Some(EditFault::NotFile),
+            Some(Kind::File) => match has_anchor(&self.rows, file, after) {
+                true => None,
+                false => Some(EditFault::NoSuchLine),
+            },
+        }
+    }
+
+    // Makes a node.
+    fn make(&mut self, kind: Kind, parent: &NodeRef, name: &Name) -> Result<(), Memory>
+        requires { self.old.nodes_made < 2 ^ 32 - 1 }
+        ensures rows { OnOk result (self.new.rows ≡ self.old.rows ++ record { node = NodeRef.New self.old.nodes_made; kind = kind; parent = parent.now; name = name.now; lines = [] } ∷ []) }
+        ensures nodes { OnOk result (self.new.nodes_made ≡ self.old.nodes_made + 1) }
+        ensures lines { OnOk result (self.new.lines_made ≡ self.old.lines_made) }
+        ensures err { OnErr result (self.new ≡ self.old) }
+    {
+        let row = ViewRow {
+            node: NodeRef::New(self.nodes_made),
+            kind,
+            parent: *parent,
+            name: name.copy()?,
+            lines: ViewLines::new(*self.rows.allocator()),
+        };
+        self.rows.push(row)?;
+        self.nodes_made += 1;
+        Ok(())
+    }
+
+    // Makes a line.
+    fn insert(&mut self, file: &NodeRef, after: &LineRef, text: &Text) -> Result<(), Memory>
+        requires { self.old.lines_made < 2 ^ 32 - 1 }
+        ensures rows { OnOk result (self.new.rows ≡ at_row file.now (with_lines_by (after_ref after.now (record { line = LineRef.New self.old.lines_made; text = text.now }))) self.old.rows) }
+        ensures nodes { OnOk result (self.new.nodes_made ≡ self.old.nodes_made) }
+        ensures lines { OnOk result (self.new.lines_made ≡ self.old.lines_made + 1) }
+        ensures err { OnErr result (self.new ≡ self.old) }
+    {
+        let line = ViewLine {
+            line: LineRef::New(self.lines_made),
+            text: text.copy()?,
+        };
+        insert_line(&mut self.rows, file, after, line)?;
+        self.lines_made += 1;
+        Ok(())
+    }
+
+    // Does what an edit does.
+    fn act(&mut self, edit: &Edit) -> Result<(), Memory>
+        requires nodes { self.old.nodes_made < 2 ^ 32 - 1 }
+        requires lines { self.old.lines_made < 2 ^ 32 - 1 }
+        ensures rows { OnOk result (self.new.rows ≡ (seen_after self.old edit.now).rows) }
+        ensures nodes_made { OnOk result (self.new.nodes_made ≡ (seen_after self.old edit.now).nodes_made) }
+        ensures lines_made { OnOk result (self.new.lines_made ≡ (seen_after self.old edit.now).lines_made) }
+        ensures err { OnErr result (self.new ≡ self.old) }
+    {
+        match edit {
+            Edit::New { kind, parent, name } => self.make(*kind, parent, name),
+            Edit::Insert { file, after, text } => self.insert(file, after, text),
+        }
+    }
+}

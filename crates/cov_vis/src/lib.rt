@@ -1,0 +1,9 @@
+//! Visibilities: the choices on which something is there, as nodes of a table of diagrams.
+#![tactic(auto)]
+
+mod compiling;
+
+pub use compiling::compile;
+
+#[cfg(test)]
+mod tests;
