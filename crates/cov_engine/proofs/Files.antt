@@ -42,12 +42,12 @@ pub file-replay : (c : List Bool) (p file : ℕ) (history : List Command) → li
 file-replay c p file history =
     ap (λ (v : Variant). lines_of v file) (sym (replay-seen c p history)) ∙ file-seen c p file (kept_of history)
 
-or_right : (a b : Bool) → b ≡ true → (a || b) ≡ true
+pub or_right : (a b : Bool) → b ≡ true → (a || b) ≡ true
 or_right true b e = refl
 or_right false b e = e
 
 -- what is seen is kept
-any-seen : (c : List Bool) (p : ℕ) (test : Line → Bool) (ks : List (Kept Line)) → list_any test (lines_seen c p ks) ≡ true → list_any (λ k. test k.item) ks ≡ true
+pub any-seen : (c : List Bool) (p : ℕ) (test : Line → Bool) (ks : List (Kept Line)) → list_any test (lines_seen c p ks) ≡ true → list_any (λ k. test k.item) ks ≡ true
 any-seen c p test [] h = h
 any-seen c p test (k ∷ ks) h = at (is_seen c p k) (test k.item) refl (sym (ap (list_any test) (seen-cons c p k ks)) ∙ h) (λ j. any-seen c p test ks j)
   where
@@ -124,7 +124,7 @@ placed-elsewhere q file other within address text ks o h =
     filter-placed kept_address (λ k. nat_eq k.item.file other) (new_line q within file address text) ks o
     ∙ ap (λ b. cond b (placed kept_address (new_line q within file address text) (file_kept other ks)) (file_kept other ks)) h
 
-any-filter : {X : Type 0} (p t : X → Bool) (xs : List X) → list_any t (filter p xs) ≡ list_any (λ x. p x && t x) xs
+pub any-filter : {X : Type 0} (p t : X → Bool) (xs : List X) → list_any t (filter p xs) ≡ list_any (λ x. p x && t x) xs
 any-filter p t [] = refl
 any-filter p t (x ∷ xs) = at (p x) (any-filter p t xs)
   where
@@ -146,7 +146,7 @@ any-placed address t x (y ∷ ys) = at (stands_before (address x) (address y)) (
     at false rest = ap (λ b. t y || b) rest ∙ swapped (t x) (t y) (list_any t ys)
 
 -- whether a kept line is one of a file with a number
-abbrev is_one : ℕ → ℕ → Kept Line → Bool
+abbrev pub is_one : ℕ → ℕ → Kept Line → Bool
 is_one file line k = nat_eq k.item.file file && nat_eq (kept_number k) line
 
 anchor-placed : (file line : ℕ) (new : Kept Line) (ks : List (Kept Line))

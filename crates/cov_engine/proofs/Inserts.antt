@@ -51,13 +51,13 @@ module _ (history : List Command) (i : Insertion) where
   the_table : table_with history i ≡ with_lines (with_line (with_lines before begun) (anchor_of history i)) later
   the_table = ap (with_lines before) anchors ∙ with_lines-append before begun (anchor_of history i ∷ later)
 
-  in_table : lines_begun history i < length (table_with history i)
+  pub in_table : lines_begun history i < length (table_with history i)
   in_table =
       let e = length-with_lines before (anchors_of (lines_before history) (all_edits i)) in
       let f = ap length anchors ∙ length-append begun (anchor_of history i ∷ later) in
       omega (arith, e, f)
 
-  is_table : IsTable (table_with history i)
+  pub is_table : IsTable (table_with history i)
   is_table = table-after (numbers_of history) (all_edits i) (holding-stands history).0
 
   one_more : lines_begun history i + 1 ≡ suc (lines_begun history i)

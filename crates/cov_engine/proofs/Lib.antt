@@ -2,6 +2,8 @@ pub mod Appends
 pub mod Examples
 pub mod Files
 pub mod Inserts
+pub mod Judged
 pub mod Replays
 pub mod Seen
+pub mod Sessions
 pub mod Standing

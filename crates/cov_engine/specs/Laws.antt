@@ -1,5 +1,5 @@
 -- Laws of what a history holds.
-use Rattle.std.specs.Prelude.{◌≡◌, ℕ, ◌+◌, Bool, true, false, nat_eq, List, [], ◌∷◌, ◌++◌, take, length}
+use Rattle.std.specs.Prelude.{◌≡◌, ℕ, ◌+◌, Bool, true, false, nat_eq, List, [], ◌∷◌, ◌++◌, take, drop, length}
 use Rattle.std.specs.List.{fold, list_any}
 use Rattle.cov_base.specs.Addresses.{IsTable, number_by, after_anchor_by}
 use Rattle.cov_expr.specs.Formula.{Formula}
@@ -10,7 +10,11 @@ use Rattle.cov_edit.specs.Numbering.{numbers_of, numbered}
 use Rattle.cov_edit.specs.Variant.{line_address, lines_of}
 use Rattle.cov_edit.specs.Replay.{replay}
 use Rattle.cov_engine.specs.Kept.{kept_number, kept_after, entries_after, held_from, held_by, kept_of, entries_of, lines_seen, rows_seen, variant_seen, file_kept, is_kept_anchor, Stands}
-use Rattle.cov_engine.specs.Insertions.{Insertion, lines_begun, file_of, anchor_of, line_with, held_before, held_behind}
+use Rattle.cov_view.specs.Refusals.{when, first_of}
+use Rattle.cov_engine.specs.declared.refusal.Refusal.TheVariants as refusals
+use Rattle.cov_engine.specs.Verdict.{verdict, when_full, size_refusals, has_no_edits}
+use Rattle.cov_engine.specs.Sessions.{Session, IsGood, seen, commit_of, has_commit}
+use Rattle.cov_engine.specs.Insertions.{Insertion, all_edits, lines_begun, file_of, anchor_of, line_with, held_before, held_behind}
 
 -- at each position, the lines seen on a choice are those of the replay of the history up to there
 abbrev pub LinesFollowReplay : Type 0
@@ -74,3 +78,22 @@ abbrev pub AnchorsStay : Type 0
 AnchorsStay = (history : List Command) (ambition : Formula ℕ) (i : Insertion)
     → ((file line : ℕ) → is_kept_anchor file line (held_before history ambition i).lines ≡ true → is_kept_anchor file line (held_behind history ambition i).lines ≡ true)
     × (is_kept_anchor (file_of history i) (lines_begun history i + 1) (held_behind history ambition i).lines ≡ true)
+
+-- a good session stays good when its history grows
+abbrev pub GoodSessionsStay : Type 0
+GoodSessionsStay = (history later : List Command) (s : Session) → IsGood history s → IsGood (history ++ later) s
+
+-- the commit of a good session is refused only where it is too large or empty, or the history is full
+abbrev pub GoodCommitsPass : Type 0
+GoodCommitsPass = (history : List Command) (s : Session) → IsGood history s
+    → verdict history (commit_of s) ≡ first_of (when_full history ∷ (size_refusals history s.edits ++ when (has_no_edits s.edits) refusals.Empty ∷ []))
+
+-- where no commit stands after the base, the commit of a good session shows what the session saw
+abbrev pub CommitShowsSeen : Type 0
+CommitShowsSeen = (history : List Command) (s : Session) → IsGood history s → has_commit (drop s.base history) ≡ false
+    → replay s.choice (history ++ commit_of s ∷ []) ≡ seen s history
+
+-- where no commit stands after the base, each insert of a good session has its anchor kept when it is its turn
+abbrev pub AcceptedIsAnchored : Type 0
+AcceptedIsAnchored = (history : List Command) (s : Session) (i : Insertion) → IsGood history s → has_commit (drop s.base history) ≡ false → all_edits i ≡ s.edits
+    → is_kept_anchor (file_of history i) (anchor_of history i) (held_before history s.ambition i).lines ≡ true

@@ -1,3 +1,5 @@
 pub mod Insertions
 pub mod Kept
 pub mod Laws
+pub mod Sessions
+pub mod Verdict

@@ -1,5 +1,5 @@
-//! Laws of what a history holds. Each function does nothing; what it ensures is the law.
-ghost use Rattle.cov_engine.specs.Laws.{LinesFollowReplay, RowsFollowReplay, HoldingFollowsReplay, HoldingStands, HoldingGoesOn, CommitKeepsLines, CommitKeepsRows, FileFollowsReplay, ShownIsKept, InsertAfterAnchor, InsertInOneFile, InsertIsNumbered, AnchorsStay};
+//! Laws of what a history holds and accepts. Each function does nothing; what it ensures is the law.
+ghost use Rattle.cov_engine.specs.Laws.{LinesFollowReplay, RowsFollowReplay, HoldingFollowsReplay, HoldingStands, HoldingGoesOn, CommitKeepsLines, CommitKeepsRows, FileFollowsReplay, ShownIsKept, InsertAfterAnchor, InsertInOneFile, InsertIsNumbered, AnchorsStay, GoodSessionsStay, GoodCommitsPass, CommitShowsSeen, AcceptedIsAnchored};
 
 /// At each position, the lines seen on a choice are those of the replay of the history up to there.
 pub fn lines_follow_replay()
@@ -64,4 +64,24 @@ pub fn insert_is_numbered()
 /// After an insert, each anchor still is one, and the new line is one of its file.
 pub fn anchors_stay()
     ensures { AnchorsStay }
+{}
+
+/// A good session stays good when its history grows.
+pub fn good_sessions_stay()
+    ensures { GoodSessionsStay }
+{}
+
+/// The commit of a good session is refused only where it is too large or empty, or the history is full.
+pub fn good_commits_pass()
+    ensures { GoodCommitsPass }
+{}
+
+/// Where no commit stands after the base, the commit of a good session shows what the session saw.
+pub fn commit_shows_seen()
+    ensures { CommitShowsSeen }
+{}
+
+/// Where no commit stands after the base, each insert of a good session has its anchor kept when it is its turn.
+pub fn accepted_is_anchored()
+    ensures { AcceptedIsAnchored }
 {}
