@@ -73,7 +73,7 @@ in_order-filter address p (x ∷ xs) o = at (p x) (in_order-filter address p xs 
     at true rest = (all-filter (λ y. stands_before (address x) (address y) ≡ true) p xs o.0, rest)
     at false rest = rest
 
-anchor-case : (file anchor : ℕ) (ks : List (Kept Line)) → is_kept_anchor file anchor ks ≡ true
+pub anchor-case : (file anchor : ℕ) (ks : List (Kept Line)) → is_kept_anchor file anchor ks ≡ true
     → (anchor ≡ 0) ⊎ (list_any (λ k. nat_eq (kept_number k) anchor) (file_kept file ks) ≡ true)
 anchor-case file anchor ks h = at (nat_eq anchor 0) refl h
   where

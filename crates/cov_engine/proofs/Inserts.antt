@@ -72,7 +72,7 @@ module _ (history : List Command) (i : Insertion) where
       (subst (λ t. address_in t (suc (length (with_lines before begun))) ≡ address_in t (anchor_of history i) ++ suc (length (with_lines before begun)) ∷ []) (sym the_table)
       (address_in-next (with_lines before begun) (anchor_of history i) later (omega (arith, h, count))))
 
-  stands_before_insert : (ambition : Formula ℕ) → Stands (table_with history i) (lines_begun history i) (length history + 1) (held_before history ambition i)
+  pub stands_before_insert : (ambition : Formula ℕ) → Stands (table_with history i) (lines_begun history i) (length history + 1) (held_before history ambition i)
   stands_before_insert ambition =
       subst (λ n. Stands (table_with history i) n (length history + 1) (held_before history ambition i))
       (numbered-count (numbers_of history) (table_with history i) (numbers_of history).nodes (lines_before history) (lines_before history) i.begun)

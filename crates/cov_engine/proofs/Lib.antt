@@ -3,6 +3,7 @@ pub mod Examples
 pub mod Files
 pub mod Inserts
 pub mod Judged
+pub mod Orders
 pub mod Replays
 pub mod Seen
 pub mod Sessions

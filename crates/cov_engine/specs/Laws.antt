@@ -1,7 +1,7 @@
 -- Laws of what a history holds.
-use Rattle.std.specs.Prelude.{◌≡◌, ℕ, ◌+◌, Bool, true, false, nat_eq, List, [], ◌∷◌, ◌++◌, take, drop, length}
+use Rattle.std.specs.Prelude.{◌≡◌, ℕ, ◌+◌, Bool, true, false, nat_eq, List, [], ◌∷◌, ◌++◌, take, drop, length, map}
 use Rattle.std.specs.List.{fold, list_any}
-use Rattle.cov_base.specs.Addresses.{IsTable, number_by, after_anchor_by}
+use Rattle.cov_base.specs.Addresses.{IsTable, number_by, after_anchor, after_anchor_by}
 use Rattle.cov_expr.specs.Formula.{Formula}
 use Rattle.cov_edit.specs.declared.edit.Edit.{Edit}
 use Rattle.cov_edit.specs.declared.command.Command.{Command}
@@ -14,6 +14,7 @@ use Rattle.cov_view.specs.Refusals.{when, first_of}
 use Rattle.cov_engine.specs.declared.refusal.Refusal.TheVariants as refusals
 use Rattle.cov_engine.specs.Verdict.{verdict, when_full, size_refusals, has_no_edits}
 use Rattle.cov_engine.specs.Sessions.{Session, IsGood, seen, commit_of, has_commit}
+use Rattle.cov_engine.specs.Files.{dated_number, file_dated, file_order, as_shown, dated_shown, Takes}
 use Rattle.cov_engine.specs.Insertions.{Insertion, all_edits, lines_begun, file_of, anchor_of, line_with, held_before, held_behind}
 
 -- at each position, the lines seen on a choice are those of the replay of the history up to there
@@ -97,3 +98,28 @@ CommitShowsSeen = (history : List Command) (s : Session) → IsGood history s �
 abbrev pub AcceptedIsAnchored : Type 0
 AcceptedIsAnchored = (history : List Command) (s : Session) (i : Insertion) → IsGood history s → has_commit (drop s.base history) ≡ false → all_edits i ≡ s.edits
     → is_kept_anchor (file_of history i) (anchor_of history i) (held_before history s.ambition i).lines ≡ true
+
+-- commands without a commit change nothing of what is held
+abbrev pub DeclarationsHoldNothing : Type 0
+DeclarationsHoldNothing = (history later : List Command) → has_commit later ≡ false → held_by (history ++ later) ≡ held_by history
+
+-- at each position, the lines shown of a file are those of the replay of the history up to there
+abbrev pub FileShowsReplay : Type 0
+FileShowsReplay = (c : List Bool) (p file : ℕ) (history : List Command)
+    → dated_shown c p (file_dated file (kept_of history)) ≡ map as_shown (lines_of (replay c (take p history)) file)
+
+-- by number too, an insert puts its line directly after the anchor, or first where that is the head
+abbrev pub InsertIsDated : Type 0
+InsertIsDated = (history : List Command) (ambition : Formula ℕ) (i : Insertion)
+    → is_kept_anchor (file_of history i) (anchor_of history i) (held_before history ambition i).lines ≡ true
+    → file_dated (file_of history i) (held_behind history ambition i).lines
+    ≡ after_anchor_by dated_number (anchor_of history i) (record { line = lines_begun history i + 1; text = i.text; changes = (length history + 1, ambition) ∷ [] })
+    (file_dated (file_of history i) (held_before history ambition i).lines)
+
+-- the order of a file takes the line of an insert, and then is that of the file
+abbrev pub OrderTakesInsert : Type 0
+OrderTakesInsert = (history : List Command) (ambition : Formula ℕ) (i : Insertion)
+    → is_kept_anchor (file_of history i) (anchor_of history i) (held_before history ambition i).lines ≡ true
+    → Takes (file_order (file_of history i) (held_before history ambition i).lines) (anchor_of history i) (lines_begun history i + 1)
+    × (file_order (file_of history i) (held_behind history ambition i).lines
+    ≡ after_anchor (anchor_of history i) (lines_begun history i + 1) (file_order (file_of history i) (held_before history ambition i).lines))

@@ -1,3 +1,4 @@
+pub mod Files
 pub mod Insertions
 pub mod Kept
 pub mod Laws

@@ -1,5 +1,5 @@
 //! Laws of what a history holds and accepts. Each function does nothing; what it ensures is the law.
-ghost use Rattle.cov_engine.specs.Laws.{LinesFollowReplay, RowsFollowReplay, HoldingFollowsReplay, HoldingStands, HoldingGoesOn, CommitKeepsLines, CommitKeepsRows, FileFollowsReplay, ShownIsKept, InsertAfterAnchor, InsertInOneFile, InsertIsNumbered, AnchorsStay, GoodSessionsStay, GoodCommitsPass, CommitShowsSeen, AcceptedIsAnchored};
+ghost use Rattle.cov_engine.specs.Laws.{LinesFollowReplay, RowsFollowReplay, HoldingFollowsReplay, HoldingStands, HoldingGoesOn, CommitKeepsLines, CommitKeepsRows, FileFollowsReplay, ShownIsKept, InsertAfterAnchor, InsertInOneFile, InsertIsNumbered, AnchorsStay, GoodSessionsStay, GoodCommitsPass, CommitShowsSeen, AcceptedIsAnchored, DeclarationsHoldNothing, FileShowsReplay, InsertIsDated, OrderTakesInsert};
 
 /// At each position, the lines seen on a choice are those of the replay of the history up to there.
 pub fn lines_follow_replay()
@@ -84,4 +84,24 @@ pub fn commit_shows_seen()
 /// Where no commit stands after the base, each insert of a good session has its anchor kept when it is its turn.
 pub fn accepted_is_anchored()
     ensures { AcceptedIsAnchored }
+{}
+
+/// Commands without a commit change nothing of what is held.
+pub fn declarations_hold_nothing()
+    ensures { DeclarationsHoldNothing }
+{}
+
+/// At each position, the lines shown of a file are those of the replay of the history up to there.
+pub fn file_shows_replay()
+    ensures { FileShowsReplay }
+{}
+
+/// By number too, an insert puts its line directly after the anchor, or first where that is the head.
+pub fn insert_is_dated()
+    ensures { InsertIsDated }
+{}
+
+/// The order of a file takes the line of an insert, and then is that of the file.
+pub fn order_takes_insert()
+    ensures { OrderTakesInsert }
 {}
