@@ -4,6 +4,7 @@ pub mod Files
 pub mod Inserts
 pub mod Judged
 pub mod Orders
+pub mod Reaching
 pub mod Replays
 pub mod Seen
 pub mod Sessions

@@ -12,7 +12,8 @@ use Rattle.cov_edit.specs.Replay.{replay}
 use Rattle.cov_engine.specs.Kept.{kept_number, kept_after, entries_after, held_from, held_by, kept_of, entries_of, lines_seen, rows_seen, variant_seen, file_kept, is_kept_anchor, Stands}
 use Rattle.cov_view.specs.Refusals.{when, first_of}
 use Rattle.cov_engine.specs.declared.refusal.Refusal.TheVariants as refusals
-use Rattle.cov_engine.specs.Verdict.{verdict, when_full, size_refusals, has_no_edits}
+use Rattle.cov_engine.specs.Reach.{IsHeldInReach}
+use Rattle.cov_engine.specs.Verdict.{IsLegal, verdict, when_full, size_refusals, has_no_edits}
 use Rattle.cov_engine.specs.Sessions.{Session, IsGood, seen, commit_of, has_commit}
 use Rattle.cov_engine.specs.Files.{dated_number, file_dated, file_order, as_shown, dated_shown, Takes}
 use Rattle.cov_engine.specs.Insertions.{Insertion, all_edits, lines_begun, file_of, anchor_of, line_with, held_before, held_behind}
@@ -123,3 +124,7 @@ OrderTakesInsert = (history : List Command) (ambition : Formula ℕ) (i : Insert
     → Takes (file_order (file_of history i) (held_before history ambition i).lines) (anchor_of history i) (lines_begun history i + 1)
     × (file_order (file_of history i) (held_behind history ambition i).lines
     ≡ after_anchor (anchor_of history i) (lines_begun history i + 1) (file_order (file_of history i) (held_before history ambition i).lines))
+
+-- what a legal history holds names, at each change, only options that are declared there
+abbrev pub LegalIsInReach : Type 0
+LegalIsInReach = (history : List Command) → IsLegal history → IsHeldInReach history (held_by history)

@@ -2,5 +2,6 @@ pub mod Files
 pub mod Insertions
 pub mod Kept
 pub mod Laws
+pub mod Reach
 pub mod Sessions
 pub mod Verdict

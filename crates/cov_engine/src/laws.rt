@@ -1,5 +1,5 @@
 //! Laws of what a history holds and accepts. Each function does nothing; what it ensures is the law.
-ghost use Rattle.cov_engine.specs.Laws.{LinesFollowReplay, RowsFollowReplay, HoldingFollowsReplay, HoldingStands, HoldingGoesOn, CommitKeepsLines, CommitKeepsRows, FileFollowsReplay, ShownIsKept, InsertAfterAnchor, InsertInOneFile, InsertIsNumbered, AnchorsStay, GoodSessionsStay, GoodCommitsPass, CommitShowsSeen, AcceptedIsAnchored, DeclarationsHoldNothing, FileShowsReplay, InsertIsDated, OrderTakesInsert};
+ghost use Rattle.cov_engine.specs.Laws.{LinesFollowReplay, RowsFollowReplay, HoldingFollowsReplay, HoldingStands, HoldingGoesOn, CommitKeepsLines, CommitKeepsRows, FileFollowsReplay, ShownIsKept, InsertAfterAnchor, InsertInOneFile, InsertIsNumbered, AnchorsStay, GoodSessionsStay, GoodCommitsPass, CommitShowsSeen, AcceptedIsAnchored, DeclarationsHoldNothing, FileShowsReplay, InsertIsDated, OrderTakesInsert, LegalIsInReach};
 
 /// At each position, the lines seen on a choice are those of the replay of the history up to there.
 pub fn lines_follow_replay()
@@ -104,4 +104,9 @@ pub fn insert_is_dated()
 /// The order of a file takes the line of an insert, and then is that of the file.
 pub fn order_takes_insert()
     ensures { OrderTakesInsert }
+{}
+
+/// What a legal history holds names, at each change, only options that are declared there.
+pub fn legal_is_in_reach()
+    ensures { LegalIsInReach }
 {}
