@@ -65,7 +65,7 @@ shown-kept c p file line history h =
     (any-seen c p (λ l. nat_eq (number_by line_address l) line) (file_kept file (kept_of history))
     (sym (ap (list_any (λ l. nat_eq (number_by line_address l) line)) (file-replay c p file history)) ∙ h))
 
-in_order-filter : {X : Type 0} (address : X → List ℕ) (p : X → Bool) (xs : List X) → AreInOrder address xs → AreInOrder address (filter p xs)
+pub in_order-filter : {X : Type 0} (address : X → List ℕ) (p : X → Bool) (xs : List X) → AreInOrder address xs → AreInOrder address (filter p xs)
 in_order-filter address p [] o = tt
 in_order-filter address p (x ∷ xs) o = at (p x) (in_order-filter address p xs o.1)
   where

@@ -8,4 +8,5 @@ pub mod Reaching
 pub mod Replays
 pub mod Seen
 pub mod Sessions
+pub mod Shown
 pub mod Standing

@@ -1,7 +1,7 @@
 -- Laws of what a history holds.
 use Rattle.std.specs.Prelude.{◌≡◌, ℕ, ◌+◌, Bool, true, false, nat_eq, List, [], ◌∷◌, ◌++◌, take, drop, length, map}
-use Rattle.std.specs.List.{fold, list_any}
-use Rattle.cov_base.specs.Addresses.{IsTable, number_by, after_anchor, after_anchor_by}
+use Rattle.std.specs.List.{fold, list_any, AllByRecursion}
+use Rattle.cov_base.specs.Addresses.{IsTable, IsLineOf, AreInOrder, number_by, after_anchor, after_anchor_by}
 use Rattle.cov_expr.specs.Formula.{Formula}
 use Rattle.cov_edit.specs.declared.edit.Edit.{Edit}
 use Rattle.cov_edit.specs.declared.command.Command.{Command}
@@ -128,3 +128,9 @@ OrderTakesInsert = (history : List Command) (ambition : Formula ℕ) (i : Insert
 -- what a legal history holds names, at each change, only options that are declared there
 abbrev pub LegalIsInReach : Type 0
 LegalIsInReach = (history : List Command) → IsLegal history → IsHeldInReach history (held_by history)
+
+-- the lines of a replay stand in order, and each is one of the history's
+abbrev pub ReplayStands : Type 0
+ReplayStands = (c : List Bool) (history : List Command)
+    → AreInOrder line_address (replay c history).lines
+    × AllByRecursion (λ l. IsLineOf (numbers_of history).addresses (length (numbers_of history).addresses) l.address) (replay c history).lines

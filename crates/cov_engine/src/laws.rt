@@ -1,5 +1,5 @@
 //! Laws of what a history holds and accepts. Each function does nothing; what it ensures is the law.
-ghost use Rattle.cov_engine.specs.Laws.{LinesFollowReplay, RowsFollowReplay, HoldingFollowsReplay, HoldingStands, HoldingGoesOn, CommitKeepsLines, CommitKeepsRows, FileFollowsReplay, ShownIsKept, InsertAfterAnchor, InsertInOneFile, InsertIsNumbered, AnchorsStay, GoodSessionsStay, GoodCommitsPass, CommitShowsSeen, AcceptedIsAnchored, DeclarationsHoldNothing, FileShowsReplay, InsertIsDated, OrderTakesInsert, LegalIsInReach};
+ghost use Rattle.cov_engine.specs.Laws.{LinesFollowReplay, RowsFollowReplay, HoldingFollowsReplay, HoldingStands, HoldingGoesOn, CommitKeepsLines, CommitKeepsRows, FileFollowsReplay, ShownIsKept, InsertAfterAnchor, InsertInOneFile, InsertIsNumbered, AnchorsStay, GoodSessionsStay, GoodCommitsPass, CommitShowsSeen, AcceptedIsAnchored, DeclarationsHoldNothing, FileShowsReplay, InsertIsDated, OrderTakesInsert, LegalIsInReach, ReplayStands};
 
 /// At each position, the lines seen on a choice are those of the replay of the history up to there.
 pub fn lines_follow_replay()
@@ -109,4 +109,9 @@ pub fn order_takes_insert()
 /// What a legal history holds names, at each change, only options that are declared there.
 pub fn legal_is_in_reach()
     ensures { LegalIsInReach }
+{}
+
+/// The lines of a replay stand in order, and each is one of the history's.
+pub fn replay_stands()
+    ensures { ReplayStands }
 {}
