@@ -1,3 +1,12 @@
-pub mod Seen
-pub mod Standing
+pub mod Appends
+pub mod Examples
+pub mod Files
+pub mod Inserts
+pub mod Judged
+pub mod Orders
+pub mod Reaching
 pub mod Replays
+pub mod Seen
+pub mod Sessions
+pub mod Shown
+pub mod Standing

@@ -42,7 +42,7 @@ numbered-count ns t node line m [] = omega arith
 numbered-count ns t node line m (edits.New kind parent name ∷ es) = numbered-count ns t (node + 1) line m es
 numbered-count ns t node line m (edits.Insert file after text ∷ es) = omega (arith, numbered-count ns t node (line + 1) m es)
 
-all-mapped : {X Y : Type 0} (P : X → Type 0) (Q : Y → Type 0) (f : X → Y) → ((x : X) → P x → Q (f x)) → (xs : List X) → AllByRecursion P xs → AllByRecursion Q (map f xs)
+pub all-mapped : {X Y : Type 0} (P : X → Type 0) (Q : Y → Type 0) (f : X → Y) → ((x : X) → P x → Q (f x)) → (xs : List X) → AllByRecursion P xs → AllByRecursion Q (map f xs)
 all-mapped P Q f g [] h = tt
 all-mapped P Q f g (x ∷ xs) h = (g x h.0, all-mapped P Q f g xs h.1)
 

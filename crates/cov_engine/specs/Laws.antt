@@ -1,10 +1,22 @@
 -- Laws of what a history holds.
-use Rattle.std.specs.Prelude.{◌≡◌, ℕ, Bool, List, take, length}
-use Rattle.cov_base.specs.Addresses.{IsTable}
+use Rattle.std.specs.Prelude.{◌≡◌, ℕ, ◌+◌, Bool, true, false, nat_eq, List, [], ◌∷◌, ◌++◌, take, drop, length, map}
+use Rattle.std.specs.List.{fold, list_any, AllByRecursion}
+use Rattle.cov_base.specs.Addresses.{IsTable, IsLineOf, AreInOrder, number_by, after_anchor, after_anchor_by}
+use Rattle.cov_expr.specs.Formula.{Formula}
+use Rattle.cov_edit.specs.declared.edit.Edit.{Edit}
 use Rattle.cov_edit.specs.declared.command.Command.{Command}
-use Rattle.cov_edit.specs.Numbering.{numbers_of}
+use Rattle.cov_edit.specs.declared.command.Command.TheVariants as commands
+use Rattle.cov_edit.specs.Numbering.{numbers_of, numbered}
+use Rattle.cov_edit.specs.Variant.{line_address, lines_of}
 use Rattle.cov_edit.specs.Replay.{replay}
-use Rattle.cov_engine.specs.Kept.{variant_seen, held_by, lines_seen, rows_seen, kept_of, entries_of, Stands}
+use Rattle.cov_engine.specs.Kept.{kept_number, kept_after, entries_after, held_from, held_by, kept_of, entries_of, lines_seen, rows_seen, variant_seen, file_kept, is_kept_anchor, Stands}
+use Rattle.cov_view.specs.Refusals.{when, first_of}
+use Rattle.cov_engine.specs.declared.refusal.Refusal.TheVariants as refusals
+use Rattle.cov_engine.specs.Reach.{IsHeldInReach}
+use Rattle.cov_engine.specs.Verdict.{IsLegal, verdict, when_full, size_refusals, has_no_edits}
+use Rattle.cov_engine.specs.Sessions.{Session, IsGood, seen, commit_of, has_commit}
+use Rattle.cov_engine.specs.Files.{dated_number, file_dated, file_order, as_shown, dated_shown, Takes}
+use Rattle.cov_engine.specs.Insertions.{Insertion, all_edits, lines_begun, file_of, anchor_of, line_with, held_before, held_behind}
 
 -- at each position, the lines seen on a choice are those of the replay of the history up to there
 abbrev pub LinesFollowReplay : Type 0
@@ -22,3 +34,103 @@ HoldingFollowsReplay = (c : List Bool) (p : ℕ) (history : List Command) → va
 abbrev pub HoldingStands : Type 0
 HoldingStands = (history : List Command)
     → IsTable (numbers_of history).addresses × Stands (numbers_of history).addresses (length (numbers_of history).addresses) (length history) (held_by history)
+
+-- what a longer history holds comes after what the shorter holds
+abbrev pub HoldingGoesOn : Type 0
+HoldingGoesOn = (history later : List Command) → held_by (history ++ later) ≡ held_from (length history) (held_by history) (numbers_of history) later
+
+-- a commit changes the lines edit by edit, from its own position on
+abbrev pub CommitKeepsLines : Type 0
+CommitKeepsLines = (history : List Command) (base : ℕ) (choice : List Bool) (ambition : Formula ℕ) (es : List Edit)
+    → kept_of (history ++ commands.Commit base choice ambition es ∷ []) ≡ fold (kept_after (length history + 1) ambition) (kept_of history) (numbered (numbers_of history) es)
+
+-- a commit changes the rows edit by edit, from its own position on
+abbrev pub CommitKeepsRows : Type 0
+CommitKeepsRows = (history : List Command) (base : ℕ) (choice : List Bool) (ambition : Formula ℕ) (es : List Edit)
+    → entries_of (history ++ commands.Commit base choice ambition es ∷ []) ≡ fold (entries_after (length history + 1) ambition) (entries_of history) (numbered (numbers_of history) es)
+
+-- at each position, the lines of a file in the replay are those seen of the file's kept lines
+abbrev pub FileFollowsReplay : Type 0
+FileFollowsReplay = (c : List Bool) (p file : ℕ) (history : List Command) → lines_of (replay c (take p history)) file ≡ lines_seen c p (file_kept file (kept_of history))
+
+-- a line that some choice has at some position is kept in its file
+abbrev pub ShownIsKept : Type 0
+ShownIsKept = (c : List Bool) (p file line : ℕ) (history : List Command)
+    → list_any (λ l. nat_eq (number_by line_address l) line) (lines_of (replay c (take p history)) file) ≡ true → is_kept_anchor file line (kept_of history) ≡ true
+
+-- an insert puts its line directly after the anchor, or first where that is the head
+abbrev pub InsertAfterAnchor : Type 0
+InsertAfterAnchor = (history : List Command) (ambition : Formula ℕ) (i : Insertion)
+    → is_kept_anchor (file_of history i) (anchor_of history i) (held_before history ambition i).lines ≡ true
+    → file_kept (file_of history i) (held_behind history ambition i).lines
+    ≡ after_anchor_by kept_number (anchor_of history i) (line_with history ambition i) (file_kept (file_of history i) (held_before history ambition i).lines)
+
+-- an insert leaves the other files as they are
+abbrev pub InsertInOneFile : Type 0
+InsertInOneFile = (history : List Command) (ambition : Formula ℕ) (i : Insertion) (file : ℕ)
+    → nat_eq (file_of history i) file ≡ false
+    → file_kept file (held_behind history ambition i).lines ≡ file_kept file (held_before history ambition i).lines
+
+-- a new line has the next number
+abbrev pub InsertIsNumbered : Type 0
+InsertIsNumbered = (history : List Command) (ambition : Formula ℕ) (i : Insertion) → kept_number (line_with history ambition i) ≡ lines_begun history i + 1
+
+-- after an insert, each anchor still is one, and the new line is one of its file
+abbrev pub AnchorsStay : Type 0
+AnchorsStay = (history : List Command) (ambition : Formula ℕ) (i : Insertion)
+    → ((file line : ℕ) → is_kept_anchor file line (held_before history ambition i).lines ≡ true → is_kept_anchor file line (held_behind history ambition i).lines ≡ true)
+    × (is_kept_anchor (file_of history i) (lines_begun history i + 1) (held_behind history ambition i).lines ≡ true)
+
+-- a good session stays good when its history grows
+abbrev pub GoodSessionsStay : Type 0
+GoodSessionsStay = (history later : List Command) (s : Session) → IsGood history s → IsGood (history ++ later) s
+
+-- the commit of a good session is refused only where it is too large or empty, or the history is full
+abbrev pub GoodCommitsPass : Type 0
+GoodCommitsPass = (history : List Command) (s : Session) → IsGood history s
+    → verdict history (commit_of s) ≡ first_of (when_full history ∷ (size_refusals history s.edits ++ when (has_no_edits s.edits) refusals.Empty ∷ []))
+
+-- where no commit stands after the base, the commit of a good session shows what the session saw
+abbrev pub CommitShowsSeen : Type 0
+CommitShowsSeen = (history : List Command) (s : Session) → IsGood history s → has_commit (drop s.base history) ≡ false
+    → replay s.choice (history ++ commit_of s ∷ []) ≡ seen s history
+
+-- where no commit stands after the base, each insert of a good session has its anchor kept when it is its turn
+abbrev pub AcceptedIsAnchored : Type 0
+AcceptedIsAnchored = (history : List Command) (s : Session) (i : Insertion) → IsGood history s → has_commit (drop s.base history) ≡ false → all_edits i ≡ s.edits
+    → is_kept_anchor (file_of history i) (anchor_of history i) (held_before history s.ambition i).lines ≡ true
+
+-- commands without a commit change nothing of what is held
+abbrev pub DeclarationsHoldNothing : Type 0
+DeclarationsHoldNothing = (history later : List Command) → has_commit later ≡ false → held_by (history ++ later) ≡ held_by history
+
+-- at each position, the lines shown of a file are those of the replay of the history up to there
+abbrev pub FileShowsReplay : Type 0
+FileShowsReplay = (c : List Bool) (p file : ℕ) (history : List Command)
+    → dated_shown c p (file_dated file (kept_of history)) ≡ map as_shown (lines_of (replay c (take p history)) file)
+
+-- by number too, an insert puts its line directly after the anchor, or first where that is the head
+abbrev pub InsertIsDated : Type 0
+InsertIsDated = (history : List Command) (ambition : Formula ℕ) (i : Insertion)
+    → is_kept_anchor (file_of history i) (anchor_of history i) (held_before history ambition i).lines ≡ true
+    → file_dated (file_of history i) (held_behind history ambition i).lines
+    ≡ after_anchor_by dated_number (anchor_of history i) (record { line = lines_begun history i + 1; text = i.text; changes = (length history + 1, ambition) ∷ [] })
+    (file_dated (file_of history i) (held_before history ambition i).lines)
+
+-- the order of a file takes the line of an insert, and then is that of the file
+abbrev pub OrderTakesInsert : Type 0
+OrderTakesInsert = (history : List Command) (ambition : Formula ℕ) (i : Insertion)
+    → is_kept_anchor (file_of history i) (anchor_of history i) (held_before history ambition i).lines ≡ true
+    → Takes (file_order (file_of history i) (held_before history ambition i).lines) (anchor_of history i) (lines_begun history i + 1)
+    × (file_order (file_of history i) (held_behind history ambition i).lines
+    ≡ after_anchor (anchor_of history i) (lines_begun history i + 1) (file_order (file_of history i) (held_before history ambition i).lines))
+
+-- what a legal history holds names, at each change, only options that are declared there
+abbrev pub LegalIsInReach : Type 0
+LegalIsInReach = (history : List Command) → IsLegal history → IsHeldInReach history (held_by history)
+
+-- the lines of a replay stand in order, and each is one of the history's
+abbrev pub ReplayStands : Type 0
+ReplayStands = (c : List Bool) (history : List Command)
+    → AreInOrder line_address (replay c history).lines
+    × AllByRecursion (λ l. IsLineOf (numbers_of history).addresses (length (numbers_of history).addresses) l.address) (replay c history).lines

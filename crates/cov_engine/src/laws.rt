@@ -1,5 +1,5 @@
-//! Laws of what a history holds. Each function does nothing; what it ensures is the law.
-ghost use Rattle.cov_engine.specs.Laws.{LinesFollowReplay, RowsFollowReplay, HoldingFollowsReplay, HoldingStands};
+//! Laws of what a history holds and accepts. Each function does nothing; what it ensures is the law.
+ghost use Rattle.cov_engine.specs.Laws.{LinesFollowReplay, RowsFollowReplay, HoldingFollowsReplay, HoldingStands, HoldingGoesOn, CommitKeepsLines, CommitKeepsRows, FileFollowsReplay, ShownIsKept, InsertAfterAnchor, InsertInOneFile, InsertIsNumbered, AnchorsStay, GoodSessionsStay, GoodCommitsPass, CommitShowsSeen, AcceptedIsAnchored, DeclarationsHoldNothing, FileShowsReplay, InsertIsDated, OrderTakesInsert, LegalIsInReach, ReplayStands};
 
 /// At each position, the lines seen on a choice are those of the replay of the history up to there.
 pub fn lines_follow_replay()
@@ -19,4 +19,99 @@ pub fn holding_follows_replay()
 /// What a history holds has all of its lines, in order, and no change that is later than the history.
 pub fn holding_stands()
     ensures { HoldingStands }
+{}
+
+/// What a longer history holds comes after what the shorter holds.
+pub fn holding_goes_on()
+    ensures { HoldingGoesOn }
+{}
+
+/// A commit changes the lines edit by edit, from its own position on.
+pub fn commit_keeps_lines()
+    ensures { CommitKeepsLines }
+{}
+
+/// A commit changes the rows edit by edit, from its own position on.
+pub fn commit_keeps_rows()
+    ensures { CommitKeepsRows }
+{}
+
+/// At each position, the lines of a file in the replay are those seen of the file's kept lines.
+pub fn file_follows_replay()
+    ensures { FileFollowsReplay }
+{}
+
+/// A line that some choice has at some position is kept in its file.
+pub fn shown_is_kept()
+    ensures { ShownIsKept }
+{}
+
+/// An insert puts its line directly after the anchor, or first where that is the head.
+pub fn insert_after_anchor()
+    ensures { InsertAfterAnchor }
+{}
+
+/// An insert leaves the other files as they are.
+pub fn insert_in_one_file()
+    ensures { InsertInOneFile }
+{}
+
+/// A new line has the next number.
+pub fn insert_is_numbered()
+    ensures { InsertIsNumbered }
+{}
+
+/// After an insert, each anchor still is one, and the new line is one of its file.
+pub fn anchors_stay()
+    ensures { AnchorsStay }
+{}
+
+/// A good session stays good when its history grows.
+pub fn good_sessions_stay()
+    ensures { GoodSessionsStay }
+{}
+
+/// The commit of a good session is refused only where it is too large or empty, or the history is full.
+pub fn good_commits_pass()
+    ensures { GoodCommitsPass }
+{}
+
+/// Where no commit stands after the base, the commit of a good session shows what the session saw.
+pub fn commit_shows_seen()
+    ensures { CommitShowsSeen }
+{}
+
+/// Where no commit stands after the base, each insert of a good session has its anchor kept when it is its turn.
+pub fn accepted_is_anchored()
+    ensures { AcceptedIsAnchored }
+{}
+
+/// Commands without a commit change nothing of what is held.
+pub fn declarations_hold_nothing()
+    ensures { DeclarationsHoldNothing }
+{}
+
+/// At each position, the lines shown of a file are those of the replay of the history up to there.
+pub fn file_shows_replay()
+    ensures { FileShowsReplay }
+{}
+
+/// By number too, an insert puts its line directly after the anchor, or first where that is the head.
+pub fn insert_is_dated()
+    ensures { InsertIsDated }
+{}
+
+/// The order of a file takes the line of an insert, and then is that of the file.
+pub fn order_takes_insert()
+    ensures { OrderTakesInsert }
+{}
+
+/// What a legal history holds names, at each change, only options that are declared there.
+pub fn legal_is_in_reach()
+    ensures { LegalIsInReach }
+{}
+
+/// The lines of a replay stand in order, and each is one of the history's.
+pub fn replay_stands()
+    ensures { ReplayStands }
 {}

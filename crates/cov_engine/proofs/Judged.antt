@@ -1,0 +1,72 @@
+-- Worked verdicts.
+use Rattle.std.proofs.Common.{◌≡◌, true, false, List, [], ◌∷◌, Some, None, refl}
+use Rattle.std.specs.Prelude.{codes}
+use Rattle.std.specs.Str.{is_utf8, chars}
+use lib.Utf8.{encode}
+use Rattle.cov_base.specs.declared.number.Kind.TheVariants as kinds
+use Rattle.cov_base.specs.declared.number.NodeRef.TheVariants as nodes
+use Rattle.cov_base.specs.declared.number.LineRef.TheVariants as lines
+use Rattle.cov_expr.specs.Formula.{False, True, On, Not}
+use Rattle.cov_edit.specs.declared.edit.Edit.{Edit}
+use Rattle.cov_edit.specs.declared.edit.Edit.TheVariants as edits
+use Rattle.cov_edit.specs.declared.command.Command.{Command}
+use Rattle.cov_edit.specs.declared.command.Command.TheVariants as commands
+use Rattle.cov_engine.specs.declared.refusal.Refusal.TheVariants as refusals
+use Rattle.cov_engine.specs.Verdict.{verdict, IsLegal}
+
+-- a file with a line, the options d and e, and a constraint that d is on
+abbrev history : List Command
+history =
+    commands.Option (codes "d")
+    ∷ commands.Commit 1 (true ∷ []) True (edits.New kinds.File (nodes.Old 0) (codes "m") ∷ edits.Insert (nodes.New 0) (lines.Old 0) (codes "A") ∷ [])
+    ∷ commands.Option (codes "e")
+    ∷ commands.Constraint (On 0)
+    ∷ []
+
+is_legal : IsLegal history
+unfolding is_utf8 chars encode
+is_legal = (refl, refl, (refl, refl, (refl, refl, (refl, refl, tt))))
+
+exists : verdict history (commands.Option (codes "d")) ≡ Some refusals.Exists
+exists = refl
+
+another_option : verdict history (commands.Option (codes "f")) ≡ None
+another_option = refl
+
+undeclared : verdict history (commands.Constraint (On 2)) ≡ Some refusals.BadOption
+undeclared = refl
+
+false_everywhere : verdict history (commands.Constraint False) ≡ None
+false_everywhere = refl
+
+abbrev insert_B : Edit
+insert_B = edits.Insert (nodes.Old 1) (lines.Old 1) (codes "B")
+
+accepted : verdict history (commands.Commit 4 (true ∷ false ∷ []) (On 0) (insert_B ∷ [])) ≡ None
+accepted = refl
+
+-- before the constraint the choice was valid
+at_an_older_base : verdict history (commands.Commit 3 (false ∷ false ∷ []) True (insert_B ∷ [])) ≡ None
+at_an_older_base = refl
+
+invalid : verdict history (commands.Commit 4 (false ∷ false ∷ []) False []) ≡ Some (refusals.Invalid 1)
+invalid = refl
+
+outside_ambition : verdict history (commands.Commit 4 (true ∷ false ∷ []) (On 1) []) ≡ Some refusals.OutsideAmbition
+outside_ambition = refl
+
+empty : verdict history (commands.Commit 4 (true ∷ false ∷ []) True []) ≡ Some refusals.Empty
+empty = refl
+
+beyond_history : verdict history (commands.Commit 5 [] True []) ≡ Some refusals.BadBase
+beyond_history = refl
+
+choice_too_short : verdict history (commands.Commit 4 (true ∷ []) True []) ≡ Some refusals.BadOption
+choice_too_short = refl
+
+ambition_beyond : verdict history (commands.Commit 2 (true ∷ []) (Not (On 1)) []) ≡ Some refusals.BadOption
+ambition_beyond = refl
+
+-- the second edit puts its line after one that isn't there
+no_such_line : verdict history (commands.Commit 4 (true ∷ false ∷ []) True (insert_B ∷ edits.Insert (nodes.Old 1) (lines.Old 2) (codes "C") ∷ [])) ≡ Some (refusals.BadRecord 1)
+no_such_line = refl

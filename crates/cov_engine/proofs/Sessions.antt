@@ -1,0 +1,239 @@
+-- Good sessions.
+use Rattle.std.proofs.Common.{◌≡◌, ℕ, zero, suc, ◌+◌, ◌≤◌, Bool, true, false, cond, ◌||◌, ◌&&◌, not, nat_eq, nat_lt, List, [], ◌∷◌, ◌++◌, length, length-append, map, take, drop, Option, Some, None, option_map, refl, sym, ap, subst, ◌∙◌, arith}
+use Rattle.std.specs.List.{fold, list_all, list_any, position_or_len}
+use Rattle.std.proofs.Math.Seq.{take-length}
+use Rattle.std.proofs.lemmas.List.{take-append-drop, take-append-le}
+use Rattle.std.proofs.lemmas.Bool.Decides.{nat_tests}
+use Rattle.cov_base.specs.Addresses.{address_in, line_of}
+use Rattle.cov_base.specs.Rows.{Created}
+use Rattle.cov_base.specs.declared.number.LineRef.{LineRef}
+use Rattle.cov_base.specs.declared.number.LineRef.TheVariants as lines
+use Rattle.cov_expr.specs.Formula.{Formula, value, reach}
+use Rattle.cov_expr.specs.Validity.{is_valid, first_false}
+use Rattle.cov_edit.specs.declared.edit.Edit.{Edit}
+use Rattle.cov_edit.specs.declared.edit.Edit.TheVariants as edits
+use Rattle.cov_edit.specs.declared.command.Command.{Command}
+use Rattle.cov_edit.specs.declared.command.Command.TheVariants as commands
+use Rattle.cov_edit.specs.History.{option_count, constraints_of, is_valid_in}
+use Rattle.cov_edit.specs.Numbering.{Numbers, NumberedEdit, OnRows, Inserted, no_numbers, node_number, line_number, numbers_from, numbers_of, numbered_from, numbered}
+use Rattle.cov_edit.specs.Variant.{Variant, edited}
+use Rattle.cov_edit.specs.Replay.{applying, changes_from, applied, replay}
+use Rattle.cov_edit.proofs.Replays.{numbers_from-append, replay-append, replay-commit, all_within}
+use Rattle.cov_view.specs.References.{is_head, is_known_line}
+use Rattle.cov_view.specs.Refusals.{when, first_of, has_node, is_dir, has_line, refusal, refused_at, refused_from, first_refused}
+use Rattle.cov_view.specs.declared.fault.EditFault.{EditFault}
+use Rattle.cov_view.specs.declared.fault.EditFault.TheVariants as faults
+use Rattle.cov_engine.specs.declared.refusal.Refusal.{Refusal}
+use Rattle.cov_engine.specs.declared.refusal.Refusal.TheVariants as refusals
+use Rattle.cov_engine.specs.Kept.{Holding, held_by, variant_seen, kept_number, file_kept, is_kept_anchor}
+use Rattle.cov_engine.specs.Insertions.{Insertion, the_insert, all_edits, lines_before, table_with, file_of, anchor_of, held_before}
+use Rattle.cov_engine.specs.Verdict.{verdict, as_invalid, as_bad_record, has_no_edits, size_refusals, when_full}
+use Rattle.cov_engine.specs.Sessions.{Session, IsGood, seen, commit_of, has_commit}
+use Rattle.cov_engine.proofs.Standing.{numbered-next, stands-opened, holding-stands}
+use Rattle.cov_engine.proofs.Replays.{edits-seen, variant-later, replay-seen}
+use Rattle.cov_engine.proofs.Files.{or_right, any-seen, any-filter}
+use Rattle.cov_engine.proofs.Inserts.{is_table, in_table}
+
+pub good-stays : (history later : List Command) (s : Session) → IsGood history s → IsGood (history ++ later) s
+good-stays history later s good =
+    let within : s.base ≤ length history = good.within in
+    let e : take s.base history ≡ take s.base (history ++ later) = sym (take-append-le s.base history later within) in
+    record {
+      within = omega (arith, within, length-append history later);
+      of_all_options = subst (λ h. length s.choice ≡ option_count h) e good.of_all_options;
+      valid = subst (λ h. is_valid_in h s.choice ≡ true) e good.valid;
+      in_ambition = good.in_ambition;
+      in_reach = subst (λ h. reach s.ambition ≤ option_count h) e good.in_reach;
+      accepted = subst (λ h. first_refused (numbers_of h) (replay s.choice h) s.edits ≡ None) e good.accepted;
+    }
+
+-- refusals
+module _ {F : Type 0} where
+  first-skip : (o : Option F) (os : List (Option F)) → o ≡ None → first_of (o ∷ os) ≡ first_of os
+  first-skip o os e = ap (λ p. first_of (p ∷ os)) e
+
+  first-cons : (o : Option F) (os ps : List (Option F)) → first_of os ≡ first_of ps → first_of (o ∷ os) ≡ first_of (o ∷ ps)
+  first-cons None os ps e = e
+  first-cons (Some f) os ps e = refl
+
+  first-behind : (xs os ps : List (Option F)) → first_of os ≡ first_of ps → first_of (xs ++ os) ≡ first_of (xs ++ ps)
+  first-behind [] os ps e = e
+  first-behind (x ∷ xs) os ps e = first-cons x (xs ++ os) (xs ++ ps) (first-behind xs os ps e)
+
+  not_when : (b : Bool) (f : F) → b ≡ false → when b f ≡ None
+  not_when true f e = absurd (cc)
+  not_when false f e = refl
+
+all_pass : (c : List Bool) (es : List (Formula ℕ)) → list_all (λ e. value e c) es ≡ true → position_or_len (λ e. not (value e c)) es ≡ length es
+all_pass c [] h = refl
+all_pass c (e ∷ es) h = at (value e c) h (λ k. all_pass c es k)
+  where
+    at : (b : Bool) → (b && list_all (λ f. value f c) es) ≡ true → (list_all (λ f. value f c) es ≡ true → position_or_len (λ f. not (value f c)) es ≡ length es)
+        → cond (not (not b)) (1 + position_or_len (λ f. not (value f c)) es) 0 ≡ suc (length es)
+    at true k rest = let all = rest k in omega (arith, all)
+    at false k rest = absurd (cc)
+
+none-false : (c : List Bool) (es : List (Formula ℕ)) → is_valid es c ≡ true → as_invalid (first_false es c) ≡ None
+none-false c es h =
+    let all = all_pass c es h in
+    let e : nat_lt (position_or_len (λ f. not (value f c)) es) (length es) ≡ false = grind (arith, nat_tests, all) in
+    ap (λ b. as_invalid (option_map (λ n. n + 1) (cond b (Some (position_or_len (λ f. not (value f c)) es)) None))) e
+
+pub good-passes : (history : List Command) (s : Session) → IsGood history s
+    → verdict history (commit_of s) ≡ first_of (when_full history ∷ (size_refusals history s.edits ++ when (has_no_edits s.edits) refusals.Empty ∷ []))
+good-passes history s good =
+    let within : s.base ≤ length history = good.within in
+    let count : length s.choice ≡ option_count (take s.base history) = good.of_all_options in
+    let below : reach s.ambition ≤ option_count (take s.base history) = good.in_reach in
+    let at_base : nat_lt (length history) s.base ≡ false = grind (arith, nat_tests, within) in
+    let counted : nat_eq (length s.choice) (option_count (take s.base history)) ≡ true = grind (arith, nat_tests, count) in
+    let reached : nat_lt (option_count (take s.base history)) (reach s.ambition) ≡ false = grind (arith, nat_tests, below) in
+    first-cons (when_full history) (bad_base ∷ bad_option ∷ sizes ++ ends) (sizes ++ empty ∷ [])
+    (first-skip bad_base (bad_option ∷ sizes ++ ends) (not_when (nat_lt (length history) s.base) refusals.BadBase at_base)
+    ∙ first-skip bad_option (sizes ++ ends)
+    (not_when (not (nat_eq (length s.choice) (option_count (take s.base history))) || nat_lt (option_count (take s.base history)) (reach s.ambition)) refusals.BadOption
+    (ap (λ b. not b || nat_lt (option_count (take s.base history)) (reach s.ambition)) counted ∙ reached))
+    ∙ first-behind sizes ends (empty ∷ [])
+    (first-skip invalid (outside ∷ empty ∷ bad_record ∷ []) (none-false s.choice (constraints_of (take s.base history)) good.valid)
+    ∙ first-skip outside (empty ∷ bad_record ∷ []) (not_when (not (value s.ambition s.choice)) refusals.OutsideAmbition (ap not good.in_ambition))
+    ∙ first-cons empty (bad_record ∷ []) [] (first-skip bad_record [] (ap as_bad_record good.accepted))))
+  where
+    sizes : List (Option Refusal)
+    sizes = size_refusals history s.edits
+
+    bad_base : Option Refusal
+    bad_base = when (nat_lt (length history) s.base) refusals.BadBase
+
+    bad_option : Option Refusal
+    bad_option = when (not (nat_eq (length s.choice) (option_count (take s.base history))) || nat_lt (option_count (take s.base history)) (reach s.ambition)) refusals.BadOption
+
+    invalid : Option Refusal
+    invalid = as_invalid (first_false (constraints_of (take s.base history)) s.choice)
+
+    outside : Option Refusal
+    outside = when (not (value s.ambition s.choice)) refusals.OutsideAmbition
+
+    empty : Option Refusal
+    empty = when (has_no_edits s.edits) refusals.Empty
+
+    bad_record : Option Refusal
+    bad_record = as_bad_record (first_refused (numbers_of (take s.base history)) (replay s.choice (take s.base history)) s.edits)
+
+    ends : List (Option Refusal)
+    ends = invalid ∷ outside ∷ empty ∷ bad_record ∷ []
+
+-- commands without commits
+numbers-same : (ns : Numbers) (history : List Command) → has_commit history ≡ false → numbers_from ns history ≡ ns
+numbers-same ns [] h = refl
+numbers-same ns (commands.Commit base choice ambition es ∷ history) h = absurd (cc)
+numbers-same ns (commands.Option name ∷ history) h = numbers-same ns history h
+numbers-same ns (commands.Constraint expr ∷ history) h = numbers-same ns history h
+
+no-changes : (ns : Numbers) (history : List Command) → has_commit history ≡ false → changes_from ns history ≡ []
+no-changes ns [] h = refl
+no-changes ns (commands.Commit base choice ambition es ∷ history) h = absurd (cc)
+no-changes ns (commands.Option name ∷ history) h = no-changes ns history h
+no-changes ns (commands.Constraint expr ∷ history) h = no-changes ns history h
+
+numbers-since : (base : ℕ) (history : List Command) → has_commit (drop base history) ≡ false → numbers_of history ≡ numbers_of (take base history)
+numbers-since base history h =
+    ap numbers_of (sym (take-append-drop base history)) ∙ numbers_from-append no_numbers (take base history) (drop base history)
+    ∙ numbers-same (numbers_of (take base history)) (drop base history) h
+
+replay-since : (c : List Bool) (base : ℕ) (history : List Command) → has_commit (drop base history) ≡ false → replay c history ≡ replay c (take base history)
+replay-since c base history h =
+    ap (replay c) (sym (take-append-drop base history)) ∙ replay-append c (take base history) (drop base history)
+    ∙ ap (fold (applied c) (replay c (take base history))) (no-changes (numbers_of (take base history)) (drop base history) h)
+
+pub commit-shows : (history : List Command) (s : Session) → IsGood history s → has_commit (drop s.base history) ≡ false → replay s.choice (history ++ commit_of s ∷ []) ≡ seen s history
+commit-shows history s good h =
+    replay-commit s.choice history s.base s.choice s.ambition s.edits
+    ∙ all_within s.choice (replay s.choice history) s.ambition (numbered (numbers_of history) s.edits) good.in_ambition
+    ∙ ap (λ v. fold edited v (numbered (numbers_of history) s.edits)) (replay-since s.choice s.base history h)
+    ∙ ap (λ ns. fold edited (replay s.choice (take s.base history)) (numbered ns s.edits)) (numbers-since s.base history h)
+
+-- an accepted edit is accepted on the variant with those before it
+edit-accepted : (k : ℕ) (o : Option EditFault) (later : Option (ℕ × EditFault)) → refused_at k o later ≡ None → o ≡ None
+edit-accepted k None later h = refl
+edit-accepted k (Some f) later h = absurd (cc)
+
+rest-accepted : (k : ℕ) (o : Option EditFault) (later : Option (ℕ × EditFault)) → refused_at k o later ≡ None → later ≡ None
+rest-accepted k None later h = h
+rest-accepted k (Some f) later h = absurd (cc)
+
+insert-accepted : (ns : Numbers) (t : List (List ℕ)) (node line k : ℕ) (v : Variant) (es : List Edit) (i : Insertion)
+    → refused_from ns v k (es ++ the_insert i ∷ i.later) (numbered_from ns t node line (es ++ the_insert i ∷ i.later)) ≡ None
+    → refusal ns (fold edited v (numbered_from ns t node line es)) (the_insert i) ≡ None
+insert-accepted ns t node line k v [] i h = edit-accepted k (refusal ns v (the_insert i)) _ h
+insert-accepted ns t node line k v (edits.New kind parent name ∷ es) i h =
+    insert-accepted ns t (node + 1) line (k + 1) (edited v (OnRows (Created (node + 1) kind (node_number ns.nodes parent) name))) es i (rest-accepted k (refusal ns v (edits.New kind parent name)) _ h)
+insert-accepted ns t node line k v (edits.Insert file after text ∷ es) i h =
+    insert-accepted ns t node (line + 1) (k + 1) (edited v (Inserted (node_number ns.nodes file) (address_in t (line + 1)) text)) es i (rest-accepted k (refusal ns v (edits.Insert file after text)) _ h)
+
+-- an accepted insert has its anchor
+anchor-there : (ns : Numbers) (v : Variant) (i : Insertion) → refusal ns v (the_insert i) ≡ None → (is_head i.after || has_line ns v (node_number ns.nodes i.file) i.after) ≡ true
+anchor-there ns v i h = at (not (has_node ns v i.file)) (is_dir v.rows (node_number ns.nodes i.file)) (is_head i.after || has_line ns v (node_number ns.nodes i.file) i.after) h
+  where
+    at : (a b c : Bool) → first_of (when a faults.NoSuchNode ∷ when b faults.NotFile ∷ when (not c) faults.NoSuchLine ∷ []) ≡ None → c ≡ true
+    at true b c k = absurd (cc)
+    at false true c k = absurd (cc)
+    at false false true k = refl
+    at false false false k = absurd (cc)
+
+head-number : (n : ℕ) (after : LineRef) → is_head after ≡ true → line_number n after ≡ 0
+head-number n (lines.Old zero) h = refl
+head-number n (lines.Old (suc x)) h = absurd (cc)
+head-number n (lines.New i) h = absurd (cc)
+
+and_right : (a b : Bool) → (a && b) ≡ true → b ≡ true
+and_right true b h = h
+and_right false b h = absurd (cc)
+
+-- a line that a choice shows is kept
+line-kept : (c : List Bool) (p : ℕ) (held : Holding) (v : Variant) (ns : Numbers) (file : ℕ) (after : LineRef) → variant_seen c p held ≡ v
+    → (is_head after || has_line ns v file after) ≡ true → is_kept_anchor file (line_number (length ns.addresses) after) held.lines ≡ true
+line-kept c p held v ns file after shown h = at (is_head after) refl h
+  where
+    number : ℕ
+    number = line_number (length ns.addresses) after
+
+    at : (b : Bool) → is_head after ≡ b → (b || has_line ns v file after) ≡ true → is_kept_anchor file number held.lines ≡ true
+    at true e k = subst (λ n. is_kept_anchor file n held.lines ≡ true) (sym (head-number (length ns.addresses) after e)) refl
+    at false e k =
+        or_right (nat_eq number 0) (list_any (λ j. nat_eq (kept_number j) number) (file_kept file held.lines))
+        (any-filter (λ j. nat_eq j.item.file file) (λ j. nat_eq (kept_number j) number) held.lines
+        ∙ any-seen c p (λ l. nat_eq l.file file && nat_eq (line_of l.address) number) held.lines
+        (ap (λ (w : Variant). list_any (λ l. nat_eq l.file file && nat_eq (line_of l.address) number) w.lines) shown
+        ∙ and_right (is_known_line (length ns.addresses) after) (list_any (λ l. nat_eq l.file file && nat_eq (line_of l.address) number) v.lines) k))
+
+module _ (history : List Command) (c : List Bool) (ambition : Formula ℕ) (i : Insertion) (inside : value ambition c ≡ true) where
+  abbrev begun : List NumberedEdit
+  begun = numbered_from (numbers_of history) (table_with history i) (numbers_of history).nodes (lines_before history) i.begun
+
+  -- within the ambition, the edits before the insert are seen
+  before-seen : variant_seen c (length history + 1) (held_before history ambition i) ≡ fold edited (replay c history) begun
+  before-seen =
+      let stands = holding-stands history in
+      edits-seen c (table_with history i) (lines_before history) (length history + 1) ambition (held_by history) begun (is_table history i)
+      (numbered-next (numbers_of history) (table_with history i) (numbers_of history).nodes (lines_before history) (lines_before history) i.begun (let h = in_table history i in omega (arith, h)))
+      (stands-opened (numbers_of history) (all_edits i) (length history) (held_by history) stands.1)
+      ∙ ap (λ v. fold (applied c) v (map (applying ambition) begun))
+      (variant-later c (numbers_of history).addresses (length (numbers_of history).addresses) (length history + 1) (length history) (held_by history) (omega arith) stands.1
+      ∙ replay-seen c (length history) history ∙ ap (replay c) (take-length history))
+      ∙ all_within c (replay c history) ambition begun inside
+
+  insert-anchored : first_refused (numbers_of history) (replay c history) (all_edits i) ≡ None
+      → is_kept_anchor (file_of history i) (anchor_of history i) (held_before history ambition i).lines ≡ true
+  insert-anchored h =
+      line-kept c (length history + 1) (held_before history ambition i) (fold edited (replay c history) begun) (numbers_of history) (file_of history i) i.after before-seen
+      (anchor-there (numbers_of history) (fold edited (replay c history) begun) i
+      (insert-accepted (numbers_of history) (table_with history i) (numbers_of history).nodes (lines_before history) 0 (replay c history) i.begun i h))
+
+pub accepted-anchored : (history : List Command) (s : Session) (i : Insertion) → IsGood history s → has_commit (drop s.base history) ≡ false → all_edits i ≡ s.edits
+    → is_kept_anchor (file_of history i) (anchor_of history i) (held_before history s.ambition i).lines ≡ true
+accepted-anchored history s i good h e =
+    insert-anchored history s.choice s.ambition i good.in_ambition
+    (ap (first_refused (numbers_of history) (replay s.choice history)) e
+    ∙ ap (λ v. first_refused (numbers_of history) v s.edits) (replay-since s.choice s.base history h)
+    ∙ ap (λ ns. first_refused ns (replay s.choice (take s.base history)) s.edits) (numbers-since s.base history h)
+    ∙ good.accepted)
