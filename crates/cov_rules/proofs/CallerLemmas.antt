@@ -8,20 +8,33 @@ use Rattle.cov_dd.proofs.CallerLemmas.{stands_later, stands_weaker}
 use Rattle.cov_dd.proofs.Nodes.{constant_stands}
 use Rattle.cov_expr.specs.Formula.{Formula, value, reach}
 use Rattle.cov_expr.specs.Validity.{is_valid}
-use Rattle.cov_rules.specs.Installing.{RulesValue, expressions, reach_of, StandsFor, StandsForAll, AllStand, Holds, IsPlan}
+use Rattle.cov_rules.specs.Installing.{Standing, literal, installed, with_rule, expressions, reach_of, StandsFor, StandsForAll, AllStand, AllFallBack, Holds, Plans}
+use Rattle.cov_rules.specs.declared.rules.Fallback.{Fallback}
 use Rattle.cov_rules.specs.declared.rules.Installed.{Installed}
+use Rattle.cov_rules.specs.declared.rules.Rule.{Rule}
+use Rattle.cov_rules.specs.declared.rules.Rule.TheVariants as rules
 use Rattle.cov_rules.specs.declared.rules.RulePlan.{RulePlan}
 
 pub all_stand_later : {ts us : List Triple} → Extends ts us → (rs : List Installed) → AllStand ts rs → AllStand us rs
 all_stand_later x [] h = tt
 all_stand_later x (r ∷ rs) h = (stands_later x h.0, all_stand_later x rs h.1)
 
+pub all_fall_back_later : {ts us : List Triple} → Extends ts us → (ds : List Fallback) → AllFallBack ts ds → AllFallBack us ds
+all_fall_back_later x [] h = tt
+all_fall_back_later x (d ∷ ds) h = (stands_later x h.0, all_fall_back_later x ds h.1)
+
 -- rules hold in a table that has grown
-pub holds_later : {ts us : List Triple} {r : RulesValue} → Extends ts us → Holds ts r → Holds us r
-holds_later {r = r} x h = record {
-  each = all_stand_later x r.constraints h.each;
-  all = stands_later x h.all;
+pub holds_later : {ts us : List Triple} {s : Standing} → Extends ts us → Holds ts s → Holds us s
+holds_later {s = s} x h = record {
+  constraints = all_stand_later x s.constraints h.constraints;
+  preferences = all_stand_later x s.preferences h.preferences;
+  defaults = all_fall_back_later x s.defaults h.defaults;
+  conjunction = stands_later x h.conjunction;
 }
+
+pub all_fall_back_more : (ts : List Triple) (ds : List Fallback) (d : Fallback) → AllFallBack ts ds → StandsFor ts d.node (literal d.option d.on) → AllFallBack ts (ds ++ d ∷ [])
+all_fall_back_more ts [] d h new = (new, tt)
+all_fall_back_more ts (e ∷ ds) d h new = (h.0, all_fall_back_more ts ds d h.1 new)
 
 pub all_stand_more : (ts : List Triple) (rs : List Installed) (r : Installed) → AllStand ts rs → StandsFor ts r.node r.expr → AllStand ts (rs ++ r ∷ [])
 all_stand_more ts [] r h new = (new, tt)
@@ -53,10 +66,22 @@ pub none_hold : (ts : List Triple) → StandsForAll ts 1 []
 none_hold ts = stands_weaker 0 0 (is_valid []) (omega arith) (omega arith) (λ _. refl) (constant_stands ts 1 true (omega arith) refl)
 
 -- rules hold with one more
-pub holds_more : (ts : List Triple) (r s : RulesValue) (new : Installed) (plan : RulePlan)
-    → s.constraints ≡ r.constraints ++ new ∷ [] → s.conjunction ≡ plan.conjunction → new.node ≡ plan.node
-    → Holds ts r → IsPlan ts r new.expr plan → Holds ts s
-holds_more ts r s new plan are all node h is = record {
-  each = subst (AllStand ts) (sym are) (all_stand_more ts r.constraints new h.each (subst (λ n. StandsFor ts n new.expr) (sym node) is.node));
-  all = subst (λ (p : ℕ × List (Formula ℕ)). StandsForAll ts p.0 p.1) (λ j. (sym all j, sym (ap expressions are ∙ expressions_more r.constraints new) j)) is.conjunction;
+pub holds_with : (ts : List Triple) (s : Standing) (plan : RulePlan) (rule : Rule) (p : ℕ) → Holds ts s → Plans ts s rule plan → Holds ts (with_rule plan rule p s)
+holds_with ts s plan (rules.Constraint e) p h is = record {
+  constraints = all_stand_more ts s.constraints (installed plan e p) h.constraints is.0;
+  preferences = h.preferences;
+  defaults = h.defaults;
+  conjunction = subst (StandsForAll ts plan.conjunction) (sym (expressions_more s.constraints (installed plan e p))) is.1;
+}
+holds_with ts s plan (rules.Prefer e) p h is = record {
+  constraints = h.constraints;
+  preferences = all_stand_more ts s.preferences (installed plan e p) h.preferences is;
+  defaults = h.defaults;
+  conjunction = h.conjunction;
+}
+holds_with ts s plan (rules.Default o on) p h is = record {
+  constraints = h.constraints;
+  preferences = h.preferences;
+  defaults = all_fall_back_more ts s.defaults (record { option = o; on = on; node = plan.node }) h.defaults is;
+  conjunction = h.conjunction;
 }

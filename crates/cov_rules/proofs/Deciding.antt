@@ -11,9 +11,7 @@ use Rattle.cov_expr.proofs.ListLemmas.{list_any-map}
 use Rattle.cov_expr.specs.Formula.{Formula, False, True, On, Not, And, Or, value, reach}
 use Rattle.cov_expr.specs.Validity.{is_valid, first_false}
 use Rattle.cov_rules.specs.Installing.{reach_of}
-use Rattle.cov_rules.specs.Refusals.{is_met, refusal, AreOptions, IsAccepted, IsFaultOf}
-use Rattle.cov_rules.specs.declared.rules.RuleFault.{RuleFault}
-use Rattle.cov_rules.specs.declared.rules.RuleFault.TheVariants as faults
+use Rattle.cov_rules.specs.Refusals.{is_met}
 
 -- an expression has the same value on choices that have the same values of its options
 pub value_same : (e : Formula ℕ) (c d : List Bool) → ((o : ℕ) → o < reach e → is_on c o ≡ is_on d o) → value e c ≡ value e d
@@ -71,15 +69,15 @@ fails_on_each (suc n) p h (true ∷ c) long = fails_on_each n (λ d. p (true ∷
 
 -- a node with the values of the constraints and one more expression decides whether a choice meets them
 module _ (es : List (Formula ℕ)) (e : Formula ℕ) (ts : List Triple) (node : ℕ)
-    (is : (c : List Bool) → value_in ts node c ≡ (is_valid es c && value e c)) (few : length es < 256) where
-  unmet : ((c : List Bool) → length c ≡ 128 → value_in ts node c ≡ false) → (count : ℕ) → count ≤ 128 → is_met count es e ≡ false
+    (is : (c : List Bool) → value_in ts node c ≡ (is_valid es c && value e c)) where
+  pub unmet : ((c : List Bool) → length c ≡ 128 → value_in ts node c ≡ false) → (count : ℕ) → count ≤ 128 → is_met count es e ≡ false
   unmet none count most = none_passes count (λ c. is_valid es c && value e c) (λ c long.
       let padded : List Bool = c ++ replicate (128 - count) false in
       let same : (o : ℕ) → is_on c o ≡ is_on padded o = λ o. sym (is_on-padded c (128 - count) o) in
       let full : length padded ≡ 128 = omega (arith, most, long, length-append c (replicate (128 - count) false), length-replicate (128 - count) false) in
       (λ j. is_valid_same es c padded (λ o lt. same o) j && value_same e c padded (λ o lt. same o) j) ∙ sym (is padded) ∙ none padded full)
 
-  met : (((c : List Bool) → length c ≡ 128 → value_in ts node c ≡ false) → ⊥) → (count : ℕ) → AreOptions count es e → is_met count es e ≡ true
+  pub met : (((c : List Bool) → length c ≡ 128 → value_in ts node c ≡ false) → ⊥) → (count : ℕ) → (count ≤ 128) × (reach_of es ≤ count) × (reach e ≤ count) → is_met count es e ≡ true
   met some count fits = by (is_met count es e) refl
     where
       by : (b : Bool) → is_met count es e ≡ b → is_met count es e ≡ true
@@ -90,22 +88,6 @@ module _ (es : List (Formula ℕ)) (e : Formula ℕ) (ts : List Triple) (node : 
           is c
           ∙ (λ j. is_valid_same es c short (λ o lt. same o (omega (arith, lt, fits.1))) j && value_same e c short (λ o lt. same o (omega (arith, lt, fits.2))) j)
           ∙ fails_on_each count (λ d. is_valid es d && value e d) h short (omega (arith, long, fits.0, length-take count c))))
-
-  below : nat_le 256 (length es) ≡ false
-  below = lt-leb 256 (length es) few
-
-  pub accepted : (((c : List Bool) → length c ≡ 128 → value_in ts node c ≡ false) → ⊥) → IsAccepted es e
-  accepted some count fits =
-      ap (λ b. if b then Some faults.Full else (if is_met count es e then None else Some faults.NoVariantLeft)) below
-      ∙ ap (λ b. if b then None else Some faults.NoVariantLeft) (met some count fits)
-
-  pub refused : ((c : List Bool) → length c ≡ 128 → value_in ts node c ≡ false) → IsFaultOf es e faults.NoVariantLeft
-  refused none count fits =
-      ap (λ b. if b then Some faults.Full else (if is_met count es e then None else Some faults.NoVariantLeft)) below
-      ∙ ap (λ b. if b then None else Some faults.NoVariantLeft) (unmet none count fits.0)
-
-pub full : (es : List (Formula ℕ)) (e : Formula ℕ) → 256 ≤ length es → IsFaultOf es e faults.Full
-full es e h count fits = ap (λ b. if b then Some faults.Full else (if is_met count es e then None else Some faults.NoVariantLeft)) (le-leb 256 (length es) h)
 
 module _ (c : List Bool) where
   abbrev fails : Formula ℕ → Bool

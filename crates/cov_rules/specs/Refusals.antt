@@ -1,10 +1,12 @@
 -- Which rules are refused.
-use Rattle.std.specs.Prelude.{ℕ, ◌≡◌, ◌<◌, ◌≤◌, Bool, ◌&&◌, nat_le, List, [], ◌∷◌, length, Option, Some, None, if◌then◌else◌}
+use Rattle.std.specs.Prelude.{ℕ, ◌≡◌, ◌<◌, ◌≤◌, ◌+◌, Bool, true, ◌&&◌, nat_le, List, [], ◌∷◌, Option, Some, None, if◌then◌else◌}
 use Rattle.std.specs.List.{list_any}
 use Rattle.cov_base.specs.Choices.{all_choices}
 use Rattle.cov_expr.specs.Formula.{Formula, value, reach}
 use Rattle.cov_expr.specs.Validity.{is_valid}
-use Rattle.cov_rules.specs.Installing.{reach_of}
+use Rattle.cov_rules.specs.Installing.{Standing, count_of, expressions, reach_of}
+use Rattle.cov_rules.specs.declared.rules.Rule.{Rule}
+use Rattle.cov_rules.specs.declared.rules.Rule.TheVariants as rules
 use Rattle.cov_rules.specs.declared.rules.RuleFault.{RuleFault}
 use Rattle.cov_rules.specs.declared.rules.RuleFault.TheVariants as faults
 
@@ -12,22 +14,34 @@ use Rattle.cov_rules.specs.declared.rules.RuleFault.TheVariants as faults
 abbrev pub is_met : ℕ → List (Formula ℕ) → Formula ℕ → Bool
 is_met count constraints e = list_any (λ c. is_valid constraints c && value e c) (all_choices count)
 
--- the refusal of an expression as one more constraint over so many options, if there is one
-abbrev pub refusal : ℕ → List (Formula ℕ) → Formula ℕ → Option RuleFault
-refusal count constraints e =
-    if nat_le 256 (length constraints) then Some faults.Full
-    else (if is_met count constraints e then None else Some faults.NoVariantLeft)
+-- whether some choice of so many options meets the constraints with a rule; a preference or a default rules no choice out
+abbrev pub leaves_variant : ℕ → List (Formula ℕ) → Rule → Bool
+leaves_variant count constraints (rules.Constraint e) = is_met count constraints e
+leaves_variant count constraints (rules.Prefer e) = true
+leaves_variant count constraints (rules.Default o on) = true
 
--- there may be so many options, and they have every option of the constraints and of an expression
-abbrev pub AreOptions : ℕ → List (Formula ℕ) → Formula ℕ → Type 0
-AreOptions count constraints e = (count ≤ 128) × (reach_of constraints ≤ count) × (reach e ≤ count)
+-- the refusal of a rule over so many options, if there is one
+abbrev pub refusal : ℕ → Standing → Rule → Option RuleFault
+refusal count s rule =
+    if nat_le 256 (count_of rule s) then Some faults.Full
+    else (if leaves_variant count (expressions s.constraints) rule then None else Some faults.NoVariantLeft)
 
--- an expression is one more constraint, whatever options are declared
-abbrev pub IsAccepted : List (Formula ℕ) → Formula ℕ → Type 0
-IsAccepted constraints e = (count : ℕ) → AreOptions count constraints e → refusal count constraints e ≡ None
+-- the least count of options that has every option of a rule
+abbrev pub reach_of_rule : Rule → ℕ
+reach_of_rule (rules.Constraint e) = reach e
+reach_of_rule (rules.Prefer e) = reach e
+reach_of_rule (rules.Default o on) = o + 1
 
--- a fault is the refusal, whatever options are declared, or want of memory where there may be one more constraint
-abbrev pub IsFaultOf : List (Formula ℕ) → Formula ℕ → RuleFault → Type 0
-IsFaultOf constraints e faults.Memory = length constraints < 256
-IsFaultOf constraints e faults.Full = (count : ℕ) → AreOptions count constraints e → refusal count constraints e ≡ Some faults.Full
-IsFaultOf constraints e faults.NoVariantLeft = (count : ℕ) → AreOptions count constraints e → refusal count constraints e ≡ Some faults.NoVariantLeft
+-- there may be so many options, and they have every option of the constraints and of a rule
+abbrev pub AreOptions : ℕ → Standing → Rule → Type 0
+AreOptions count s rule = (count ≤ 128) × (reach_of (expressions s.constraints) ≤ count) × (reach_of_rule rule ≤ count)
+
+-- a rule isn't refused, whatever options are declared
+abbrev pub IsAccepted : Standing → Rule → Type 0
+IsAccepted s rule = (count : ℕ) → AreOptions count s rule → refusal count s rule ≡ None
+
+-- a fault is the refusal, whatever options are declared, or want of memory where there may be one more rule of the kind
+abbrev pub IsFaultOf : Standing → Rule → RuleFault → Type 0
+IsFaultOf s rule faults.Memory = count_of rule s < 256
+IsFaultOf s rule faults.Full = (count : ℕ) → AreOptions count s rule → refusal count s rule ≡ Some faults.Full
+IsFaultOf s rule faults.NoVariantLeft = (count : ℕ) → AreOptions count s rule → refusal count s rule ≡ Some faults.NoVariantLeft

@@ -4,11 +4,12 @@ ghost use Rattle.cov_expr.specs.Formula.{reach, value};
 ghost use Rattle.cov_expr.specs.Validity.{is_valid, first_false};
 ghost use Rattle.cov_dd.specs.declared.triple.Triple.{Triple};
 ghost use Rattle.cov_dd.specs.Diagrams.{node_count, span, value_in, Extends, Stands};
-ghost use Rattle.cov_rules.specs.Installing.{installed, expressions, expressions_at, reach_of, stated, StandsFor, Holds, IsPlan};
+ghost use Rattle.cov_rules.specs.Installing.{expressions_at, reach_of, count_of, literal, with_rule, StandsFor, Holds, Plans, IsPlan};
 ghost use Rattle.cov_rules.specs.Refusals.{IsAccepted, IsFaultOf};
-ghost use Rattle.cov_rules.specs.declared.rules.RuleFault.TheVariants.{NoVariantLeft as no_variant_left};
+ghost use Rattle.cov_rules.specs.declared.rules.RuleFault.TheVariants.{NoVariantLeft as no_variant_left, Memory as want_of_memory};
+ghost use Rattle.cov_rules.specs.declared.rules.Rule.TheVariants.{Constraint as a_constraint, Prefer as a_preference, Default as a_default};
 
-use cov_base::{Choice, Memory, Position, Steps, Uncounted};
+use cov_base::{Choice, Memory, OptionId, Position, Steps, Uncounted};
 use cov_dd::{Node, TRUE, Table};
 use cov_expr::Expr;
 use cov_vis::compile;
@@ -18,10 +19,15 @@ use std::marker::Model;
 /// The greatest number of rules of one kind.
 const MOST_RULES: usize = 256;
 
-/// A rule that a choice is held to.
+/// A rule by which choices are judged or completed.
 #[derive(Debug, Drop)]
 pub enum Rule {
+    /// A choice is valid only where the expression is true.
     Constraint(Expr),
+    /// A choice is completed by those on which the expression is true, where there are any.
+    Prefer(Expr),
+    /// The same, for an option and its value.
+    Default(OptionId, bool),
 }
 
 /// Why a rule isn't taken.
@@ -40,7 +46,7 @@ pub struct Invalid {
     pub rule: u32,
 }
 
-/// What `install` needs of a rule: its node, and the node of all constraints with it.
+/// What `install` needs of a rule: its node, and for a constraint the node of all constraints with it.
 #[derive(Clone, Copy, Debug)]
 pub struct RulePlan {
     node: Node,
@@ -55,15 +61,25 @@ pub(crate) struct Installed {
     at: Position,
 }
 
+/// A default with its node.
+#[derive(Debug, Drop)]
+pub(crate) struct Fallback {
+    option: OptionId,
+    on: bool,
+    node: Node,
+}
+
 /// The rules in the order in which they were installed. The nodes are those of one table, which the caller lends.
 #[derive(Debug, Drop)]
 pub struct Rules {
     constraints: Vec<Installed>,
+    preferences: Vec<Installed>,
+    defaults: Vec<Fallback>,
     conjunction: Node,
 }
 
 impl Model for Rules {
-    ghost use Rattle.std.specs.Prelude.{◌-◌, ◌≤◌, vec_len, vec_capacity};
+    ghost use Rattle.std.specs.Prelude.{◌-◌, ◌≤◌, min, vec_len, vec_capacity};
     ghost use Rattle.std.specs.Coded.{codes, coded_ℕ};
     ghost use Rattle.cov_expr.specs.Formula.{formula_code};
     ghost use Rattle.cov_rules.specs.Installing.{RulesValue};
@@ -72,18 +88,25 @@ impl Model for Rules {
 
     ghost coded = { Prim.hlevel (codes, formula_code coded_ℕ) };
 
-    ghost view = { λ r. record { constraints = r.constraints.items; conjunction = r.conjunction; spare = vec_capacity r.constraints - vec_len r.constraints } };
+    ghost view = { λ r. record {
+      standing = record { constraints = r.constraints.items; preferences = r.preferences.items; defaults = r.defaults.items; conjunction = r.conjunction };
+      spare = min (vec_capacity r.constraints - vec_len r.constraints) (min (vec_capacity r.preferences - vec_len r.preferences) (vec_capacity r.defaults - vec_len r.defaults));
+    } };
 
-    ghost invariant = { λ r. vec_len r.constraints ≤ 256 };
+    ghost invariant = { λ r. (vec_len r.constraints ≤ 256) × (vec_len r.preferences ≤ 256) × (vec_len r.defaults ≤ 256) };
 }
 
 impl Rules {
     pub fn new(alloc: Global) -> Rules
-        ensures none { result.constraints ≡ [] }
-        ensures holds { (ts : List Triple) → Holds ts result }
+        ensures constraints { result.standing.constraints ≡ [] }
+        ensures preferences { result.standing.preferences ≡ [] }
+        ensures defaults { result.standing.defaults ≡ [] }
+        ensures holds { (ts : List Triple) → Holds ts result.standing }
     {
         Rules {
             constraints: Vec::new(alloc),
+            preferences: Vec::new(alloc),
+            defaults: Vec::new(alloc),
             conjunction: TRUE,
         }
     }
@@ -91,27 +114,27 @@ impl Rules {
     /// Makes room for a rule. It is refused where 256 of its kind stand, else a constraint where no choice meets it
     /// and the constraints.
     pub fn prepare(&mut self, table: &mut Table, rule: &Rule) -> Result<RulePlan, RuleFault>
-        requires holds { Holds table.old self.old }
+        requires holds { Holds table.old self.old.standing }
         ensures extends { Extends table.old table.new }
-        ensures constraints { self.new.constraints ≡ self.old.constraints }
-        ensures conjunction { self.new.conjunction ≡ self.old.conjunction }
-        ensures planned { IfOk result (IsPlan table.new self.new (stated rule.now)) }
-        ensures accepted { IfOk result (λ _. IsAccepted (expressions self.old.constraints) (stated rule.now)) }
-        ensures refused { IfErr result (IsFaultOf (expressions self.old.constraints) (stated rule.now)) }
+        ensures same { self.new.standing ≡ self.old.standing }
+        ensures planned { IfOk result (IsPlan table.new self.new rule.now) }
+        ensures accepted { IfOk result (λ _. IsAccepted self.old.standing rule.now) }
+        ensures refused { IfErr result (IsFaultOf self.old.standing rule.now) }
     {
         match rule {
             Rule::Constraint(expr) => self.prepare_constraint(table, expr),
+            Rule::Prefer(expr) => self.prepare_preference(table, expr),
+            Rule::Default(option, on) => self.prepare_default(table, *option, *on),
         }
     }
 
     fn prepare_constraint(&mut self, table: &mut Table, expr: &Expr) -> Result<RulePlan, RuleFault>
-        requires holds { Holds table.old self.old }
+        requires holds { Holds table.old self.old.standing }
         ensures extends { Extends table.old table.new }
-        ensures constraints { self.new.constraints ≡ self.old.constraints }
-        ensures conjunction { self.new.conjunction ≡ self.old.conjunction }
-        ensures planned { IfOk result (IsPlan table.new self.new expr.now) }
-        ensures accepted { IfOk result (λ _. IsAccepted (expressions self.old.constraints) expr.now) }
-        ensures refused { IfErr result (IsFaultOf (expressions self.old.constraints) expr.now) }
+        ensures same { self.new.standing ≡ self.old.standing }
+        ensures planned { IfOk result (IsPlan table.new self.new (a_constraint expr.now)) }
+        ensures accepted { IfOk result (λ _. IsAccepted self.old.standing (a_constraint expr.now)) }
+        ensures refused { IfErr result (IsFaultOf self.old.standing (a_constraint expr.now)) }
     {
         if self.constraints.len() >= MOST_RULES {
             return Err(RuleFault::Full);
@@ -127,57 +150,135 @@ impl Rules {
         judged(table, plan)
     }
 
+    fn prepare_preference(&mut self, table: &mut Table, expr: &Expr) -> Result<RulePlan, RuleFault>
+        ensures extends { Extends table.old table.new }
+        ensures same { self.new.standing ≡ self.old.standing }
+        ensures planned { IfOk result (IsPlan table.new self.new (a_preference expr.now)) }
+        ensures accepted { IfOk result (λ _. IsAccepted self.old.standing (a_preference expr.now)) }
+        ensures refused { IfErr result (IsFaultOf self.old.standing (a_preference expr.now)) }
+    {
+        if self.preferences.len() >= MOST_RULES {
+            return Err(RuleFault::Full);
+        }
+        let node = match compile(table, expr) {
+            Ok(node) => node,
+            Err(_) => return Err(RuleFault::Memory),
+        };
+        self.planned(node)
+    }
+
+    fn prepare_default(
+        &mut self,
+        table: &mut Table,
+        option: OptionId,
+        on: bool,
+    ) -> Result<RulePlan, RuleFault>
+        ensures extends { Extends table.old table.new }
+        ensures same { self.new.standing ≡ self.old.standing }
+        ensures planned { IfOk result (IsPlan table.new self.new (a_default option on)) }
+        ensures accepted { IfOk result (λ _. IsAccepted self.old.standing (a_default option on)) }
+        ensures refused { IfErr result (IsFaultOf self.old.standing (a_default option on)) }
+    {
+        if self.defaults.len() >= MOST_RULES {
+            return Err(RuleFault::Full);
+        }
+        let node = match literal_node(table, option, on) {
+            Ok(node) => node,
+            Err(_) => return Err(RuleFault::Memory),
+        };
+        self.planned(node)
+    }
+
+    // The plan of a rule that leaves the constraints as they are.
+    fn planned(&mut self, node: Node) -> Result<RulePlan, RuleFault>
+        ensures same { self.new.standing ≡ self.old.standing }
+        ensures node { IfOk result (λ plan. plan.node ≡ node) }
+        ensures room { OnOk result (0 < self.new.spare) }
+        ensures err { IfErr result (λ fault. fault ≡ want_of_memory) }
+    {
+        let conjunction = self.conjunction;
+        match self.reserve() {
+            Ok(()) => Ok(RulePlan { node, conjunction }),
+            Err(_) => Err(RuleFault::Memory),
+        }
+    }
+
+    // Makes room for one rule more of each kind.
     fn reserve(&mut self) -> Result<(), Memory>
-        ensures constraints { self.new.constraints ≡ self.old.constraints }
-        ensures conjunction { self.new.conjunction ≡ self.old.conjunction }
+        ensures same { self.new.standing ≡ self.old.standing }
         ensures room { OnOk result (0 < self.new.spare) }
     {
         self.constraints.reserve(1)?;
+        self.preferences.reserve(1)?;
+        self.defaults.reserve(1)?;
         Ok(())
     }
 
     /// Takes a rule by its plan, on the condition that no other rule was installed since the plan was made. The answer
     /// is the rule's number within its kind, from 1. It takes no memory.
     pub fn install(&mut self, plan: RulePlan, rule: Rule, at: Position) -> u32
-        requires few { length self.old.constraints < 256 }
+        requires few { count_of rule self.old.standing < 256 }
         requires room { 0 < self.old.spare }
-        ensures number { result ≡ length self.old.constraints + 1 }
-        ensures constraints { self.new.constraints ≡ self.old.constraints ++ installed plan (stated rule) at ∷ [] }
-        ensures conjunction { self.new.conjunction ≡ plan.conjunction }
+        ensures number { result ≡ count_of rule self.old.standing + 1 }
+        ensures with_rule { self.new.standing ≡ with_rule plan rule at self.old.standing }
         ensures spare { self.old.spare ≤ self.new.spare + 1 }
-        ensures holds { (ts : List Triple) → Holds ts self.old → IsPlan ts self.old (stated rule) plan → Holds ts self.new }
+        ensures holds { (ts : List Triple) → Holds ts self.old.standing → Plans ts self.old.standing rule plan → Holds ts self.new.standing }
     {
         match rule {
             Rule::Constraint(expr) => self.install_constraint(plan, expr, at),
+            Rule::Prefer(expr) => self.install_preference(plan, expr, at),
+            Rule::Default(option, on) => self.install_default(plan, option, on),
         }
     }
 
     fn install_constraint(&mut self, plan: RulePlan, expr: Expr, at: Position) -> u32
-        requires few { length self.old.constraints < 256 }
+        requires few { length self.old.standing.constraints < 256 }
         requires room { 0 < self.old.spare }
-        ensures number { result ≡ length self.old.constraints + 1 }
-        ensures constraints { self.new.constraints ≡ self.old.constraints ++ installed plan expr at ∷ [] }
-        ensures conjunction { self.new.conjunction ≡ plan.conjunction }
+        ensures number { result ≡ length self.old.standing.constraints + 1 }
+        ensures with_rule { self.new.standing ≡ with_rule plan (a_constraint expr) at self.old.standing }
         ensures spare { self.old.spare ≤ self.new.spare + 1 }
-        ensures holds { (ts : List Triple) → Holds ts self.old → IsPlan ts self.old expr plan → Holds ts self.new }
     {
-        let constraint = Installed {
-            expr,
-            node: plan.node,
-            at,
-        };
+        let node = plan.node;
         self.conjunction = plan.conjunction;
-        match self.constraints.push(constraint) {
+        match self.constraints.push(Installed { expr, node, at }) {
             Ok(()) => self.constraints.len() as u32,
+            Err(_) => unreachable!(),
+        }
+    }
+
+    fn install_preference(&mut self, plan: RulePlan, expr: Expr, at: Position) -> u32
+        requires few { length self.old.standing.preferences < 256 }
+        requires room { 0 < self.old.spare }
+        ensures number { result ≡ length self.old.standing.preferences + 1 }
+        ensures with_rule { self.new.standing ≡ with_rule plan (a_preference expr) at self.old.standing }
+        ensures spare { self.old.spare ≤ self.new.spare + 1 }
+    {
+        let node = plan.node;
+        match self.preferences.push(Installed { expr, node, at }) {
+            Ok(()) => self.preferences.len() as u32,
+            Err(_) => unreachable!(),
+        }
+    }
+
+    fn install_default(&mut self, plan: RulePlan, option: OptionId, on: bool) -> u32
+        requires few { length self.old.standing.defaults < 256 }
+        requires room { 0 < self.old.spare }
+        ensures number { result ≡ length self.old.standing.defaults + 1 }
+        ensures with_rule { (p : ℕ) → self.new.standing ≡ with_rule plan (a_default option on) p self.old.standing }
+        ensures spare { self.old.spare ≤ self.new.spare + 1 }
+    {
+        let node = plan.node;
+        match self.defaults.push(Fallback { option, on, node }) {
+            Ok(()) => self.defaults.len() as u32,
             Err(_) => unreachable!(),
         }
     }
 
     /// Names the least of the constraints among the first `at` commands that is false on a choice. It takes no memory.
     pub fn valid(&self, choice: Choice, at: Position) -> Result<(), Invalid>
-        requires { reach_of (expressions_at at self.now.constraints) ≤ length choice }
-        ensures ok { OnOk result (is_valid (expressions_at at self.now.constraints) choice ≡ true) }
-        ensures err { IfErr result (λ invalid. first_false (expressions_at at self.now.constraints) choice ≡ Some invalid.rule) }
+        requires { reach_of (expressions_at at self.now.standing.constraints) ≤ length choice }
+        ensures ok { OnOk result (is_valid (expressions_at at self.now.standing.constraints) choice ≡ true) }
+        ensures err { IfErr result (λ invalid. first_false (expressions_at at self.now.standing.constraints) choice ≡ Some invalid.rule) }
     {
         match first_broken(self.constraints.as_slice(), choice, at) {
             None => Ok(()),
@@ -196,6 +297,18 @@ fn conjoined(table: &mut Table, all: Node, expr: &Expr) -> Result<RulePlan, Memo
     let node = compile(table, expr)?;
     let conjunction = table.and(all, node, &mut Steps::<Uncounted>::new())?;
     Ok(RulePlan { node, conjunction })
+}
+
+// The node that is true where an option has a value.
+fn literal_node(table: &mut Table, option: OptionId, on: bool) -> Result<Node, Memory>
+    ensures extends { Extends table.old table.new }
+    ensures stands { IfOk result (λ node. StandsFor table.new node (literal option on)) }
+{
+    let node = table.literal(option)?;
+    if on {
+        return Ok(node);
+    }
+    table.not(node)
 }
 
 // A plan, unless its conjunction is false on every choice.

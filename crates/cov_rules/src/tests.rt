@@ -5,7 +5,7 @@ use cov_expr::{Expr, Part};
 use std::test::Fail;
 
 #[test]
-fn constraints_that_leave_a_variant(rt: HostRuntime) -> Result<(), Fail> {
+fn rules_of_each_kind(rt: HostRuntime) -> Result<(), Fail> {
     let alloc = rt.alloc();
     let mut table = Table::new(alloc)?;
     let mut rules = Rules::new(alloc);
@@ -27,6 +27,13 @@ fn constraints_that_leave_a_variant(rt: HostRuntime) -> Result<(), Fail> {
         rules.prepare(&mut table, &third).err(),
         Some(RuleFault::NoVariantLeft)
     );
+    // wishes leave the constraints as they are
+    let wish = Rule::Prefer(Expr::new(Part::False)?);
+    let plan = rules.prepare(&mut table, &wish).ok().ok_or("refused")?;
+    assert_eq!(rt; rules.install(plan, wish, Position::new(6)), 1);
+    let wish = Rule::Default(OptionId::new(1), false);
+    let plan = rules.prepare(&mut table, &wish).ok().ok_or("refused")?;
+    assert_eq!(rt; rules.install(plan, wish, Position::new(7)), 1);
     let only_a = Choice::new(1, 2);
     assert_eq!(rt; rules.valid(only_a, Position::new(4)), Ok(()));
     assert_eq!(rt;

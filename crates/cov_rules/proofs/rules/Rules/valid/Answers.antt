@@ -6,5 +6,5 @@ use Rattle.cov_rules.proofs.rules.Rules.valid.Goals as goal
 
 pub returns-in-None-clause-ok : goal.returns-in-None-clause-ok
 returns-in-None-clause-ok c =
-    none_false c.args.choice (expressions_at c.args.at c.args.self.now.constraints)
-    (c.in-None.ensures ∙ ap (λ rs. first_false (expressions_at c.args.at rs) c.args.choice) c.as_slice.ensures.value ∙ ap (λ (v : RulesValue). first_false (expressions_at c.args.at v.constraints) c.args.choice) c.self.view_is)
+    none_false c.args.choice (expressions_at c.args.at c.args.self.now.standing.constraints)
+    (c.in-None.ensures ∙ ap (λ rs. first_false (expressions_at c.args.at rs) c.args.choice) c.as_slice.ensures.value ∙ ap (λ (v : RulesValue). first_false (expressions_at c.args.at v.standing.constraints) c.args.choice) c.self.view_is)
