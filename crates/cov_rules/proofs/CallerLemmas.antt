@@ -43,7 +43,7 @@ all_stand_more ts (s ∷ rs) r h new = (h.0, all_stand_more ts rs r h.1 new)
 pub expressions_more : (rs : List Installed) (r : Installed) → expressions (rs ++ r ∷ []) ≡ expressions rs ++ r.expr ∷ []
 expressions_more rs r = map-append (λ (s : Installed). s.expr) rs (r ∷ [])
 
-reach_of-more : (es : List (Formula ℕ)) (e : Formula ℕ) → reach_of (es ++ e ∷ []) ≡ max (reach_of es) (reach e)
+pub reach_of-more : (es : List (Formula ℕ)) (e : Formula ℕ) → reach_of (es ++ e ∷ []) ≡ max (reach_of es) (reach e)
 reach_of-more [] e = omega arith
 reach_of-more (d ∷ es) e = omega (arith, reach_of-more es e)
 

@@ -1,8 +1,10 @@
-//! The rules of a history: which choices its constraints allow.
+//! The rules of a history: which choices its constraints allow, and how they complete a partial choice.
 #![tactic(auto)]
 
+mod completing;
 mod rules;
 
+pub use completing::CompleteFault;
 pub use rules::{Invalid, Rule, RuleFault, RulePlan, Rules};
 
 #[cfg(test)]

@@ -4,14 +4,18 @@ ghost use Rattle.cov_expr.specs.Formula.{reach, value};
 ghost use Rattle.cov_expr.specs.Validity.{is_valid, first_false};
 ghost use Rattle.cov_dd.specs.declared.triple.Triple.{Triple};
 ghost use Rattle.cov_dd.specs.Diagrams.{node_count, span, value_in, Extends, Stands};
-ghost use Rattle.cov_rules.specs.Installing.{expressions_at, reach_of, count_of, literal, with_rule, StandsFor, Holds, Plans, IsPlan};
+ghost use Rattle.cov_rules.specs.Installing.{expressions, expressions_at, reach_of, count_of, literal, with_rule, StandsFor, Holds, Plans, IsPlan};
+ghost use Rattle.cov_rules.specs.Completion.{Complete, Invalid as Broken, completed, fallbacks, keep_all, least_unmet, AreBelow, IsRefusalBy, IsSet};
 ghost use Rattle.cov_rules.specs.Refusals.{IsAccepted, IsFaultOf};
 ghost use Rattle.cov_rules.specs.declared.rules.RuleFault.TheVariants.{NoVariantLeft as no_variant_left, Memory as want_of_memory};
 ghost use Rattle.cov_rules.specs.declared.rules.Rule.TheVariants.{Constraint as a_constraint, Prefer as a_preference, Default as a_default};
 
+use crate::completing::{
+    CompleteFault, agreement, defaulted, is_met, least_unmet, only_choice, preferred,
+};
 use cov_base::{Choice, Memory, OptionId, Position, Steps, Uncounted};
 use cov_dd::{Node, TRUE, Table};
-use cov_expr::Expr;
+use cov_expr::{Expr, Partial};
 use cov_vis::compile;
 use std::alloc::Global;
 use std::marker::Model;
@@ -56,8 +60,8 @@ pub struct RulePlan {
 /// A rule with its node, and the number of the command that it came by.
 #[derive(Debug, Drop)]
 pub(crate) struct Installed {
-    expr: Expr,
-    node: Node,
+    pub(crate) expr: Expr,
+    pub(crate) node: Node,
     at: Position,
 }
 
@@ -66,7 +70,7 @@ pub(crate) struct Installed {
 pub(crate) struct Fallback {
     option: OptionId,
     on: bool,
-    node: Node,
+    pub(crate) node: Node,
 }
 
 /// The rules in the order in which they were installed. The nodes are those of one table, which the caller lends.
@@ -274,6 +278,63 @@ impl Rules {
         }
     }
 
+    /// Completes a partial choice of `count` options: of the valid choices that agree with it each preference in order
+    /// keeps those on which it is true, if there are any, then each default. The one choice left is the answer.
+    pub fn complete(
+        &self,
+        table: &mut Table,
+        partial: &Partial,
+        count: u8,
+    ) -> Result<Choice, CompleteFault>
+        requires holds { Holds table.old self.now.standing }
+        requires below { AreBelow count self.now.standing partial.now }
+        ensures extends { Extends table.old table.new }
+        ensures complete { IfOk result (λ choice. completed count self.now.standing partial.now ≡ Complete choice) }
+        ensures refused { IfErr result (IsRefusalBy (completed count self.now.standing partial.now)) }
+    {
+        let agreeing = match agreement(table, partial.bindings()) {
+            Ok(node) => node,
+            Err(_) => return Err(CompleteFault::Memory),
+        };
+        let valid = match table.and(agreeing, self.conjunction, &mut Steps::<Uncounted>::new()) {
+            Ok(node) => node,
+            Err(_) => return Err(CompleteFault::Memory),
+        };
+        if !is_met(table, valid) {
+            return Err(self.unmet(table, agreeing));
+        }
+        let left = match self.left(table, valid) {
+            Ok(node) => node,
+            Err(_) => return Err(CompleteFault::Memory),
+        };
+        only_choice(table, left, count)
+    }
+
+    // The refusal of choices that don't meet all constraints.
+    fn unmet(&self, table: &mut Table, node: Node) -> CompleteFault
+        requires holds { Holds table.old self.now.standing }
+        requires node { node < node_count table.old }
+        ensures extends { Extends table.old table.new }
+        ensures refused { (count : ℕ) (cs : List (List Bool)) → IsSet table.old node count cs → reach_of (expressions self.now.standing.constraints) ≤ count → IsRefusalBy (Broken (least_unmet (expressions self.now.standing.constraints) cs)) result }
+    {
+        match least_unmet(table, node, self.constraints.as_slice()) {
+            Ok(rule) => CompleteFault::Invalid { rule },
+            Err(_) => CompleteFault::Memory,
+        }
+    }
+
+    // The choices that preferences and then defaults leave.
+    fn left(&self, table: &mut Table, node: Node) -> Result<Node, Memory>
+        requires holds { Holds table.old self.now.standing }
+        requires node { node < node_count table.old }
+        ensures extends { Extends table.old table.new }
+        ensures within { IfOk result (λ r. r < node_count table.new) }
+        ensures kept { IfOk result (λ r. (count : ℕ) (cs : List (List Bool)) → IsSet table.old node count cs → reach_of (expressions self.now.standing.preferences) ≤ count → reach_of (fallbacks self.now.standing.defaults) ≤ count → IsSet table.new r count (keep_all (keep_all cs (expressions self.now.standing.preferences)) (fallbacks self.now.standing.defaults))) }
+    {
+        let preferred = preferred(table, node, self.preferences.as_slice())?;
+        defaulted(table, preferred, self.defaults.as_slice())
+    }
+
     /// Names the least of the constraints among the first `at` commands that is false on a choice. It takes no memory.
     pub fn valid(&self, choice: Choice, at: Position) -> Result<(), Invalid>
         requires { reach_of (expressions_at at self.now.standing.constraints) ≤ length choice }
@@ -300,7 +361,7 @@ fn conjoined(table: &mut Table, all: Node, expr: &Expr) -> Result<RulePlan, Memo
 }
 
 // The node that is true where an option has a value.
-fn literal_node(table: &mut Table, option: OptionId, on: bool) -> Result<Node, Memory>
+pub(crate) fn literal_node(table: &mut Table, option: OptionId, on: bool) -> Result<Node, Memory>
     ensures extends { Extends table.old table.new }
     ensures stands { IfOk result (λ node. StandsFor table.new node (literal option on)) }
 {

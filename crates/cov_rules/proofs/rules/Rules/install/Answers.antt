@@ -1,4 +1,4 @@
-use Rattle.std.proofs.Common.{◌≡◌, ap, sym, subst, ◌∙◌}
+use Rattle.std.proofs.Common.{ap, sym, subst, ◌∙◌}
 use Rattle.cov_rules.specs.Installing.{with_rule, Holds}
 use Rattle.cov_rules.proofs.CallerLemmas.{holds_with}
 use Rattle.cov_rules.proofs.rules.Rules.install.Goals as goal
