@@ -9,7 +9,7 @@ use Rattle.cov_rules.specs.declared.rules.Rule.TheVariants as rules
 use Rattle.cov_rules.specs.declared.rules.RuleFault.TheVariants as faults
 
 -- !a | b and !a | !b, at positions 3 and 5
-constrained : Standing
+abbrev constrained : Standing
 constrained = record {
   constraints = record { expr = Or (Not (On 0)) (On 1); node = 0; at = 3 } ∷ record { expr = Or (Not (On 0)) (Not (On 1)); node = 0; at = 5 } ∷ [];
   preferences = [];
@@ -17,8 +17,8 @@ constrained = record {
   conjunction = 0;
 }
 
--- a preference for a, one that can't hold beside it, and b on by default
-wishing : Standing
+-- a preference for a and one that cannot hold beside it, and the defaults a off and b on
+abbrev wishing : Standing
 wishing = record {
   constraints = [];
   preferences = record { expr = On 0; node = 0; at = 3 } ∷ record { expr = And (Not (On 0)) (On 1); node = 0; at = 4 } ∷ [];
