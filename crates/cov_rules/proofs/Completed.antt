@@ -1,0 +1,69 @@
+-- The completion of a partial choice, by the nodes that stand for what is left.
+use Rattle.std.proofs.Common.{◌≡◌, ℕ, ◌≤◌, max, Bool, true, false, ◌&&◌, List, [], ◌∷◌, refl, sym, ap, ◌∙◌, arith}
+use Rattle.std.specs.List.{filter}
+use Rattle.cov_base.specs.Choices.{all_choices}
+use Rattle.cov_dd.specs.declared.triple.Triple.{Triple}
+use Rattle.cov_dd.specs.Combinations.{joint_span}
+use Rattle.cov_dd.specs.Diagrams.{value_in, Extends, Stands}
+use Rattle.cov_dd.proofs.CallerLemmas.{stands_later}
+use Rattle.cov_expr.specs.Formula.{Formula, value}
+use Rattle.cov_expr.specs.Validity.{is_valid}
+use Rattle.cov_rules.specs.Completion.{Completion, Invalid, has_any, or_else, keep, keep_all, least_unmet, literals, fallbacks, agreeing, answer_of, completed_from, completed, IsSet, AreBelow}
+use Rattle.cov_rules.specs.Installing.{Standing, expressions, StandsForAll, Holds}
+use Rattle.cov_rules.proofs.Narrowing.{filter_filter}
+
+or_else_any : (ds cs : List (List Bool)) → has_any cs ≡ true → has_any (or_else ds cs) ≡ true
+or_else_any [] cs h = h
+or_else_any (d ∷ ds) cs h = refl
+
+-- wishes leave a choice where there is one
+pub keep_all_any : (cs : List (List Bool)) (es : List (Formula ℕ)) → has_any cs ≡ true → has_any (keep_all cs es) ≡ true
+keep_all_any cs [] h = h
+keep_all_any cs (e ∷ es) h = keep_all_any (keep cs e) es (or_else_any (filter (value e) cs) cs h)
+
+completed_none : (n : ℕ) (s : Standing) (agree valid : List (List Bool)) → has_any valid ≡ false → completed_from n s agree valid ≡ Invalid (least_unmet (expressions s.constraints) agree)
+completed_none n s agree [] h = refl
+completed_none n s agree (c ∷ cs) h = absurd (cc)
+
+completed_some : (n : ℕ) (s : Standing) (agree valid : List (List Bool)) → has_any valid ≡ true
+    → completed_from n s agree valid ≡ answer_of n (keep_all (keep_all valid (expressions s.preferences)) (fallbacks s.defaults))
+completed_some n s agree [] h = absurd (cc)
+completed_some n s agree (c ∷ cs) h = refl
+
+-- the valid choices that agree with a partial one, and those that wishes leave of them
+abbrev pub valid : ℕ → Standing → List (ℕ × Bool) → List (List Bool)
+valid n s partial = filter (is_valid (expressions s.constraints)) (agreeing n partial)
+
+abbrev pub left : ℕ → Standing → List (ℕ × Bool) → List (List Bool)
+left n s partial = keep_all (keep_all (valid n s partial) (expressions s.preferences)) (fallbacks s.defaults)
+
+module _ (n : ℕ) (s : Standing) (partial : List (ℕ × Bool)) where
+  pub invalid : has_any (valid n s partial) ≡ false → completed n s partial ≡ Invalid (least_unmet (expressions s.constraints) (agreeing n partial))
+  invalid h = completed_none n s (agreeing n partial) (valid n s partial) h
+
+  pub answered : has_any (valid n s partial) ≡ true → completed n s partial ≡ answer_of n (left n s partial)
+  answered h = completed_some n s (agreeing n partial) (valid n s partial) h
+
+  pub left_any : has_any (valid n s partial) ≡ true → has_any (left n s partial) ≡ true
+  left_any h = keep_all_any (keep_all (valid n s partial) (expressions s.preferences)) (fallbacks s.defaults) (keep_all_any (valid n s partial) (expressions s.preferences) h)
+
+module _ (n : ℕ) (s : Standing) (partial : List (ℕ × Bool)) (below : AreBelow n s partial) (ts us : List Triple) (h : Holds ts s) (x : Extends ts us)
+    (agree : ℕ) (stands : StandsForAll us agree (literals partial)) where
+  pub agreeing_set : IsSet us agree n (agreeing n partial)
+  agreeing_set = record {
+    few = below.few;
+    within = stands.within;
+    options = omega (arith, stands.below, below.bound);
+    choices = λ j. filter (λ c. stands.value c j) (all_choices n);
+  }
+
+  pub valid_set : (vs : List Triple) (start first : ℕ) → Stands vs start first (joint_span us agree s.conjunction) (λ c. value_in us agree c && value_in us s.conjunction c) → IsSet vs start n (valid n s partial)
+  valid_set vs start first both =
+      let kept : StandsForAll us s.conjunction (expressions s.constraints) = stands_later x h.conjunction in
+      record {
+        few = below.few;
+        within = both.within;
+        options = omega (arith, both.below, stands.below, below.bound, kept.below, below.constraints);
+        choices = (λ j. filter (λ c. (both.value c ∙ (λ k. stands.value c k && kept.value c k)) j) (all_choices n))
+            ∙ sym (filter_filter (is_valid (literals partial)) (is_valid (expressions s.constraints)) (all_choices n));
+      }

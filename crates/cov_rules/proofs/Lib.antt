@@ -1,0 +1,9 @@
+pub mod Alone
+pub mod CallerLemmas
+pub mod Completed
+pub mod Deciding
+mod Examples
+pub mod Narrowing
+pub mod Opening
+pub mod Planning
+pub mod Unmet

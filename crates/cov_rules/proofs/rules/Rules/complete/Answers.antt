@@ -1,0 +1,120 @@
+use Rattle.std.proofs.Common.{◌≡◌, true, false, ◌&&◌, Bool, List, sym, ap, subst, ◌∙◌}
+use Rattle.cov_dd.specs.Combinations.{first_option, joint_span}
+use Rattle.cov_dd.specs.Diagrams.{value_in, Stands}
+use Rattle.cov_dd.proofs.CallerLemmas.{extends_trans}
+use Rattle.cov_rules.specs.Completion.{Complete, has_any, literals, agreeing, answer_of, completed, IsRefusalBy, IsSet}
+use Rattle.cov_rules.specs.Installing.{RulesValue, StandsForAll}
+use Rattle.cov_rules.proofs.CallerLemmas.{holds_later}
+use Rattle.cov_rules.proofs.Completed.{valid, left, invalid, answered, left_any, agreeing_set, valid_set}
+use Rattle.cov_rules.proofs.Narrowing.{set_later}
+use Rattle.cov_rules.proofs.Opening.{if_ok_also, if_err_also}
+use Rattle.cov_rules.proofs.rules.Rules.complete.Goals as goal
+
+pub returns-in-Err-and-clause-extends : goal.returns-in-Err-and-clause-extends
+returns-in-Err-and-clause-extends c = extends_trans c.args.table.now c.agreement.new.table c.and.new.self c.in-Ok.ensures.extends c.in-Err-and.ensures.extends
+
+pub unmet-requires-clause-holds : goal.unmet-requires-clause-holds
+unmet-requires-clause-holds c = holds_later c.in-Ok-and.ensures.extends (holds_later c.in-Ok.ensures.extends c.requires.holds)
+
+pub left-requires-clause-holds : goal.left-requires-clause-holds
+left-requires-clause-holds c = holds_later c.in-Ok-and.ensures.extends (holds_later c.in-Ok.ensures.extends c.requires.holds)
+
+pub returns-then-not-is_met-clause-extends : goal.returns-then-not-is_met-clause-extends
+returns-then-not-is_met-clause-extends c =
+    extends_trans c.args.table.now c.and.new.self c.unmet.new.table (extends_trans c.args.table.now c.agreement.new.table c.and.new.self c.in-Ok.ensures.extends c.in-Ok-and.ensures.extends) c.unmet.ensures.extends
+
+pub returns-in-Err-left-clause-extends : goal.returns-in-Err-left-clause-extends
+returns-in-Err-left-clause-extends c =
+    extends_trans c.args.table.now c.and.new.self c.left.new.table (extends_trans c.args.table.now c.agreement.new.table c.and.new.self c.in-Ok.ensures.extends c.in-Ok-and.ensures.extends) c.in-Err-left.ensures.extends
+
+pub returns-clause-extends : goal.returns-clause-extends
+returns-clause-extends c =
+    extends_trans c.args.table.now c.left.new.table c.only_choice.new.table
+    (extends_trans c.args.table.now c.and.new.self c.left.new.table (extends_trans c.args.table.now c.agreement.new.table c.and.new.self c.in-Ok.ensures.extends c.in-Ok-and.ensures.extends) c.in-Ok-left.ensures.extends) c.only_choice.ensures.extends
+
+pub returns-then-not-is_met-clause-refused : goal.returns-then-not-is_met-clause-refused
+returns-then-not-is_met-clause-refused c =
+    let n = c.args.count in
+    let s = c.args.self.now.standing in
+    let partial = c.args.partial.now in
+    let us = c.agreement.new.table in
+    let vs = c.and.new.self in
+    let stands : StandsForAll us c.in-Ok.node (literals partial) = subst (λ bs. StandsForAll us c.in-Ok.node (literals bs)) c.bindings.ensures.bindings c.in-Ok.ensures.stands in
+    let valids : IsSet vs c.in-Ok-and.node n (valid n s partial) =
+    valid_set n s partial c.requires.below c.args.table.now us c.requires.holds c.in-Ok.ensures.extends c.in-Ok.node stands vs c.in-Ok-and.node (first_option us c.in-Ok.node s.conjunction)
+    (subst (λ (v : RulesValue). Stands vs c.in-Ok-and.node (first_option us c.in-Ok.node v.standing.conjunction) (joint_span us c.in-Ok.node v.standing.conjunction) (λ d. value_in us c.in-Ok.node d && value_in us v.standing.conjunction d))
+    c.self.view_is c.in-Ok-and.ensures.stands) in
+    let unmet : has_any (valid n s partial) ≡ false = sym (c.is_met.ensures n (valid n s partial) valids) ∙ c.if-not-is_met.true in
+    let agrees = agreeing_set n s partial c.requires.below c.args.table.now us c.requires.holds c.in-Ok.ensures.extends c.in-Ok.node stands in
+    subst (λ a. IsRefusalBy a c.unmet.result) (sym (invalid n s partial unmet))
+    (c.unmet.ensures.refused n (agreeing n partial) (set_later c.in-Ok-and.ensures.extends agrees) c.requires.below.constraints)
+
+pub only_choice-requires-clause-options : goal.only_choice-requires-clause-options
+only_choice-requires-clause-options c =
+    let n = c.args.count in
+    let s = c.args.self.now.standing in
+    let partial = c.args.partial.now in
+    let us = c.agreement.new.table in
+    let vs = c.and.new.self in
+    let stands : StandsForAll us c.in-Ok.node (literals partial) = subst (λ bs. StandsForAll us c.in-Ok.node (literals bs)) c.bindings.ensures.bindings c.in-Ok.ensures.stands in
+    let valids : IsSet vs c.in-Ok-and.node n (valid n s partial) =
+    valid_set n s partial c.requires.below c.args.table.now us c.requires.holds c.in-Ok.ensures.extends c.in-Ok.node stands vs c.in-Ok-and.node (first_option us c.in-Ok.node s.conjunction)
+    (subst (λ (v : RulesValue). Stands vs c.in-Ok-and.node (first_option us c.in-Ok.node v.standing.conjunction) (joint_span us c.in-Ok.node v.standing.conjunction) (λ d. value_in us c.in-Ok.node d && value_in us v.standing.conjunction d))
+    c.self.view_is c.in-Ok-and.ensures.stands) in
+    let met : has_any (valid n s partial) ≡ true = sym (c.is_met.ensures n (valid n s partial) valids) ∙ c.if-not-is_met.false in
+    let lefts : IsSet c.left.new.table c.in-Ok-left.node n (left n s partial) = c.in-Ok-left.ensures.kept n (valid n s partial) valids c.requires.below.preferences c.requires.below.defaults in
+    lefts.options
+
+pub only_choice-requires-clause-some : goal.only_choice-requires-clause-some
+only_choice-requires-clause-some c cs is =
+    let n = c.args.count in
+    let s = c.args.self.now.standing in
+    let partial = c.args.partial.now in
+    let us = c.agreement.new.table in
+    let vs = c.and.new.self in
+    let stands : StandsForAll us c.in-Ok.node (literals partial) = subst (λ bs. StandsForAll us c.in-Ok.node (literals bs)) c.bindings.ensures.bindings c.in-Ok.ensures.stands in
+    let valids : IsSet vs c.in-Ok-and.node n (valid n s partial) =
+    valid_set n s partial c.requires.below c.args.table.now us c.requires.holds c.in-Ok.ensures.extends c.in-Ok.node stands vs c.in-Ok-and.node (first_option us c.in-Ok.node s.conjunction)
+    (subst (λ (v : RulesValue). Stands vs c.in-Ok-and.node (first_option us c.in-Ok.node v.standing.conjunction) (joint_span us c.in-Ok.node v.standing.conjunction) (λ d. value_in us c.in-Ok.node d && value_in us v.standing.conjunction d))
+    c.self.view_is c.in-Ok-and.ensures.stands) in
+    let met : has_any (valid n s partial) ≡ true = sym (c.is_met.ensures n (valid n s partial) valids) ∙ c.if-not-is_met.false in
+    let lefts : IsSet c.left.new.table c.in-Ok-left.node n (left n s partial) = c.in-Ok-left.ensures.kept n (valid n s partial) valids c.requires.below.preferences c.requires.below.defaults in
+    ap has_any (sym is.choices ∙ lefts.choices) ∙ left_any n s partial met
+
+pub returns-clause-complete : goal.returns-clause-complete
+returns-clause-complete c =
+    let n = c.args.count in
+    let s = c.args.self.now.standing in
+    let partial = c.args.partial.now in
+    let us = c.agreement.new.table in
+    let vs = c.and.new.self in
+    let stands : StandsForAll us c.in-Ok.node (literals partial) = subst (λ bs. StandsForAll us c.in-Ok.node (literals bs)) c.bindings.ensures.bindings c.in-Ok.ensures.stands in
+    let valids : IsSet vs c.in-Ok-and.node n (valid n s partial) =
+    valid_set n s partial c.requires.below c.args.table.now us c.requires.holds c.in-Ok.ensures.extends c.in-Ok.node stands vs c.in-Ok-and.node (first_option us c.in-Ok.node s.conjunction)
+    (subst (λ (v : RulesValue). Stands vs c.in-Ok-and.node (first_option us c.in-Ok.node v.standing.conjunction) (joint_span us c.in-Ok.node v.standing.conjunction) (λ d. value_in us c.in-Ok.node d && value_in us v.standing.conjunction d))
+    c.self.view_is c.in-Ok-and.ensures.stands) in
+    let met : has_any (valid n s partial) ≡ true = sym (c.is_met.ensures n (valid n s partial) valids) ∙ c.if-not-is_met.false in
+    let lefts : IsSet c.left.new.table c.in-Ok-left.node n (left n s partial) = c.in-Ok-left.ensures.kept n (valid n s partial) valids c.requires.below.preferences c.requires.below.defaults in
+    if_ok_also c.only_choice.result
+    (λ choice. (cs : List (List Bool)) → IsSet c.left.new.table c.in-Ok-left.node n cs → answer_of n cs ≡ Complete choice)
+    (λ choice. completed n s partial ≡ Complete choice)
+    (λ choice h. answered n s partial met ∙ h (left n s partial) lefts) c.only_choice.ensures.complete
+
+pub returns-clause-refused : goal.returns-clause-refused
+returns-clause-refused c =
+    let n = c.args.count in
+    let s = c.args.self.now.standing in
+    let partial = c.args.partial.now in
+    let us = c.agreement.new.table in
+    let vs = c.and.new.self in
+    let stands : StandsForAll us c.in-Ok.node (literals partial) = subst (λ bs. StandsForAll us c.in-Ok.node (literals bs)) c.bindings.ensures.bindings c.in-Ok.ensures.stands in
+    let valids : IsSet vs c.in-Ok-and.node n (valid n s partial) =
+    valid_set n s partial c.requires.below c.args.table.now us c.requires.holds c.in-Ok.ensures.extends c.in-Ok.node stands vs c.in-Ok-and.node (first_option us c.in-Ok.node s.conjunction)
+    (subst (λ (v : RulesValue). Stands vs c.in-Ok-and.node (first_option us c.in-Ok.node v.standing.conjunction) (joint_span us c.in-Ok.node v.standing.conjunction) (λ d. value_in us c.in-Ok.node d && value_in us v.standing.conjunction d))
+    c.self.view_is c.in-Ok-and.ensures.stands) in
+    let met : has_any (valid n s partial) ≡ true = sym (c.is_met.ensures n (valid n s partial) valids) ∙ c.if-not-is_met.false in
+    let lefts : IsSet c.left.new.table c.in-Ok-left.node n (left n s partial) = c.in-Ok-left.ensures.kept n (valid n s partial) valids c.requires.below.preferences c.requires.below.defaults in
+    if_err_also c.only_choice.result
+    (λ fault. (cs : List (List Bool)) → IsSet c.left.new.table c.in-Ok-left.node n cs → IsRefusalBy (answer_of n cs) fault)
+    (IsRefusalBy (completed n s partial))
+    (λ fault h. subst (λ a. IsRefusalBy a fault) (sym (answered n s partial met)) (h (left n s partial) lefts)) c.only_choice.ensures.refused

@@ -1,0 +1,3 @@
+pub mod Completion
+pub mod Installing
+pub mod Refusals

@@ -1,0 +1,178 @@
+// The steps by which rules complete a partial choice. Each narrows a node that stands for the choices that are left.
+ghost use Rattle.std.specs.Prelude.{◌≡◌, ◌<◌, ◌≤◌, ℕ, List, Bool, true, length, IfOk, IfErr};
+ghost use Rattle.std.specs.List.{list_any};
+ghost use Rattle.cov_dd.specs.Diagrams.{node_count, span, Extends};
+ghost use Rattle.cov_expr.specs.Formula.{Formula, reach, value};
+ghost use Rattle.cov_rules.specs.Completion.{Complete, answer_of, literals, fallbacks, has_any, keep, keep_all, least_unmet, first_open, is_open, IsSet, IsRefusalBy};
+ghost use Rattle.cov_rules.specs.Installing.{literal, expressions, reach_of, StandsFor, StandsForAll, AllStand, AllFallBack};
+
+use crate::rules::{Fallback, Installed, literal_node};
+use cov_base::{Choice, Memory, OptionId, Steps, Uncounted};
+use cov_dd::{Node, TRUE, Table};
+
+/// Why a partial choice isn't completed.
+#[derive(Clone, Copy, Debug, PartialEq, Eq)]
+pub enum CompleteFault {
+    Memory,
+    /// No choice that agrees with the partial one meets the constraints up to this number, from 1, which is the least.
+    Invalid { rule: u32 },
+    /// The least option that has both values among the choices that are left.
+    Incomplete { option: OptionId },
+}
+
+/// The node that is true on exactly the choices that agree with bindings.
+pub(crate) fn agreement(table: &mut Table, bindings: &[(OptionId, bool)]) -> Result<Node, Memory>
+    ensures extends { Extends table.old table.new }
+    ensures stands { IfOk result (λ node. StandsForAll table.new node (literals bindings.now)) }
+{
+    let mut node = TRUE;
+    for binding in bindings {
+        let literal = literal_node(table, binding.0, binding.1)?;
+        node = table.and(node, literal, &mut Steps::<Uncounted>::new())?;
+    }
+    Ok(node)
+}
+
+/// Whether a node is true on some choice.
+pub(crate) fn is_met(table: &Table, node: Node) -> bool
+    requires { node < node_count table.now }
+    ensures { (count : ℕ) (cs : List (List Bool)) → IsSet table.now node count cs → result ≡ has_any cs }
+{
+    !table.is_false(node)
+}
+
+// The choices on which a wish is true, if there are any, else all.
+fn narrowed(table: &mut Table, node: Node, wish: Node) -> Result<Node, Memory>
+    requires node { node < node_count table.old }
+    requires wish { wish < node_count table.old }
+    ensures extends { Extends table.old table.new }
+    ensures within { IfOk result (λ r. r < node_count table.new) }
+    ensures kept { IfOk result (λ r. (count : ℕ) (cs : List (List Bool)) (e : Formula ℕ) → IsSet table.old node count cs → StandsFor table.old wish e → reach e ≤ count → IsSet table.new r count (keep cs e)) }
+{
+    let both = table.and(node, wish, &mut Steps::<Uncounted>::new())?;
+    if is_met(table, both) {
+        return Ok(both);
+    }
+    Ok(node)
+}
+
+/// The choices that are left after preferences.
+pub(crate) fn preferred(
+    table: &mut Table,
+    node: Node,
+    preferences: &[Installed],
+) -> Result<Node, Memory>
+    requires node { node < node_count table.old }
+    requires preferences { AllStand table.old preferences.now }
+    ensures extends { Extends table.old table.new }
+    ensures within { IfOk result (λ r. r < node_count table.new) }
+    ensures kept { IfOk result (λ r. (count : ℕ) (cs : List (List Bool)) → IsSet table.old node count cs → reach_of (expressions preferences.now) ≤ count → IsSet table.new r count (keep_all cs (expressions preferences.now))) }
+{
+    let mut left = node;
+    for preference in preferences {
+        left = narrowed(table, left, preference.node)?;
+    }
+    Ok(left)
+}
+
+/// The choices that are left after defaults.
+pub(crate) fn defaulted(
+    table: &mut Table,
+    node: Node,
+    defaults: &[Fallback],
+) -> Result<Node, Memory>
+    requires node { node < node_count table.old }
+    requires defaults { AllFallBack table.old defaults.now }
+    ensures extends { Extends table.old table.new }
+    ensures within { IfOk result (λ r. r < node_count table.new) }
+    ensures kept { IfOk result (λ r. (count : ℕ) (cs : List (List Bool)) → IsSet table.old node count cs → reach_of (fallbacks defaults.now) ≤ count → IsSet table.new r count (keep_all cs (fallbacks defaults.now))) }
+{
+    let mut left = node;
+    for fallback in defaults {
+        left = narrowed(table, left, fallback.node)?;
+    }
+    Ok(left)
+}
+
+/// How many of the constraints, in order, rule all choices of a node out.
+pub(crate) fn least_unmet(
+    table: &mut Table,
+    node: Node,
+    constraints: &[Installed],
+) -> Result<u32, Memory>
+    requires few { length constraints.now ≤ 256 }
+    requires node { node < node_count table.old }
+    requires constraints { AllStand table.old constraints.now }
+    ensures extends { Extends table.old table.new }
+    ensures unmet { IfOk result (λ rule. (count : ℕ) (cs : List (List Bool)) → IsSet table.old node count cs → reach_of (expressions constraints.now) ≤ count → rule ≡ least_unmet (expressions constraints.now) cs) }
+{
+    let mut left = node;
+    let mut rule = 0;
+    for constraint in constraints {
+        if !is_met(table, left) {
+            return Ok(rule);
+        }
+        left = table.and(left, constraint.node, &mut Steps::<Uncounted>::new())?;
+        rule += 1;
+    }
+    Ok(rule)
+}
+
+/// The only choice of a node, or the least option that has both values among its choices.
+pub(crate) fn only_choice(table: &mut Table, node: Node, count: u8) -> Result<Choice, CompleteFault>
+    requires count { count ≤ 128 }
+    requires node { node < node_count table.old }
+    requires options { span table.old node ≤ count }
+    requires some { (cs : List (List Bool)) → IsSet table.old node count cs → has_any cs ≡ true }
+    ensures extends { Extends table.old table.new }
+    ensures complete { IfOk result (λ choice. (cs : List (List Bool)) → IsSet table.old node count cs → answer_of count cs ≡ Complete choice) }
+    ensures refused { IfErr result (λ fault. (cs : List (List Bool)) → IsSet table.old node count cs → IsRefusalBy (answer_of count cs) fault) }
+{
+    let Some(choice) = table.least(node, count) else {
+        unreachable!()
+    };
+    match first_open(table, node, count) {
+        Ok(None) => Ok(choice),
+        Ok(Some(option)) => Err(CompleteFault::Incomplete { option }),
+        Err(_) => Err(CompleteFault::Memory),
+    }
+}
+
+// The least of `count` options that has both values among the choices of a node.
+fn first_open(table: &mut Table, node: Node, count: u8) -> Result<Option<OptionId>, Memory>
+    requires count { count ≤ 128 }
+    requires node { node < node_count table.old }
+    ensures extends { Extends table.old table.new }
+    ensures first { IfOk result (λ option. (cs : List (List Bool)) → IsSet table.old node count cs → option ≡ first_open count cs) }
+{
+    for number in 0..count {
+        let option = OptionId::new(number);
+        if is_open(table, node, option)? {
+            return Ok(Some(option));
+        }
+    }
+    Ok(None)
+}
+
+// Whether an option has both values among the choices of a node.
+fn is_open(table: &mut Table, node: Node, option: OptionId) -> Result<bool, Memory>
+    requires node { node < node_count table.old }
+    ensures extends { Extends table.old table.new }
+    ensures both { IfOk result (λ both. (count : ℕ) (cs : List (List Bool)) → option < count → IsSet table.old node count cs → both ≡ is_open cs option) }
+{
+    if !has_value(table, node, option, true)? {
+        return Ok(false);
+    }
+    has_value(table, node, option, false)
+}
+
+// Whether an option has a value on one of the choices of a node.
+fn has_value(table: &mut Table, node: Node, option: OptionId, on: bool) -> Result<bool, Memory>
+    requires node { node < node_count table.old }
+    ensures extends { Extends table.old table.new }
+    ensures some { IfOk result (λ some. (count : ℕ) (cs : List (List Bool)) → option < count → IsSet table.old node count cs → some ≡ list_any (value (literal option on)) cs) }
+{
+    let literal = literal_node(table, option, on)?;
+    let both = table.and(node, literal, &mut Steps::<Uncounted>::new())?;
+    Ok(is_met(table, both))
+}

@@ -1,0 +1,11 @@
+//! The rules of a history: which choices its constraints allow, and how they complete a partial choice.
+#![tactic(auto)]
+
+mod completing;
+mod rules;
+
+pub use completing::CompleteFault;
+pub use rules::{Invalid, Rule, RuleFault, RulePlan, Rules};
+
+#[cfg(test)]
+mod tests;

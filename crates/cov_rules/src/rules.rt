@@ -1,0 +1,407 @@
+// Rules in the order in which they were installed.
+ghost use Rattle.std.specs.Prelude.{◌≡◌, ◌<◌, ◌≤◌, ◌+◌, ◌-◌, ◌++◌, ◌∷◌, ℕ, List, [], Bool, ◌&&◌, max, true, false, length, None, Some, IfOk, IfErr, OnOk, OnErr};
+ghost use Rattle.cov_expr.specs.Formula.{reach, value};
+ghost use Rattle.cov_expr.specs.Validity.{is_valid, first_false};
+ghost use Rattle.cov_dd.specs.declared.triple.Triple.{Triple};
+ghost use Rattle.cov_dd.specs.Diagrams.{node_count, span, value_in, Extends, Stands};
+ghost use Rattle.cov_rules.specs.Installing.{expressions, expressions_at, reach_of, count_of, literal, with_rule, StandsFor, Holds, Plans, IsPlan};
+ghost use Rattle.cov_rules.specs.Completion.{Complete, Invalid as Broken, completed, fallbacks, keep_all, least_unmet, AreBelow, IsRefusalBy, IsSet};
+ghost use Rattle.cov_rules.specs.Refusals.{IsAccepted, IsFaultOf};
+ghost use Rattle.cov_rules.specs.declared.rules.RuleFault.TheVariants.{NoVariantLeft as no_variant_left, Memory as want_of_memory};
+ghost use Rattle.cov_rules.specs.declared.rules.Rule.TheVariants.{Constraint as a_constraint, Prefer as a_preference, Default as a_default};
+
+use crate::completing::{
+    CompleteFault, agreement, defaulted, is_met, least_unmet, only_choice, preferred,
+};
+use cov_base::{Choice, Memory, OptionId, Position, Steps, Uncounted};
+use cov_dd::{Node, TRUE, Table};
+use cov_expr::{Expr, Partial};
+use cov_vis::compile;
+use std::alloc::Global;
+use std::marker::Model;
+
+/// The greatest number of rules of one kind.
+const MOST_RULES: usize = 256;
+
+/// A rule by which choices are judged or completed.
+#[derive(Debug, Drop)]
+pub enum Rule {
+    /// A choice is valid only where the expression is true.
+    Constraint(Expr),
+    /// A choice is completed by those on which the expression is true, where there are any.
+    Prefer(Expr),
+    /// The same, for an option and its value.
+    Default(OptionId, bool),
+}
+
+/// Why a rule isn't taken.
+#[derive(Clone, Copy, Debug, PartialEq, Eq)]
+pub enum RuleFault {
+    Memory,
+    /// As many rules of the kind stand as there may be.
+    Full,
+    /// No choice would meet all constraints.
+    NoVariantLeft,
+}
+
+/// The number, from 1, of the first constraint that is false on a choice.
+#[derive(Clone, Copy, Debug, PartialEq, Eq)]
+pub struct Invalid {
+    pub rule: u32,
+}
+
+/// What `install` needs of a rule: its node, and for a constraint the node of all constraints with it.
+#[derive(Clone, Copy, Debug)]
+pub struct RulePlan {
+    node: Node,
+    conjunction: Node,
+}
+
+/// A rule with its node, and the number of the command that it came by.
+#[derive(Debug, Drop)]
+pub(crate) struct Installed {
+    pub(crate) expr: Expr,
+    pub(crate) node: Node,
+    at: Position,
+}
+
+/// A default with its node.
+#[derive(Debug, Drop)]
+pub(crate) struct Fallback {
+    option: OptionId,
+    on: bool,
+    pub(crate) node: Node,
+}
+
+/// The rules in the order in which they were installed. The nodes are those of one table, which the caller lends.
+#[derive(Debug, Drop)]
+pub struct Rules {
+    constraints: Vec<Installed>,
+    preferences: Vec<Installed>,
+    defaults: Vec<Fallback>,
+    conjunction: Node,
+}
+
+impl Model for Rules {
+    ghost use Rattle.std.specs.Prelude.{◌-◌, ◌≤◌, min, vec_len, vec_capacity};
+    ghost use Rattle.std.specs.Coded.{codes, coded_ℕ};
+    ghost use Rattle.cov_expr.specs.Formula.{formula_code};
+    ghost use Rattle.cov_rules.specs.Installing.{RulesValue};
+
+    ghost Value = { RulesValue };
+
+    ghost coded = { Prim.hlevel (codes, formula_code coded_ℕ) };
+
+    ghost view = { λ r. record {
+      standing = record { constraints = r.constraints.items; preferences = r.preferences.items; defaults = r.defaults.items; conjunction = r.conjunction };
+      spare = min (vec_capacity r.constraints - vec_len r.constraints) (min (vec_capacity r.preferences - vec_len r.preferences) (vec_capacity r.defaults - vec_len r.defaults));
+    } };
+
+    ghost invariant = { λ r. (vec_len r.constraints ≤ 256) × (vec_len r.preferences ≤ 256) × (vec_len r.defaults ≤ 256) };
+}
+
+impl Rules {
+    pub fn new(alloc: Global) -> Rules
+        ensures constraints { result.standing.constraints ≡ [] }
+        ensures preferences { result.standing.preferences ≡ [] }
+        ensures defaults { result.standing.defaults ≡ [] }
+        ensures holds { (ts : List Triple) → Holds ts result.standing }
+    {
+        Rules {
+            constraints: Vec::new(alloc),
+            preferences: Vec::new(alloc),
+            defaults: Vec::new(alloc),
+            conjunction: TRUE,
+        }
+    }
+
+    /// Makes room for a rule. It is refused where 256 of its kind stand, else a constraint where no choice meets it
+    /// and the constraints.
+    pub fn prepare(&mut self, table: &mut Table, rule: &Rule) -> Result<RulePlan, RuleFault>
+        requires holds { Holds table.old self.old.standing }
+        ensures extends { Extends table.old table.new }
+        ensures same { self.new.standing ≡ self.old.standing }
+        ensures planned { IfOk result (IsPlan table.new self.new rule.now) }
+        ensures accepted { IfOk result (λ _. IsAccepted self.old.standing rule.now) }
+        ensures refused { IfErr result (IsFaultOf self.old.standing rule.now) }
+    {
+        match rule {
+            Rule::Constraint(expr) => self.prepare_constraint(table, expr),
+            Rule::Prefer(expr) => self.prepare_preference(table, expr),
+            Rule::Default(option, on) => self.prepare_default(table, *option, *on),
+        }
+    }
+
+    fn prepare_constraint(&mut self, table: &mut Table, expr: &Expr) -> Result<RulePlan, RuleFault>
+        requires holds { Holds table.old self.old.standing }
+        ensures extends { Extends table.old table.new }
+        ensures same { self.new.standing ≡ self.old.standing }
+        ensures planned { IfOk result (IsPlan table.new self.new (a_constraint expr.now)) }
+        ensures accepted { IfOk result (λ _. IsAccepted self.old.standing (a_constraint expr.now)) }
+        ensures refused { IfErr result (IsFaultOf self.old.standing (a_constraint expr.now)) }
+    {
+        if self.constraints.len() >= MOST_RULES {
+            return Err(RuleFault::Full);
+        }
+        let plan = match conjoined(table, self.conjunction, expr) {
+            Ok(plan) => plan,
+            Err(_) => return Err(RuleFault::Memory),
+        };
+        match self.reserve() {
+            Ok(()) => (),
+            Err(_) => return Err(RuleFault::Memory),
+        }
+        judged(table, plan)
+    }
+
+    fn prepare_preference(&mut self, table: &mut Table, expr: &Expr) -> Result<RulePlan, RuleFault>
+        ensures extends { Extends table.old table.new }
+        ensures same { self.new.standing ≡ self.old.standing }
+        ensures planned { IfOk result (IsPlan table.new self.new (a_preference expr.now)) }
+        ensures accepted { IfOk result (λ _. IsAccepted self.old.standing (a_preference expr.now)) }
+        ensures refused { IfErr result (IsFaultOf self.old.standing (a_preference expr.now)) }
+    {
+        if self.preferences.len() >= MOST_RULES {
+            return Err(RuleFault::Full);
+        }
+        let node = match compile(table, expr) {
+            Ok(node) => node,
+            Err(_) => return Err(RuleFault::Memory),
+        };
+        self.planned(node)
+    }
+
+    fn prepare_default(
+        &mut self,
+        table: &mut Table,
+        option: OptionId,
+        on: bool,
+    ) -> Result<RulePlan, RuleFault>
+        ensures extends { Extends table.old table.new }
+        ensures same { self.new.standing ≡ self.old.standing }
+        ensures planned { IfOk result (IsPlan table.new self.new (a_default option on)) }
+        ensures accepted { IfOk result (λ _. IsAccepted self.old.standing (a_default option on)) }
+        ensures refused { IfErr result (IsFaultOf self.old.standing (a_default option on)) }
+    {
+        if self.defaults.len() >= MOST_RULES {
+            return Err(RuleFault::Full);
+        }
+        let node = match literal_node(table, option, on) {
+            Ok(node) => node,
+            Err(_) => return Err(RuleFault::Memory),
+        };
+        self.planned(node)
+    }
+
+    // The plan of a rule that leaves the constraints as they are.
+    fn planned(&mut self, node: Node) -> Result<RulePlan, RuleFault>
+        ensures same { self.new.standing ≡ self.old.standing }
+        ensures node { IfOk result (λ plan. plan.node ≡ node) }
+        ensures room { OnOk result (0 < self.new.spare) }
+        ensures err { IfErr result (λ fault. fault ≡ want_of_memory) }
+    {
+        let conjunction = self.conjunction;
+        match self.reserve() {
+            Ok(()) => Ok(RulePlan { node, conjunction }),
+            Err(_) => Err(RuleFault::Memory),
+        }
+    }
+
+    // Makes room for one rule more of each kind.
+    fn reserve(&mut self) -> Result<(), Memory>
+        ensures same { self.new.standing ≡ self.old.standing }
+        ensures room { OnOk result (0 < self.new.spare) }
+    {
+        self.constraints.reserve(1)?;
+        self.preferences.reserve(1)?;
+        self.defaults.reserve(1)?;
+        Ok(())
+    }
+
+    /// Takes a rule by its plan, on the condition that no other rule was installed since the plan was made. The answer
+    /// is the rule's number within its kind, from 1. It takes no memory.
+    pub fn install(&mut self, plan: RulePlan, rule: Rule, at: Position) -> u32
+        requires few { count_of rule self.old.standing < 256 }
+        requires room { 0 < self.old.spare }
+        ensures number { result ≡ count_of rule self.old.standing + 1 }
+        ensures with_rule { self.new.standing ≡ with_rule plan rule at self.old.standing }
+        ensures spare { self.old.spare ≤ self.new.spare + 1 }
+        ensures holds { (ts : List Triple) → Holds ts self.old.standing → Plans ts self.old.standing rule plan → Holds ts self.new.standing }
+    {
+        match rule {
+            Rule::Constraint(expr) => self.install_constraint(plan, expr, at),
+            Rule::Prefer(expr) => self.install_preference(plan, expr, at),
+            Rule::Default(option, on) => self.install_default(plan, option, on),
+        }
+    }
+
+    fn install_constraint(&mut self, plan: RulePlan, expr: Expr, at: Position) -> u32
+        requires few { length self.old.standing.constraints < 256 }
+        requires room { 0 < self.old.spare }
+        ensures number { result ≡ length self.old.standing.constraints + 1 }
+        ensures with_rule { self.new.standing ≡ with_rule plan (a_constraint expr) at self.old.standing }
+        ensures spare { self.old.spare ≤ self.new.spare + 1 }
+    {
+        let node = plan.node;
+        self.conjunction = plan.conjunction;
+        match self.constraints.push(Installed { expr, node, at }) {
+            Ok(()) => self.constraints.len() as u32,
+            Err(_) => unreachable!(),
+        }
+    }
+
+    fn install_preference(&mut self, plan: RulePlan, expr: Expr, at: Position) -> u32
+        requires few { length self.old.standing.preferences < 256 }
+        requires room { 0 < self.old.spare }
+        ensures number { result ≡ length self.old.standing.preferences + 1 }
+        ensures with_rule { self.new.standing ≡ with_rule plan (a_preference expr) at self.old.standing }
+        ensures spare { self.old.spare ≤ self.new.spare + 1 }
+    {
+        let node = plan.node;
+        match self.preferences.push(Installed { expr, node, at }) {
+            Ok(()) => self.preferences.len() as u32,
+            Err(_) => unreachable!(),
+        }
+    }
+
+    fn install_default(&mut self, plan: RulePlan, option: OptionId, on: bool) -> u32
+        requires few { length self.old.standing.defaults < 256 }
+        requires room { 0 < self.old.spare }
+        ensures number { result ≡ length self.old.standing.defaults + 1 }
+        ensures with_rule { (p : ℕ) → self.new.standing ≡ with_rule plan (a_default option on) p self.old.standing }
+        ensures spare { self.old.spare ≤ self.new.spare + 1 }
+    {
+        let node = plan.node;
+        match self.defaults.push(Fallback { option, on, node }) {
+            Ok(()) => self.defaults.len() as u32,
+            Err(_) => unreachable!(),
+        }
+    }
+
+    /// Completes a partial choice of `count` options: of the valid choices that agree with it each preference in order
+    /// keeps those on which it is true, if there are any, then each default. The one choice left is the answer.
+    pub fn complete(
+        &self,
+        table: &mut Table,
+        partial: &Partial,
+        count: u8,
+    ) -> Result<Choice, CompleteFault>
+        requires holds { Holds table.old self.now.standing }
+        requires below { AreBelow count self.now.standing partial.now }
+        ensures extends { Extends table.old table.new }
+        ensures complete { IfOk result (λ choice. completed count self.now.standing partial.now ≡ Complete choice) }
+        ensures refused { IfErr result (IsRefusalBy (completed count self.now.standing partial.now)) }
+    {
+        let agreeing = match agreement(table, partial.bindings()) {
+            Ok(node) => node,
+            Err(_) => return Err(CompleteFault::Memory),
+        };
+        let valid = match table.and(agreeing, self.conjunction, &mut Steps::<Uncounted>::new()) {
+            Ok(node) => node,
+            Err(_) => return Err(CompleteFault::Memory),
+        };
+        if !is_met(table, valid) {
+            return Err(self.unmet(table, agreeing));
+        }
+        let left = match self.left(table, valid) {
+            Ok(node) => node,
+            Err(_) => return Err(CompleteFault::Memory),
+        };
+        only_choice(table, left, count)
+    }
+
+    // The refusal of choices that don't meet all constraints.
+    fn unmet(&self, table: &mut Table, node: Node) -> CompleteFault
+        requires holds { Holds table.old self.now.standing }
+        requires node { node < node_count table.old }
+        ensures extends { Extends table.old table.new }
+        ensures refused { (count : ℕ) (cs : List (List Bool)) → IsSet table.old node count cs → reach_of (expressions self.now.standing.constraints) ≤ count → IsRefusalBy (Broken (least_unmet (expressions self.now.standing.constraints) cs)) result }
+    {
+        match least_unmet(table, node, self.constraints.as_slice()) {
+            Ok(rule) => CompleteFault::Invalid { rule },
+            Err(_) => CompleteFault::Memory,
+        }
+    }
+
+    // The choices that preferences and then defaults leave.
+    fn left(&self, table: &mut Table, node: Node) -> Result<Node, Memory>
+        requires holds { Holds table.old self.now.standing }
+        requires node { node < node_count table.old }
+        ensures extends { Extends table.old table.new }
+        ensures within { IfOk result (λ r. r < node_count table.new) }
+        ensures kept { IfOk result (λ r. (count : ℕ) (cs : List (List Bool)) → IsSet table.old node count cs → reach_of (expressions self.now.standing.preferences) ≤ count → reach_of (fallbacks self.now.standing.defaults) ≤ count → IsSet table.new r count (keep_all (keep_all cs (expressions self.now.standing.preferences)) (fallbacks self.now.standing.defaults))) }
+    {
+        let preferred = preferred(table, node, self.preferences.as_slice())?;
+        defaulted(table, preferred, self.defaults.as_slice())
+    }
+
+    /// Names the least of the constraints among the first `at` commands that is false on a choice. It takes no memory.
+    pub fn valid(&self, choice: Choice, at: Position) -> Result<(), Invalid>
+        requires { reach_of (expressions_at at self.now.standing.constraints) ≤ length choice }
+        ensures ok { OnOk result (is_valid (expressions_at at self.now.standing.constraints) choice ≡ true) }
+        ensures err { IfErr result (λ invalid. first_false (expressions_at at self.now.standing.constraints) choice ≡ Some invalid.rule) }
+    {
+        match first_broken(self.constraints.as_slice(), choice, at) {
+            None => Ok(()),
+            Some(rule) => Err(Invalid { rule }),
+        }
+    }
+}
+
+// The plan of a constraint beside those that a node stands for.
+fn conjoined(table: &mut Table, all: Node, expr: &Expr) -> Result<RulePlan, Memory>
+    requires { all < node_count table.old }
+    ensures extends { Extends table.old table.new }
+    ensures node { IfOk result (λ plan. StandsFor table.new plan.node expr.now) }
+    ensures conjunction { IfOk result (λ plan. Stands table.new plan.conjunction 0 (max (span table.old all) (reach expr.now)) (λ c. value_in table.old all c && value expr.now c)) }
+{
+    let node = compile(table, expr)?;
+    let conjunction = table.and(all, node, &mut Steps::<Uncounted>::new())?;
+    Ok(RulePlan { node, conjunction })
+}
+
+// The node that is true where an option has a value.
+pub(crate) fn literal_node(table: &mut Table, option: OptionId, on: bool) -> Result<Node, Memory>
+    ensures extends { Extends table.old table.new }
+    ensures stands { IfOk result (λ node. StandsFor table.new node (literal option on)) }
+{
+    let node = table.literal(option)?;
+    if on {
+        return Ok(node);
+    }
+    table.not(node)
+}
+
+// A plan, unless its conjunction is false on every choice.
+fn judged(table: &Table, plan: RulePlan) -> Result<RulePlan, RuleFault>
+    requires { plan.conjunction < node_count table.now }
+    ensures ok { IfOk result (λ same. same ≡ plan) }
+    ensures met { OnOk result (((c : List Bool) → length c ≡ 128 → value_in table.now plan.conjunction c ≡ false) → ⊥) }
+    ensures err { IfErr result (λ fault. (fault ≡ no_variant_left) × ((c : List Bool) → length c ≡ 128 → value_in table.now plan.conjunction c ≡ false)) }
+{
+    if table.is_false(plan.conjunction) {
+        return Err(RuleFault::NoVariantLeft);
+    }
+    Ok(plan)
+}
+
+// The number, from 1, of the first constraint among the first `at` commands that is false on a choice.
+fn first_broken(constraints: &[Installed], choice: Choice, at: Position) -> Option<u32>
+    requires few { length constraints.now ≤ 256 }
+    requires within { reach_of (expressions_at at constraints.now) ≤ length choice }
+    ensures { result ≡ first_false (expressions_at at constraints.now) choice }
+{
+    let mut rule = 1;
+    let mut ahead = constraints;
+    while let [constraint, rest @ ..] = ahead {
+        ahead = rest;
+        if at < constraint.at {
+            continue;
+        }
+        if !constraint.expr.value(choice) {
+            return Some(rule);
+        }
+        rule += 1;
+    }
+    None
+}
