@@ -1,3 +1,4 @@
+mod Examples
 pub mod Cutting
 pub mod Numbers
 pub mod Places

@@ -12,3 +12,5 @@ mod unread;
 pub use line::{Line, LineField, LineSyntax};
 pub use read::read_line;
 
+#[cfg(test)]
+mod tests;
