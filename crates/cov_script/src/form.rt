@@ -7,8 +7,8 @@ ghost use Rattle.cov_script.specs.Lines.{one, two, three, with_text, two_fields,
 ghost use Rattle.cov_script.specs.declared.line.Line.TheVariants as lines;
 
 use crate::field::{
-    Got, read_choice, read_expression, read_for, read_line_field, read_line_number, read_name, read_new_path, read_path,
-    read_switch, read_text, read_token,
+    Got, read_choice, read_expression, read_for, read_line_field, read_line_number, read_name,
+    read_new_path, read_path, read_switch, read_text, read_token,
 };
 use crate::keyword::Keyword;
 use crate::unread::Unread;
@@ -18,7 +18,11 @@ use cov_expr::{RawChoice, RawExpr};
 use std::alloc::Global;
 
 /// Reads what follows a keyword.
-pub(crate) fn read_behind(alloc: Global, keyword: Keyword, unread: Unread) -> Result<Line, LineSyntax>
+pub(crate) fn read_behind(
+    alloc: Global,
+    keyword: Keyword,
+    unread: Unread,
+) -> Result<Line, LineSyntax>
     ensures { IsAnswer (line_behind keyword unread.entry) result }
 {
     match keyword {
@@ -206,7 +210,14 @@ fn read_alt(alloc: Global, unread: Unread) -> Result<Line, LineSyntax>
 {
     match read_choice_and_token(alloc, unread) {
         Ok(((choice, token), unread)) => match read_path(alloc, unread) {
-            Ok((path, unread)) => end(unread, Line::Alt { choice, token, path }),
+            Ok((path, unread)) => end(
+                unread,
+                Line::Alt {
+                    choice,
+                    token,
+                    path,
+                },
+            ),
             Err(fault) => Err(fault),
         },
         Err(fault) => Err(fault),
@@ -245,7 +256,12 @@ fn read_insert(alloc: Global, unread: Unread) -> Result<Line, LineSyntax>
 {
     match read_name_and_path(alloc, unread) {
         Ok(((name, path), unread)) => match read_line_and_text(alloc, unread) {
-            Ok((line, text)) => Ok(Line::Insert { name, path, line, text }),
+            Ok((line, text)) => Ok(Line::Insert {
+                name,
+                path,
+                line,
+                text,
+            }),
             Err(fault) => Err(fault),
         },
         Err(fault) => Err(fault),
@@ -257,7 +273,12 @@ fn read_replace(alloc: Global, unread: Unread) -> Result<Line, LineSyntax>
 {
     match read_name_and_path(alloc, unread) {
         Ok(((name, path), unread)) => match read_line_and_text(alloc, unread) {
-            Ok((line, text)) => Ok(Line::Replace { name, path, line, text }),
+            Ok((line, text)) => Ok(Line::Replace {
+                name,
+                path,
+                line,
+                text,
+            }),
             Err(fault) => Err(fault),
         },
         Err(fault) => Err(fault),
@@ -281,7 +302,11 @@ fn read_open(alloc: Global, unread: Unread) -> Result<Line, LineSyntax>
 {
     match read_name_and_choice(alloc, unread) {
         Ok(((name, choice), unread)) => match read_ambition(alloc, unread) {
-            Ok(ambition) => Ok(Line::OpenSession { name, choice, ambition }),
+            Ok(ambition) => Ok(Line::OpenSession {
+                name,
+                choice,
+                ambition,
+            }),
             Err(fault) => Err(fault),
         },
         Err(fault) => Err(fault),

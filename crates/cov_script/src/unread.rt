@@ -51,11 +51,8 @@ impl<'a> Unread<'a> {
         let size = self.size;
         let bytes = behind_space(self.bytes);
         let (field, rest) = cut(bytes);
-        (
-            size - bytes.len() as u32,
-            field,
-            Unread { size, bytes: rest },
-        )
+        let at = size - bytes.len() as u32;
+        (at, field, Unread { size, bytes: rest })
     }
 
     /// Refuses what follows the last field.
