@@ -1,4 +1,6 @@
-mod Examples
 pub mod Cutting
+mod Examples
 pub mod Numbers
 pub mod Places
+pub mod Spelling
+pub mod Unspelling

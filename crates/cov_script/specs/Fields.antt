@@ -1,10 +1,9 @@
 -- A line as fields with one space between two, read from the left.
-use Rattle.std.specs.Prelude.{◌≡◌, ℕ, ◌+◌, ◌-◌, ◌*◌, ◌^◌, Bool, true, false, ◌&&◌, not, nat_eq, nat_lt, nat_le, List, [], ◌∷◌, length, drop, Option, Some, None, Result, Ok, Err, if◌then◌else◌, codes}
+use Rattle.std.specs.Prelude.{◌≡◌, ℕ, ◌+◌, ◌-◌, ◌*◌, ◌^◌, Bool, false, ◌&&◌, not, nat_eq, nat_lt, nat_le, List, [], ◌∷◌, length, drop, Option, Some, None, Result, Ok, Err, if◌then◌else◌}
 use Rattle.std.specs.Str.{bytes_eq}
 use Rattle.std.specs.List.{list_all, list_any, before_first, position_or_len}
 use Rattle.cov_base.specs.Bytes.{is_digit}
 use Rattle.cov_base.specs.Spelling.{is_name, path_of}
-use Rattle.cov_expr.specs.ChoiceText.{bindings_of, switch_of}
 use Rattle.cov_expr.specs.Formula.{Formula}
 use Rattle.cov_expr.specs.Reading.{parsed}
 use Rattle.cov_expr.specs.declared.spelling.ExprFault.{ExprFault}

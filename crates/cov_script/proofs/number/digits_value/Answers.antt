@@ -1,4 +1,4 @@
-use Rattle.std.proofs.Common.{sym, ◌∙◌, arith}
+use Rattle.std.proofs.Common.{sym}
 use Rattle.cov_script.proofs.Numbers.{too_many_digits, all_digits_read}
 use Rattle.cov_script.proofs.number.digits_value.Goals as goal
 

@@ -1,4 +1,4 @@
-use Rattle.std.proofs.Common.{nat_eq, sym, ◌∙◌}
+use Rattle.std.proofs.Common.{nat_eq, sym}
 use Rattle.cov_script.proofs.Cutting.{place_found, place_absent}
 use Rattle.cov_script.proofs.unread.first_space.Goals as goal
 
