@@ -1,0 +1,47 @@
+-- Worked lines.
+use Rattle.std.proofs.Common.{◌≡◌, ℕ, true, false, [], ◌∷◌, ◌++◌, map, replicate, Result, Ok, Err, refl}
+use Rattle.std.specs.Prelude.{codes}
+use Rattle.std.specs.Str.{is_utf8, chars}
+use lib.Utf8.{encode}
+use Rattle.cov_expr.specs.Formula.{On, And, Or, Not}
+use Rattle.cov_script.specs.Lines.{form_of}
+use Rattle.cov_script.specs.declared.line.Line.{Line}
+use Rattle.cov_script.specs.declared.line.Line.TheVariants as lines
+use Rattle.cov_script.specs.declared.line.LineField.TheVariants.{Number, Own}
+use Rattle.cov_script.specs.declared.line.LineSyntax.{LineSyntax}
+use Rattle.cov_script.specs.declared.line.LineSyntax.TheVariants.{Syntax, TooLong}
+
+abbrev at : ℕ → Result Line LineSyntax
+at place = Err (Syntax place)
+
+-- an unknown keyword, a missing field, a field that isn't of its kind, and bytes after the last field
+places_of_rules : map form_of (codes "optoin a" ∷ codes " option a" ∷ codes "option" ∷ codes "option " ∷ codes "option  a" ∷ codes "option a b" ∷ codes "option a " ∷ codes "constraint" ∷ codes "constraint a &" ∷ codes "constraint a $" ∷ codes "default a of" ∷ codes "complete a=yes" ∷ codes "where 00" ∷ codes "where 4294967296" ∷ [])
+    ≡ map at (0 ∷ 0 ∷ 6 ∷ 7 ∷ 7 ∷ 8 ∷ 8 ∷ 10 ∷ 14 ∷ 13 ∷ 10 ∷ 9 ∷ 6 ∷ 6 ∷ [])
+places_of_rules = refl
+
+rules : map form_of ([] ∷ codes "# option" ∷ codes "option 9x" ∷ codes "constraint  a" ∷ codes "prefer a | !b" ∷ codes "default a off" ∷ codes "complete a=on,b=off" ∷ codes "where 4294967295" ∷ [])
+    ≡ Ok lines.Nothing ∷ Ok lines.Nothing ∷ Ok (lines.Option (codes "9x")) ∷ Ok (lines.Constraint (On (codes "a"))) ∷ Ok (lines.Prefer (Or (On (codes "a")) (Not (On (codes "b")))))
+    ∷ Ok (lines.Default (codes "a") false) ∷ Ok (lines.Complete ((codes "a", true) ∷ (codes "b", false) ∷ [])) ∷ Ok (lines.Presence 4294967295) ∷ []
+rules = refl
+
+places_of_sessions : map form_of (codes "open s - fro a" ∷ codes "open s - for a)" ∷ codes "mkdir s /" ∷ codes "mkfile s m" ∷ codes "rename s /m /n" ∷ codes "insert s /m 4294967296 one" ∷ codes "insert s /m 01 one" ∷ codes "insert s /m  1" ∷ codes "delete s /m 12 " ∷ codes "show s  /m" ∷ codes "refresh s s" ∷ codes "drop .." ∷ codes "alt - a" ∷ [])
+    ≡ map at (9 ∷ 14 ∷ 8 ∷ 9 ∷ 12 ∷ 12 ∷ 12 ∷ 12 ∷ 14 ∷ 7 ∷ 9 ∷ 5 ∷ 7 ∷ [])
+unfolding is_utf8 chars encode
+places_of_sessions = refl
+
+sessions : map form_of (codes "open s a=on for a & b" ∷ codes "insert s /m +0" ∷ codes "insert s /m +0 " ∷ codes "insert s /m 7  one two" ∷ codes "delete s / 0" ∷ codes "cat - /d/m" ∷ codes "alt - 9x /m" ∷ [])
+    ≡ Ok (lines.OpenSession (codes "s") ((codes "a", true) ∷ []) (And (On (codes "a")) (On (codes "b")))) ∷ Ok (lines.Insert (codes "s") (codes "m" ∷ []) (Own 0) []) ∷ Ok (lines.Insert (codes "s") (codes "m" ∷ []) (Own 0) [])
+    ∷ Ok (lines.Insert (codes "s") (codes "m" ∷ []) (Number 7) (codes " one two")) ∷ Ok (lines.Delete (codes "s") [] (Number 0)) ∷ Ok (lines.Cat [] (codes "d" ∷ codes "m" ∷ [])) ∷ Ok (lines.Alt [] (codes "9x") (codes "m" ∷ [])) ∷ []
+unfolding is_utf8 chars encode
+sessions = refl
+
+-- a text has at most 4,096 bytes and no line's end
+texts : map form_of ((codes "insert s /m 0 " ++ replicate 4097 120) ∷ (codes "insert s /m 0 a" ++ 10 ∷ codes "b") ∷ [])
+    ≡ map at (14 ∷ 14 ∷ [])
+unfolding is_utf8 chars encode
+texts = refl
+
+-- an expression has at most 256 tokens, and a byte that is none comes first
+too_long : map form_of ((codes "constraint " ++ replicate 256 33 ++ codes "a") ∷ (codes "constraint " ++ replicate 256 33 ++ codes "$") ∷ [])
+    ≡ Err TooLong ∷ at 267 ∷ []
+too_long = refl
