@@ -10,3 +10,4 @@ pub mod Seen
 pub mod Sessions
 pub mod Shown
 pub mod Standing
+pub mod States

@@ -4,4 +4,5 @@ pub mod Kept
 pub mod Laws
 pub mod Reach
 pub mod Sessions
+pub mod States
 pub mod Verdict

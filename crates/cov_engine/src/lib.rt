@@ -1,7 +1,16 @@
 //! What a history holds for all choices and positions at once, and which commands it accepts.
 #![tactic(auto)]
 
+mod counts;
+mod engine;
+mod invalid;
 pub mod laws;
+mod prepared;
 mod refusal;
+mod state;
 
+pub use counts::Counts;
+pub use engine::Engine;
+pub use invalid::Invalid;
+pub use prepared::{Prepared, Receipt};
 pub use refusal::Refusal;

@@ -1,0 +1,183 @@
+// A history in use.
+ghost use Rattle.std.specs.Prelude.{◌≡◌, ◌≤◌, [], ◌∷◌, false, length, nat_le, None, Some, IfOk, IfErr, OnOk};
+ghost use Rattle.cov_edit.specs.Fits.{reach_of};
+ghost use Rattle.cov_edit.specs.History.{options_of, option_count, first_false_in};
+ghost use Rattle.cov_expr.specs.Options.{is_declared};
+ghost use Rattle.cov_view.specs.Refusals.{when, first_of};
+ghost use Rattle.cov_engine.specs.Sessions.{has_commit};
+ghost use Rattle.cov_engine.specs.States.{AreCountsOf, IsStateOf};
+ghost use Rattle.cov_engine.specs.Verdict.{verdict, RefusedBy};
+ghost use Rattle.cov_engine.specs.declared.refusal.Refusal.TheVariants as refusals;
+
+use crate::invalid::check;
+use crate::state::{State, make_room};
+use crate::{Counts, Invalid, Prepared, Refusal};
+use cov_base::{Choice, Memory, Position};
+use cov_edit::{Command, Commands};
+use cov_expr::Options;
+use std::alloc::Global;
+use std::marker::Model;
+
+/// The greatest number of commands.
+const MOST_COMMANDS: usize = 1 << 20;
+
+/// The greatest number of options.
+const MOST_OPTIONS: u8 = 64;
+
+/// The greatest number of constraints.
+const MOST_CONSTRAINTS: usize = 256;
+
+/// A history. Contracts see it as the list of its commands.
+#[derive(Drop)]
+pub struct Engine {
+    state: State,
+}
+
+impl Model for Engine {
+    ghost use Rattle.std.specs.Prelude.{List};
+    ghost use Rattle.std.specs.Coded.{codes};
+    ghost use Rattle.cov_edit.specs.declared.command.Command.{Command};
+    ghost use Rattle.cov_edit.specs.contracts.command.Command as row;
+    ghost use Rattle.cov_engine.specs.States.{IsStateOf};
+
+    ghost Value = { List Command };
+
+    ghost coded = { Prim.hlevel (codes, row.the_row.coded) };
+
+    ghost view = { λ e. e.state.commands.commands };
+
+    ghost invariant = { λ e. IsStateOf e.state.commands.commands e.state.options.names e.state.constraints.items e.state.counts };
+}
+
+impl Engine {
+    /// The empty history.
+    pub fn new(alloc: Global) -> Result<Engine, Memory>
+        ensures { IfOk result (λ engine. engine ≡ []) }
+    {
+        Ok(Engine {
+            state: State {
+                commands: Commands::new(alloc),
+                options: Options::new(alloc),
+                constraints: Vec::new(alloc),
+                counts: Counts {
+                    lines: 0,
+                    nodes: 1,
+                    bytes: 0,
+                },
+            },
+        })
+    }
+
+    /// How many commands there are.
+    pub fn position(&self) -> Position
+        ensures { result ≡ length self.now }
+    {
+        Position::new(self.state.commands.len() as u32)
+    }
+
+    pub fn options(&self) -> &Options
+        ensures { result.now.names ≡ options_of self.now }
+    {
+        &self.state.options
+    }
+
+    /// The options, without the rest. Takes no memory.
+    pub fn into_options(self) -> Options
+        ensures { result.names ≡ options_of self }
+    {
+        let Engine { state } = self;
+        state.options
+    }
+
+    pub fn counts(&self) -> Counts
+        ensures { AreCountsOf self.now result }
+    {
+        self.state.counts
+    }
+
+    /// Whether each constraint is true on a choice. Takes no memory.
+    pub fn valid(&self, choice: Choice) -> Result<(), Invalid>
+        requires { option_count self.now ≤ length choice }
+        ensures ok { OnOk result (first_false_in self.now choice ≡ None) }
+        ensures err { IfErr result (λ invalid. first_false_in self.now choice ≡ Some invalid.rule) }
+    {
+        check(self.state.constraints.as_slice(), choice)
+    }
+
+    /// Makes everything ready for a declaration, so that its installation can't fail. A refusal hands the engine back.
+    pub fn prepare(self, command: Command) -> Result<Prepared, (Engine, Refusal)>
+        requires declaration { has_commit (command ∷ []) ≡ false }
+        requires in_range { reach_of command ≤ option_count self }
+        ensures prepared { IfOk result (λ prepared. (prepared.history ≡ self) × (prepared.command ≡ command)) }
+        ensures accepted { OnOk result (verdict self command ≡ None) }
+        ensures back { IfErr result (λ refused. refused.0 ≡ self) }
+        ensures refused { IfErr result (λ refused. RefusedBy refused.1 (verdict self command)) }
+    {
+        match self.refusal(&command) {
+            Some(refusal) => Err((self, refusal)),
+            None => self.make_ready(command),
+        }
+    }
+
+    fn refusal(&self, command: &Command) -> Option<Refusal>
+        requires declaration { has_commit (command.now ∷ []) ≡ false }
+        requires in_range { reach_of command.now ≤ option_count self.now }
+        ensures { result ≡ verdict self.now command.now }
+    {
+        if self.state.commands.len() >= MOST_COMMANDS {
+            return Some(Refusal::Full);
+        }
+        match command {
+            Command::Option { name } => option_refusal(&self.state.options, name.as_slice()),
+            Command::Constraint { .. } => constraint_refusal(self.state.constraints.len()),
+            Command::Commit { .. } => None,
+        }
+    }
+
+    fn make_ready(self, command: Command) -> Result<Prepared, (Engine, Refusal)>
+        requires declaration { has_commit (command ∷ []) ≡ false }
+        requires in_range { reach_of command ≤ option_count self }
+        requires accepted { verdict self command ≡ None }
+        ensures prepared { IfOk result (λ prepared. (prepared.history ≡ self) × (prepared.command ≡ command)) }
+        ensures refused { IfErr result (λ refused. (refused.0 ≡ self) × (refused.1 ≡ refusals.Memory)) }
+    {
+        let Engine { mut state } = self;
+        command.bounds_are_kept();
+        let _most = state.options.count();
+        match make_room(&mut state, &command) {
+            Ok(copy) => Ok(Prepared::new(state, command, copy)),
+            Err(Memory) => Err((Engine { state }, Refusal::Memory)),
+        }
+    }
+
+    pub(crate) fn of_state(state: State) -> Engine
+        requires { IsStateOf state.commands.commands state.options.names state.constraints.items state.counts }
+        ensures { result ≡ state.commands.commands }
+    {
+        Engine { state }
+    }
+}
+
+// The refusal of an option by its name, where there is room for a command.
+fn option_refusal(options: &Options, name: &[u8]) -> Option<Refusal>
+    ensures { result ≡ first_of (when (nat_le 64 (length options.now.names)) refusals.Full ∷ when (is_declared options.now.names name.now) refusals.Exists ∷ []) }
+{
+    if options.count() >= MOST_OPTIONS {
+        return Some(Refusal::Full);
+    }
+    match options.find(name) {
+        Some(_) => Some(Refusal::Exists),
+        None => None,
+    }
+}
+
+// The refusal of a constraint of declared options, so many constraints standing.
+fn constraint_refusal(standing: usize) -> Option<Refusal>
+    ensures { result ≡ first_of (when (nat_le 256 standing) refusals.Full ∷ []) }
+{
+    if standing >= MOST_CONSTRAINTS {
+        Some(Refusal::Full)
+    } else {
+        None
+    }
+}
