@@ -110,7 +110,7 @@ within-declared history (commands.Option name) h accepted within =
     (within-more (option_count history) (option_count (history ++ commands.Option name ∷ [])) (constraints_of history) (omega (arith, more)) within)
 within-declared history (commands.Constraint expr) h accepted within =
     let le : reach expr ≤ option_count history = not-below (option_count history) (reach expr)
-      (first-none _ _ _ (later-none (nat_le most_commands (length history)) refusals.Full (refusals_of history (commands.Constraint expr)) accepted)) in
+    (first-none _ _ _ (later-none (nat_le most_commands (length history)) refusals.Full (refusals_of history (commands.Constraint expr)) accepted)) in
     subst (λ names. are_within (length names) (constraints_of (history ++ commands.Constraint expr ∷ [])) ≡ true)
     (sym (options-append history (commands.Constraint expr ∷ []) ∙ append-nil (options_of history)))
     (subst (λ exprs. are_within (option_count history) exprs ≡ true) (sym (constraints-append history (commands.Constraint expr ∷ [])))
@@ -123,9 +123,9 @@ few-declared history (commands.Option name) h accepted few =
     subst (λ exprs. length exprs ≤ 256) (sym (constraints-append history (commands.Option name ∷ []) ∙ append-nil (constraints_of history))) few
 few-declared history (commands.Constraint expr) h accepted few =
     let less : length (constraints_of history) < 256 = below 256 (length (constraints_of history))
-      (first-none _ refusals.Full [] (later-none (nat_lt (option_count history) (reach expr)) refusals.BadOption _ (later-none (nat_le most_commands (length history)) refusals.Full _ accepted))) in
+    (first-none _ refusals.Full [] (later-none (nat_lt (option_count history) (reach expr)) refusals.BadOption _ (later-none (nat_le most_commands (length history)) refusals.Full _ accepted))) in
     let more : length (constraints_of (history ++ commands.Constraint expr ∷ [])) ≡ length (constraints_of history) + 1 =
-      ap (λ exprs. length exprs) (constraints-append history (commands.Constraint expr ∷ [])) ∙ length-one (constraints_of history) expr in
+    ap (λ exprs. length exprs) (constraints-append history (commands.Constraint expr ∷ [])) ∙ length-one (constraints_of history) expr in
     omega (arith, less, more)
 few-declared history (commands.Commit base choice ambition es) h accepted few = absurd (cc)
 
@@ -138,9 +138,9 @@ state-declared history k names constraints counts h fits accepted old = record {
   rules = ap (λ es. es ++ constraints_of (k ∷ [])) old.rules ∙ sym (constraints-append history (k ∷ []));
   within = within-declared history k h accepted old.within;
   most =
-    let less : length history < most_commands = below most_commands (length history) (first-none _ refusals.Full (refusals_of history k) accepted) in
-    let more : length (history ++ k ∷ []) ≡ length history + 1 = length-one history k in
-    omega (arith, less, more);
+      let less : length history < most_commands = below most_commands (length history) (first-none _ refusals.Full (refusals_of history k) accepted) in
+      let more : length (history ++ k ∷ []) ≡ length history + 1 = length-one history k in
+      omega (arith, less, more);
   few = few-declared history k h accepted old.few;
   counted = counts-kept history k counts h old.counted;
 }
