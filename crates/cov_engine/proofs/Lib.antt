@@ -8,6 +8,7 @@ pub mod Reaching
 pub mod Replays
 pub mod Seen
 pub mod Sessions
+pub mod Showing
 pub mod Shown
 pub mod Standing
 pub mod States

@@ -4,5 +4,6 @@ pub mod Kept
 pub mod Laws
 pub mod Reach
 pub mod Sessions
+pub mod Showing
 pub mod States
 pub mod Verdict
