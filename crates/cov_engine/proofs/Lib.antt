@@ -1,6 +1,7 @@
 pub mod Appends
 pub mod Examples
 pub mod Files
+pub mod Holdings
 pub mod Inserts
 pub mod Judged
 pub mod Orders

@@ -1,4 +1,5 @@
 pub mod Files
+pub mod Holdings
 pub mod Insertions
 pub mod Kept
 pub mod Laws

@@ -1,4 +1,4 @@
-use Rattle.std.proofs.Common.{◌≡◌, ◌∙◌, ◌+◌, sym, refl}
+use Rattle.std.proofs.Common.{◌∙◌, ◌+◌, sym, refl}
 use Rattle.cov_engine.specs.Showing.{with_number}
 use Rattle.cov_engine.proofs.Showing.{fold-next, fold-end}
 use Rattle.cov_engine.proofs.kept.add_numbers.Goals as goal
