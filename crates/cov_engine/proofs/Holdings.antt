@@ -1,7 +1,7 @@
 -- What is kept of rows and lines, and the views of it.
 use Rattle.std.proofs.Common.{◌≡◌, refl, ap, sym, subst, ◌∙◌, ℕ, zero, suc, ◌≤◌, Bool, true, false, cond, List, [], ◌∷◌, ◌++◌, map, take, append-nil, append_assoc, arith, Ok, Err}
 use Rattle.std.specs.Prelude.{Result, IfOk}
-use Rattle.std.specs.List.{fold}
+use Rattle.std.specs.List.{fold, AllByRecursion}
 use Rattle.cov_base.specs.declared.number.Kind.{Kind}
 use Rattle.cov_base.specs.declared.number.Kind.TheVariants as kinds
 use Rattle.cov_base.specs.declared.number.NodeRef.{NodeRef}
@@ -24,7 +24,7 @@ use Rattle.cov_engine.specs.declared.kept.Entry.{Entry}
 use Rattle.cov_engine.specs.Kept.{seen_at, Holding, held_by, rows_seen}
 use Rattle.cov_engine.specs.Files.{is_dated_seen}
 use Rattle.cov_engine.specs.Showing.{change_of, dated_of, AreInReach, with_number, with_numbers, with_entry}
-use Rattle.cov_engine.specs.Holdings.{entry_kept, IsHeldBy}
+use Rattle.cov_engine.specs.Holdings.{entry_kept, IsFileOf, IsHeldBy}
 use Rattle.cov_engine.specs.Sessions.{has_commit}
 use Rattle.cov_engine.proofs.Appends.{holding-goes_on}
 use Rattle.cov_engine.proofs.Seen.{seen-cons}
@@ -106,11 +106,12 @@ pub held-declared : (history longer : List Command) (k : Command) (commits : Lis
     → longer ≡ history ++ k ∷ [] → IsHeldBy longer commits ls entries
 held-declared history longer k commits ls entries held h e = rw e (record {
   rows = ap (λ (held : Holding). held.rows) (held-same history k h) ∙ held.rows;
+  files = subst (λ (h : Holding). AllByRecursion (IsFileOf h.lines commits ls) entries) (sym (held-same history k h)) held.files;
   in_reach = λ at. in-reach (option_count (take at history)) _ at commits (held.in_reach at) (more-options at history (k ∷ []));
   fresh = held.fresh;
 })
 
-if_ok : {A E : Type 0} (r : Result A E) (P Q : A → Type 0) → ((a : A) → P a → Q a) → IfOk r P → IfOk r Q
+pub if_ok : {A E : Type 0} (r : Result A E) (P Q : A → Type 0) → ((a : A) → P a → Q a) → IfOk r P → IfOk r Q
 if_ok (Ok a) P Q f h = f a h
 if_ok (Err e) P Q f h = tt
 

@@ -1,5 +1,6 @@
 pub mod Appends
 pub mod Examples
+pub mod FileLines
 pub mod Files
 pub mod Holdings
 pub mod Inserts
