@@ -1,6 +1,8 @@
 pub mod Appends
 pub mod Examples
+pub mod FileLines
 pub mod Files
+pub mod Holdings
 pub mod Inserts
 pub mod Judged
 pub mod Orders
@@ -8,6 +10,7 @@ pub mod Reaching
 pub mod Replays
 pub mod Seen
 pub mod Sessions
+pub mod Showing
 pub mod Shown
 pub mod Standing
 pub mod States

@@ -1,8 +1,10 @@
 pub mod Files
+pub mod Holdings
 pub mod Insertions
 pub mod Kept
 pub mod Laws
 pub mod Reach
 pub mod Sessions
+pub mod Showing
 pub mod States
 pub mod Verdict

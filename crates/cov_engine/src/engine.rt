@@ -1,20 +1,27 @@
 // A history in use.
-ghost use Rattle.std.specs.Prelude.{◌≡◌, ◌≤◌, [], ◌∷◌, false, length, nat_le, None, Some, IfOk, IfErr, OnOk};
+ghost use Rattle.std.specs.Prelude.{◌≡◌, ◌≤◌, [], ◌∷◌, false, length, map, take, nat_le, None, Some, IfOk, IfErr, OnOk};
+ghost use Rattle.std.specs.List.{AllByRecursion};
 ghost use Rattle.cov_edit.specs.Fits.{reach_of};
 ghost use Rattle.cov_edit.specs.History.{options_of, option_count, first_false_in};
 ghost use Rattle.cov_expr.specs.Options.{is_declared};
 ghost use Rattle.cov_view.specs.Refusals.{when, first_of};
+ghost use Rattle.cov_edit.specs.Numbering.{numbers_of};
+ghost use Rattle.cov_edit.specs.Replay.{replay};
+ghost use Rattle.cov_view.specs.Views.{row_by_number, ShowsLines};
+ghost use Rattle.cov_engine.specs.Holdings.{IsHeldBy};
 ghost use Rattle.cov_engine.specs.Sessions.{has_commit};
 ghost use Rattle.cov_engine.specs.States.{AreCountsOf, IsStateOf};
 ghost use Rattle.cov_engine.specs.Verdict.{verdict, RefusedBy};
 ghost use Rattle.cov_engine.specs.declared.refusal.Refusal.TheVariants as refusals;
 
 use crate::invalid::check;
+use crate::kept::{Kept, show};
 use crate::state::{State, make_room};
 use crate::{Counts, Invalid, Prepared, Refusal};
 use cov_base::{Choice, Memory, Position};
 use cov_edit::{Command, Commands};
 use cov_expr::Options;
+use cov_view::View;
 use std::alloc::Global;
 use std::marker::Model;
 
@@ -39,6 +46,7 @@ impl Model for Engine {
     ghost use Rattle.cov_edit.specs.declared.command.Command.{Command};
     ghost use Rattle.cov_edit.specs.contracts.command.Command as row;
     ghost use Rattle.cov_engine.specs.States.{IsStateOf};
+    ghost use Rattle.cov_engine.specs.Holdings.{IsHeldBy};
 
     ghost Value = { List Command };
 
@@ -46,7 +54,7 @@ impl Model for Engine {
 
     ghost view = { λ e. e.state.commands.commands };
 
-    ghost invariant = { λ e. IsStateOf e.state.commands.commands e.state.options.names e.state.constraints.items e.state.counts };
+    ghost invariant = { λ e. IsStateOf e.state.commands.commands e.state.options.names e.state.constraints.items e.state.counts × IsHeldBy e.state.commands.commands e.state.kept.commits.items e.state.kept.lines.items e.state.kept.entries.items };
 }
 
 impl Engine {
@@ -63,6 +71,11 @@ impl Engine {
                     lines: 0,
                     nodes: 1,
                     bytes: 0,
+                },
+                kept: Kept {
+                    commits: Vec::new(alloc),
+                    lines: Vec::new(alloc),
+                    entries: Vec::new(alloc),
                 },
             },
         })
@@ -102,6 +115,18 @@ impl Engine {
         ensures err { IfErr result (λ invalid. first_false_in self.now choice ≡ Some invalid.rule) }
     {
         check(self.state.constraints.as_slice(), choice)
+    }
+
+    /// The variant of a choice at a position; nothing in it is new. It takes time in the rows and lines that are kept.
+    pub fn view(&self, alloc: Global, choice: Choice, at: Position) -> Result<View, Memory>
+        requires position { at ≤ length self.now }
+        requires choice { option_count (take at self.now) ≤ length choice }
+        ensures rows { IfOk result (λ view. map (row_by_number (numbers_of (take at self.now))) view.rows ≡ (replay choice (take at self.now)).rows) }
+        ensures files { IfOk result (λ view. AllByRecursion (ShowsLines (numbers_of (take at self.now)) (replay choice (take at self.now))) view.rows) }
+        ensures nodes { IfOk result (λ view. view.nodes_made ≡ 0) }
+        ensures lines { IfOk result (λ view. view.lines_made ≡ 0) }
+    {
+        show(alloc, &self.state.kept, choice, at)
     }
 
     /// Makes everything ready for a declaration, so that its installation can't fail. A refusal hands the engine back.
@@ -151,7 +176,8 @@ impl Engine {
     }
 
     pub(crate) fn of_state(state: State) -> Engine
-        requires { IsStateOf state.commands.commands state.options.names state.constraints.items state.counts }
+        requires state { IsStateOf state.commands.commands state.options.names state.constraints.items state.counts }
+        requires held { IsHeldBy state.commands.commands state.kept.commits.items state.kept.lines.items state.kept.entries.items }
         ensures { result ≡ state.commands.commands }
     {
         Engine { state }

@@ -4,6 +4,7 @@
 mod counts;
 mod engine;
 mod invalid;
+mod kept;
 pub mod laws;
 mod prepared;
 mod refusal;

@@ -1,6 +1,7 @@
 // Commands that a history has accepted, and doesn't have yet.
 ghost use Rattle.std.specs.Prelude.{◌≡◌, ◌+◌, ◌-◌, ◌++◌, [], ◌∷◌, length, vec_len, vec_capacity};
 ghost use Rattle.cov_engine.specs.States.{IsStateOf, IsReady, receipt_number};
+ghost use Rattle.cov_engine.specs.Holdings.{IsHeldBy};
 
 use crate::Engine;
 use crate::state::{State, declare};
@@ -21,6 +22,7 @@ impl Model for Prepared {
     ghost use Rattle.std.specs.Coded.{codes};
     ghost use Rattle.cov_edit.specs.contracts.command.Command as row;
     ghost use Rattle.cov_engine.specs.States.{IsStateOf, IsReady};
+    ghost use Rattle.cov_engine.specs.Holdings.{IsHeldBy};
     ghost use Rattle.cov_engine.specs.Verdict.{Pending};
 
     ghost Value = { Pending };
@@ -29,7 +31,7 @@ impl Model for Prepared {
 
     ghost view = { λ p. record { history = p.state.commands.commands; command = p.command } };
 
-    ghost invariant = { λ p. IsStateOf p.state.commands.commands p.state.options.names p.state.constraints.items p.state.counts × IsReady p.state.commands.commands p.command p.copy p.state.commands.spare p.state.options.spare (vec_capacity p.state.constraints - vec_len p.state.constraints) };
+    ghost invariant = { λ p. IsStateOf p.state.commands.commands p.state.options.names p.state.constraints.items p.state.counts × IsReady p.state.commands.commands p.command p.copy p.state.commands.spare p.state.options.spare (vec_capacity p.state.constraints - vec_len p.state.constraints) × IsHeldBy p.state.commands.commands p.state.kept.commits.items p.state.kept.lines.items p.state.kept.entries.items };
 }
 
 /// What a command made: the position after it, and the option's or the constraint's number, or 0 for a commit.
@@ -42,6 +44,7 @@ pub struct Receipt {
 impl Prepared {
     pub(crate) fn new(state: State, command: Command, copy: Command) -> Prepared
         requires state { IsStateOf state.commands.commands state.options.names state.constraints.items state.counts }
+        requires held { IsHeldBy state.commands.commands state.kept.commits.items state.kept.lines.items state.kept.entries.items }
         requires ready { IsReady state.commands.commands command copy state.commands.spare state.options.spare (vec_capacity state.constraints - vec_len state.constraints) }
         ensures { result ≡ record { history = state.commands.commands; command = command } }
     {

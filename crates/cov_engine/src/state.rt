@@ -7,6 +7,7 @@ ghost use Rattle.cov_engine.specs.Sessions.{has_commit};
 ghost use Rattle.cov_engine.specs.States.{MayDeclare, declared_number};
 
 use crate::Counts;
+use crate::kept::Kept;
 use cov_base::Memory;
 use cov_edit::{Command, Commands};
 use cov_expr::{Expr, Options};
@@ -18,6 +19,7 @@ pub(crate) struct State {
     pub(crate) options: Options,
     pub(crate) constraints: Vec<Expr>,
     pub(crate) counts: Counts,
+    pub(crate) kept: Kept,
 }
 
 /// Makes room for a declaration, and a copy of it.
@@ -26,6 +28,7 @@ pub(crate) fn make_room(state: &mut State, command: &Command) -> Result<Command,
     ensures options { state.new.options.names ≡ state.old.options.names }
     ensures constraints { state.new.constraints.items ≡ state.old.constraints.items }
     ensures counts { state.new.counts ≡ state.old.counts }
+    ensures kept { state.new.kept ≡ state.old.kept }
     ensures copied { IfOk result (λ copy. copy ≡ command.now) }
     ensures command_room { OnOk result (0 < state.new.commands.spare) }
     ensures option_room { OnOk result (0 < state.new.options.spare) }
