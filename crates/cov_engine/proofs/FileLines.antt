@@ -32,10 +32,10 @@ last-changed : (rows : List ViewRow) (r : ViewRow) (file : NodeRef) (f : ViewRow
 last-changed [] r file f h same = ap (λ b. cond b (f r ∷ []) (r ∷ [])) same
 last-changed (s ∷ rows) r file f h same = at (same_node s.node file) (λ k. last-changed rows r file f k same) h
   where
-  at : (b : Bool) → (has_row rows file ≡ false → at_row file f (rows ++ r ∷ []) ≡ rows ++ f r ∷ []) → (b || has_row rows file) ≡ false
-      → cond b (f s ∷ rows ++ r ∷ []) (s ∷ at_row file f (rows ++ r ∷ [])) ≡ s ∷ rows ++ f r ∷ []
-  at true ih k = absurd (cc)
-  at false ih k = ap (λ rs. s ∷ rs) (ih k)
+    at : (b : Bool) → (has_row rows file ≡ false → at_row file f (rows ++ r ∷ []) ≡ rows ++ f r ∷ []) → (b || has_row rows file) ≡ false
+        → cond b (f s ∷ rows ++ r ∷ []) (s ∷ at_row file f (rows ++ r ∷ [])) ≡ s ∷ rows ++ f r ∷ []
+    at true ih k = absurd (cc)
+    at false ih k = ap (λ rs. s ∷ rs) (ih k)
 
 dated-line : (commits : List Made) (n : ℕ) (o : Option KeptLine) → (dated_from commits n o).line ≡ n
 dated-line commits n None = refl
@@ -112,8 +112,8 @@ module _ (c : List Bool) (at : ℕ) (commits : List Made) (ls : List KeptLine) w
       kinds-lines kinds.Dir e rows fresh shown file =
           all-one Shown rows (record { node = nodes.Old e.node; kind = kinds.Dir; parent = nodes.Old e.parent; name = e.name; lines = [] }) shown (λ f. absurd (dir f))
         where
-        dir : true ≡ false → ⊥
-        dir f = cc
+          dir : true ≡ false → ⊥
+          dir f = cc
 
       either-lines : (b : Bool) (rows added : List ViewRow) → AllByRecursion Shown rows → AllByRecursion Shown added → AllByRecursion Shown (cond b added rows)
       either-lines true rows added h k = k

@@ -63,9 +63,9 @@ last-found : (rows : List ViewRow) (r : ViewRow) (node : NodeRef) → kind_at ro
 last-found [] r node h same = ap (λ b. option_map (λ (s : ViewRow). s.kind) (cond b (Some r) None)) same
 last-found (s ∷ rows) r node h same = at (same_node s.node node) (λ k. last-found rows r node k same) h
   where
-  at : (b : Bool) → (kind_at rows node ≡ None → kind_at (rows ++ r ∷ []) node ≡ Some r.kind) → option_map (λ (s : ViewRow). s.kind) (cond b (Some s) (row_at rows node)) ≡ None → option_map (λ (s : ViewRow). s.kind) (cond b (Some s) (row_at (rows ++ r ∷ []) node)) ≡ Some r.kind
-  at true ih h = absurd (cc)
-  at false ih h = ih h
+    at : (b : Bool) → (kind_at rows node ≡ None → kind_at (rows ++ r ∷ []) node ≡ Some r.kind) → option_map (λ (s : ViewRow). s.kind) (cond b (Some s) (row_at rows node)) ≡ None → option_map (λ (s : ViewRow). s.kind) (cond b (Some s) (row_at (rows ++ r ∷ []) node)) ≡ Some r.kind
+    at true ih h = absurd (cc)
+    at false ih h = ih h
 
 -- a row that is added has its kind
 pub kind-added : (rows new : List ViewRow) (r : ViewRow) (node : ℕ) → kind_in rows (nodes.Old node) ≡ None → r.node ≡ nodes.Old node → new ≡ rows ++ r ∷ [] → kind_in new (nodes.Old node) ≡ Some r.kind

@@ -21,8 +21,8 @@ entry_kept commits e = record { item = record { node = e.node; kind = e.kind; pa
 abbrev pub IsFileOf : List (Kept Line) → List Made → List KeptLine → Entry → Type 0
 IsFileOf kept commits ls e = is_dir_kind e.kind ≡ false → file_dated e.node kept ≡ map (dated_of commits ls) e.order.lines
 
--- the entries are the rows that a history holds, with the lines of each file, each ambition speaks of options that are declared where it counts, and
--- no two entries that are seen together are of one node
+-- the entries are the rows that a history holds, with the lines of each file, each ambition speaks of options that are
+-- declared where it counts, and no two entries that are seen together are of one node
 pub record IsHeldBy (history : List Command) (commits : List Made) (ls : List KeptLine) (entries : List Entry) : Type 0 where
   pub rows : entries_of history ≡ map (entry_kept commits) entries
   pub files : AllByRecursion (IsFileOf (kept_of history) commits ls) entries

@@ -15,3 +15,6 @@ pub use engine::Engine;
 pub use invalid::Invalid;
 pub use prepared::{Prepared, Receipt};
 pub use refusal::Refusal;
+
+#[cfg(test)]
+mod tests;
