@@ -1,8 +1,10 @@
 -- Texts of expressions with what they mean.
 use Rattle.std.proofs.Common.{◌≡◌, ℕ, List, [], ◌∷◌, ◌++◌, map, replicate, true, false, refl}
 use Rattle.std.specs.Prelude.{codes, Result, Ok, Err, is_ok}
+use Rattle.cov_expr.specs.ExpressionText.{text_of}
 use Rattle.cov_expr.specs.Formula.{Formula, False, True, On, Not, And, Or, value, reach, part_count}
 use Rattle.cov_expr.specs.Naming.{bound_expression}
+use Rattle.cov_expr.specs.Options.{option_name}
 use Rattle.cov_expr.specs.Reading.{parsed}
 use Rattle.cov_expr.specs.Tokens.{Tokens, BadByte, tokens_of}
 use Rattle.cov_expr.specs.declared.naming.NameFault.{NameFault}
@@ -88,3 +90,24 @@ unknown name = Err (UnknownOption name)
 bindings : map (bound_expression names) (And (Not c) (Or a True) ∷ Or (And c b) (name (codes "on")) ∷ [])
     ≡ bound (And (Not (On 1)) (Or (On 0) True)) ∷ unknown (codes "b") ∷ []
 bindings = refl
+
+abbrev letters : List (List ℕ)
+letters = codes "a" ∷ codes "b" ∷ codes "c" ∷ []
+
+abbrev text_if_bound : Bound → List ℕ
+text_if_bound (Ok e) = text_of (option_name letters) e
+text_if_bound (Err fault) = []
+
+abbrev text_if_parsed : Answer → List ℕ
+text_if_parsed (Ok e) = text_if_bound (bound_expression letters e)
+text_if_parsed (Err fault) = []
+
+-- a text that is read, bound and printed keeps the parentheses that it needs, and one space on each side of & and |
+printed : map (λ text. text_if_parsed (parsed text)) (codes "a&(b|c)" ∷ codes "((a))" ∷ codes "a & b & c" ∷ codes "a & (b & c)" ∷ codes "! !a | false" ∷ [])
+    ≡ codes "a & (b | c)" ∷ codes "a" ∷ codes "a & b & c" ∷ codes "a & (b & c)" ∷ codes "!!a | false" ∷ []
+printed = refl
+
+-- an | keeps its parentheses below an & and at the right of an |, an & at the right of an & alone, and both below a !
+needed : map (λ text. text_if_parsed (parsed text)) (codes "(a|b)&c" ∷ codes "(a|b)|c" ∷ codes "a|(b|c)" ∷ codes "(a&b)&c" ∷ codes "(a&b)|(b&c)" ∷ codes "!(a&b)|!(a|b)&(!c)" ∷ [])
+    ≡ codes "(a | b) & c" ∷ codes "a | b | c" ∷ codes "a | (b | c)" ∷ codes "a & b & c" ∷ codes "a & b | b & c" ∷ codes "!(a & b) | !(a | b) & !c" ∷ []
+needed = refl

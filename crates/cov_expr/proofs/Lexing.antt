@@ -15,7 +15,7 @@ tokens-after_word (suc k) at (b ∷ bs) h =
     let place : at + 1 + k ≡ at + suc k = omega arith in
     tokens-after_word k (at + 1) bs (omega arith) ∙ ap (λ n. tokens_from n 0 (drop k bs)) place
 
-goes_on-letter : (b : ℕ) → is_letter b ≡ true → goes_on b ≡ true
+pub goes_on-letter : (b : ℕ) → is_letter b ≡ true → goes_on b ≡ true
 goes_on-letter b h = ap (λ x. x || is_digit b) h
 
 -- a word stands at the front

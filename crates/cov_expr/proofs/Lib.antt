@@ -5,6 +5,7 @@ pub mod FullChoices
 pub mod Gathering
 pub mod Lexing
 pub mod ListLemmas
+pub mod NamesBack
 pub mod NameLemmas
 pub mod Parsing
 pub mod PartCounts
@@ -14,3 +15,5 @@ pub mod ReadingBindings
 pub mod Spelt
 pub mod SplitLemmas
 pub mod Steps
+pub mod Texts
+pub mod Words

@@ -1,5 +1,6 @@
 pub mod Binding
 pub mod ChoiceText
+pub mod ExpressionText
 pub mod Formula
 pub mod Grammar
 pub mod Laws

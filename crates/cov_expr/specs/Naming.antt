@@ -2,7 +2,7 @@
 use Rattle.std.specs.Prelude.{◌≡◌, ℕ, not, List, Option, Some, None, Result, Ok, Err}
 use Rattle.std.specs.List.{find}
 use Rattle.cov_expr.specs.Formula.{Formula, names_in, renamed}
-use Rattle.cov_expr.specs.Options.{is_declared, option_number}
+use Rattle.cov_expr.specs.Options.{is_declared, option_number, option_name}
 use Rattle.cov_expr.specs.declared.naming.NameFault.{NameFault}
 use Rattle.cov_expr.specs.declared.naming.NameFault.TheVariants.{UnknownOption, Memory}
 
@@ -33,3 +33,7 @@ IsBound wanted (Err Memory) = Unit {0}
 abbrev pub IsUnknownName : Option (List ℕ) → NameFault → Type 0
 IsUnknownName unknown (UnknownOption name) = unknown ≡ Some name
 IsUnknownName unknown Memory = Unit {0}
+
+-- the expression with the names of the options in place of their numbers
+abbrev pub with_names : List (List ℕ) → Formula ℕ → Formula (List ℕ)
+with_names names e = renamed (option_name names) e

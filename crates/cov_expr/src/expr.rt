@@ -1,9 +1,13 @@
 // Expressions of a bounded size.
 ghost use Rattle.std.specs.Prelude.{◌≡◌, ◌<◌, ◌≤◌, IfOk, OnErr, length};
+ghost use Rattle.cov_expr.specs.ExpressionText.{text_of};
 ghost use Rattle.cov_expr.specs.Formula.{part_count, reach, value};
+ghost use Rattle.cov_expr.specs.Options.{option_name};
 
+use crate::Options;
 use crate::part::{Part, copy_part, room_after, value_of};
-use cov_base::{Choice, Memory};
+use crate::part_text::append_part;
+use cov_base::{Choice, Memory, Text};
 use std::alloc::Global;
 use std::marker::Model;
 
@@ -88,5 +92,15 @@ impl Expr {
         ensures { result ≡ value self.now choice }
     {
         value_of(&self.part, &choice)
+    }
+
+    /// The text with the fewest parentheses, and one space on each side of `&` and `|`.
+    pub fn print(&self, alloc: Global, options: &Options) -> Result<Text, Memory>
+        requires { reach self.now ≤ length options.now.names }
+        ensures { IfOk result (λ text. text ≡ text_of (option_name options.now.names) self.now) }
+    {
+        let mut text = Text::new(alloc);
+        append_part(&mut text, options, &self.part)?;
+        Ok(text)
     }
 }

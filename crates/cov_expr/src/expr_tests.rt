@@ -38,6 +38,43 @@ fn values_of(alloc: Global, options: &Options, text: &[u8]) -> Option<u8> {
     Some(values)
 }
 
+// Whether the text of the first text's expression is the second.
+fn is_printed(alloc: Global, options: &Options, text: &[u8], wanted: &[u8]) -> Result<bool, Fail> {
+    if text.len() > 64 {
+        return Ok(false);
+    }
+    let Ok(raw) = parse(alloc, text) else {
+        return Ok(false);
+    };
+    let Ok(expr) = raw.bind(alloc, options) else {
+        return Ok(false);
+    };
+    Ok(expr.print(alloc, options)?.as_slice() == wanted)
+}
+
+#[test]
+fn expressions_are_printed(rt: HostRuntime) -> Result<(), Fail> {
+    let alloc = rt.alloc();
+    let mut options = Options::new(alloc);
+    declare(alloc, &mut options, b"a")?;
+    declare(alloc, &mut options, b"b")?;
+    declare(alloc, &mut options, b"c")?;
+    let cases = [
+        ("a&(b|c)", "a & (b | c)"),
+        ("((a))", "a"),
+        ("a & b & c", "a & b & c"),
+        ("a & (b & c)", "a & (b & c)"),
+        ("! !a | false", "!!a | false"),
+    ];
+    for (text, wanted) in cases {
+        assert!(rt;
+            is_printed(alloc, &options, text.as_bytes(), wanted.as_bytes())?,
+            "of {text}"
+        );
+    }
+    Ok(())
+}
+
 #[test]
 fn texts_have_values(rt: HostRuntime) -> Result<(), Fail> {
     let alloc = rt.alloc();

@@ -9,6 +9,7 @@ mod laws;
 mod naming;
 mod options;
 mod part;
+mod part_text;
 mod partial;
 mod print;
 mod raw_choice;
@@ -20,7 +21,9 @@ mod tree;
 
 pub use binding::BindFault;
 pub use expr::{Expr, TooManyParts};
-pub use laws::{reading_follows_grammar, tokens_spell_one_expression};
+pub use laws::{
+    reading_follows_grammar, texts_give_their_expressions, tokens_spell_one_expression,
+};
 pub use naming::NameFault;
 pub use options::Options;
 pub use part::Part;
