@@ -1,6 +1,7 @@
 //! The lines of a script: what each of them says, or where it goes wrong.
 #![tactic(auto)]
 
+mod code;
 mod field;
 mod form;
 mod keyword;
@@ -8,11 +9,20 @@ mod laws;
 mod line;
 mod number;
 mod read;
+mod reply;
 mod unread;
 
+pub use code::{Code, code_text};
 pub use laws::lines_read_as_spelt;
 pub use line::{Line, LineField, LineSyntax};
 pub use read::read_line;
+pub use reply::{
+    cat_line, reply_commit, reply_complete, reply_constraint, reply_count, reply_default,
+    reply_new_line, reply_open, reply_option, reply_plain, reply_prefer, reply_refused, show_line,
+    whole,
+};
 
+#[cfg(test)]
+mod reply_tests;
 #[cfg(test)]
 mod tests;

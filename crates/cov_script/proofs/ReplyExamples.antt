@@ -1,0 +1,37 @@
+-- Worked replies.
+use Rattle.std.proofs.Common.{◌≡◌, ℕ, Bool, true, false, List, [], ◌∷◌, ◌++◌, map, refl}
+use Rattle.std.specs.Prelude.{codes}
+use Rattle.std.specs.Fmt.{digits}
+use Rattle.std.specs.List.{concat}
+use Rattle.cov_base.specs.declared.number.LineRef.TheVariants.{Old, New}
+use Rattle.cov_script.specs.Replies.{option_reply, constraint_reply, prefer_reply, default_reply, complete_reply, open_reply, plain_reply, new_line_reply, count_reply, commit_reply, shown_line, cat_line, refused_reply}
+use Rattle.cov_script.specs.declared.code.Code.TheVariants as refusals
+
+abbrev names : List (List ℕ)
+names = codes "fast" ∷ codes "safe" ∷ []
+
+numbered : (option_reply 0 ∷ constraint_reply 1 ∷ prefer_reply 256 ∷ default_reply 12 ∷ plain_reply ∷ new_line_reply 4294967295 ∷ commit_reply 7 ∷ [])
+    ≡ codes "ok option 0\n" ∷ codes "ok constraint 1\n" ∷ codes "ok prefer 256\n" ∷ codes "ok default 12\n" ∷ codes "ok\n" ∷ codes "ok +4294967295\n" ∷ codes "ok commit 7\n" ∷ []
+unfolding digits
+numbered = refl
+
+-- an option that is on and one that is off, and no option at all
+of_choices : (complete_reply names (true ∷ false ∷ []) ∷ complete_reply [] [] ∷ open_reply 3 names (false ∷ true ∷ []) ∷ [])
+    ≡ codes "ok fast=on,safe=off\n" ∷ codes "ok -\n" ∷ codes "ok open 3 fast=off,safe=on\n" ∷ []
+unfolding digits
+of_choices = refl
+
+-- a count and the lines behind it; an empty text leaves the space before it
+of_files : (count_reply 2 ++ concat (shown_line (Old 5) (codes "one  two") ∷ shown_line (New 0) [] ∷ [])) ++ cat_line 10 []
+    ≡ codes "ok 2\n5 one  two\n+0 \n10 \n"
+unfolding digits
+of_files = refl
+
+refused_with_more : map (refused_reply names) (refusals.Syntax 17 ∷ refusals.UnknownOption (codes "on") ∷ refusals.Repeated 1 ∷ refusals.Invalid 2 ∷ refusals.Incomplete 0 ∷ [])
+    ≡ codes "refused syntax 17\n" ∷ codes "refused unknown-option on\n" ∷ codes "refused repeated safe\n" ∷ codes "refused invalid 2\n" ∷ codes "refused incomplete fast\n" ∷ []
+unfolding digits
+refused_with_more = refl
+
+refused_alone : map (refused_reply names) (refusals.TooLong ∷ refusals.Long ∷ refusals.BadName ∷ refusals.NoVariantLeft ∷ refusals.OutsideAmbition ∷ refusals.NotBuilt ∷ [])
+    ≡ codes "refused too-long\n" ∷ codes "refused long\n" ∷ codes "refused bad-name\n" ∷ codes "refused no-variant-left\n" ∷ codes "refused outside-ambition\n" ∷ codes "refused not-built\n" ∷ []
+refused_alone = refl

@@ -1,0 +1,135 @@
+// Why a line is refused.
+ghost use Rattle.std.specs.Prelude.{◌≡◌, ◌++◌, IfOk, OnOk, codes, length};
+ghost use Rattle.std.specs.Fmt.{decimal};
+ghost use Rattle.cov_script.specs.Replies.{code_detail, code_text, code_word, IsCodeOf};
+
+use cov_base::{Memory, OptionId, Text};
+use cov_expr::Options;
+use std::alloc::Global;
+
+/// The rule by which a line is refused.
+#[derive(Debug, Drop)]
+pub enum Code {
+    /// The line has no form; its first mistake is at this byte, or behind the last.
+    Syntax { at: u32 },
+    /// An expression has more than 256 tokens.
+    TooLong,
+    /// The line has more than 8,192 bytes.
+    Long,
+    /// No option may have that name.
+    BadName,
+    /// An option of that name is declared.
+    Exists,
+    /// There are as many as there may be.
+    Full,
+    /// No option has that name.
+    UnknownOption { name: Text },
+    /// A choice binds the option twice.
+    Repeated { option: OptionId },
+    /// No choice meets the constraints.
+    NoVariantLeft,
+    /// The constraint with this number, from 1, is the first that can't hold.
+    Invalid { rule: u32 },
+    /// The option is the first that the rules leave open.
+    Incomplete { option: OptionId },
+    /// No session of that name is open.
+    NoSession,
+    /// The ambition of a session isn't true on its choice.
+    OutsideAmbition,
+    NoSuchPath,
+    NotFile,
+    NotDirectory,
+    /// Its directory has that name already.
+    NameTaken,
+    NoSuchLine,
+    /// A session has more than 16,384 edits.
+    TooManyEdits,
+    /// A session's inserted texts have more than 2^24 bytes.
+    TooManyBytes,
+    TooManyLines,
+    TooManyNodes,
+    /// There are no edits to commit.
+    Empty,
+    /// The line has a form that isn't served.
+    NotBuilt,
+}
+
+/// The words of a refusal, without a line's end.
+pub fn code_text(alloc: Global, options: &Options, code: &Code) -> Result<Text, Memory>
+    requires { IsCodeOf (length options.now.names) code.now }
+    ensures { IfOk result (λ text. text ≡ code_text options.now.names code.now) }
+{
+    let mut text = Text::from_slice(alloc, word_of(code))?;
+    append_detail(alloc, &mut text, options, code)?;
+    Ok(text)
+}
+
+// The first word of a refusal.
+fn word_of(code: &Code) -> &'static [u8]
+    ensures { result.now ≡ code_word code.now }
+{
+    match code {
+        Code::Syntax { .. } => b"syntax",
+        Code::TooLong => b"too-long",
+        Code::Long => b"long",
+        Code::BadName => b"bad-name",
+        Code::Exists => b"exists",
+        Code::Full => b"full",
+        Code::UnknownOption { .. } => b"unknown-option",
+        Code::Repeated { .. } => b"repeated",
+        Code::NoVariantLeft => b"no-variant-left",
+        Code::Invalid { .. } => b"invalid",
+        Code::Incomplete { .. } => b"incomplete",
+        Code::NoSession => b"no-session",
+        Code::OutsideAmbition => b"outside-ambition",
+        Code::NoSuchPath => b"no-such-path",
+        Code::NotFile => b"not-file",
+        Code::NotDirectory => b"not-directory",
+        Code::NameTaken => b"name-taken",
+        Code::NoSuchLine => b"no-such-line",
+        Code::TooManyEdits => b"too-many-edits",
+        Code::TooManyBytes => b"too-many-bytes",
+        Code::TooManyLines => b"too-many-lines",
+        Code::TooManyNodes => b"too-many-nodes",
+        Code::Empty => b"empty",
+        Code::NotBuilt => b"not-built",
+    }
+}
+
+// Appends what a refusal says behind its first word: a number or a name.
+fn append_detail(
+    alloc: Global,
+    text: &mut Text,
+    options: &Options,
+    code: &Code,
+) -> Result<(), Memory>
+    requires { IsCodeOf (length options.now.names) code.now }
+    ensures { OnOk result (text.new ≡ text.old ++ code_detail options.now.names code.now) }
+{
+    match code {
+        Code::Syntax { at } => append_number(alloc, text, *at),
+        Code::Invalid { rule } => append_number(alloc, text, *rule),
+        Code::UnknownOption { name } => append_word(text, name.as_slice()),
+        Code::Repeated { option } | Code::Incomplete { option } => append_word(
+            text,
+            options.name(*option),
+        ),
+        _ => Ok(()),
+    }
+}
+
+// Appends a number behind a space.
+fn append_number(alloc: Global, text: &mut Text, number: u32) -> Result<(), Memory>
+    ensures { OnOk result (text.new ≡ text.old ++ codes " " ++ decimal number) }
+{
+    let number = format!(in alloc; "{number}")?;
+    append_word(text, number.as_bytes())
+}
+
+// Appends a word behind a space.
+fn append_word(text: &mut Text, word: &[u8]) -> Result<(), Memory>
+    ensures { OnOk result (text.new ≡ text.old ++ codes " " ++ word.now) }
+{
+    text.append(b" ")?;
+    text.append(word)
+}

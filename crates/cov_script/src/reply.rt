@@ -1,0 +1,157 @@
+// The texts of replies. Each function but `whole` gives one line with its end.
+ghost use Rattle.std.specs.Prelude.{◌≡◌, ◌<◌, ◌≤◌, ◌++◌, [], IfOk, OnOk, codes, get_or, length};
+ghost use Rattle.std.specs.List.{concat};
+ghost use Rattle.cov_script.specs.Replies.{option_reply, constraint_reply, prefer_reply, default_reply, complete_reply, open_reply, plain_reply, new_line_reply, count_reply, commit_reply, shown_line, cat_line, refused_reply, IsCodeOf};
+
+use crate::code::{Code, code_text};
+use cov_base::{Choice, LineNo, LineRef, Memory, OptionId, Position, Text, Texts};
+use cov_expr::{Options, print_choice};
+use std::alloc::Global;
+
+/// The reply to an option that is declared.
+pub fn reply_option(alloc: Global, id: OptionId) -> Result<Text, Memory>
+    ensures { IfOk result (λ text. text ≡ option_reply id) }
+{
+    let number = id.number();
+    Ok(Text::from(format!(in alloc; "ok option {number}\n")?))
+}
+
+/// The reply to a constraint that is added, with its number from 1.
+pub fn reply_constraint(alloc: Global, number: u32) -> Result<Text, Memory>
+    ensures { IfOk result (λ text. text ≡ constraint_reply number) }
+{
+    Ok(Text::from(format!(in alloc; "ok constraint {number}\n")?))
+}
+
+/// The reply to a preference that is added, with its number from 1.
+pub fn reply_prefer(alloc: Global, number: u32) -> Result<Text, Memory>
+    ensures { IfOk result (λ text. text ≡ prefer_reply number) }
+{
+    Ok(Text::from(format!(in alloc; "ok prefer {number}\n")?))
+}
+
+/// The reply to a default that is added, with its number from 1.
+pub fn reply_default(alloc: Global, number: u32) -> Result<Text, Memory>
+    ensures { IfOk result (λ text. text ≡ default_reply number) }
+{
+    Ok(Text::from(format!(in alloc; "ok default {number}\n")?))
+}
+
+/// The reply that tells a completion.
+pub fn reply_complete(alloc: Global, options: &Options, choice: Choice) -> Result<Text, Memory>
+    requires { length choice ≤ length options.now.names }
+    ensures { IfOk result (λ text. text ≡ complete_reply options.now.names choice) }
+{
+    let choice = print_choice(alloc, options, choice)?;
+    spaced(alloc, b"ok", &choice)
+}
+
+/// The reply to a session that is opened, with its base and its choice.
+pub fn reply_open(
+    alloc: Global,
+    base: Position,
+    options: &Options,
+    choice: Choice,
+) -> Result<Text, Memory>
+    requires { length choice ≤ length options.now.names }
+    ensures { IfOk result (λ text. text ≡ open_reply base options.now.names choice) }
+{
+    let base = base.number();
+    let choice = print_choice(alloc, options, choice)?;
+    let head = format!(in alloc; "ok open {base}")?;
+    spaced(alloc, head.as_bytes(), &choice)
+}
+
+/// The reply that says no more than that a line is accepted.
+pub fn reply_plain(alloc: Global) -> Result<Text, Memory>
+    ensures { IfOk result (λ text. text ≡ plain_reply) }
+{
+    Text::from_slice(alloc, b"ok\n")
+}
+
+/// The reply to a line that a session inserts, with its number, from 0, among those of the session.
+pub fn reply_new_line(alloc: Global, index: u32) -> Result<Text, Memory>
+    ensures { IfOk result (λ text. text ≡ new_line_reply index) }
+{
+    Ok(Text::from(format!(in alloc; "ok +{index}\n")?))
+}
+
+/// The first line of a reply that has so many lines more.
+pub fn reply_count(alloc: Global, count: u64) -> Result<Text, Memory>
+    ensures { IfOk result (λ text. text ≡ count_reply count) }
+{
+    Ok(Text::from(format!(in alloc; "ok {count}\n")?))
+}
+
+/// The reply to a commit, with its number in the history.
+pub fn reply_commit(alloc: Global, at: Position) -> Result<Text, Memory>
+    ensures { IfOk result (λ text. text ≡ commit_reply at) }
+{
+    let at = at.number();
+    Ok(Text::from(format!(in alloc; "ok commit {at}\n")?))
+}
+
+/// A line of a file as a session sees it.
+pub fn show_line(alloc: Global, line: LineRef, text: &Text) -> Result<Text, Memory>
+    ensures { IfOk result (λ shown. shown ≡ shown_line line text.now) }
+{
+    let head = match line {
+        LineRef::Old(line) => {
+            let number = line.number();
+            format!(in alloc; "{number}")?
+        }
+        LineRef::New(index) => format!(in alloc; "+{index}")?,
+    };
+    spaced(alloc, head.as_bytes(), text)
+}
+
+/// A line of a file under a choice.
+pub fn cat_line(alloc: Global, line: LineNo, text: &Text) -> Result<Text, Memory>
+    ensures { IfOk result (λ shown. shown ≡ cat_line line text.now) }
+{
+    let number = line.number();
+    let head = format!(in alloc; "{number}")?;
+    spaced(alloc, head.as_bytes(), text)
+}
+
+/// The reply to a line that is refused.
+pub fn reply_refused(alloc: Global, options: &Options, code: &Code) -> Result<Text, Memory>
+    requires { IsCodeOf (length options.now.names) code.now }
+    ensures { IfOk result (λ text. text ≡ refused_reply options.now.names code.now) }
+{
+    let words = code_text(alloc, options, code)?;
+    spaced(alloc, b"refused", &words)
+}
+
+/// A reply of several lines: the first line and the others in order, in work that is linear in them all.
+pub fn whole(first: Text, lines: &Texts) -> Result<Text, Memory>
+    ensures { IfOk result (λ text. text ≡ first ++ concat lines.now) }
+{
+    let mut text = first;
+    for index in 0..lines.len() {
+        append_line(&mut text, lines, index)?;
+    }
+    Ok(text)
+}
+
+// Appends one of the lines.
+fn append_line(text: &mut Text, lines: &Texts, index: usize) -> Result<(), Memory>
+    requires { index < length lines.now }
+    ensures { OnOk result (text.new ≡ text.old ++ get_or lines.now index []) }
+{
+    match lines.get(index) {
+        Some(line) => text.append(line.as_slice()),
+        None => unreachable!(),
+    }
+}
+
+// A line of two texts with a space between them.
+fn spaced(alloc: Global, first: &[u8], second: &Text) -> Result<Text, Memory>
+    ensures { IfOk result (λ line. line ≡ first.now ++ (codes " " ++ (second.now ++ codes "\n"))) }
+{
+    let mut line = Text::from_slice(alloc, first)?;
+    line.append(b" ")?;
+    line.append(second.as_slice())?;
+    line.append(b"\n")?;
+    Ok(line)
+}
