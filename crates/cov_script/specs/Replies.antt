@@ -1,5 +1,5 @@
 -- The texts of replies.
-use Rattle.std.specs.Prelude.{ℕ, ◌<◌, Bool, List, [], ◌∷◌, ◌++◌, codes}
+use Rattle.std.specs.Prelude.{ℕ, ◌<◌, Bool, List, [], ◌++◌, codes}
 use Rattle.std.specs.Fmt.{decimal}
 use Rattle.cov_base.specs.declared.number.LineRef.{LineRef}
 use Rattle.cov_base.specs.declared.number.LineRef.TheVariants as refs
@@ -48,7 +48,7 @@ code_detail names _ = []
 abbrev pub code_text : List (List ℕ) → Code → List ℕ
 code_text names code = code_word code ++ code_detail names code
 
--- the option that a refusal speaks of, if it does of one, is among so many
+-- the option that a refusal names, if it names one, is among so many
 abbrev pub IsCodeOf : ℕ → Code → Type 0
 IsCodeOf count (refusals.Repeated option) = option < count
 IsCodeOf count (refusals.Incomplete option) = option < count
@@ -86,7 +86,7 @@ open_reply base names choice = codes "ok open " ++ (decimal base ++ (codes " " +
 abbrev pub plain_reply : List ℕ
 plain_reply = codes "ok\n"
 
--- the reply to a line that is its session's so-manieth, from 0
+-- the reply to a line that a session inserts, with its number, from 0, among the session's own
 abbrev pub new_line_reply : ℕ → List ℕ
 new_line_reply index = codes "ok +" ++ (decimal index ++ codes "\n")
 

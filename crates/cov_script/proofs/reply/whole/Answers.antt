@@ -1,4 +1,4 @@
-use Rattle.std.proofs.Common.{◌++◌, sym, ◌∙◌, arith}
+use Rattle.std.proofs.Common.{sym, ◌∙◌, arith}
 use Rattle.std.proofs.lemmas.List.{append-nil}
 use Rattle.cov_script.proofs.Joining.{joined_more, joined_all}
 use Rattle.cov_script.proofs.reply.whole.Goals as goal
