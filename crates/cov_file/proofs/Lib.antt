@@ -1,0 +1,4 @@
+pub mod Changes
+pub mod Later
+pub mod Nodes
+pub mod Shown
