@@ -1,3 +1,4 @@
+pub mod CallerLemmas
 pub mod Changes
 pub mod Later
 pub mod Nodes

@@ -6,7 +6,7 @@ ghost use Rattle.cov_file.specs.Dated.{numbers_of, new_line, with_line, with_cha
 ghost use Rattle.cov_file.specs.Rooms.{is_room_at, IsMade, IsLeft};
 ghost use Rattle.cov_file.specs.Listing.{row_in, rows_in, node_in};
 
-use crate::lists::Lists;
+use crate::lists::NodeLists;
 use crate::{FileRow, FileRows};
 use cov_base::{Choice, LineNo, LineNos, Memory, Position, Text};
 use cov_dd::{FALSE, Node, Table};
@@ -21,7 +21,7 @@ use std::marker::Model;
 pub struct FileLines {
     order: Order,
     texts: IndexMap<LineNo, Text>,
-    lists: Lists,
+    lists: NodeLists,
 }
 
 impl Model for FileLines {
@@ -45,7 +45,7 @@ impl FileLines {
         FileLines {
             order: Order::new(alloc),
             texts: IndexMap::new(alloc),
-            lists: Lists::new(alloc),
+            lists: NodeLists::new(alloc),
         }
     }
 
@@ -56,7 +56,7 @@ impl FileLines {
         ensures newest { self.new.newest ≡ self.old.newest }
         ensures room { OnOk result (IsMade self.new.room (numbers_of self.new.lines) inserts deletes.now) }
     {
-        let _every_line = deletes;
+        let _ = deletes;
         self.order.reserve(inserts)?;
         self.texts.reserve(inserts as usize)?;
         self.lists.prepare(inserts)

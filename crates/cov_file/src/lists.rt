@@ -8,18 +8,19 @@ use cov_base::{Memory, Position};
 use cov_dd::Node;
 use std::alloc::Global;
 use std::marker::Model;
+use std::mem;
 
 /// The nodes of all lines from a position on.
 #[derive(Drop)]
-struct List {
+struct NodeList {
     from: Position,
     nodes: Vec<Node>,
 }
 
-impl Model for List {
-    ghost use Rattle.std.specs.Prelude.{List as Many, ℕ};
+impl Model for NodeList {
+    ghost use Rattle.std.specs.Prelude.{List, ℕ};
 
-    ghost Value = { ℕ × Many ℕ };
+    ghost Value = { ℕ × List ℕ };
 
     ghost view = { λ l. (l.from, l.nodes.items) };
 }
@@ -27,14 +28,14 @@ impl Model for List {
 /// A whole list of nodes for each position of a change, in the order in which the lines were inserted. `ahead` is a copy
 /// of the newest list with room for more, which the next position takes.
 #[derive(Drop)]
-pub(crate) struct Lists {
+pub(crate) struct NodeLists {
     from: Position,
     newest: Vec<Node>,
-    older: Vec<List>,
+    older: Vec<NodeList>,
     ahead: Option<Vec<Node>>,
 }
 
-impl Model for Lists {
+impl Model for NodeLists {
     ghost use Rattle.std.specs.Prelude.{◌≡◌, ◌<◌, ◌-◌, reverse, is_some, IfSome, vec_len, vec_capacity};
     ghost use Rattle.std.specs.Option.{option_map_or};
     ghost use Rattle.cov_file.specs.Listing.{Listing};
@@ -46,13 +47,13 @@ impl Model for Lists {
     ghost invariant = { λ l. IfSome l.ahead (λ nodes. (nodes.items ≡ l.newest.items) × (0 < vec_capacity l.older - vec_len l.older)) };
 }
 
-impl Lists {
-    pub(crate) fn new(alloc: Global) -> Lists
+impl NodeLists {
+    pub(crate) fn new(alloc: Global) -> NodeLists
         ensures from { result.from ≡ 0 }
         ensures newest { result.newest ≡ [] }
         ensures older { result.older ≡ [] }
     {
-        Lists {
+        NodeLists {
             from: Position::new(0),
             newest: Vec::new(alloc),
             older: Vec::new(alloc),
@@ -66,8 +67,9 @@ impl Lists {
         ensures room { OnOk result (inserts ≤ self.new.room) }
         ensures open { OnOk result (self.new.is_open ≡ true) }
     {
-        let mut nodes = Vec::from_slice(*self.newest.allocator(), self.newest.as_slice())?;
-        nodes.reserve(inserts as usize)?;
+        let room = self.newest.len() + inserts as usize;
+        let mut nodes = Vec::with_capacity(*self.newest.allocator(), room)?;
+        nodes.extend_from_slice(self.newest.as_slice())?;
         self.older.reserve(1)?;
         self.ahead = Some(nodes);
         Ok(())
@@ -116,13 +118,13 @@ impl Lists {
         let Some(ahead) = self.ahead.take() else {
             return;
         };
-        let nodes = std::mem::replace(&mut self.newest, ahead);
+        let nodes = mem::replace(&mut self.newest, ahead);
         if self.from == at {
             return;
         }
         let from = self.from;
         self.from = at;
-        match self.older.push(List { from, nodes }) {
+        match self.older.push(NodeList { from, nodes }) {
             Ok(()) => (),
             Err(_) => unreachable!(),
         }
@@ -150,7 +152,7 @@ impl Lists {
 }
 
 // The last of rising lists that isn't beyond a position.
-fn newest_until(lists: &[List], position: Position) -> Option<&List>
+fn newest_until(lists: &[NodeList], position: Position) -> Option<&NodeList>
     ensures { option_copied result ≡ find (λ l. nat_le l.0 position) (reverse lists.now) }
 {
     lists.iter().rev().find(|list| list.from <= position)

@@ -39,8 +39,20 @@ fn lines_by_choice_and_position(rt: HostRuntime) -> Result<(), Fail> {
     // Lines 1 and 2 at position 1; line 3 between them where a is on, at position 4.
     let mut file = FileLines::new(alloc);
     file.prepare(2, &deletes)?;
-    file.insert(line(0), line(1), Text::from_slice(alloc, b"x")?, TRUE, at(1));
-    file.insert(line(1), line(2), Text::from_slice(alloc, b"y")?, TRUE, at(1));
+    file.insert(
+        line(0),
+        line(1),
+        Text::from_slice(alloc, b"x")?,
+        TRUE,
+        at(1),
+    );
+    file.insert(
+        line(1),
+        line(2),
+        Text::from_slice(alloc, b"y")?,
+        TRUE,
+        at(1),
+    );
     file.prepare(1, &deletes)?;
     file.insert(line(1), line(3), Text::from_slice(alloc, b"z")?, a, at(4));
 
@@ -52,9 +64,21 @@ fn lines_by_choice_and_position(rt: HostRuntime) -> Result<(), Fail> {
     file.delete(line(2), FALSE, at(6));
 
     lists(&rt, &file.lines_at(&table, on, at(0))?, &[]);
-    lists(&rt, &file.lines_at(&table, on, at(1))?, &[(1, b'x'), (2, b'y')]);
-    lists(&rt, &file.lines_at(&table, on, at(5))?, &[(1, b'x'), (3, b'z'), (2, b'y')]);
-    lists(&rt, &file.lines_at(&table, off, at(5))?, &[(1, b'x'), (2, b'y')]);
+    lists(
+        &rt,
+        &file.lines_at(&table, on, at(1))?,
+        &[(1, b'x'), (2, b'y')],
+    );
+    lists(
+        &rt,
+        &file.lines_at(&table, on, at(5))?,
+        &[(1, b'x'), (3, b'z'), (2, b'y')],
+    );
+    lists(
+        &rt,
+        &file.lines_at(&table, off, at(5))?,
+        &[(1, b'x'), (2, b'y')],
+    );
     lists(&rt, &file.lines_at(&table, on, at(6))?, &[(3, b'z')]);
     lists(&rt, &file.lines_at(&table, off, at(9))?, &[(1, b'x')]);
     lists(&rt, &file.all()?, &[(1, b'x'), (3, b'z'), (2, b'y')]);

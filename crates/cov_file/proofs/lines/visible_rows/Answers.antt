@@ -11,9 +11,9 @@ loop-line-preserved c = record {
       c.loop-line.rows c.add_shown.new.rows _ (cond c.value-shown.result (row_in c.args.texts.now.entries c.in-Some.line ∷ []) [])
       (sym c.get.ensures ∙ c.in-Some.is) refl
       (λ ys.
-          row_next c.args.table.now c.args.choice c.args.texts.now.entries c.args.nodes.now c.in-Some.line ys
-          ∙ ap (λ b. cond b (row_in c.args.texts.now.entries c.in-Some.line ∷ []) [] ++ rows_in c.args.table.now c.args.choice c.args.texts.now.entries c.args.nodes.now ys)
-          (sym (c.value-shown.ensures ∙ ap (λ v. value_in c.args.table.now v c.args.choice) c.listed_node.ensures)))
+      row_next c.args.table.now c.args.choice c.args.texts.now.entries c.args.nodes.now c.in-Some.line ys
+      ∙ ap (λ b. cond b (row_in c.args.texts.now.entries c.in-Some.line ∷ []) [] ++ rows_in c.args.table.now c.args.choice c.args.texts.now.entries c.args.nodes.now ys)
+      (sym (c.value-shown.ensures ∙ ap (λ v. value_in c.args.table.now v c.args.choice) c.listed_node.ensures)))
       c.in_ok-add_shown.ensures c.loop-line.invariant.rows;
   short = c.loop-line.invariant.short;
 }

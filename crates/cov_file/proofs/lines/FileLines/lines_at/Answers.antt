@@ -9,7 +9,7 @@ pub returns : goal.returns
 returns c =
     if_ok c.visible_rows.result _ _
     (λ rows is.
-        is ∙ (λ j. rows_in c.args.table.now c.args.choice c.self.inside.texts.entries (c.at.ensures j) (c.in_ok-lines.ensures.lines j))
-        ∙ rows_listed c.args.table.now c.args.choice c.args.at c.self.inside.texts.entries (lists_of c.self.inside.lists) c.self.inside.order.lines
-        ∙ ap (λ (f : DatedFile). rows_at c.args.table.now c.args.choice c.args.at f.lines) c.self.view_is)
+    is ∙ (λ j. rows_in c.args.table.now c.args.choice c.self.inside.texts.entries (c.at.ensures j) (c.in_ok-lines.ensures.lines j))
+    ∙ rows_listed c.args.table.now c.args.choice c.args.at c.self.inside.texts.entries (lists_of c.self.inside.lists) c.self.inside.order.lines
+    ∙ ap (λ (f : DatedFile). rows_at c.args.table.now c.args.choice c.args.at f.lines) c.self.view_is)
     c.visible_rows.ensures

@@ -1,7 +1,7 @@
 use Rattle.std.proofs.Common.{◌∙◌, ap, arith}
 use Rattle.cov_file.specs.Listing.{Listing}
 use Rattle.cov_file.proofs.Shown.{is_none}
-use Rattle.cov_file.proofs.lists.Lists.push.Goals as goal
+use Rattle.cov_file.proofs.lists.NodeLists.push.Goals as goal
 
 pub returns-clause-room : goal.returns-clause-room
 returns-clause-room c =

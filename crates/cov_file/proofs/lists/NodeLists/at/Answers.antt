@@ -4,7 +4,7 @@ use Rattle.std.specs.Option.{option_copied}
 use Rattle.std.specs.Ordering.{is_le, nat_cmp}
 use Rattle.cov_file.specs.Listing.{Listing, list_at, lists_of}
 use Rattle.cov_file.proofs.Nodes.{list_found, list_none, older_listed}
-use Rattle.cov_file.proofs.lists.Lists.at.Goals as goal
+use Rattle.cov_file.proofs.lists.NodeLists.at.Goals as goal
 
 pub returns-in-Some : goal.returns-in-Some
 returns-in-Some c =

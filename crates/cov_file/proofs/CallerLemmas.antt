@@ -1,0 +1,28 @@
+-- What a caller cites of lines that are alike.
+pub use Rattle.cov_file.proofs.Later.{alike_shown}
+use Rattle.std.proofs.Common.{◌≡◌, ℕ, List, [], ◌∷◌, refl, ◌∙◌}
+use Rattle.cov_file.specs.Dated.{DatedLine, numbers_of, IsAlike, AreAlike}
+
+-- they have the same numbers
+pub alike_numbers : (ls ms : List DatedLine) → AreAlike ls ms → numbers_of ls ≡ numbers_of ms
+alike_numbers [] [] h = refl
+alike_numbers [] (m ∷ ms) h = absurd h
+alike_numbers (l ∷ ls) [] h = absurd h
+alike_numbers (l ∷ ls) (m ∷ ms) h = λ j. h.0.line j ∷ alike_numbers ls ms h.1 j
+
+-- each list is alike to itself
+pub alike_refl : (ls : List DatedLine) → AreAlike ls ls
+alike_refl [] = tt
+alike_refl (l ∷ ls) = (record { line = refl; text = refl; nodes = λ p. refl; newest = refl }, alike_refl ls)
+
+-- and to what one alike to it is alike to
+pub alike_trans : (ls ms ns : List DatedLine) → AreAlike ls ms → AreAlike ms ns → AreAlike ls ns
+alike_trans [] [] [] g h = tt
+alike_trans [] [] (n ∷ ns) g h = absurd h
+alike_trans [] (m ∷ ms) ns g h = absurd g
+alike_trans (l ∷ ls) [] ns g h = absurd g
+alike_trans (l ∷ ls) (m ∷ ms) [] g h = absurd h
+alike_trans (l ∷ ls) (m ∷ ms) (n ∷ ns) g h = (
+  record { line = g.0.line ∙ h.0.line; text = g.0.text ∙ h.0.text; nodes = λ p. g.0.nodes p ∙ h.0.nodes p; newest = g.0.newest ∙ h.0.newest },
+  alike_trans ls ms ns g.1 h.1,
+)
