@@ -1,14 +1,7 @@
--- What a caller cites of lines that are alike.
+-- What a caller cites of lines that are alike: they show the same.
 pub use Rattle.cov_file.proofs.Later.{alike_shown}
-use Rattle.std.proofs.Common.{◌≡◌, ℕ, List, [], ◌∷◌, refl, ◌∙◌}
-use Rattle.cov_file.specs.Dated.{DatedLine, numbers_of, IsAlike, AreAlike}
-
--- they have the same numbers
-pub alike_numbers : (ls ms : List DatedLine) → AreAlike ls ms → numbers_of ls ≡ numbers_of ms
-alike_numbers [] [] h = refl
-alike_numbers [] (m ∷ ms) h = absurd h
-alike_numbers (l ∷ ls) [] h = absurd h
-alike_numbers (l ∷ ls) (m ∷ ms) h = λ j. h.0.line j ∷ alike_numbers ls ms h.1 j
+use Rattle.std.proofs.Common.{List, [], ◌∷◌, refl, ◌∙◌}
+use Rattle.cov_file.specs.Dated.{DatedLine, AreAlike}
 
 -- each list is alike to itself
 pub alike_refl : (ls : List DatedLine) → AreAlike ls ls

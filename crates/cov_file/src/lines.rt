@@ -1,6 +1,7 @@
 // The lines of a file.
 ghost use Rattle.std.specs.Prelude.{◌≡◌, ℕ, ◌<◌, ◌≤◌, ◌++◌, ◌∷◌, [], true, false, unwrap_or, slice_get, IfOk, OnOk, if◌then◌else◌};
 ghost use Rattle.std.specs.Map.{keys_of};
+ghost use Rattle.cov_base.specs.Addresses.{after_anchor};
 ghost use Rattle.cov_order.specs.Orders.{has_line, is_anchor};
 ghost use Rattle.cov_file.specs.Dated.{numbers_of, new_line, with_line, with_change, rows_at, all_rows, newest_of, node_of, AreAlike};
 ghost use Rattle.cov_file.specs.Rooms.{is_room_at, IsMade, IsLeft};
@@ -72,6 +73,7 @@ impl FileLines {
         requires room { 0 < self.old.room.inserts }
         requires position { is_room_at at self.old.room ≡ true }
         ensures lines { AreAlike self.new.lines (with_line anchor (new_line line text vis at) self.old.lines) }
+        ensures numbers { numbers_of self.new.lines ≡ after_anchor anchor line (numbers_of self.old.lines) }
         ensures newest { self.new.newest ≡ at }
         ensures room { IsLeft self.old.room self.new.room at 1 }
         ensures own { has_line line self.new.room.changes ≡ true }
@@ -91,6 +93,7 @@ impl FileLines {
         requires room { has_line line self.old.room.changes ≡ true }
         requires position { is_room_at at self.old.room ≡ true }
         ensures lines { AreAlike self.new.lines (with_change line vis at self.old.lines) }
+        ensures numbers { numbers_of self.new.lines ≡ numbers_of self.old.lines }
         ensures newest { self.new.newest ≡ at }
         ensures room { IsLeft self.old.room self.new.room at 0 }
     {

@@ -1,16 +1,8 @@
 use crate::{FileLines, FileRows};
-use cov_base::{Choice, LineNo, LineNos, Memory, OptionId, Position, Text};
-use cov_dd::{FALSE, TRUE, Table};
+use cov_base::{Choice, LineNo, LineNos, OptionId, Position, Text};
+use cov_dd::{TRUE, Table};
 use std::process::Abort;
 use std::test::Fail;
-
-fn line(number: u32) -> LineNo {
-    LineNo::new(number)
-}
-
-fn at(number: u32) -> Position {
-    Position::new(number)
-}
 
 // Rows have these numbers, and texts of one byte.
 fn lists(rt: &impl Abort, rows: &FileRows, lines: &[(u32, u8)]) {
@@ -27,64 +19,62 @@ fn lists(rt: &impl Abort, rows: &FileRows, lines: &[(u32, u8)]) {
 }
 
 #[test]
-fn lines_by_choice_and_position(rt: HostRuntime) -> Result<(), Fail> {
+fn inserted_lines(rt: HostRuntime) -> Result<(), Fail> {
     let alloc = rt.alloc();
     let mut table = Table::new(alloc)?;
     let a = table.literal(OptionId::new(0))?;
-    let not_a = table.not(a)?;
+    let x = Text::from_slice(alloc, b"x")?;
+    let y = Text::from_slice(alloc, b"y")?;
+    let mut file = FileLines::new(alloc);
+    file.prepare(2, &LineNos::new(alloc))?;
+    file.insert(LineNo::new(0), LineNo::new(1), x, TRUE, Position::new(3));
+    file.insert(LineNo::new(0), LineNo::new(2), y, a, Position::new(3));
     let off = Choice::new(0, 1);
     let on = Choice::new(1, 1);
+    lists(&rt, &file.lines_at(&table, on, Position::new(2))?, &[]);
+    lists(
+        &rt,
+        &file.lines_at(&table, on, Position::new(3))?,
+        &[(2, b'y'), (1, b'x')],
+    );
+    lists(
+        &rt,
+        &file.lines_at(&table, off, Position::new(4))?,
+        &[(1, b'x')],
+    );
+    lists(&rt, &file.all()?, &[(2, b'y'), (1, b'x')]);
+    assert_eq!(rt; file.vis(LineNo::new(2)), Some(a));
+    assert_eq!(rt; file.vis(LineNo::new(3)), None);
+    Ok(())
+}
+
+#[test]
+fn deleted_line(rt: HostRuntime) -> Result<(), Fail> {
+    let alloc = rt.alloc();
+    let mut table = Table::new(alloc)?;
+    let a = table.literal(OptionId::new(0))?;
+    let x = Text::from_slice(alloc, b"x")?;
     let mut deletes = LineNos::new(alloc);
-
-    // Lines 1 and 2 at position 1; line 3 between them where a is on, at position 4.
     let mut file = FileLines::new(alloc);
-    file.prepare(2, &deletes)?;
-    file.insert(
-        line(0),
-        line(1),
-        Text::from_slice(alloc, b"x")?,
-        TRUE,
-        at(1),
-    );
-    file.insert(
-        line(1),
-        line(2),
-        Text::from_slice(alloc, b"y")?,
-        TRUE,
-        at(1),
-    );
     file.prepare(1, &deletes)?;
-    file.insert(line(1), line(3), Text::from_slice(alloc, b"z")?, a, at(4));
-
-    // Line 1 is deleted where a is on, at position 6; line 2 everywhere.
-    deletes.push(line(1))?;
-    deletes.push(line(2))?;
+    file.insert(LineNo::new(0), LineNo::new(1), x, TRUE, Position::new(3));
+    deletes.push(LineNo::new(1))?;
     file.prepare(0, &deletes)?;
-    file.delete(line(1), not_a, at(6));
-    file.delete(line(2), FALSE, at(6));
-
-    lists(&rt, &file.lines_at(&table, on, at(0))?, &[]);
+    file.delete(LineNo::new(1), a, Position::new(6));
+    let off = Choice::new(0, 1);
+    let on = Choice::new(1, 1);
     lists(
         &rt,
-        &file.lines_at(&table, on, at(1))?,
-        &[(1, b'x'), (2, b'y')],
+        &file.lines_at(&table, off, Position::new(5))?,
+        &[(1, b'x')],
     );
+    lists(&rt, &file.lines_at(&table, off, Position::new(6))?, &[]);
     lists(
         &rt,
-        &file.lines_at(&table, on, at(5))?,
-        &[(1, b'x'), (3, b'z'), (2, b'y')],
+        &file.lines_at(&table, on, Position::new(6))?,
+        &[(1, b'x')],
     );
-    lists(
-        &rt,
-        &file.lines_at(&table, off, at(5))?,
-        &[(1, b'x'), (2, b'y')],
-    );
-    lists(&rt, &file.lines_at(&table, on, at(6))?, &[(3, b'z')]);
-    lists(&rt, &file.lines_at(&table, off, at(9))?, &[(1, b'x')]);
-    lists(&rt, &file.all()?, &[(1, b'x'), (3, b'z'), (2, b'y')]);
-    assert_eq!(rt; file.vis(line(1)), Some(not_a));
-    assert_eq!(rt; file.vis(line(2)), Some(FALSE));
-    assert_eq!(rt; file.vis(line(3)), Some(a));
-    assert_eq!(rt; file.vis(line(4)), None);
+    lists(&rt, &file.all()?, &[(1, b'x')]);
+    assert_eq!(rt; file.vis(LineNo::new(1)), Some(a));
     Ok(())
 }

@@ -19,3 +19,8 @@ returns-clause-lines c =
     subst (λ (f : DatedFile). AreAlike (dated_lines c.self.inside.texts.entries (lists_of c.set.new.self) c.self.inside.order.lines) (with_change c.args.line c.args.vis c.args.at f.lines)) c.self.view_is
     (deleted_alike c.self.inside.order.lines c.self.inside.texts.entries c.self.inside.lists c.self.invariant c.args.at later c.args.line c.args.vis c.in-Some.index
     (sym c.get_index_of.ensures.index ∙ c.in-Some.is) c.set.new.self c.set.ensures.from c.set.ensures.newest c.set.ensures.older)
+
+pub returns-clause-numbers : goal.returns-clause-numbers
+returns-clause-numbers c =
+    numbers c.self.inside.texts.entries (lists_of c.set.new.self) c.self.inside.order.lines
+    ∙ sym (numbers c.self.inside.texts.entries (lists_of c.self.inside.lists) c.self.inside.order.lines) ∙ ap (λ (f : DatedFile). numbers_of f.lines) c.self.view_is

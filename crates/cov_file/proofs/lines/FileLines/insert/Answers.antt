@@ -1,6 +1,7 @@
 use Rattle.std.proofs.Common.{◌≡◌, ◌≤◌, ◌+◌, min, ◌∙◌, sym, ap, subst, true, false, cond, nat_eq, ◌||◌, None, Some, arith}
 use Rattle.std.specs.Option.{option_map_or}
 use Rattle.indexmap.specs.IndexMap.{spare}
+use Rattle.cov_base.specs.Addresses.{after_anchor}
 use Rattle.cov_order.specs.Orders.{has_line, is_anchor}
 use Rattle.cov_file.specs.Dated.{new_line, with_line, numbers_of, AreAlike}
 use Rattle.cov_file.specs.Rooms.{DatedFile}
@@ -57,3 +58,9 @@ returns-clause-room c = record {
       ap (λ b. option_map_or (λ p. nat_eq c.args.at p) (cond b None (Some c.push.new.self.from)) true) c.push.ensures.open
       ∙ ap (nat_eq c.args.at) c.push.ensures.from ∙ same_number c.args.at;
 }
+
+pub returns-clause-numbers : goal.returns-clause-numbers
+returns-clause-numbers c =
+    numbers c.insert.new.self.entries (lists_of c.push.new.self) c.insert_after.new.self.lines ∙ c.insert_after.ensures.lines
+    ∙ ap (after_anchor c.args.anchor c.args.line)
+    (sym (numbers c.self.inside.texts.entries (lists_of c.self.inside.lists) c.self.inside.order.lines) ∙ ap (λ (f : DatedFile). numbers_of f.lines) c.self.view_is)
