@@ -1,0 +1,5 @@
+pub mod CallerLemmas
+pub mod Changes
+pub mod Later
+pub mod Nodes
+pub mod Shown

@@ -1,0 +1,4 @@
+pub mod Dated
+pub mod Laws
+pub mod Listing
+pub mod Rooms

@@ -1,0 +1,13 @@
+//! The lines of one file, each with its text and its visibility at each position.
+#![tactic(auto)]
+
+pub mod laws;
+mod lines;
+mod lists;
+mod row;
+
+pub use lines::FileLines;
+pub use row::{FileRow, FileRows};
+
+#[cfg(test)]
+mod tests;
