@@ -90,10 +90,9 @@ pub record IsSet (ts : List Triple) (node count : ℕ) (cs : List (List Bool)) :
   pub options : span ts node ≤ count
   pub choices : filter (value_in ts node) (all_choices count) ≡ cs
 
--- the rules and the partial choice have only options below count
-pub record AreBelow (count : ℕ) (s : Standing) (partial : List (ℕ × Bool)) : Type 0 where
+-- there may be so many options, and the rules have no others
+pub record AreBelow (count : ℕ) (s : Standing) : Type 0 where
   pub few : count ≤ 128
   pub constraints : reach_of (expressions s.constraints) ≤ count
   pub preferences : reach_of (expressions s.preferences) ≤ count
   pub defaults : reach_of (fallbacks s.defaults) ≤ count
-  pub bound : reach_of (literals partial) ≤ count
