@@ -1,10 +1,11 @@
-/* Conjoins with BuDDy the clauses that crates/cov_bench conjoins with cov_dd, and prints the same two lines. */
+/* conjunction WINDOW LOG: conjoins with BuDDy the clauses that crates/cov_bench conjoins with cov_dd, and prints the same number.
+ * BuDDy begins with room for 2^LOG nodes and an eighth of that in each cache. */
 #include <bdd.h>
 #include <stdint.h>
 #include <stdio.h>
 #include <stdlib.h>
 
-enum { OPTIONS = 64, CLAUSES = 256, FIRST_NODES = 1 << 20, FIRST_CACHE = 1 << 17 };
+enum { OPTIONS = 64, CLAUSES = 256 };
 
 static uint64_t state = 7;
 
@@ -34,8 +35,8 @@ static bdd clause(unsigned window)
 
 int main(int argc, char **argv)
 {
-    unsigned window = argc > 1 ? atoi(argv[1]) : 16;
-    if (window < 3 || window > OPTIONS || bdd_init(FIRST_NODES, FIRST_CACHE) < 0)
+    unsigned window = argc == 3 ? atoi(argv[1]) : 0, first = argc == 3 ? atoi(argv[2]) : 0;
+    if (window < 3 || window > OPTIONS || first < 10 || first > 24 || bdd_init(1 << first, 1 << (first - 3)) < 0)
         return 2;
     bdd_setvarnum(OPTIONS);
     bdd_gbc_hook(NULL);
@@ -55,6 +56,5 @@ int main(int argc, char **argv)
         node = on ? bdd_high(node) : bdd_low(node);
     }
     printf("%llu\n", (unsigned long long)least);
-    if (getenv("NODES")) fprintf(stderr, "%d\n", bdd_nodecount(all));
     return 0;
 }

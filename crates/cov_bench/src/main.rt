@@ -9,8 +9,7 @@ use conjoining::{conjunction, first_choice};
 use cov_base::Memory;
 use cov_dd::Table;
 use std::alloc::Global;
-use std::env;
-use std::io;
+use std::{env, io};
 
 fn main(rt: HostRuntime) -> io::Result<()> {
     let window = match env::args(&rt)?.nth(1) {

@@ -1,5 +1,5 @@
 -- The completion of a partial choice, by the nodes that stand for what is left.
-use Rattle.std.proofs.Common.{◌≡◌, ℕ, ◌≤◌, max, Bool, true, false, ◌&&◌, nat_lt, List, [], ◌∷◌, refl, sym, ap, ◌∙◌, arith}
+use Rattle.std.proofs.Common.{◌≡◌, ℕ, Bool, true, false, ◌&&◌, nat_lt, List, [], ◌∷◌, refl, sym, ◌∙◌, arith}
 use Rattle.std.specs.List.{filter, list_all}
 use Rattle.cov_base.specs.Choices.{all_choices}
 use Rattle.cov_dd.specs.declared.triple.Triple.{Triple}
@@ -8,7 +8,7 @@ use Rattle.cov_dd.specs.Diagrams.{value_in, Extends, Stands}
 use Rattle.cov_dd.proofs.CallerLemmas.{stands_later}
 use Rattle.cov_expr.specs.Formula.{Formula, value}
 use Rattle.cov_expr.specs.Validity.{is_valid}
-use Rattle.cov_rules.specs.Completion.{Completion, Invalid, has_any, or_else, keep, keep_all, least_unmet, literals, fallbacks, agreeing, answer_of, completed_from, completed, IsSet, AreBelow}
+use Rattle.cov_rules.specs.Completion.{Invalid, has_any, or_else, keep, keep_all, least_unmet, literals, fallbacks, agreeing, answer_of, completed_from, completed, IsSet, AreBelow}
 use Rattle.cov_rules.specs.Installing.{Standing, expressions, StandsForAll, Holds}
 use Rattle.cov_rules.proofs.Narrowing.{filter_filter}
 use Rattle.cov_rules.proofs.Growing.{literals_below}

@@ -1,12 +1,12 @@
 -- What one more rule adds, and what more options change.
-use Rattle.std.proofs.Common.{◌≡◌, ℕ, ◌+◌, ◌≤◌, max, Bool, true, false, nat_le, nat_lt, List, [], ◌∷◌, ◌++◌, map, take, cond, if◌then◌else◌, refl, sym, ap, subst, ◌∙◌, arith}
+use Rattle.std.proofs.Common.{◌≡◌, ℕ, ◌+◌, ◌≤◌, Bool, true, false, nat_le, nat_lt, List, [], ◌∷◌, ◌++◌, take, cond, if◌then◌else◌, refl, sym, ap, subst, ◌∙◌, arith}
 use Rattle.std.specs.List.{filter, list_all}
 use Rattle.std.proofs.lemmas.Bool.{and_parts, ltb-true}
 use Rattle.std.proofs.lemmas.List.{map-append}
 use Rattle.std.proofs.lemmas.List.Elements.{filter-append}
 use Rattle.cov_expr.specs.Formula.{Formula, reach}
 use Rattle.cov_rules.specs.Completion.{literals, fallbacks, AreBelow}
-use Rattle.cov_rules.specs.Growth.{constraints_in, Follows, StayBelow, ValueByFirstOptions, ValidByFirstOptions}
+use Rattle.cov_rules.specs.Growth.{Follows, StayBelow, ValueByFirstOptions, ValidByFirstOptions}
 use Rattle.cov_rules.specs.Installing.{Standing, literal, installed, with_rule, expressions, expressions_at, reach_of}
 use Rattle.cov_rules.specs.Refusals.{reach_of_rule}
 use Rattle.cov_rules.specs.declared.rules.Fallback.{Fallback}
