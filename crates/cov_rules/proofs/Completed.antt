@@ -1,6 +1,6 @@
 -- The completion of a partial choice, by the nodes that stand for what is left.
-use Rattle.std.proofs.Common.{◌≡◌, ℕ, ◌≤◌, max, Bool, true, false, ◌&&◌, List, [], ◌∷◌, refl, sym, ap, ◌∙◌, arith}
-use Rattle.std.specs.List.{filter}
+use Rattle.std.proofs.Common.{◌≡◌, ℕ, Bool, true, false, ◌&&◌, nat_lt, List, [], ◌∷◌, refl, sym, ◌∙◌, arith}
+use Rattle.std.specs.List.{filter, list_all}
 use Rattle.cov_base.specs.Choices.{all_choices}
 use Rattle.cov_dd.specs.declared.triple.Triple.{Triple}
 use Rattle.cov_dd.specs.Combinations.{joint_span}
@@ -8,9 +8,10 @@ use Rattle.cov_dd.specs.Diagrams.{value_in, Extends, Stands}
 use Rattle.cov_dd.proofs.CallerLemmas.{stands_later}
 use Rattle.cov_expr.specs.Formula.{Formula, value}
 use Rattle.cov_expr.specs.Validity.{is_valid}
-use Rattle.cov_rules.specs.Completion.{Completion, Invalid, has_any, or_else, keep, keep_all, least_unmet, literals, fallbacks, agreeing, answer_of, completed_from, completed, IsSet, AreBelow}
+use Rattle.cov_rules.specs.Completion.{Invalid, has_any, or_else, keep, keep_all, least_unmet, literals, fallbacks, agreeing, answer_of, completed_from, completed, IsSet, AreBelow}
 use Rattle.cov_rules.specs.Installing.{Standing, expressions, StandsForAll, Holds}
 use Rattle.cov_rules.proofs.Narrowing.{filter_filter}
+use Rattle.cov_rules.proofs.Growing.{literals_below}
 
 or_else_any : (ds cs : List (List Bool)) → has_any cs ≡ true → has_any (or_else ds cs) ≡ true
 or_else_any [] cs h = h
@@ -47,13 +48,13 @@ module _ (n : ℕ) (s : Standing) (partial : List (ℕ × Bool)) where
   pub left_any : has_any (valid n s partial) ≡ true → has_any (left n s partial) ≡ true
   left_any h = keep_all_any (keep_all (valid n s partial) (expressions s.preferences)) (fallbacks s.defaults) (keep_all_any (valid n s partial) (expressions s.preferences) h)
 
-module _ (n : ℕ) (s : Standing) (partial : List (ℕ × Bool)) (below : AreBelow n s partial) (ts us : List Triple) (h : Holds ts s) (x : Extends ts us)
+module _ (n : ℕ) (s : Standing) (partial : List (ℕ × Bool)) (below : AreBelow n s) (bound : list_all (λ b. nat_lt b.0 n) partial ≡ true) (ts us : List Triple) (h : Holds ts s) (x : Extends ts us)
     (agree : ℕ) (stands : StandsForAll us agree (literals partial)) where
   pub agreeing_set : IsSet us agree n (agreeing n partial)
   agreeing_set = record {
     few = below.few;
     within = stands.within;
-    options = omega (arith, stands.below, below.bound);
+    options = omega (arith, stands.below, literals_below n partial bound);
     choices = λ j. filter (λ c. stands.value c j) (all_choices n);
   }
 
@@ -63,7 +64,7 @@ module _ (n : ℕ) (s : Standing) (partial : List (ℕ × Bool)) (below : AreBel
       record {
         few = below.few;
         within = both.within;
-        options = omega (arith, both.below, stands.below, below.bound, kept.below, below.constraints);
+        options = omega (arith, both.below, stands.below, literals_below n partial bound, kept.below, below.constraints);
         choices = (λ j. filter (λ c. (both.value c ∙ (λ k. stands.value c k && kept.value c k)) j) (all_choices n))
             ∙ sym (filter_filter (is_valid (literals partial)) (is_valid (expressions s.constraints)) (all_choices n));
       }

@@ -4,7 +4,6 @@ use Rattle.cov_expr.specs.Formula.{On, Not, And, Or}
 use Rattle.cov_rules.specs.Completion.{Complete, Invalid, Incomplete, completed}
 use Rattle.cov_rules.specs.Installing.{Standing, expressions_at}
 use Rattle.cov_rules.specs.Refusals.{refusal}
-use Rattle.cov_rules.specs.declared.rules.Installed.{Installed}
 use Rattle.cov_rules.specs.declared.rules.Rule.TheVariants as rules
 use Rattle.cov_rules.specs.declared.rules.RuleFault.TheVariants as faults
 

@@ -1,12 +1,12 @@
 -- Options that have both values among choices.
-use Rattle.std.proofs.Common.{◌≡◌, ℕ, zero, suc, ◌+◌, ◌-◌, ◌<◌, ◌≤◌, Bool, true, false, cond, ◌&&◌, List, [], ◌∷◌, Option, Some, None, Result, Ok, Err, IfOk, IfErr, ◌||◌, not, length, refl, sym, ap, ◌∙◌, arith}
+use Rattle.std.proofs.Common.{◌≡◌, ℕ, zero, suc, ◌+◌, ◌-◌, ◌<◌, ◌≤◌, Bool, true, false, cond, ◌&&◌, List, [], ◌∷◌, Some, None, Result, Ok, Err, IfOk, IfErr, ◌||◌, not, length, refl, sym, ap, ◌∙◌, arith}
 use Rattle.std.specs.List.{filter, find, list_any, range_with_len}
 use Rattle.cov_base.specs.Choices.{all_choices, is_on}
 use Rattle.cov_dd.proofs.Nodes.{Order, below, level, above, ordered}
 use Rattle.cov_dd.specs.declared.triple.Triple.{Triple}
 use Rattle.cov_dd.specs.Combinations.{joint_span}
 use Rattle.cov_dd.specs.Diagrams.{value_in, Extends, Stands}
-use Rattle.cov_expr.specs.Formula.{Formula, value, reach}
+use Rattle.cov_expr.specs.Formula.{value, reach}
 use Rattle.cov_rules.specs.Completion.{Complete, Incomplete, has_any, first_open, answer_of, is_open, IsSet}
 use Rattle.cov_rules.specs.Installing.{literal, StandsFor}
 use Rattle.cov_rules.proofs.Alone.{at_most_one}

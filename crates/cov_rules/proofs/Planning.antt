@@ -1,11 +1,11 @@
 -- The plan of one more rule.
-use Rattle.std.proofs.Common.{◌≡◌, ℕ, ◌<◌, ◌≤◌, max, Bool, true, false, ◌&&◌, nat_le, List, [], ◌∷◌, ◌++◌, length, Option, Some, None, Result, Ok, Err, IfOk, IfErr, OnOk, if◌then◌else◌, refl, sym, ap, subst, ◌∙◌, arith}
+use Rattle.std.proofs.Common.{◌≡◌, ℕ, ◌<◌, ◌≤◌, max, Bool, true, false, ◌&&◌, List, [], ◌∷◌, ◌++◌, length, Option, Some, None, Result, Ok, Err, IfOk, IfErr, OnOk, if◌then◌else◌, sym, ap, subst, ◌∙◌, arith}
 use Rattle.std.proofs.lemmas.Bool.{le-leb, lt-leb}
 use Rattle.cov_dd.specs.declared.triple.Triple.{Triple}
 use Rattle.cov_dd.specs.Diagrams.{span, value_in, Stands}
 use Rattle.cov_expr.specs.Formula.{Formula, value, reach}
 use Rattle.cov_expr.specs.Validity.{is_valid}
-use Rattle.cov_rules.specs.Installing.{Standing, RulesValue, count_of, expressions, StandsFor, StandsForAll, Holds, Plans, IsPlan}
+use Rattle.cov_rules.specs.Installing.{Standing, RulesValue, count_of, expressions, StandsFor, StandsForAll, Holds, IsPlan}
 use Rattle.cov_rules.specs.Refusals.{leaves_variant, AreOptions, IsAccepted, IsFaultOf}
 use Rattle.cov_rules.specs.declared.rules.Rule.{Rule}
 use Rattle.cov_rules.specs.declared.rules.Rule.TheVariants as rules

@@ -1,5 +1,5 @@
 -- How rules complete a partial choice.
-use Rattle.std.specs.Prelude.{ℕ, zero, suc, ◌+◌, ◌≡◌, ◌≤◌, ◌<◌, Bool, true, false, ◌&&◌, not, List, [], ◌∷◌, map, length, Option, Some, None}
+use Rattle.std.specs.Prelude.{ℕ, ◌+◌, ◌≡◌, ◌≤◌, ◌<◌, Bool, true, false, ◌&&◌, not, List, [], ◌∷◌, map, Option, Some, None}
 use Rattle.std.specs.List.{filter, find, list_any, range_with_len}
 use Rattle.cov_base.specs.Choices.{all_choices, is_on}
 use Rattle.cov_dd.specs.declared.triple.Triple.{Triple}
@@ -90,10 +90,9 @@ pub record IsSet (ts : List Triple) (node count : ℕ) (cs : List (List Bool)) :
   pub options : span ts node ≤ count
   pub choices : filter (value_in ts node) (all_choices count) ≡ cs
 
--- the rules and the partial choice have only options below count
-pub record AreBelow (count : ℕ) (s : Standing) (partial : List (ℕ × Bool)) : Type 0 where
+-- there may be so many options, and the rules have no others
+pub record AreBelow (count : ℕ) (s : Standing) : Type 0 where
   pub few : count ≤ 128
   pub constraints : reach_of (expressions s.constraints) ≤ count
   pub preferences : reach_of (expressions s.preferences) ≤ count
   pub defaults : reach_of (fallbacks s.defaults) ≤ count
-  pub bound : reach_of (literals partial) ≤ count

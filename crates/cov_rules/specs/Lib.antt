@@ -1,3 +1,4 @@
 pub mod Completion
+pub mod Growth
 pub mod Installing
 pub mod Refusals

@@ -2,6 +2,7 @@
 #![tactic(auto)]
 
 mod completing;
+pub mod laws;
 mod rules;
 
 pub use completing::CompleteFault;

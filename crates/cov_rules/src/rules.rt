@@ -1,12 +1,14 @@
 // Rules in the order in which they were installed.
-ghost use Rattle.std.specs.Prelude.{◌≡◌, ◌<◌, ◌≤◌, ◌+◌, ◌-◌, ◌++◌, ◌∷◌, ℕ, List, [], Bool, ◌&&◌, max, true, false, length, None, Some, IfOk, IfErr, OnOk, OnErr};
+ghost use Rattle.std.specs.Prelude.{◌≡◌, ◌<◌, ◌≤◌, ◌+◌, ◌-◌, ◌++◌, ◌∷◌, ℕ, List, [], Bool, ◌&&◌, max, true, false, nat_lt, length, None, Some, IfOk, IfErr, OnOk, OnErr};
+ghost use Rattle.std.specs.List.{list_all};
 ghost use Rattle.cov_expr.specs.Formula.{reach, value};
 ghost use Rattle.cov_expr.specs.Validity.{is_valid, first_false};
 ghost use Rattle.cov_dd.specs.declared.triple.Triple.{Triple};
 ghost use Rattle.cov_dd.specs.Diagrams.{node_count, span, value_in, Extends, Stands};
 ghost use Rattle.cov_rules.specs.Installing.{expressions, expressions_at, reach_of, count_of, literal, with_rule, StandsFor, Holds, Plans, IsPlan};
 ghost use Rattle.cov_rules.specs.Completion.{Complete, Invalid as Broken, completed, fallbacks, keep_all, least_unmet, AreBelow, IsRefusalBy, IsSet};
-ghost use Rattle.cov_rules.specs.Refusals.{IsAccepted, IsFaultOf};
+ghost use Rattle.cov_rules.specs.Refusals.{reach_of_rule, IsAccepted, IsFaultOf};
+ghost use Rattle.cov_rules.specs.Growth.{Follows};
 ghost use Rattle.cov_rules.specs.declared.rules.RuleFault.TheVariants.{NoVariantLeft as no_variant_left, Memory as want_of_memory};
 ghost use Rattle.cov_rules.specs.declared.rules.Rule.TheVariants.{Constraint as a_constraint, Prefer as a_preference, Default as a_default};
 
@@ -106,6 +108,7 @@ impl Rules {
         ensures preferences { result.standing.preferences ≡ [] }
         ensures defaults { result.standing.defaults ≡ [] }
         ensures holds { (ts : List Triple) → Holds ts result.standing }
+        ensures below { (count : ℕ) → count ≤ 128 → AreBelow count result.standing }
     {
         Rules {
             constraints: Vec::new(alloc),
@@ -227,6 +230,8 @@ impl Rules {
         ensures with_rule { self.new.standing ≡ with_rule plan rule at self.old.standing }
         ensures spare { self.old.spare ≤ self.new.spare + 1 }
         ensures holds { (ts : List Triple) → Holds ts self.old.standing → Plans ts self.old.standing rule plan → Holds ts self.new.standing }
+        ensures follows { Follows rule at self.old.standing self.new.standing }
+        ensures below { (count : ℕ) → AreBelow count self.old.standing → reach_of_rule rule ≤ count → AreBelow count self.new.standing }
     {
         match rule {
             Rule::Constraint(expr) => self.install_constraint(plan, expr, at),
@@ -287,7 +292,8 @@ impl Rules {
         count: u8,
     ) -> Result<Choice, CompleteFault>
         requires holds { Holds table.old self.now.standing }
-        requires below { AreBelow count self.now.standing partial.now }
+        requires below { AreBelow count self.now.standing }
+        requires bound { list_all (λ b. nat_lt b.0 count) partial.now ≡ true }
         ensures extends { Extends table.old table.new }
         ensures complete { IfOk result (λ choice. completed count self.now.standing partial.now ≡ Complete choice) }
         ensures refused { IfErr result (IsRefusalBy (completed count self.now.standing partial.now)) }

@@ -41,11 +41,11 @@ returns-then-not-is_met-clause-refused c =
     let vs = c.and.new.self in
     let stands : StandsForAll us c.in-Ok.node (literals partial) = subst (λ bs. StandsForAll us c.in-Ok.node (literals bs)) c.bindings.ensures.bindings c.in-Ok.ensures.stands in
     let valids : IsSet vs c.in-Ok-and.node n (valid n s partial) =
-    valid_set n s partial c.requires.below c.args.table.now us c.requires.holds c.in-Ok.ensures.extends c.in-Ok.node stands vs c.in-Ok-and.node (first_option us c.in-Ok.node s.conjunction)
+    valid_set n s partial c.requires.below c.requires.bound c.args.table.now us c.requires.holds c.in-Ok.ensures.extends c.in-Ok.node stands vs c.in-Ok-and.node (first_option us c.in-Ok.node s.conjunction)
     (subst (λ (v : RulesValue). Stands vs c.in-Ok-and.node (first_option us c.in-Ok.node v.standing.conjunction) (joint_span us c.in-Ok.node v.standing.conjunction) (λ d. value_in us c.in-Ok.node d && value_in us v.standing.conjunction d))
     c.self.view_is c.in-Ok-and.ensures.stands) in
     let unmet : has_any (valid n s partial) ≡ false = sym (c.is_met.ensures n (valid n s partial) valids) ∙ c.if-not-is_met.true in
-    let agrees = agreeing_set n s partial c.requires.below c.args.table.now us c.requires.holds c.in-Ok.ensures.extends c.in-Ok.node stands in
+    let agrees = agreeing_set n s partial c.requires.below c.requires.bound c.args.table.now us c.requires.holds c.in-Ok.ensures.extends c.in-Ok.node stands in
     subst (λ a. IsRefusalBy a c.unmet.result) (sym (invalid n s partial unmet))
     (c.unmet.ensures.refused n (agreeing n partial) (set_later c.in-Ok-and.ensures.extends agrees) c.requires.below.constraints)
 
@@ -58,7 +58,7 @@ only_choice-requires-clause-options c =
     let vs = c.and.new.self in
     let stands : StandsForAll us c.in-Ok.node (literals partial) = subst (λ bs. StandsForAll us c.in-Ok.node (literals bs)) c.bindings.ensures.bindings c.in-Ok.ensures.stands in
     let valids : IsSet vs c.in-Ok-and.node n (valid n s partial) =
-    valid_set n s partial c.requires.below c.args.table.now us c.requires.holds c.in-Ok.ensures.extends c.in-Ok.node stands vs c.in-Ok-and.node (first_option us c.in-Ok.node s.conjunction)
+    valid_set n s partial c.requires.below c.requires.bound c.args.table.now us c.requires.holds c.in-Ok.ensures.extends c.in-Ok.node stands vs c.in-Ok-and.node (first_option us c.in-Ok.node s.conjunction)
     (subst (λ (v : RulesValue). Stands vs c.in-Ok-and.node (first_option us c.in-Ok.node v.standing.conjunction) (joint_span us c.in-Ok.node v.standing.conjunction) (λ d. value_in us c.in-Ok.node d && value_in us v.standing.conjunction d))
     c.self.view_is c.in-Ok-and.ensures.stands) in
     let met : has_any (valid n s partial) ≡ true = sym (c.is_met.ensures n (valid n s partial) valids) ∙ c.if-not-is_met.false in
@@ -74,7 +74,7 @@ only_choice-requires-clause-some c cs is =
     let vs = c.and.new.self in
     let stands : StandsForAll us c.in-Ok.node (literals partial) = subst (λ bs. StandsForAll us c.in-Ok.node (literals bs)) c.bindings.ensures.bindings c.in-Ok.ensures.stands in
     let valids : IsSet vs c.in-Ok-and.node n (valid n s partial) =
-    valid_set n s partial c.requires.below c.args.table.now us c.requires.holds c.in-Ok.ensures.extends c.in-Ok.node stands vs c.in-Ok-and.node (first_option us c.in-Ok.node s.conjunction)
+    valid_set n s partial c.requires.below c.requires.bound c.args.table.now us c.requires.holds c.in-Ok.ensures.extends c.in-Ok.node stands vs c.in-Ok-and.node (first_option us c.in-Ok.node s.conjunction)
     (subst (λ (v : RulesValue). Stands vs c.in-Ok-and.node (first_option us c.in-Ok.node v.standing.conjunction) (joint_span us c.in-Ok.node v.standing.conjunction) (λ d. value_in us c.in-Ok.node d && value_in us v.standing.conjunction d))
     c.self.view_is c.in-Ok-and.ensures.stands) in
     let met : has_any (valid n s partial) ≡ true = sym (c.is_met.ensures n (valid n s partial) valids) ∙ c.if-not-is_met.false in
@@ -90,7 +90,7 @@ returns-clause-complete c =
     let vs = c.and.new.self in
     let stands : StandsForAll us c.in-Ok.node (literals partial) = subst (λ bs. StandsForAll us c.in-Ok.node (literals bs)) c.bindings.ensures.bindings c.in-Ok.ensures.stands in
     let valids : IsSet vs c.in-Ok-and.node n (valid n s partial) =
-    valid_set n s partial c.requires.below c.args.table.now us c.requires.holds c.in-Ok.ensures.extends c.in-Ok.node stands vs c.in-Ok-and.node (first_option us c.in-Ok.node s.conjunction)
+    valid_set n s partial c.requires.below c.requires.bound c.args.table.now us c.requires.holds c.in-Ok.ensures.extends c.in-Ok.node stands vs c.in-Ok-and.node (first_option us c.in-Ok.node s.conjunction)
     (subst (λ (v : RulesValue). Stands vs c.in-Ok-and.node (first_option us c.in-Ok.node v.standing.conjunction) (joint_span us c.in-Ok.node v.standing.conjunction) (λ d. value_in us c.in-Ok.node d && value_in us v.standing.conjunction d))
     c.self.view_is c.in-Ok-and.ensures.stands) in
     let met : has_any (valid n s partial) ≡ true = sym (c.is_met.ensures n (valid n s partial) valids) ∙ c.if-not-is_met.false in
@@ -109,7 +109,7 @@ returns-clause-refused c =
     let vs = c.and.new.self in
     let stands : StandsForAll us c.in-Ok.node (literals partial) = subst (λ bs. StandsForAll us c.in-Ok.node (literals bs)) c.bindings.ensures.bindings c.in-Ok.ensures.stands in
     let valids : IsSet vs c.in-Ok-and.node n (valid n s partial) =
-    valid_set n s partial c.requires.below c.args.table.now us c.requires.holds c.in-Ok.ensures.extends c.in-Ok.node stands vs c.in-Ok-and.node (first_option us c.in-Ok.node s.conjunction)
+    valid_set n s partial c.requires.below c.requires.bound c.args.table.now us c.requires.holds c.in-Ok.ensures.extends c.in-Ok.node stands vs c.in-Ok-and.node (first_option us c.in-Ok.node s.conjunction)
     (subst (λ (v : RulesValue). Stands vs c.in-Ok-and.node (first_option us c.in-Ok.node v.standing.conjunction) (joint_span us c.in-Ok.node v.standing.conjunction) (λ d. value_in us c.in-Ok.node d && value_in us v.standing.conjunction d))
     c.self.view_is c.in-Ok-and.ensures.stands) in
     let met : has_any (valid n s partial) ≡ true = sym (c.is_met.ensures n (valid n s partial) valids) ∙ c.if-not-is_met.false in
