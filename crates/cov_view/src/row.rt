@@ -1,10 +1,10 @@
 // The nodes of a variant.
-ghost use Rattle.std.specs.Prelude.{◌≡◌, ◌<◌, ◌&&◌, ◌||◌, IfSome, length, position};
+ghost use Rattle.std.specs.Prelude.{◌≡◌, ◌<◌, ◌&&◌, ◌||◌, IfSome, ℕ, length, position};
 ghost use Rattle.std.specs.List.{find};
 ghost use Rattle.std.specs.Option.{option_copied};
 ghost use Rattle.std.specs.Str.{bytes_eq};
 ghost use Rattle.cov_view.specs.References.{is_root, is_head, same_node};
-ghost use Rattle.cov_view.specs.Seen.{row_at, has_child, child_in, has_line_in};
+ghost use Rattle.cov_view.specs.Seen.{row_at, has_child, child_in, has_line_in, AreRows};
 
 use crate::ViewLines;
 use crate::line::is_head;
@@ -26,6 +26,20 @@ pub(crate) fn find(rows: &[ViewRow], node: &NodeRef) -> Option<usize>
     ensures within { IfSome result (λ at. at < length rows.now) }
 {
     rows.iter().position(|row| same_node(&row.node, node))
+}
+
+// The row of a node, sought in the newest row first.
+pub(crate) fn find_from_newest(rows: &[ViewRow], node: &NodeRef) -> Option<usize>
+    requires { (made : ℕ) × AreRows made rows.now }
+    ensures place { result ≡ position (λ r. same_node r.node node.now) rows.now }
+    ensures within { IfSome result (λ at. at < length rows.now) }
+{
+    if let Some(newest) = rows.last() {
+        if same_node(&newest.node, node) {
+            return Some(rows.len() - 1);
+        }
+    }
+    find(rows, node)
 }
 
 pub(crate) fn row_at<'a>(rows: &'a [ViewRow], node: &NodeRef) -> Option<&'a ViewRow>

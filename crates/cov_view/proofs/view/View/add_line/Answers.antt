@@ -10,3 +10,6 @@ invariant_of-self c =
     subst (AreRows c.self.inside.nodes_made) (sym (with_items_is c.self.inside.rows c.append_line.new.rows (c.append_line.auto.rows ∙ c.deref_mut.ensures.len)))
     (rows-kept c.append_line.result c.self.inside.nodes_made (nodes.Old c.args.file) _ c.deref_mut.result.now c.append_line.new.rows c.append_line.ensures.ok c.append_line.ensures.err
     (subst (AreRows c.self.inside.nodes_made) (sym c.deref_mut.ensures.value) c.self.invariant))
+
+pub append_line-requires : goal.append_line-requires
+append_line-requires c = (c.self.inside.nodes_made, subst (AreRows c.self.inside.nodes_made) (sym c.deref_mut.ensures.value) c.self.invariant)
