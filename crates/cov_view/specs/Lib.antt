@@ -1,4 +1,5 @@
 pub mod Lines
+pub mod Paths
 pub mod References
 pub mod Refusals
 pub mod Seen

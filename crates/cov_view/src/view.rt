@@ -1,15 +1,16 @@
 // One variant with edits on top.
-ghost use Rattle.std.specs.Prelude.{◌≡◌, ◌<◌, ◌-◌, ◌^◌, ◌+◌, ◌||◌, List, ℕ, [], ◌∷◌, ◌++◌, length, None, Some, IfOk, IfErr, IsErrOf, OnOk, OnErr};
+ghost use Rattle.std.specs.Prelude.{◌≡◌, ◌<◌, ◌-◌, ◌^◌, ◌+◌, ◌&&◌, ◌||◌, true, false, List, ℕ, [], ◌∷◌, ◌++◌, length, None, Some, is_some, option_map, IfSome, IfOk, IfErr, IsErrOf, OnOk, OnErr};
 ghost use Rattle.std.specs.List.{fold};
 ghost use Rattle.cov_base.specs.Addresses.{IsTable};
 ghost use Rattle.cov_base.specs.declared.number.Kind.TheVariants.{File, Dir};
 ghost use Rattle.cov_base.specs.declared.number.NodeRef.TheVariants.{Old};
 ghost use Rattle.cov_base.specs.declared.number.LineRef.TheVariants as lines;
-ghost use Rattle.cov_edit.specs.Numbering.{Numbers, nodes_made, anchors_of};
+ghost use Rattle.cov_edit.specs.Numbering.{Numbers, node_number, nodes_made, anchors_of};
 ghost use Rattle.cov_edit.specs.Variant.{Variant, edited};
-ghost use Rattle.cov_view.specs.References.{is_head};
+ghost use Rattle.cov_view.specs.References.{is_head, is_made_node};
 ghost use Rattle.cov_view.specs.Lines.{after_ref};
-ghost use Rattle.cov_view.specs.Refusals.{refusal};
+ghost use Rattle.cov_view.specs.Refusals.{has_node, is_dir, refusal};
+ghost use Rattle.cov_view.specs.Paths.{path_node, shown_kind, AreLinesOf};
 ghost use Rattle.cov_view.specs.Seen.{Seen, kind_in, node_at, lines_in, has_child, has_line_in, new_fault, insert_fault, seen_fault, seen_after, at_row, with_lines_by, AreRows};
 ghost use Rattle.cov_view.specs.Views.{Shows, table_after, next_by_number, FaultBy};
 
@@ -108,7 +109,8 @@ impl View {
 
     /// The kind of a node, None exactly where it isn't there.
     pub fn kind(&self, node: NodeRef) -> Option<Kind>
-        ensures { result ≡ kind_in self.now.rows node }
+        ensures kind { result ≡ kind_in self.now.rows node }
+        ensures shown { (ns : Numbers) (table : List (List ℕ)) (v : Variant) → Shows ns table self.now v → result ≡ shown_kind ns v node }
     {
         self.kind_of(&node)
     }
@@ -127,6 +129,15 @@ impl View {
 
     /// The node to which a path leads, None exactly where a name on it isn't there. It takes no memory.
     pub fn resolve(&self, path: &Path) -> Option<NodeRef>
+        ensures node { result ≡ node_at self.now.rows (NodeRef.Old 0) path.now }
+        ensures there { IfSome result (λ node. is_some (kind_in self.now.rows node) ≡ true) }
+        ensures shown { (ns : Numbers) (table : List (List ℕ)) (v : Variant) → Shows ns table self.now v → option_map (node_number ns.nodes) result ≡ path_node v.rows 0 path.now }
+        ensures made { IfSome result (λ node. (ns : Numbers) (table : List (List ℕ)) (v : Variant) → Shows ns table self.now v → is_made_node ns.nodes self.now.nodes_made node ≡ true) }
+    {
+        self.node_at(path)
+    }
+
+    fn node_at(&self, path: &Path) -> Option<NodeRef>
         ensures { result ≡ node_at self.now.rows (NodeRef.Old 0) path.now }
     {
         let mut node = NodeRef::Old(NodeNo::new(0));
@@ -145,11 +156,23 @@ impl View {
         ensures lines { IfOk result (λ lines. lines_in self.now.rows file ≡ Some lines) }
         ensures absent { IsErrOf result ReadFaultOfView.NoSuchNode → kind_in self.now.rows file ≡ None }
         ensures not_file { IsErrOf result ReadFaultOfView.NotFile → kind_in self.now.rows file ≡ Some Dir }
+        ensures shown { IfOk result (λ lines. (ns : Numbers) (table : List (List ℕ)) (v : Variant) → Shows ns table self.now v → AreLinesOf ns self.now.lines_made v file lines) }
+        ensures absent_shown { IsErrOf result ReadFaultOfView.NoSuchNode → (ns : Numbers) (table : List (List ℕ)) (v : Variant) → Shows ns table self.now v → has_node ns v file ≡ false }
+        ensures not_file_shown { IsErrOf result ReadFaultOfView.NotFile → (ns : Numbers) (table : List (List ℕ)) (v : Variant) → Shows ns table self.now v → (has_node ns v file && is_dir v.rows (node_number ns.nodes file)) ≡ true }
     {
-        if is_root(&file) {
+        self.lines_of(&file)
+    }
+
+    fn lines_of(&self, file: &NodeRef) -> Result<ViewLines, ReadFaultOfView>
+        ensures file { OnOk result (kind_in self.now.rows file.now ≡ Some File) }
+        ensures lines { IfOk result (λ lines. lines_in self.now.rows file.now ≡ Some lines) }
+        ensures absent { IsErrOf result ReadFaultOfView.NoSuchNode → kind_in self.now.rows file.now ≡ None }
+        ensures not_file { IsErrOf result ReadFaultOfView.NotFile → kind_in self.now.rows file.now ≡ Some Dir }
+    {
+        if is_root(file) {
             return Err(ReadFaultOfView::NotFile);
         }
-        let Some(row) = row_at(&self.rows, &file) else {
+        let Some(row) = row_at(&self.rows, file) else {
             return Err(ReadFaultOfView::NoSuchNode);
         };
         match row.kind {
