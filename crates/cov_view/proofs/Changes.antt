@@ -1,5 +1,5 @@
 -- Rows that change.
-use Rattle.std.proofs.Common.{◌≡◌, ℕ, zero, suc, ◌+◌, ◌<◌, ◌≤◌, Bool, true, false, cond, ◌||◌, not, nat_lt, List, [], ◌∷◌, ◌++◌, length, get_or, set, slice_get, ◌-◌, Some, None, Result, Ok, Err, OnOk, OnErr, option_map, position, refl, sym, ap, subst, ◌∙◌, arith}
+use Rattle.std.proofs.Common.{◌≡◌, ℕ, suc, ◌+◌, ◌<◌, ◌≤◌, Bool, true, false, cond, ◌||◌, not, nat_lt, List, [], ◌∷◌, ◌++◌, length, get_or, set, Some, None, Result, Ok, Err, OnOk, OnErr, option_map, position, refl, sym, ap, subst, ◌∙◌, arith}
 use Rattle.std.specs.List.{position_or_len}
 use Rattle.std.proofs.lemmas.Bool.Decides.{nat_tests}
 use Rattle.cov_base.specs.declared.number.Kind.TheVariants as kinds
@@ -9,7 +9,6 @@ use Rattle.cov_view.specs.References.{is_root, same_node, is_new_below}
 use Rattle.cov_view.specs.Seen.{row_at, has_row, kind_in, at_row, with_lines_by, AreRows}
 use Rattle.cov_view.specs.declared.line.ViewLine.{ViewLine}
 use Rattle.cov_view.specs.declared.row.ViewRow.{ViewRow}
-use Rattle.cov_view.proofs.Naming.{node-same}
 
 pub on_ok : {A F : Type 0} (r : Result A F) (P Q : Type 0) → (P → Q) → OnOk r P → OnOk r Q
 on_ok (Ok x) P Q f h = f h
@@ -155,30 +154,8 @@ pub rows-kept : {A F : Type 0} (r : Result A F) (made : ℕ) (node : NodeRef) (f
 rows-kept (Ok x) made node f old new ok err h = subst (AreRows made) (sym ok) (rows-lines made node f old h)
 rows-kept (Err e) made node f old new ok err h = subst (AreRows made) (sym err) h
 
-one_of : (n : NodeRef) (rows : List ViewRow) (i : ℕ) (r : ViewRow) → has_row rows n ≡ false → slice_get rows i ≡ Some r → same_node r.node n ≡ false
-one_of n [] i r h e = absurd (cc)
-one_of n (q ∷ rows) zero r h e = let same : q ≡ r = cc in subst (λ (x : ViewRow). same_node x.node n ≡ false) same (left (same_node q.node n) (has_row rows n) h)
-one_of n (q ∷ rows) (suc i) r h e = one_of n rows i r (right (same_node q.node n) (has_row rows n) h) e
-
-newest_is : (made : ℕ) (node : NodeRef) (q : ViewRow) (rows : List ViewRow) (r : ViewRow) → AreRows made (q ∷ rows) → slice_get (q ∷ rows) (length rows) ≡ Some r → same_node r.node node ≡ true
-    → position_or_len (λ r. same_node r.node node) (q ∷ rows) ≡ length rows
-newest_is made node q [] r once e h =
-    let same : q ≡ r = cc in
-    ap (λ (x : ViewRow). cond (not (same_node x.node node)) 1 0) same ∙ ap (λ b. cond (not b) 1 0) h
-newest_is made node q (q2 ∷ rows) r once e h =
-    let next : position_or_len (λ r. same_node r.node node) (q2 ∷ rows) ≡ length rows → 1 + position_or_len (λ r. same_node r.node node) (q2 ∷ rows) ≡ suc (length rows) =
-    λ k. omega (arith, k) in
-    let other : same_node q.node node ≡ false =
-    ap (same_node q.node) (sym (node-same r.node node h)) ∙ same_node-sym q.node r.node ∙ one_of q.node (q2 ∷ rows) (length rows) r once.2 e in
-    ap (λ b. cond (not b) (1 + position_or_len (λ r. same_node r.node node) (q2 ∷ rows)) 0) other
-    ∙ next (newest_is made node q2 rows r once.3 e h)
-
--- the newest row is the only one of its node
-pub newest_found : (made : ℕ) (node : NodeRef) (rows : List ViewRow) (r : ViewRow) → AreRows made rows → slice_get rows (length rows - 1) ≡ Some r → same_node r.node node ≡ true
-    → position (λ r. same_node r.node node) rows ≡ Some (length rows - 1)
-newest_found made node [] r once e h = absurd (cc)
-newest_found made node (q ∷ rows) r once e h =
-    let one : suc (length rows) - 1 ≡ length rows = omega arith in
-    let place = newest_is made node q rows r once (ap (slice_get (q ∷ rows)) (sym one) ∙ e) h in
-    let below : nat_lt (length rows) (suc (length rows)) ≡ true = grind (arith, nat_tests) in
-    ap (λ k. cond (nat_lt k (suc (length rows))) (Some k) None) place ∙ ap (λ b. cond b (Some (length rows)) None) below ∙ ap (λ k. Some k) (sym one)
+-- the rows stay rows whether or not a node's row was added
+pub rows-added : {A F : Type 0} (q : Result A F) (made : ℕ) (old new : List ViewRow) (r : ViewRow) → OnOk q (new ≡ old ++ r ∷ []) → OnErr q (new ≡ old) → AreRows made old
+    → is_root r.node ≡ false → is_new_below made r.node ≡ true → has_row old r.node ≡ false → AreRows made new
+rows-added (Ok x) made old new r ok err h root below fresh = subst (AreRows made) (sym ok) (rows-append made old r h root below fresh)
+rows-added (Err e) made old new r ok err h root below fresh = subst (AreRows made) (sym err) h

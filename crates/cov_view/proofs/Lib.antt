@@ -2,6 +2,7 @@ pub mod Applying
 pub mod Changes
 pub mod Finding
 pub mod Inserts
+pub mod Keys
 pub mod Naming
 pub mod Paths
 pub mod Places
