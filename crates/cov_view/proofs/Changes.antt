@@ -153,3 +153,9 @@ pub rows-kept : {A F : Type 0} (r : Result A F) (made : ℕ) (node : NodeRef) (f
     → OnOk r (new ≡ at_row node (with_lines_by f) old) → OnErr r (new ≡ old) → AreRows made old → AreRows made new
 rows-kept (Ok x) made node f old new ok err h = subst (AreRows made) (sym ok) (rows-lines made node f old h)
 rows-kept (Err e) made node f old new ok err h = subst (AreRows made) (sym err) h
+
+-- the rows stay rows whether or not a node's row was added
+pub rows-added : {A F : Type 0} (q : Result A F) (made : ℕ) (old new : List ViewRow) (r : ViewRow) → OnOk q (new ≡ old ++ r ∷ []) → OnErr q (new ≡ old) → AreRows made old
+    → is_root r.node ≡ false → is_new_below made r.node ≡ true → has_row old r.node ≡ false → AreRows made new
+rows-added (Ok x) made old new r ok err h root below fresh = subst (AreRows made) (sym ok) (rows-append made old r h root below fresh)
+rows-added (Err e) made old new r ok err h root below fresh = subst (AreRows made) (sym err) h

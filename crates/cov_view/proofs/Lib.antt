@@ -1,6 +1,8 @@
 pub mod Applying
 pub mod Changes
+pub mod Finding
 pub mod Inserts
+pub mod Keys
 pub mod Naming
 pub mod Paths
 pub mod Places

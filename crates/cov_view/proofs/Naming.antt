@@ -142,12 +142,12 @@ not_zero rows zero h = absurd (h refl)
 not_zero rows (suc n) h = refl
 
 module _ (ns : Numbers) (s : Seen) (rows : List ViewRow) (made : AllByRecursion (IsMade ns s) rows) where
-  below_root : (node : NodeRef) → is_root node ≡ false → node_number ns.nodes node ≡ 0 → ⊥
+  pub below_root : (node : NodeRef) → is_root node ≡ false → node_number ns.nodes node ≡ 0 → ⊥
   below_root (nodes.Old zero) root e = absurd (cc)
   below_root (nodes.Old (suc x)) root e = omega (arith, e)
   below_root (nodes.New i) root e = omega (arith, e)
 
-  kind_below : (node : NodeRef) → is_root node ≡ false → kind_in rows node ≡ option_map (λ (r : ViewRow). r.kind) (row_at rows node)
+  pub kind_below : (node : NodeRef) → is_root node ≡ false → kind_in rows node ≡ option_map (λ (r : ViewRow). r.kind) (row_at rows node)
   kind_below node root = ap (λ b. cond b (Some kinds.Dir) (option_map (λ (r : ViewRow). r.kind) (row_at rows node))) root
 
   there_below : (node : NodeRef) → is_root node ≡ false

@@ -132,10 +132,10 @@ module _ (ns : Numbers) (table : List (List ℕ)) (s : Seen) (v : Variant) (show
       last true = refl
       last false = refl
 
-  is_dir-rows : (node : NodeRef) → is_dir v.rows (node_number ns.nodes node) ≡ is_dir (map (row_by_number ns) s.rows) (node_number ns.nodes node)
+  pub is_dir-rows : (node : NodeRef) → is_dir v.rows (node_number ns.nodes node) ≡ is_dir (map (row_by_number ns) s.rows) (node_number ns.nodes node)
   is_dir-rows node = ap (λ (rows : List Row). is_dir rows (node_number ns.nodes node)) shows.rows
 
-  here : (node : NodeRef) → has_node ns v node ≡ is_some (kind_in s.rows node)
+  pub here : (node : NodeRef) → has_node ns v node ≡ is_some (kind_in s.rows node)
   here node = ap (λ (rows : List Row). has_node ns (record { rows = rows; lines = v.lines }) node) shows.rows ∙ there ns s s.rows shows.made node
 
   -- a view refuses an edit where the variant does, for the same reason

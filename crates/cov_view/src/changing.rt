@@ -1,38 +1,43 @@
 // Changes of the lines of one row.
-ghost use Rattle.std.specs.Prelude.{◌≡◌, [], ◌∷◌, ◌++◌, OnOk, OnErr};
+ghost use Rattle.std.specs.Prelude.{◌≡◌, [], ◌∷◌, ◌++◌, OnOk, OnErr, position};
 ghost use Rattle.cov_view.specs.Lines.{after_ref};
+ghost use Rattle.cov_view.specs.References.{same_node};
 ghost use Rattle.cov_view.specs.Seen.{at_row, with_lines_by};
 
 use crate::ViewLine;
-use crate::row::{ViewRow, find};
+use crate::row::ViewRow;
 use cov_base::{LineRef, Memory, NodeRef};
 
-/// Puts a line at the end of a file.
+/// Puts a line at the end of a file, whose row stands at a place.
 pub(crate) fn append_line(
     rows: &mut [ViewRow],
     file: &NodeRef,
+    place: Option<usize>,
     line: ViewLine,
 ) -> Result<(), Memory>
+    requires { place ≡ position (λ r. same_node r.node file.now) rows.old }
     ensures ok { OnOk result (rows.new ≡ at_row file.now (with_lines_by (λ ls. ls ++ line ∷ [])) rows.old) }
     ensures err { OnErr result (rows.new ≡ rows.old) }
 {
-    match find(rows, file) {
+    match place {
         Some(at) => rows[at].lines.push(line),
         None => Ok(()),
     }
 }
 
-/// Puts a line directly after its anchor in a file, or first where that is the head.
+/// Puts a line directly after its anchor in a file, whose row stands at a place, or first where that is the head.
 pub(crate) fn insert_line(
     rows: &mut [ViewRow],
     file: &NodeRef,
+    place: Option<usize>,
     after: &LineRef,
     line: ViewLine,
 ) -> Result<(), Memory>
+    requires { place ≡ position (λ r. same_node r.node file.now) rows.old }
     ensures ok { OnOk result (rows.new ≡ at_row file.now (with_lines_by (after_ref after.now line)) rows.old) }
     ensures err { OnErr result (rows.new ≡ rows.old) }
 {
-    match find(rows, file) {
+    match place {
         Some(at) => rows[at].lines.insert_after(after, line),
         None => Ok(()),
     }

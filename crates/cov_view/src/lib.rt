@@ -5,6 +5,7 @@ mod changing;
 mod fault;
 mod line;
 mod row;
+mod rows;
 mod view;
 
 pub use fault::{EditFault, ReadFaultOfView};

@@ -1,13 +1,14 @@
 // The nodes of a variant.
-ghost use Rattle.std.specs.Prelude.{◌≡◌, ◌<◌, ◌&&◌, ◌||◌, IfSome, length, position};
+ghost use Rattle.std.specs.Prelude.{◌≡◌, ◌<◌, ◌&&◌, ◌||◌, IfSome, ℕ, length, position};
 ghost use Rattle.std.specs.List.{find};
 ghost use Rattle.std.specs.Option.{option_copied};
 ghost use Rattle.std.specs.Str.{bytes_eq};
 ghost use Rattle.cov_view.specs.References.{is_root, is_head, same_node};
-ghost use Rattle.cov_view.specs.Seen.{row_at, has_child, child_in, has_line_in};
+ghost use Rattle.cov_view.specs.Seen.{row_at, has_child, child_in, has_line_in, AreRows};
 
 use crate::ViewLines;
 use crate::line::is_head;
+use crate::rows::Rows;
 use cov_base::{Kind, LineRef, Name, NodeRef};
 
 /// A node but the root, with its lines.
@@ -18,20 +19,6 @@ pub struct ViewRow {
     pub(crate) parent: NodeRef,
     pub(crate) name: Name,
     pub(crate) lines: ViewLines,
-}
-
-// The row of a node.
-pub(crate) fn find(rows: &[ViewRow], node: &NodeRef) -> Option<usize>
-    ensures place { result ≡ position (λ r. same_node r.node node.now) rows.now }
-    ensures within { IfSome result (λ at. at < length rows.now) }
-{
-    rows.iter().position(|row| same_node(&row.node, node))
-}
-
-pub(crate) fn row_at<'a>(rows: &'a [ViewRow], node: &NodeRef) -> Option<&'a ViewRow>
-    ensures { option_copied result ≡ row_at rows.now node.now }
-{
-    rows.iter().find(|row| same_node(&row.node, node))
 }
 
 /// Whether a directory has a node of that name.
@@ -64,10 +51,10 @@ fn is_child(row: &ViewRow, dir: &NodeRef, name: &[u8]) -> bool
 }
 
 /// Whether a line can be put directly after one of a file.
-pub(crate) fn has_anchor(rows: &[ViewRow], file: &NodeRef, after: &LineRef) -> bool
+pub(crate) fn has_anchor(rows: &Rows, file: &NodeRef, after: &LineRef) -> bool
     ensures { result ≡ (is_head after.now || has_line_in rows.now file.now after.now) }
 {
-    match row_at(rows, file) {
+    match rows.get(file) {
         Some(row) => row.lines.has_anchor(after),
         None => is_head(after),
     }

@@ -1,20 +1,21 @@
 // One variant with edits on top.
-ghost use Rattle.std.specs.Prelude.{◌≡◌, ◌<◌, ◌-◌, ◌^◌, ◌+◌, ◌||◌, List, ℕ, [], ◌∷◌, ◌++◌, length, None, Some, IfOk, IfErr, IsErrOf, OnOk, OnErr};
+ghost use Rattle.std.specs.Prelude.{◌≡◌, ◌<◌, ◌-◌, ◌^◌, ◌+◌, ◌&&◌, ◌||◌, true, false, List, ℕ, [], ◌∷◌, ◌++◌, length, None, Some, is_some, option_map, IfSome, IfOk, IfErr, IsErrOf, OnOk, OnErr};
 ghost use Rattle.std.specs.List.{fold};
 ghost use Rattle.cov_base.specs.Addresses.{IsTable};
 ghost use Rattle.cov_base.specs.declared.number.Kind.TheVariants.{File, Dir};
 ghost use Rattle.cov_base.specs.declared.number.NodeRef.TheVariants.{Old};
 ghost use Rattle.cov_base.specs.declared.number.LineRef.TheVariants as lines;
-ghost use Rattle.cov_edit.specs.Numbering.{Numbers, nodes_made, anchors_of};
+ghost use Rattle.cov_edit.specs.Numbering.{Numbers, node_number, nodes_made, anchors_of};
 ghost use Rattle.cov_edit.specs.Variant.{Variant, edited};
-ghost use Rattle.cov_view.specs.References.{is_head};
+ghost use Rattle.cov_view.specs.References.{is_head, is_made_node};
 ghost use Rattle.cov_view.specs.Lines.{after_ref};
-ghost use Rattle.cov_view.specs.Refusals.{refusal};
+ghost use Rattle.cov_view.specs.Refusals.{has_node, is_dir, refusal};
+ghost use Rattle.cov_view.specs.Paths.{path_node, shown_kind, AreLinesOf};
 ghost use Rattle.cov_view.specs.Seen.{Seen, kind_in, node_at, lines_in, has_child, has_line_in, new_fault, insert_fault, seen_fault, seen_after, at_row, with_lines_by, AreRows};
 ghost use Rattle.cov_view.specs.Views.{Shows, table_after, next_by_number, FaultBy};
 
-use crate::changing::{append_line, insert_line};
-use crate::row::{ViewRow, child_in, has_anchor, has_child, is_root, row_at};
+use crate::row::{ViewRow, child_in, has_anchor, has_child, is_root};
+use crate::rows::Rows;
 use crate::{EditFault, ReadFaultOfView, ViewLine, ViewLines};
 use cov_base::{Kind, LineNo, LineRef, Memory, Name, NodeNo, NodeRef, Path, Text};
 use cov_edit::Edit;
@@ -25,7 +26,7 @@ use std::marker::Model;
 /// far have made. The next node or line made is `New` of that number.
 #[derive(Debug, Drop)]
 pub struct View {
-    rows: Vec<ViewRow>,
+    rows: Rows,
     nodes_made: u32,
     lines_made: u32,
 }
@@ -35,9 +36,9 @@ impl Model for View {
 
     ghost Value = { Seen };
 
-    ghost view = { λ v. record { rows = v.rows.items; nodes_made = v.nodes_made; lines_made = v.lines_made } };
+    ghost view = { λ v. record { rows = v.rows; nodes_made = v.nodes_made; lines_made = v.lines_made } };
 
-    ghost invariant = { λ v. AreRows v.nodes_made v.rows.items };
+    ghost invariant = { λ v. AreRows v.nodes_made v.rows };
 }
 
 impl View {
@@ -46,7 +47,7 @@ impl View {
         ensures { IfOk result (λ view. view ≡ record { rows = []; nodes_made = 0; lines_made = 0 }) }
     {
         Ok(View {
-            rows: Vec::new(alloc),
+            rows: Rows::new(alloc),
             nodes_made: 0,
             lines_made: 0,
         })
@@ -71,10 +72,9 @@ impl View {
             kind,
             parent: NodeRef::Old(parent),
             name: name.copy()?,
-            lines: ViewLines::new(*self.rows.allocator()),
+            lines: ViewLines::new(self.rows.allocator()),
         };
-        self.rows.push(row)?;
-        Ok(())
+        self.rows.push(row)
     }
 
     /// Appends a line that a history has to its file, which was added before.
@@ -89,7 +89,7 @@ impl View {
             line: LineRef::Old(line),
             text: text.copy()?,
         };
-        append_line(&mut self.rows, &NodeRef::Old(file), added)
+        self.rows.append_line(&NodeRef::Old(file), added)
     }
 
     /// How many nodes edits have made.
@@ -108,7 +108,8 @@ impl View {
 
     /// The kind of a node, None exactly where it isn't there.
     pub fn kind(&self, node: NodeRef) -> Option<Kind>
-        ensures { result ≡ kind_in self.now.rows node }
+        ensures kind { result ≡ kind_in self.now.rows node }
+        ensures shown { (ns : Numbers) (table : List (List ℕ)) (v : Variant) → Shows ns table self.now v → result ≡ shown_kind ns v node }
     {
         self.kind_of(&node)
     }
@@ -119,19 +120,29 @@ impl View {
         if is_root(node) {
             return Some(Kind::Dir);
         }
-        match row_at(&self.rows, node) {
+        match self.rows.get(node) {
             Some(row) => Some(row.kind),
             None => None,
         }
     }
 
-    /// The node to which a path leads, None exactly where a name on it isn't there. It takes no memory.
+    /// The node to which a path leads, None exactly where a name on it isn't there. It takes no memory, and for each
+    /// name time in the number of nodes.
     pub fn resolve(&self, path: &Path) -> Option<NodeRef>
+        ensures node { result ≡ node_at self.now.rows (NodeRef.Old 0) path.now }
+        ensures there { IfSome result (λ node. is_some (kind_in self.now.rows node) ≡ true) }
+        ensures shown { (ns : Numbers) (table : List (List ℕ)) (v : Variant) → Shows ns table self.now v → option_map (node_number ns.nodes) result ≡ path_node v.rows 0 path.now }
+        ensures made { IfSome result (λ node. (ns : Numbers) (table : List (List ℕ)) (v : Variant) → Shows ns table self.now v → is_made_node ns.nodes self.now.nodes_made node ≡ true) }
+    {
+        self.node_at(path)
+    }
+
+    fn node_at(&self, path: &Path) -> Option<NodeRef>
         ensures { result ≡ node_at self.now.rows (NodeRef.Old 0) path.now }
     {
         let mut node = NodeRef::Old(NodeNo::new(0));
         'names: for name in path.as_slice() {
-            match child_in(&self.rows, &node, name.as_slice()) {
+            match child_in(self.rows.as_slice(), &node, name.as_slice()) {
                 Some(child) => node = child,
                 None => return None,
             }
@@ -145,11 +156,23 @@ impl View {
         ensures lines { IfOk result (λ lines. lines_in self.now.rows file ≡ Some lines) }
         ensures absent { IsErrOf result ReadFaultOfView.NoSuchNode → kind_in self.now.rows file ≡ None }
         ensures not_file { IsErrOf result ReadFaultOfView.NotFile → kind_in self.now.rows file ≡ Some Dir }
+        ensures shown { IfOk result (λ lines. (ns : Numbers) (table : List (List ℕ)) (v : Variant) → Shows ns table self.now v → AreLinesOf ns self.now.lines_made v file lines) }
+        ensures absent_shown { IsErrOf result ReadFaultOfView.NoSuchNode → (ns : Numbers) (table : List (List ℕ)) (v : Variant) → Shows ns table self.now v → has_node ns v file ≡ false }
+        ensures not_file_shown { IsErrOf result ReadFaultOfView.NotFile → (ns : Numbers) (table : List (List ℕ)) (v : Variant) → Shows ns table self.now v → (has_node ns v file && is_dir v.rows (node_number ns.nodes file)) ≡ true }
     {
-        if is_root(&file) {
+        self.lines_of(&file)
+    }
+
+    fn lines_of(&self, file: &NodeRef) -> Result<ViewLines, ReadFaultOfView>
+        ensures file { OnOk result (kind_in self.now.rows file.now ≡ Some File) }
+        ensures lines { IfOk result (λ lines. lines_in self.now.rows file.now ≡ Some lines) }
+        ensures absent { IsErrOf result ReadFaultOfView.NoSuchNode → kind_in self.now.rows file.now ≡ None }
+        ensures not_file { IsErrOf result ReadFaultOfView.NotFile → kind_in self.now.rows file.now ≡ Some Dir }
+    {
+        if is_root(file) {
             return Err(ReadFaultOfView::NotFile);
         }
-        let Some(row) = row_at(&self.rows, &file) else {
+        let Some(row) = self.rows.get(file) else {
             return Err(ReadFaultOfView::NoSuchNode);
         };
         match row.kind {
@@ -162,7 +185,7 @@ impl View {
     }
 
     /// Applies an edit, unless each variant that the view shows refuses it; then the view stays as it is.
-    /// It takes time in the number of nodes and in the lines of the file.
+    /// An insertion takes time in the lines of its file, a new node in the number of nodes.
     pub fn apply(&mut self, edit: &Edit) -> Result<(), EditFault>
         requires nodes { self.old.nodes_made < 2 ^ 32 - 1 }
         requires lines { self.old.lines_made < 2 ^ 32 - 1 }
@@ -202,7 +225,7 @@ impl View {
         match self.kind_of(parent) {
             None => Some(EditFault::NoSuchNode),
             Some(Kind::File) => Some(EditFault::NotDirectory),
-            Some(Kind::Dir) => match has_child(&self.rows, parent, name) {
+            Some(Kind::Dir) => match has_child(self.rows.as_slice(), parent, name) {
                 true => Some(EditFault::NameTaken),
                 false => None,
             },
@@ -235,7 +258,7 @@ impl View {
             kind,
             parent: *parent,
             name: name.copy()?,
-            lines: ViewLines::new(*self.rows.allocator()),
+            lines: ViewLines::new(self.rows.allocator()),
         };
         self.rows.push(row)?;
         self.nodes_made += 1;
@@ -254,7 +277,7 @@ impl View {
             line: LineRef::New(self.lines_made),
             text: text.copy()?,
         };
-        insert_line(&mut self.rows, file, after, line)?;
+        self.rows.insert_line(file, after, line)?;
         self.lines_made += 1;
         Ok(())
     }

@@ -14,8 +14,8 @@ returns-in-Some-clause-ok c =
     on_ok c.insert_after.result (c.insert_after.new.self ≡ change old.lines) _
     (λ e.
     ap (λ (ls : List ViewLine). set rows c.in-Some.at (let r : ViewRow = record { node = old.node; kind = old.kind; parent = old.parent; name = old.name; lines = ls } in r)) e
-    ∙ set_found c.args.file.now (with_lines_by change) rows c.index-rows-at.result c.in-Some.at (sym c.find.ensures.place ∙ c.in-Some.is))
+    ∙ set_found c.args.file.now (with_lines_by change) rows c.index-rows-at.result c.in-Some.at (sym c.requires ∙ c.in-Some.is))
     c.insert_after.ensures.ok
 
 pub returns-in-None-clause-ok : goal.returns-in-None-clause-ok
-returns-in-None-clause-ok c = sym (none_found c.args.file.now (with_lines_by (after_ref c.args.after.now c.args.line)) c.args.rows.now (sym c.find.ensures.place ∙ c.in-None.is))
+returns-in-None-clause-ok c = sym (none_found c.args.file.now (with_lines_by (after_ref c.args.after.now c.args.line)) c.args.rows.now (sym c.requires ∙ c.in-None.is))

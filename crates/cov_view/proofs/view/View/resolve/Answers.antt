@@ -1,31 +1,25 @@
-use Rattle.std.proofs.Common.{◌≡◌, List, ℕ, sym, ap, ◌∙◌}
+use Rattle.std.proofs.Common.{◌≡◌, List, ℕ, true, is_some, option_map, ap, sym, refl, ◌∙◌}
 use Rattle.cov_base.specs.declared.number.NodeRef.TheVariants as nodes
-use Rattle.cov_view.specs.Seen.{Seen, child_in, node_at}
-use Rattle.cov_view.specs.declared.row.ViewRow.{ViewRow}
-use Rattle.cov_view.proofs.Paths.{name_found, name_missing, names_done}
+use Rattle.cov_edit.specs.Numbering.{Numbers, node_number}
+use Rattle.cov_edit.specs.Variant.{Variant}
+use Rattle.cov_view.specs.References.{is_made_node}
+use Rattle.cov_view.specs.Seen.{kind_in}
+use Rattle.cov_view.specs.Views.{Shows}
+use Rattle.cov_view.proofs.Finding.{some, path-shown, path-made, node-there}
 use Rattle.cov_view.proofs.view.View.resolve.Goals as goal
 
-pub names-init : goal.names-init
-names-init c = ap (λ n. node_at c.args.self.now.rows (nodes.Old n) c.as_slice-name-items.result.now) c.new.ensures
-
-pub returns-in-None : goal.returns-in-None
-returns-in-None c =
+pub returns-clause-there : goal.returns-clause-there
+returns-clause-there c =
     let rows = c.args.self.now.rows in
-    let same : c.deref.result.now ≡ rows = c.deref.ensures.value ∙ ap (λ (s : Seen). s.rows) c.self.view_is in
-    let name = c.as_slice.ensures.bytes ∙ c.name-item.is in
-    let missing = sym (c.child_in.ensures ∙ ap (λ (r : List ViewRow). child_in r c.names.node c.as_slice.result.now) same ∙ ap (λ (n : List ℕ). child_in rows c.names.node n) name) ∙ c.in-None.is in
-    sym (name_missing rows c.names.node c.as_slice-name-items.result.now c.names.name-index c.name-item.result c.names-test.true missing)
-    ∙ c.names.invariant ∙ ap (node_at rows (nodes.Old 0)) c.as_slice-name-items.ensures
+    some c.node_at.result (λ node. is_some (kind_in rows node) ≡ true)
+    (λ node e. node-there rows c.args.path.now (nodes.Old 0) node refl (sym c.node_at.ensures ∙ e))
 
-pub names-preserved : goal.names-preserved
-names-preserved c =
-    let rows = c.args.self.now.rows in
-    let same : c.deref.result.now ≡ rows = c.deref.ensures.value ∙ ap (λ (s : Seen). s.rows) c.self.view_is in
-    let name = c.as_slice.ensures.bytes ∙ c.name-item.is in
-    let found = sym (c.child_in.ensures ∙ ap (λ (r : List ViewRow). child_in r c.names.node c.as_slice.result.now) same ∙ ap (λ (n : List ℕ). child_in rows c.names.node n) name) ∙ c.in-Some.is in
-    sym (name_found rows c.names.node c.in-Some.child c.as_slice-name-items.result.now c.names.name-index c.name-item.result c.names-test.true found) ∙ c.names.invariant
+pub returns-clause-shown : goal.returns-clause-shown
+returns-clause-shown c = λ ns table v shows. ap (option_map (node_number ns.nodes)) c.node_at.ensures ∙ path-shown ns table c.args.self.now v shows c.args.path.now
 
-pub returns : goal.returns
-returns c =
-    sym (names_done c.args.self.now.rows c.names.node c.as_slice-name-items.result.now c.names.name-index c.names-test.false)
-    ∙ c.names.invariant ∙ ap (node_at c.args.self.now.rows (nodes.Old 0)) c.as_slice-name-items.ensures
+pub returns-clause-made : goal.returns-clause-made
+returns-clause-made c =
+    let s = c.args.self.now in
+    some c.node_at.result
+    (λ node. (ns : Numbers) (table : List (List ℕ)) (v : Variant) → Shows ns table s v → is_made_node ns.nodes s.nodes_made node ≡ true)
+    (λ node e ns table v shows. path-made ns table s v shows c.args.path.now node (sym c.node_at.ensures ∙ e))

@@ -1,0 +1,103 @@
+-- Rows by their keys.
+use Rattle.std.proofs.Common.{◌≡◌, ℕ, suc, ◌+◌, ◌<◌, ◌≤◌, Bool, true, false, cond, ◌||◌, not, nat_lt, List, [], ◌∷◌, ◌++◌, length, map, slice_get, Some, None, Result, Ok, Err, OnOk, OnErr, position, refl, sym, ap, ◌∙◌, arith}
+use Rattle.std.specs.List.{list_any, position_or_len}
+use Rattle.std.proofs.lemmas.Bool.Decides.{nat_tests}
+use Rattle.std.proofs.lemmas.List.{length-map}
+use Rattle.indexmap.specs.IndexSet.{insert_key}
+use Rattle.cov_base.specs.declared.number.NodeRef.{NodeRef}
+use Rattle.cov_base.specs.declared.number.NodeRef.TheVariants as nodes
+use Rattle.cov_view.specs.Keys.{key_of}
+use Rattle.cov_view.specs.References.{same_node}
+use Rattle.cov_view.specs.Seen.{row_at, has_row, at_row, with_lines_by}
+use Rattle.cov_view.specs.declared.line.ViewLine.{ViewLine}
+use Rattle.cov_view.specs.declared.row.ViewRow.{ViewRow}
+use Rattle.cov_view.specs.contracts.rows.NodeKeyPartialEq.TheImpl.{eq-value}
+use Rattle.cov_view.specs.declared.rows.NodeKey.{NodeKey}
+
+-- the keys of rows
+abbrev pub keys_of : List ViewRow → List NodeKey
+keys_of rows = map (λ row. key_of row.node) rows
+
+module _ (e : NodeKey → NodeKey → Bool) (agrees : (a b : NodeRef) → e (key_of a) (key_of b) ≡ same_node b a) (node : NodeRef) where
+  place_or_len : (rows : List ViewRow) → position_or_len (e (key_of node)) (keys_of rows) ≡ position_or_len (λ r. same_node r.node node) rows
+  place_or_len [] = refl
+  place_or_len (r ∷ rows) =
+      ap (λ b. cond (not b) (1 + position_or_len (e (key_of node)) (keys_of rows)) 0) (agrees node r.node)
+      ∙ ap (λ n. cond (not (same_node r.node node)) (1 + n) 0) (place_or_len rows)
+
+  -- a key stands where its node's row does
+  pub keyed : (rows : List ViewRow) → position (e (key_of node)) (keys_of rows) ≡ position (λ r. same_node r.node node) rows
+  keyed rows i = cond (nat_lt (place_or_len rows i) (length-map rows (λ row. key_of row.node) i)) (Some (place_or_len rows i)) None
+
+  any-key : (rows : List ViewRow) → list_any (e (key_of node)) (keys_of rows) ≡ has_row rows node
+  any-key [] = refl
+  any-key (r ∷ rows) = ap (λ b. b || list_any (e (key_of node)) (keys_of rows)) (agrees node r.node) ∙ ap (λ b. same_node r.node node || b) (any-key rows)
+
+  -- a new key goes last
+  pub key_added : (rows : List ViewRow) → has_row rows node ≡ false → insert_key e (keys_of rows) (key_of node) ≡ keys_of rows ++ key_of node ∷ []
+  key_added rows fresh = ap (λ b. cond b (keys_of rows) (keys_of rows ++ key_of node ∷ [])) (any-key rows ∙ fresh)
+
+-- other lines leave the keys as they are
+keys-lines : (node : NodeRef) (f : List ViewLine → List ViewLine) (rows : List ViewRow) → keys_of (at_row node (with_lines_by f) rows) ≡ keys_of rows
+keys-lines node f [] = refl
+keys-lines node f (r ∷ rows) = at (same_node r.node node) (keys-lines node f rows)
+  where
+    at : (b : Bool) → keys_of (at_row node (with_lines_by f) rows) ≡ keys_of rows → keys_of (cond b (with_lines_by f r ∷ rows) (r ∷ at_row node (with_lines_by f) rows)) ≡ key_of r.node ∷ keys_of rows
+    at true rest = refl
+    at false rest = ap (λ ks. key_of r.node ∷ ks) rest
+
+pub keys-kept : {A F : Type 0} (r : Result A F) (node : NodeRef) (f : List ViewLine → List ViewLine) (old new : List ViewRow)
+    → OnOk r (new ≡ at_row node (with_lines_by f) old) → OnErr r (new ≡ old) → keys_of new ≡ keys_of old
+keys-kept (Ok x) node f old new ok err = ap keys_of ok ∙ keys-lines node f old
+keys-kept (Err e) node f old new ok err = ap keys_of err
+
+first_row : (node : NodeRef) (rows : List ViewRow) → position_or_len (λ r. same_node r.node node) rows < length rows
+    → slice_get rows (position_or_len (λ r. same_node r.node node) rows) ≡ row_at rows node
+first_row node [] h = absurd (omega (arith, h))
+first_row node (r ∷ rows) h = at (same_node r.node node) h (λ k. first_row node rows k)
+  where
+    at : (b : Bool) → cond (not b) (1 + position_or_len (λ r. same_node r.node node) rows) 0 < suc (length rows)
+        → (position_or_len (λ r. same_node r.node node) rows < length rows → slice_get rows (position_or_len (λ r. same_node r.node node) rows) ≡ row_at rows node)
+        → slice_get (r ∷ rows) (cond (not b) (1 + position_or_len (λ r. same_node r.node node) rows) 0) ≡ cond b (Some r) (row_at rows node)
+    at true k rest = refl
+    at false k rest =
+        let one : 1 + position_or_len (λ r. same_node r.node node) rows ≡ suc (position_or_len (λ r. same_node r.node node) rows) = omega arith in
+        ap (slice_get (r ∷ rows)) one ∙ rest (omega (arith, k))
+
+no_row : (node : NodeRef) (rows : List ViewRow) → length rows ≤ position_or_len (λ r. same_node r.node node) rows → row_at rows node ≡ None
+no_row node [] h = refl
+no_row node (r ∷ rows) h = at (same_node r.node node) h (λ k. no_row node rows k)
+  where
+    at : (b : Bool) → suc (length rows) ≤ cond (not b) (1 + position_or_len (λ r. same_node r.node node) rows) 0
+        → (length rows ≤ position_or_len (λ r. same_node r.node node) rows → row_at rows node ≡ None)
+        → cond b (Some r) (row_at rows node) ≡ None
+    at true k rest = absurd (omega (arith, k))
+    at false k rest = rest (omega (arith, k))
+
+module _ (node : NodeRef) (rows : List ViewRow) where
+  -- the row at the place of a node
+  pub placed_row : (i : ℕ) → position (λ r. same_node r.node node) rows ≡ Some i → slice_get rows i ≡ row_at rows node
+  placed_row i h = at (nat_lt (position_or_len (λ r. same_node r.node node) rows) (length rows)) refl h
+    where
+      at : (b : Bool) → nat_lt (position_or_len (λ r. same_node r.node node) rows) (length rows) ≡ b → cond b (Some (position_or_len (λ r. same_node r.node node) rows)) None ≡ Some i → slice_get rows i ≡ row_at rows node
+      at true e k =
+          let same : position_or_len (λ r. same_node r.node node) rows ≡ i = cc in
+          ap (slice_get rows) (sym same) ∙ first_row node rows (grind (arith, nat_tests, e))
+      at false e k = absurd (cc)
+
+  pub no_place : position (λ r. same_node r.node node) rows ≡ None → row_at rows node ≡ None
+  no_place h = at (nat_lt (position_or_len (λ r. same_node r.node node) rows) (length rows)) refl h
+    where
+      at : (b : Bool) → nat_lt (position_or_len (λ r. same_node r.node node) rows) (length rows) ≡ b → cond b (Some (position_or_len (λ r. same_node r.node node) rows)) None ≡ None → row_at rows node ≡ None
+      at true e k = absurd (cc)
+      at false e k = no_row node rows (grind (arith, nat_tests, e))
+
+-- whether two keys are the same, as they are compared
+abbrev pub same_key : NodeKey → NodeKey → Bool
+same_key = eq-value.it
+
+pub agrees : (a b : NodeRef) → same_key (key_of a) (key_of b) ≡ same_node b a
+agrees (nodes.Old x) (nodes.Old y) = grind (arith, nat_tests)
+agrees (nodes.Old x) (nodes.New j) = refl
+agrees (nodes.New i) (nodes.Old y) = refl
+agrees (nodes.New i) (nodes.New j) = grind (arith, nat_tests)

@@ -1,0 +1,11 @@
+use Rattle.std.proofs.Common.{sym, ap, ◌∙◌}
+use Rattle.std.proofs.lemmas.List.{with_items_is}
+use Rattle.cov_view.specs.Lines.{after_ref}
+use Rattle.cov_view.proofs.Keys.{keys_of, keys-kept}
+use Rattle.cov_view.proofs.rows.Rows.insert_line.Goals as goal
+
+pub invariant_of-self : goal.invariant_of-self
+invariant_of-self c =
+    c.self.invariant ∙ ap keys_of (sym c.deref_mut.ensures.value)
+    ∙ sym (keys-kept c.insert_line.result c.args.file.now (after_ref c.args.after.now c.args.line) c.deref_mut.result.now c.insert_line.new.rows c.insert_line.ensures.ok c.insert_line.ensures.err)
+    ∙ ap keys_of (sym (with_items_is c.self.inside.rows c.insert_line.new.rows (c.insert_line.auto.rows ∙ c.deref_mut.ensures.len)))

@@ -1,0 +1,133 @@
+// The rows of a view, each found by its node with one look-up.
+ghost use Rattle.std.specs.Prelude.{◌≡◌, ◌<◌, [], ◌∷◌, ◌++◌, false, IfSome, OnOk, OnErr, length, position, slice_get};
+ghost use Rattle.std.specs.Option.{option_copied};
+ghost use Rattle.cov_view.specs.Keys.{key_of};
+ghost use Rattle.cov_view.specs.Lines.{after_ref};
+ghost use Rattle.cov_view.specs.References.{same_node};
+ghost use Rattle.cov_view.specs.Seen.{row_at, has_row, at_row, with_lines_by};
+
+use crate::ViewLine;
+use crate::changing::{append_line, insert_line};
+use crate::row::ViewRow;
+use cov_base::{LineRef, Memory, NodeNo, NodeRef};
+use indexmap::IndexSet;
+use std::alloc::Global;
+use std::marker::Model;
+
+/// What a node is found by.
+#[derive(Clone, Copy, Debug, PartialEq, Eq, Hash)]
+pub(crate) enum NodeKey {
+    Old(NodeNo),
+    New(u32),
+}
+
+/// The rows in the order in which they were added; the i-th key is that of row i.
+#[derive(Debug, Drop)]
+pub(crate) struct Rows {
+    rows: Vec<ViewRow>,
+    keys: IndexSet<NodeKey>,
+}
+
+impl Model for Rows {
+    ghost use Rattle.std.specs.Prelude.{◌≡◌, List, map};
+    ghost use Rattle.cov_view.specs.declared.row.ViewRow.{ViewRow};
+    ghost use Rattle.cov_view.specs.Keys.{key_of};
+
+    ghost Value = { List ViewRow };
+
+    ghost view = { λ r. r.rows.items };
+
+    ghost invariant = { λ r. r.keys.keys ≡ map (λ row. key_of row.node) r.rows.items };
+}
+
+impl Rows {
+    pub(crate) fn new(alloc: Global) -> Rows
+        ensures { result ≡ [] }
+    {
+        Rows {
+            rows: Vec::new(alloc),
+            keys: IndexSet::new(alloc),
+        }
+    }
+
+    pub(crate) fn allocator(&self) -> Global {
+        *self.rows.allocator()
+    }
+
+    /// The rows in order.
+    pub(crate) fn as_slice(&self) -> &[ViewRow]
+        ensures { result.now ≡ self.now }
+    {
+        self.rows.as_slice()
+    }
+
+    /// Appends the row of a node that has none yet.
+    pub(crate) fn push(&mut self, row: ViewRow) -> Result<(), Memory>
+        requires { has_row self.old row.node ≡ false }
+        ensures ok { OnOk result (self.new ≡ self.old ++ row ∷ []) }
+        ensures err { OnErr result (self.new ≡ self.old) }
+    {
+        self.rows.reserve(1)?;
+        self.keys.insert(key_of(&row.node))?;
+        match self.rows.push(row) {
+            Ok(()) => Ok(()),
+            Err(_) => unreachable!(),
+        }
+    }
+
+    /// Where the row of a node stands.
+    pub(crate) fn place(&self, node: &NodeRef) -> Option<usize>
+        ensures place { result ≡ position (λ r. same_node r.node node.now) self.now }
+        ensures within { IfSome result (λ at. at < length self.now) }
+    {
+        self.keys.get_index_of(&key_of(node))
+    }
+
+    /// The row of a node.
+    pub(crate) fn get(&self, node: &NodeRef) -> Option<&ViewRow>
+        ensures { option_copied result ≡ row_at self.now node.now }
+    {
+        match self.place(node) {
+            Some(at) => self.row(at),
+            None => None,
+        }
+    }
+
+    fn row(&self, at: usize) -> Option<&ViewRow>
+        ensures { option_copied result ≡ slice_get self.now at }
+    {
+        self.rows.get(at)
+    }
+
+    /// Puts a line at the end of a file.
+    pub(crate) fn append_line(&mut self, file: &NodeRef, line: ViewLine) -> Result<(), Memory>
+        ensures ok { OnOk result (self.new ≡ at_row file.now (with_lines_by (λ ls. ls ++ line ∷ [])) self.old) }
+        ensures err { OnErr result (self.new ≡ self.old) }
+    {
+        let place = self.place(file);
+        append_line(&mut self.rows, file, place, line)
+    }
+
+    /// Puts a line directly after its anchor in a file, or first where that is the head.
+    pub(crate) fn insert_line(
+        &mut self,
+        file: &NodeRef,
+        after: &LineRef,
+        line: ViewLine,
+    ) -> Result<(), Memory>
+        ensures ok { OnOk result (self.new ≡ at_row file.now (with_lines_by (after_ref after.now line)) self.old) }
+        ensures err { OnErr result (self.new ≡ self.old) }
+    {
+        let place = self.place(file);
+        insert_line(&mut self.rows, file, place, after, line)
+    }
+}
+
+fn key_of(node: &NodeRef) -> NodeKey
+    ensures { result ≡ key_of node.now }
+{
+    match node {
+        NodeRef::Old(number) => NodeKey::Old(*number),
+        NodeRef::New(index) => NodeKey::New(*index),
+    }
+}
