@@ -5,6 +5,7 @@ pub mod Files
 pub mod Holdings
 pub mod Inserts
 pub mod Judged
+pub mod Naming
 pub mod Orders
 pub mod Reaching
 pub mod Replays
