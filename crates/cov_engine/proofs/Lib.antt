@@ -15,3 +15,4 @@ pub mod Showing
 pub mod Shown
 pub mod Standing
 pub mod States
+pub mod Views
