@@ -66,7 +66,7 @@ module _ (ns : Numbers) (c : List Bool) (at : ℕ) (commits : List Made) (ls : L
       ∙ ap (λ y. map (row_by_number ns) rows ++ y ∷ s) e
   entry-row false rows added row x s h e = refl
 
-  entries-rows : (rows : List ViewRow) (es : List Entry)
+  pub entries-rows : (rows : List ViewRow) (es : List Entry)
       → map (row_by_number ns) (fold (with_entry c at commits ls) rows es) ≡ map (row_by_number ns) rows ++ rows_seen c at (map (entry_kept commits) es)
   entries-rows rows [] = sym (append-nil (map (row_by_number ns) rows))
   entries-rows rows (e ∷ es) =
@@ -108,7 +108,6 @@ held-declared history longer k commits ls entries held h e = rw e (record {
   rows = ap (λ (held : Holding). held.rows) (held-same history k h) ∙ held.rows;
   files = subst (λ (h : Holding). AllByRecursion (IsFileOf h.lines commits ls) entries) (sym (held-same history k h)) held.files;
   in_reach = λ at. in-reach (option_count (take at history)) _ at commits (held.in_reach at) (more-options at history (k ∷ []));
-  fresh = held.fresh;
 })
 
 pub if_ok : {A E : Type 0} (r : Result A E) (P Q : A → Type 0) → ((a : A) → P a → Q a) → IfOk r P → IfOk r Q

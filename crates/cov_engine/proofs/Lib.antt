@@ -2,6 +2,7 @@ pub mod Appends
 pub mod Examples
 pub mod FileLines
 pub mod Files
+pub mod Fresh
 pub mod Holdings
 pub mod Inserts
 pub mod Judged

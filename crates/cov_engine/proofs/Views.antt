@@ -28,6 +28,7 @@ use Rattle.cov_engine.proofs.Standing.{holding-stands}
 use Rattle.cov_engine.proofs.Shown.{replay-stands}
 use Rattle.cov_engine.proofs.Naming.{legal-named}
 use Rattle.cov_engine.proofs.Holdings.{view-rows, if_ok}
+use Rattle.cov_engine.proofs.Fresh.{held-fresh}
 use Rattle.cov_engine.proofs.FileLines.{all-unmapped, Shown, entries-lines}
 
 -- the start of a legal history is legal
@@ -84,7 +85,7 @@ module _ (c : List Bool) (at : ℕ) (commits : List Made) (ls : List KeptLine) (
         let are : v.rows ≡ map (row_by_number ns) seen.rows = sym (view-rows ns c at history commits ls entries held) in
         let named : NamesOnlyMade ns.nodes v = legal-named c (take at history) (legal-take [] history at legal) in
         let low = lines-below c (take at history) in
-        let shown : AllByRecursion (Shown c at commits ls ns history low) seen.rows = entries-lines c at commits ls ns history low [] entries tt (held.fresh c at) held.files in
+        let shown : AllByRecursion (Shown c at commits ls ns history low) seen.rows = entries-lines c at commits ls ns history low [] entries tt (held-fresh c at commits ls entries history held.rows) held.files in
         record {
           rows = are;
           lines = all-map (Shown c at commits ls ns history low) (ShowsLines ns v) (λ r h. h.0) seen.rows shown;

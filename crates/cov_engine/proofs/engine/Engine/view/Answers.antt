@@ -1,5 +1,9 @@
+use Rattle.cov_engine.proofs.Fresh.{held-fresh}
 use Rattle.cov_engine.proofs.Views.{shown-view}
 use Rattle.cov_engine.proofs.engine.Engine.view.Goals as goal
+
+pub show-requires-clause-fresh : goal.show-requires-clause-fresh
+show-requires-clause-fresh c = held-fresh c.args.choice c.args.at _ _ _ c.self.inside.state.commands.commands c.self.invariant.1.rows
 
 pub returns-clause-shows : goal.returns-clause-shows
 returns-clause-shows c =
