@@ -20,8 +20,8 @@ use Rattle.cov_edit.specs.Replay.{applying, commit_changes, changes_from, applie
 use Rattle.cov_edit.proofs.Replays.{fold-append, numbers_from-append, replay-append, replay-commit}
 use Rattle.cov_view.specs.References.{is_known_node, is_made_node}
 use Rattle.cov_view.specs.Refusals.{when, first_of, has_node, refusal, refused_from, first_refused}
+use Rattle.cov_view.specs.declared.fault.EditFault.{EditFault}
 use Rattle.cov_view.specs.declared.fault.EditFault.TheVariants as faults
-use Rattle.cov_engine.specs.declared.refusal.Refusal.{Refusal}
 use Rattle.cov_engine.specs.declared.refusal.Refusal.TheVariants as refusals
 use Rattle.cov_engine.specs.Naming.{NamesOnlyMade}
 use Rattle.cov_engine.specs.Verdict.{verdict, when_full, size_refusals, as_invalid, as_bad_record, has_no_edits, IsLegalFrom, IsLegal}
@@ -190,14 +190,14 @@ last-none [] (Some f) h = absurd (cc)
 last-none (None ∷ os) o h = last-none os o h
 last-none (Some f ∷ os) o h = absurd (cc)
 
-no-record : {A : Type 0} (o : Option A) (g : A → Refusal) (asked : Option A → Option Refusal) → ((a : A) → asked (Some a) ≡ Some (g a)) → asked o ≡ None → o ≡ None
-no-record None g asked some h = refl
-no-record (Some a) g asked some h = absurd (let e = some a in cc)
+no-record : (refused : Option (ℕ × EditFault)) → as_bad_record refused ≡ None → refused ≡ None
+no-record None h = refl
+no-record (Some r) h = absurd (cc)
 
 edits-accepted : (history : List Command) (base : ℕ) (choice : List Bool) (ambition : Formula ℕ) (es : List Edit) → verdict history (commands.Commit base choice ambition es) ≡ None
     → first_refused (numbers_of (take base history)) (replay choice (take base history)) es ≡ None
 edits-accepted history base choice ambition es h =
-    no-record (first_refused (numbers_of (take base history)) (replay choice (take base history)) es) (λ r. refusals.BadRecord r.0) as_bad_record (λ r. refl)
+    no-record (first_refused (numbers_of (take base history)) (replay choice (take base history)) es)
     (last-none (
     when_full history ∷ when (nat_lt (length history) base) refusals.BadBase
     ∷ when (not (nat_eq (length choice) (option_count (take base history))) || nat_lt (option_count (take base history)) (reach ambition)) refusals.BadOption
