@@ -1,21 +1,23 @@
 -- The lines of the files that are shown.
-use Rattle.std.specs.Prelude.{Result, IfOk}
 use Rattle.std.specs.List.{fold, filter, AllByRecursion}
-use Rattle.std.proofs.Common.{◌≡◌, refl, ap, sym, subst, ◌∙◌, ℕ, ◌-◌, Bool, true, false, cond, ◌||◌, List, [], ◌∷◌, ◌++◌, map, take, Option, Some, None, nat_eq, slice_get, append-nil, append_assoc, arith}
+use Rattle.std.proofs.Common.{◌≡◌, refl, ap, sym, subst, ◌∙◌, ℕ, ◌-◌, Bool, true, false, cond, ◌||◌, List, [], ◌∷◌, ◌++◌, map, take, Option, Some, None, nat_eq, slice_get, length, ◌+◌, ◌≤◌, append-nil, append_assoc, arith}
 use Rattle.std.proofs.lemmas.Bool.Decides.{nat_tests}
 use Rattle.cov_base.specs.declared.number.Kind.{Kind}
 use Rattle.cov_base.specs.declared.number.Kind.TheVariants as kinds
 use Rattle.cov_base.specs.declared.number.NodeRef.{NodeRef}
 use Rattle.cov_base.specs.declared.number.NodeRef.TheVariants as nodes
+use Rattle.cov_base.specs.declared.number.LineRef.{LineRef}
 use Rattle.cov_base.specs.declared.number.LineRef.TheVariants as lines
+use Rattle.cov_base.specs.Addresses.{line_of}
+use Rattle.cov_base.proofs.Ordered.{all-map, all-filter}
 use Rattle.cov_edit.specs.declared.command.Command.{Command}
-use Rattle.cov_edit.specs.Numbering.{Numbers}
-use Rattle.cov_edit.specs.Variant.{Line, lines_of}
+use Rattle.cov_edit.specs.Numbering.{Numbers, line_number}
+use Rattle.cov_edit.specs.Variant.{Variant, Line, lines_of}
 use Rattle.cov_edit.specs.Replay.{replay}
 use Rattle.cov_view.specs.declared.line.ViewLine.{ViewLine}
 use Rattle.cov_view.specs.declared.row.ViewRow.{ViewRow}
-use Rattle.cov_view.specs.References.{same_node, is_dir_kind}
-use Rattle.cov_view.specs.Seen.{Seen, has_row, kind_in, at_row, with_lines_by}
+use Rattle.cov_view.specs.References.{same_node, is_dir_kind, is_made_line}
+use Rattle.cov_view.specs.Seen.{has_row, kind_in, at_row, with_lines_by}
 use Rattle.cov_view.specs.Views.{ShowsLines, line_by_number, by_number}
 use Rattle.cov_view.proofs.Changes.{not_there}
 use Rattle.cov_engine.specs.declared.kept.Made.{Made}
@@ -24,8 +26,8 @@ use Rattle.cov_engine.specs.declared.kept.Entry.{Entry}
 use Rattle.cov_engine.specs.Kept.{kept_of}
 use Rattle.cov_engine.specs.Files.{ShownLine, as_shown, dated_as_shown, dated_shown, is_dated_seen, file_dated}
 use Rattle.cov_engine.specs.Showing.{dated_from, dated_of, with_number, with_numbers, with_entry, AreFresh}
-use Rattle.cov_engine.specs.Holdings.{IsFileOf, IsHeldBy}
-use Rattle.cov_engine.proofs.Holdings.{if_ok}
+use Rattle.cov_engine.specs.Holdings.{IsFileOf}
+use Rattle.cov_engine.proofs.Standing.{all-mapped}
 use Rattle.cov_engine.proofs.Orders.{file-shows}
 
 last-changed : (rows : List ViewRow) (r : ViewRow) (file : NodeRef) (f : ViewRow → ViewRow) → has_row rows file ≡ false → same_node r.node file ≡ true → at_row file f (rows ++ r ∷ []) ≡ rows ++ f r ∷ []
@@ -47,6 +49,25 @@ pair s = (s.line, s.text)
 pairs : (xs : List Line) → map pair (map as_shown xs) ≡ map by_number xs
 pairs [] = refl
 pairs (x ∷ xs) = ap (λ ps. by_number x ∷ ps) (pairs xs)
+
+pub all-unmapped : {X Y : Type 0} (Q : Y → Type 0) (f : X → Y) (xs : List X) → AllByRecursion Q (map f xs) → AllByRecursion (λ x. Q (f x)) xs
+all-unmapped Q f [] h = tt
+all-unmapped Q f (x ∷ xs) h = (h.0, all-unmapped Q f xs h.1)
+
+old-line : (count : ℕ) (line : LineRef) → line_number count line ≤ count → is_made_line count 0 line ≡ true
+old-line count (lines.Old x) h = let le : x ≤ count = h in grind (arith, nat_tests, le)
+old-line count (lines.New i) h = let le : count + 1 + i ≤ count = h in absurd (omega (arith, le))
+
+-- lines with the numbers of a variant's are made
+lines-made : (numbers : Numbers) (v : Variant) (file : ℕ) (ls : List ViewLine) → AllByRecursion (λ l. line_of l.address ≤ length numbers.addresses) v.lines
+    → map by_number (lines_of v file) ≡ map (line_by_number numbers) ls → AllByRecursion (λ l. is_made_line (length numbers.addresses) 0 l.line ≡ true) ls
+lines-made numbers v file ls low e =
+    all-map (λ l. line_number (length numbers.addresses) l.line ≤ length numbers.addresses) (λ l. is_made_line (length numbers.addresses) 0 l.line ≡ true)
+    (λ l h. old-line (length numbers.addresses) l.line h) ls
+    (all-unmapped (λ (p : ℕ × List ℕ). p.0 ≤ length numbers.addresses) (line_by_number numbers) ls
+    (subst (AllByRecursion (λ (p : ℕ × List ℕ). p.0 ≤ length numbers.addresses)) e
+    (all-mapped (λ l. line_of l.address ≤ length numbers.addresses) (λ (p : ℕ × List ℕ). p.0 ≤ length numbers.addresses) by_number (λ l h. h) (lines_of v file)
+    (all-filter (λ l. line_of l.address ≤ length numbers.addresses) (λ l. nat_eq l.file file) v.lines low))))
 
 all-one : (P : ViewRow → Type 0) (rows : List ViewRow) (r : ViewRow) → AllByRecursion P rows → P r → AllByRecursion P (rows ++ r ∷ [])
 all-one P [] r h p = (p, tt)
@@ -89,9 +110,10 @@ module _ (c : List Bool) (at : ℕ) (commits : List Made) (ls : List KeptLine) w
     all-shown [] = refl
     all-shown (n ∷ ns) = one-shown n ns (is_dated_seen c at (dated_of commits ls n)) (all-shown ns)
 
-    module _ (history : List Command) where
-      abbrev Shown : ViewRow → Type 0
-      Shown r = ShowsLines numbers (replay c (take at history)) r
+    module _ (history : List Command) (low : AllByRecursion (λ l. line_of l.address ≤ length numbers.addresses) (replay c (take at history)).lines) where
+      -- a row shows its lines, all of which are made
+      abbrev pub Shown : ViewRow → Type 0
+      Shown r = ShowsLines numbers (replay c (take at history)) r × AllByRecursion (λ l. is_made_line (length numbers.addresses) 0 l.line ≡ true) r.lines
 
       file-lines : (file : ℕ) (ns : List ℕ) → file_dated file (kept_of history) ≡ map (dated_of commits ls) ns
           → map by_number (lines_of (replay c (take at history)) file) ≡ map (line_by_number numbers) (lines_shown ns)
@@ -108,9 +130,12 @@ module _ (c : List Bool) (at : ℕ) (commits : List Made) (ls : List KeptLine) w
           let r : ViewRow = record { node = nodes.Old e.node; kind = kinds.File; parent = nodes.Old e.parent; name = e.name; lines = [] } in
           let same : nat_eq e.node e.node ≡ true = grind (arith, nat_tests) in
           subst (AllByRecursion Shown) (sym (numbers-lines e.node rows r e.order.lines (not_there rows (nodes.Old e.node) fresh).1 same))
-          (all-one Shown rows (with_lines_by (λ l. l ++ lines_shown e.order.lines) r) shown (λ f. file-lines e.node e.order.lines (file refl)))
+          (all-one Shown rows (with_lines_by (λ l. l ++ lines_shown e.order.lines) r) shown (
+            (λ f. file-lines e.node e.order.lines (file refl)),
+            lines-made numbers (replay c (take at history)) e.node (lines_shown e.order.lines) low (file-lines e.node e.order.lines (file refl)),
+          ))
       kinds-lines kinds.Dir e rows fresh shown file =
-          all-one Shown rows (record { node = nodes.Old e.node; kind = kinds.Dir; parent = nodes.Old e.parent; name = e.name; lines = [] }) shown (λ f. absurd (dir f))
+          all-one Shown rows (record { node = nodes.Old e.node; kind = kinds.Dir; parent = nodes.Old e.parent; name = e.name; lines = [] }) shown ((λ f. absurd (dir f)), tt)
         where
           dir : true ≡ false → ⊥
           dir f = cc
@@ -119,18 +144,9 @@ module _ (c : List Bool) (at : ℕ) (commits : List Made) (ls : List KeptLine) w
       either-lines true rows added h k = k
       either-lines false rows added h k = h
 
-      entries-lines : (rows : List ViewRow) (es : List Entry) → AllByRecursion Shown rows → AreFresh c at commits ls rows es → AllByRecursion (IsFileOf (kept_of history) commits ls) es
+      -- so do the rows of all entries
+      pub entries-lines : (rows : List ViewRow) (es : List Entry) → AllByRecursion Shown rows → AreFresh c at commits ls rows es → AllByRecursion (IsFileOf (kept_of history) commits ls) es
           → AllByRecursion Shown (fold (with_entry c at commits ls) rows es)
       entries-lines rows [] shown fresh files = shown
       entries-lines rows (e ∷ es) shown fresh files =
           entries-lines (with_entry c at commits ls rows e) es (either-lines _ rows _ shown (kinds-lines e.kind e rows fresh.0 shown files.0)) fresh.1 files.1
-
--- what is shown has the lines of the replay in each file
-pub shown-lines : {E : Type 0} (r : Result Seen E) (ns : Numbers) (c : List Bool) (at : ℕ) (history value : List Command) (commits : List Made) (ls : List KeptLine) (entries : List Entry)
-    → IsHeldBy history commits ls entries → history ≡ value
-    → IfOk r (λ view. view ≡ record { rows = fold (with_entry c at commits ls) [] entries; nodes_made = 0; lines_made = 0 })
-    → IfOk r (λ view. AllByRecursion (ShowsLines ns (replay c (take at value))) view.rows)
-shown-lines r ns c at history value commits ls entries held is =
-    if_ok r _ _ (λ view e. subst (λ (s : Seen). AllByRecursion (ShowsLines ns (replay c (take at value))) s.rows) (sym e)
-    (subst (λ h. AllByRecursion (ShowsLines ns (replay c (take at h))) (fold (with_entry c at commits ls) [] entries)) is
-    (entries-lines c at commits ls ns history [] entries tt (held.fresh c at) held.files)))

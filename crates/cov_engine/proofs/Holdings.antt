@@ -16,7 +16,7 @@ use Rattle.cov_edit.specs.Replay.{replay}
 use Rattle.cov_view.specs.declared.line.ViewLine.{ViewLine}
 use Rattle.cov_view.specs.declared.row.ViewRow.{ViewRow}
 use Rattle.cov_view.specs.References.{same_node}
-use Rattle.cov_view.specs.Seen.{Seen, at_row, with_lines_by}
+use Rattle.cov_view.specs.Seen.{at_row, with_lines_by}
 use Rattle.cov_view.specs.Views.{row_by_number}
 use Rattle.cov_engine.specs.declared.kept.Made.{Made}
 use Rattle.cov_engine.specs.declared.kept.KeptLine.{KeptLine}
@@ -66,7 +66,7 @@ module _ (ns : Numbers) (c : List Bool) (at : ℕ) (commits : List Made) (ls : L
       ∙ ap (λ y. map (row_by_number ns) rows ++ y ∷ s) e
   entry-row false rows added row x s h e = refl
 
-  entries-rows : (rows : List ViewRow) (es : List Entry)
+  pub entries-rows : (rows : List ViewRow) (es : List Entry)
       → map (row_by_number ns) (fold (with_entry c at commits ls) rows es) ≡ map (row_by_number ns) rows ++ rows_seen c at (map (entry_kept commits) es)
   entries-rows rows [] = sym (append-nil (map (row_by_number ns) rows))
   entries-rows rows (e ∷ es) =
@@ -108,17 +108,8 @@ held-declared history longer k commits ls entries held h e = rw e (record {
   rows = ap (λ (held : Holding). held.rows) (held-same history k h) ∙ held.rows;
   files = subst (λ (h : Holding). AllByRecursion (IsFileOf h.lines commits ls) entries) (sym (held-same history k h)) held.files;
   in_reach = λ at. in-reach (option_count (take at history)) _ at commits (held.in_reach at) (more-options at history (k ∷ []));
-  fresh = held.fresh;
 })
 
 pub if_ok : {A E : Type 0} (r : Result A E) (P Q : A → Type 0) → ((a : A) → P a → Q a) → IfOk r P → IfOk r Q
 if_ok (Ok a) P Q f h = f a h
 if_ok (Err e) P Q f h = tt
-
--- what is shown has the rows of the replay
-pub shown-rows : {E : Type 0} (r : Result Seen E) (ns : Numbers) (c : List Bool) (at : ℕ) (history value : List Command) (commits : List Made) (ls : List KeptLine) (entries : List Entry)
-    → IsHeldBy history commits ls entries → history ≡ value
-    → IfOk r (λ view. view ≡ record { rows = fold (with_entry c at commits ls) [] entries; nodes_made = 0; lines_made = 0 })
-    → IfOk r (λ view. map (row_by_number ns) view.rows ≡ (replay c (take at value)).rows)
-shown-rows r ns c at history value commits ls entries held is =
-    if_ok r _ _ (λ view e. ap (λ (s : Seen). map (row_by_number ns) s.rows) e ∙ view-rows ns c at value commits ls entries (subst (λ h. IsHeldBy h commits ls entries) is held))

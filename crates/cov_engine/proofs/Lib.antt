@@ -2,9 +2,11 @@ pub mod Appends
 pub mod Examples
 pub mod FileLines
 pub mod Files
+pub mod Fresh
 pub mod Holdings
 pub mod Inserts
 pub mod Judged
+pub mod Naming
 pub mod Orders
 pub mod Reaching
 pub mod Replays
@@ -14,3 +16,4 @@ pub mod Showing
 pub mod Shown
 pub mod Standing
 pub mod States
+pub mod Views

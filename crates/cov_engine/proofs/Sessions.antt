@@ -153,11 +153,11 @@ commit-shows history s good h =
     ∙ ap (λ ns. fold edited (replay s.choice (take s.base history)) (numbered ns s.edits)) (numbers-since s.base history h)
 
 -- an accepted edit is accepted on the variant with those before it
-edit-accepted : (k : ℕ) (o : Option EditFault) (later : Option (ℕ × EditFault)) → refused_at k o later ≡ None → o ≡ None
+pub edit-accepted : (k : ℕ) (o : Option EditFault) (later : Option (ℕ × EditFault)) → refused_at k o later ≡ None → o ≡ None
 edit-accepted k None later h = refl
 edit-accepted k (Some f) later h = absurd (cc)
 
-rest-accepted : (k : ℕ) (o : Option EditFault) (later : Option (ℕ × EditFault)) → refused_at k o later ≡ None → later ≡ None
+pub rest-accepted : (k : ℕ) (o : Option EditFault) (later : Option (ℕ × EditFault)) → refused_at k o later ≡ None → later ≡ None
 rest-accepted k None later h = h
 rest-accepted k (Some f) later h = absurd (cc)
 

@@ -1,5 +1,5 @@
 -- What an engine keeps of the rows and lines that its history holds.
-use Rattle.std.specs.Prelude.{◌≡◌, ℕ, Bool, false, List, [], ◌∷◌, map, take}
+use Rattle.std.specs.Prelude.{◌≡◌, ℕ, false, List, [], ◌∷◌, map, take}
 use Rattle.std.specs.List.{AllByRecursion}
 use Rattle.cov_base.specs.Rows.{Row}
 use Rattle.cov_edit.specs.declared.command.Command.{Command}
@@ -8,7 +8,7 @@ use Rattle.cov_engine.specs.Kept.{Kept, kept_of, entries_of}
 use Rattle.cov_edit.specs.Variant.{Line}
 use Rattle.cov_view.specs.References.{is_dir_kind}
 use Rattle.cov_engine.specs.Files.{file_dated}
-use Rattle.cov_engine.specs.Showing.{change_of, dated_of, AreInReach, AreFresh}
+use Rattle.cov_engine.specs.Showing.{change_of, dated_of, AreInReach}
 use Rattle.cov_engine.specs.declared.kept.Made.{Made}
 use Rattle.cov_engine.specs.declared.kept.KeptLine.{KeptLine}
 use Rattle.cov_engine.specs.declared.kept.Entry.{Entry}
@@ -21,10 +21,9 @@ entry_kept commits e = record { item = record { node = e.node; kind = e.kind; pa
 abbrev pub IsFileOf : List (Kept Line) → List Made → List KeptLine → Entry → Type 0
 IsFileOf kept commits ls e = is_dir_kind e.kind ≡ false → file_dated e.node kept ≡ map (dated_of commits ls) e.order.lines
 
--- the entries are the rows that a history holds, with the lines of each file, each ambition speaks of options that are
--- declared where it counts, and no two entries that are seen together are of one node
+-- the entries are the rows that a history holds, with the lines of each file, and each ambition speaks of options that are
+-- declared where it counts
 pub record IsHeldBy (history : List Command) (commits : List Made) (ls : List KeptLine) (entries : List Entry) : Type 0 where
   pub rows : entries_of history ≡ map (entry_kept commits) entries
   pub files : AllByRecursion (IsFileOf (kept_of history) commits ls) entries
   pub in_reach : (at : ℕ) → AreInReach (option_count (take at history)) at commits
-  pub fresh : (c : List Bool) (at : ℕ) → AreFresh c at commits ls [] entries

@@ -12,6 +12,7 @@ use Rattle.cov_edit.specs.Replay.{replay}
 use Rattle.cov_engine.specs.Kept.{kept_number, kept_after, entries_after, held_from, held_by, kept_of, entries_of, lines_seen, rows_seen, variant_seen, file_kept, is_kept_anchor, Stands}
 use Rattle.cov_view.specs.Refusals.{when, first_of}
 use Rattle.cov_engine.specs.declared.refusal.Refusal.TheVariants as refusals
+use Rattle.cov_engine.specs.Naming.{NamesOnlyMade}
 use Rattle.cov_engine.specs.Reach.{IsHeldInReach}
 use Rattle.cov_engine.specs.Verdict.{IsLegal, verdict, when_full, size_refusals, has_no_edits}
 use Rattle.cov_engine.specs.Sessions.{Session, IsGood, seen, commit_of, has_commit}
@@ -134,3 +135,7 @@ abbrev pub ReplayStands : Type 0
 ReplayStands = (c : List Bool) (history : List Command)
     → AreInOrder line_address (replay c history).lines
     × AllByRecursion (λ l. IsLineOf (numbers_of history).addresses (length (numbers_of history).addresses) l.address) (replay c history).lines
+
+-- on each choice, the replay of a legal history names only the root and the nodes that the history made
+abbrev pub LegalIsMade : Type 0
+LegalIsMade = (c : List Bool) (history : List Command) → IsLegal history → NamesOnlyMade (numbers_of history).nodes (replay c history)

@@ -3,6 +3,7 @@ pub mod Holdings
 pub mod Insertions
 pub mod Kept
 pub mod Laws
+pub mod Naming
 pub mod Reach
 pub mod Sessions
 pub mod Showing

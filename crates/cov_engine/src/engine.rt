@@ -1,13 +1,12 @@
 // A history in use.
-ghost use Rattle.std.specs.Prelude.{◌≡◌, ◌≤◌, [], ◌∷◌, false, length, map, take, nat_le, None, Some, IfOk, IfErr, OnOk};
-ghost use Rattle.std.specs.List.{AllByRecursion};
+ghost use Rattle.std.specs.Prelude.{◌≡◌, ◌≤◌, [], ◌∷◌, false, length, take, nat_le, None, Some, IfOk, IfErr, OnOk};
 ghost use Rattle.cov_edit.specs.Fits.{reach_of};
 ghost use Rattle.cov_edit.specs.History.{options_of, option_count, first_false_in};
 ghost use Rattle.cov_expr.specs.Options.{is_declared};
 ghost use Rattle.cov_view.specs.Refusals.{when, first_of};
 ghost use Rattle.cov_edit.specs.Numbering.{numbers_of};
 ghost use Rattle.cov_edit.specs.Replay.{replay};
-ghost use Rattle.cov_view.specs.Views.{row_by_number, ShowsLines};
+ghost use Rattle.cov_view.specs.Views.{Shows};
 ghost use Rattle.cov_engine.specs.Holdings.{IsHeldBy};
 ghost use Rattle.cov_engine.specs.Sessions.{has_commit};
 ghost use Rattle.cov_engine.specs.States.{AreCountsOf, IsStateOf};
@@ -121,8 +120,7 @@ impl Engine {
     pub fn view(&self, alloc: Global, choice: Choice, at: Position) -> Result<View, Memory>
         requires position { at ≤ length self.now }
         requires choice { option_count (take at self.now) ≤ length choice }
-        ensures rows { IfOk result (λ view. map (row_by_number (numbers_of (take at self.now))) view.rows ≡ (replay choice (take at self.now)).rows) }
-        ensures files { IfOk result (λ view. AllByRecursion (ShowsLines (numbers_of (take at self.now)) (replay choice (take at self.now))) view.rows) }
+        ensures shows { IfOk result (λ view. Shows (numbers_of (take at self.now)) (numbers_of (take at self.now)).addresses view (replay choice (take at self.now))) }
         ensures nodes { IfOk result (λ view. view.nodes_made ≡ 0) }
         ensures lines { IfOk result (λ view. view.lines_made ≡ 0) }
     {

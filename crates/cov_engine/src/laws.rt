@@ -1,5 +1,5 @@
 //! Laws of what a history holds and accepts. Each function does nothing; what it ensures is the law.
-ghost use Rattle.cov_engine.specs.Laws.{LinesFollowReplay, RowsFollowReplay, HoldingFollowsReplay, HoldingStands, HoldingGoesOn, CommitKeepsLines, CommitKeepsRows, FileFollowsReplay, ShownIsKept, InsertAfterAnchor, InsertInOneFile, InsertIsNumbered, AnchorsStay, GoodSessionsStay, GoodCommitsPass, CommitShowsSeen, AcceptedIsAnchored, DeclarationsHoldNothing, FileShowsReplay, InsertIsDated, OrderTakesInsert, LegalIsInReach, ReplayStands};
+ghost use Rattle.cov_engine.specs.Laws.{LinesFollowReplay, RowsFollowReplay, HoldingFollowsReplay, HoldingStands, HoldingGoesOn, CommitKeepsLines, CommitKeepsRows, FileFollowsReplay, ShownIsKept, InsertAfterAnchor, InsertInOneFile, InsertIsNumbered, AnchorsStay, GoodSessionsStay, GoodCommitsPass, CommitShowsSeen, AcceptedIsAnchored, DeclarationsHoldNothing, FileShowsReplay, InsertIsDated, OrderTakesInsert, LegalIsInReach, ReplayStands, LegalIsMade};
 
 /// At each position, the lines seen on a choice are those of the replay of the history up to there.
 pub fn lines_follow_replay()
@@ -114,4 +114,9 @@ pub fn legal_is_in_reach()
 /// The lines of a replay stand in order, and each is one of the history's.
 pub fn replay_stands()
     ensures { ReplayStands }
+{}
+
+/// On each choice, the replay of a legal history names only the root and the nodes that the history made.
+pub fn legal_is_made()
+    ensures { LegalIsMade }
 {}

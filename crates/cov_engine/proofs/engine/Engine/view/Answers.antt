@@ -1,15 +1,10 @@
-use Rattle.std.proofs.Common.{take}
-use Rattle.cov_edit.specs.Numbering.{numbers_of}
-use Rattle.cov_engine.proofs.Holdings.{shown-rows}
-use Rattle.cov_engine.proofs.FileLines.{shown-lines}
+use Rattle.cov_engine.proofs.Fresh.{held-fresh}
+use Rattle.cov_engine.proofs.Views.{shown-view}
 use Rattle.cov_engine.proofs.engine.Engine.view.Goals as goal
 
-pub returns-clause-rows : goal.returns-clause-rows
-returns-clause-rows c =
-    shown-rows c.show.result (numbers_of (take c.args.at c.args.self.now)) c.args.choice c.args.at c.self.inside.state.commands.commands c.args.self.now _ _ _
-    c.self.invariant.1 c.self.view_is c.show.ensures
+pub show-requires-clause-fresh : goal.show-requires-clause-fresh
+show-requires-clause-fresh c = held-fresh c.args.choice c.args.at _ _ _ c.self.inside.state.commands.commands c.self.invariant.1.rows
 
-pub returns-clause-files : goal.returns-clause-files
-returns-clause-files c =
-    shown-lines c.show.result (numbers_of (take c.args.at c.args.self.now)) c.args.choice c.args.at c.self.inside.state.commands.commands c.args.self.now _ _ _
-    c.self.invariant.1 c.self.view_is c.show.ensures
+pub returns-clause-shows : goal.returns-clause-shows
+returns-clause-shows c =
+    shown-view c.args.choice c.args.at _ _ _ c.show.result c.self.inside.state.commands.commands c.args.self.now c.self.invariant.0.legal c.self.invariant.1 c.self.view_is c.show.ensures

@@ -1,0 +1,104 @@
+-- The view of a variant.
+use Rattle.std.proofs.Common.{◌≡◌, ℕ, zero, suc, ◌+◌, ◌<◌, ◌≤◌, Bool, true, false, ◌&&◌, List, [], ◌∷◌, ◌++◌, length, map, take, ap, sym, subst, ◌∙◌, arith}
+use Rattle.std.specs.Prelude.{Result, IfOk}
+use Rattle.std.specs.List.{fold, AllByRecursion}
+use Rattle.std.proofs.lemmas.Bool.Decides.{nat_tests}
+use Rattle.cov_base.specs.Addresses.{line_of, IsTable, IsLineOf}
+use Rattle.cov_base.specs.Rows.{Row}
+use Rattle.cov_base.specs.declared.number.NodeRef.{NodeRef}
+use Rattle.cov_base.specs.declared.number.NodeRef.TheVariants as nodes
+use Rattle.cov_base.proofs.Ordered.{all-map, all-both}
+use Rattle.cov_base.proofs.Tables.{line_of-in}
+use Rattle.cov_edit.specs.declared.command.Command.{Command}
+use Rattle.cov_edit.specs.Numbering.{Numbers, node_number, numbers_of}
+use Rattle.cov_edit.specs.Variant.{Variant}
+use Rattle.cov_edit.specs.Replay.{replay}
+use Rattle.cov_view.specs.References.{is_made_node}
+use Rattle.cov_view.specs.Seen.{Seen}
+use Rattle.cov_view.specs.Views.{row_by_number, ShowsLines, IsMade, Shows}
+use Rattle.cov_view.specs.declared.row.ViewRow.{ViewRow}
+use Rattle.cov_engine.specs.declared.kept.Made.{Made}
+use Rattle.cov_engine.specs.declared.kept.KeptLine.{KeptLine}
+use Rattle.cov_engine.specs.declared.kept.Entry.{Entry}
+use Rattle.cov_engine.specs.Showing.{with_entry}
+use Rattle.cov_engine.specs.Holdings.{IsHeldBy}
+use Rattle.cov_engine.specs.Naming.{NamesOnlyMade}
+use Rattle.cov_engine.specs.Verdict.{IsLegalFrom, IsLegal}
+use Rattle.cov_engine.proofs.Standing.{holding-stands}
+use Rattle.cov_engine.proofs.Shown.{replay-stands}
+use Rattle.cov_engine.proofs.Naming.{legal-named}
+use Rattle.cov_engine.proofs.Holdings.{view-rows, if_ok}
+use Rattle.cov_engine.proofs.Fresh.{held-fresh}
+use Rattle.cov_engine.proofs.FileLines.{all-unmapped, Shown, entries-lines}
+
+-- the start of a legal history is legal
+legal-take : (before history : List Command) (n : ℕ) → IsLegalFrom before history → IsLegalFrom before (take n history)
+legal-take before history zero legal = tt
+legal-take before [] (suc n) legal = tt
+legal-take before (k ∷ history) (suc n) legal = (legal.0, legal.1, legal-take (before ++ k ∷ []) history n legal.2)
+
+line-below : (t : List (List ℕ)) (a : List ℕ) → IsTable t → IsLineOf t (length t) a → line_of a ≤ length t
+line-below t a table line =
+    let own : line_of a ≡ suc line.0 = ap line_of line.2 ∙ line_of-in t line.0 table line.1 in
+    let less : line.0 < length t = line.1 in
+    omega (arith, own, less)
+
+-- no line of a replay has a greater number than the history's last
+lines-below : (c : List Bool) (history : List Command) → AllByRecursion (λ l. line_of l.address ≤ length (numbers_of history).addresses) (replay c history).lines
+lines-below c history =
+    all-map (λ l. IsLineOf (numbers_of history).addresses (length (numbers_of history).addresses) l.address) (λ l. line_of l.address ≤ length (numbers_of history).addresses)
+    (λ l line. line-below (numbers_of history).addresses l.address (holding-stands history).0 line) (replay c history).lines (replay-stands c history).1
+
+old-node : (count : ℕ) (node : NodeRef) → node_number count node ≤ count → is_made_node count 0 node ≡ true
+old-node count (nodes.Old x) h = let le : x ≤ count = h in grind (arith, nat_tests, le)
+old-node count (nodes.New i) h = let le : count + 1 + i ≤ count = h in absurd (omega (arith, le))
+
+both : (a b : Bool) → a ≡ true → b ≡ true → (a && b) ≡ true
+both true b e f = f
+both false b e f = absurd (cc)
+
+-- rows with the numbers of a variant's name what is made
+rows-made : (ns : Numbers) (rows : List ViewRow) (v : Variant) → v.rows ≡ map (row_by_number ns) rows → NamesOnlyMade ns.nodes v
+    → AllByRecursion (λ r. (is_made_node ns.nodes 0 r.node && is_made_node ns.nodes 0 r.parent) ≡ true) rows
+rows-made ns rows v e named =
+    all-both (λ r. node_number ns.nodes r.node ≤ ns.nodes) (λ r. node_number ns.nodes r.parent ≤ ns.nodes) (λ r. (is_made_node ns.nodes 0 r.node && is_made_node ns.nodes 0 r.parent) ≡ true)
+    (λ r node parent. both (is_made_node ns.nodes 0 r.node) (is_made_node ns.nodes 0 r.parent) (old-node ns.nodes r.node node) (old-node ns.nodes r.parent parent)) rows
+    (all-unmapped (λ (r : Row). r.node ≤ ns.nodes) (row_by_number ns) rows (subst (AllByRecursion (λ (r : Row). r.node ≤ ns.nodes)) e named.nodes))
+    (all-unmapped (λ (r : Row). r.parent ≤ ns.nodes) (row_by_number ns) rows (subst (AllByRecursion (λ (r : Row). r.parent ≤ ns.nodes)) e named.parents))
+
+module _ (c : List Bool) (at : ℕ) (commits : List Made) (ls : List KeptLine) (entries : List Entry) where
+  abbrev seen : Seen
+  seen = record { rows = fold (with_entry c at commits ls) [] entries; nodes_made = 0; lines_made = 0 }
+
+  module _ (history : List Command) where
+    abbrev ns : Numbers
+    ns = numbers_of (take at history)
+
+    abbrev v : Variant
+    v = replay c (take at history)
+
+    abbrev IsVariant : Type 0
+    IsVariant = Shows ns ns.addresses seen v
+
+    view-shows : IsLegal history → IsHeldBy history commits ls entries → IsVariant
+    view-shows legal held =
+        let are : v.rows ≡ map (row_by_number ns) seen.rows = sym (view-rows ns c at history commits ls entries held) in
+        let named : NamesOnlyMade ns.nodes v = legal-named c (take at history) (legal-take [] history at legal) in
+        let low = lines-below c (take at history) in
+        let shown : AllByRecursion (Shown c at commits ls ns history low) seen.rows = entries-lines c at commits ls ns history low [] entries tt (held-fresh c at commits ls entries history held.rows) held.files in
+        record {
+          rows = are;
+          lines = all-map (Shown c at commits ls ns history low) (ShowsLines ns v) (λ r h. h.0) seen.rows shown;
+          made = all-both (λ r. (is_made_node ns.nodes 0 r.node && is_made_node ns.nodes 0 r.parent) ≡ true) (Shown c at commits ls ns history low) (IsMade ns seen) (λ r a h. (a, h.1)) seen.rows
+              (rows-made ns seen.rows v are named) shown;
+          in_order = (replay-stands c (take at history)).0;
+          files = all-map (λ l. l.file ≤ ns.nodes) (λ l. l.file ≤ ns.nodes + 0) (λ l h. omega (arith, h)) v.lines named.files;
+          addresses = (replay-stands c (take at history)).1;
+          counted = let same : length ns.addresses ≡ length ns.addresses + 0 = omega arith in same;
+        }
+
+  -- what is shown is the variant of the replay
+  pub shown-view : {E : Type 0} (r : Result Seen E) (history value : List Command) → IsLegal history → IsHeldBy history commits ls entries → history ≡ value
+      → IfOk r (λ view. view ≡ seen) → IfOk r (λ view. Shows (ns value) (ns value).addresses view (v value))
+  shown-view r history value legal held is =
+      if_ok r _ _ (λ view e. subst (λ (s : Seen). Shows (ns value) (ns value).addresses s (v value)) (sym e) (subst (λ h. IsVariant h) is (view-shows history legal held)))
