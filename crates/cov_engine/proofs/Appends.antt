@@ -21,11 +21,11 @@ held_from-append p q held ns (commands.Constraint expr ∷ history) later e = he
 pub holding-goes_on : (history later : List Command) → held_by (history ++ later) ≡ held_from (length history) (held_by history) (numbers_of history) later
 holding-goes_on history later = held_from-append (length history) 0 nothing_held no_numbers history later (omega arith)
 
-lines-edits : (q : ℕ) (within : Formula ℕ) (held : Holding) (ds : List NumberedEdit) → (fold (held_after q within) held ds).lines ≡ fold (kept_after q within) held.lines ds
+pub lines-edits : (q : ℕ) (within : Formula ℕ) (held : Holding) (ds : List NumberedEdit) → (fold (held_after q within) held ds).lines ≡ fold (kept_after q within) held.lines ds
 lines-edits q within held [] = refl
 lines-edits q within held (d ∷ ds) = lines-edits q within (held_after q within held d) ds
 
-rows-edits : (q : ℕ) (within : Formula ℕ) (held : Holding) (ds : List NumberedEdit) → (fold (held_after q within) held ds).rows ≡ fold (entries_after q within) held.rows ds
+pub rows-edits : (q : ℕ) (within : Formula ℕ) (held : Holding) (ds : List NumberedEdit) → (fold (held_after q within) held ds).rows ≡ fold (entries_after q within) held.rows ds
 rows-edits q within held [] = refl
 rows-edits q within held (d ∷ ds) = rows-edits q within (held_after q within held d) ds
 

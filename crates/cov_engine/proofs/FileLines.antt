@@ -22,7 +22,7 @@ use Rattle.cov_view.specs.Views.{ShowsLines, line_by_number, by_number}
 use Rattle.cov_view.proofs.Changes.{not_there}
 use Rattle.cov_engine.specs.declared.kept.Made.{Made}
 use Rattle.cov_engine.specs.declared.kept.KeptLine.{KeptLine}
-use Rattle.cov_engine.specs.declared.kept.Entry.{Entry}
+use Rattle.cov_engine.specs.declared.entry.Entry.{Entry}
 use Rattle.cov_engine.specs.Kept.{kept_of}
 use Rattle.cov_engine.specs.Files.{ShownLine, as_shown, dated_as_shown, dated_shown, is_dated_seen, file_dated}
 use Rattle.cov_engine.specs.Showing.{dated_from, dated_of, with_number, with_numbers, with_entry, AreFresh}
@@ -39,7 +39,7 @@ last-changed (s ∷ rows) r file f h same = at (same_node s.node file) (λ k. la
     at true ih k = absurd (cc)
     at false ih k = ap (λ rs. s ∷ rs) (ih k)
 
-dated-line : (commits : List Made) (n : ℕ) (o : Option KeptLine) → (dated_from commits n o).line ≡ n
+pub dated-line : (commits : List Made) (n : ℕ) (o : Option KeptLine) → (dated_from commits n o).line ≡ n
 dated-line commits n None = refl
 dated-line commits n (Some l) = refl
 
@@ -124,15 +124,15 @@ module _ (c : List Bool) (at : ℕ) (commits : List Made) (ls : List KeptLine) w
           ∙ sym (all-shown ns)
 
       kinds-lines : (k : Kind) (e : Entry) (rows : List ViewRow) → kind_in rows (nodes.Old e.node) ≡ None → AllByRecursion Shown rows
-          → (is_dir_kind k ≡ false → file_dated e.node (kept_of history) ≡ map (dated_of commits ls) e.order.lines)
+          → file_dated e.node (kept_of history) ≡ map (dated_of commits ls) e.order.lines
           → AllByRecursion Shown (with_numbers c at commits ls k e (rows ++ record { node = nodes.Old e.node; kind = k; parent = nodes.Old e.parent; name = e.name; lines = [] } ∷ []))
       kinds-lines kinds.File e rows fresh shown file =
           let r : ViewRow = record { node = nodes.Old e.node; kind = kinds.File; parent = nodes.Old e.parent; name = e.name; lines = [] } in
           let same : nat_eq e.node e.node ≡ true = grind (arith, nat_tests) in
           subst (AllByRecursion Shown) (sym (numbers-lines e.node rows r e.order.lines (not_there rows (nodes.Old e.node) fresh).1 same))
           (all-one Shown rows (with_lines_by (λ l. l ++ lines_shown e.order.lines) r) shown (
-            (λ f. file-lines e.node e.order.lines (file refl)),
-            lines-made numbers (replay c (take at history)) e.node (lines_shown e.order.lines) low (file-lines e.node e.order.lines (file refl)),
+            (λ f. file-lines e.node e.order.lines file),
+            lines-made numbers (replay c (take at history)) e.node (lines_shown e.order.lines) low (file-lines e.node e.order.lines file),
           ))
       kinds-lines kinds.Dir e rows fresh shown file =
           all-one Shown rows (record { node = nodes.Old e.node; kind = kinds.Dir; parent = nodes.Old e.parent; name = e.name; lines = [] }) shown ((λ f. absurd (dir f)), tt)

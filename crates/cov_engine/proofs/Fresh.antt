@@ -19,7 +19,7 @@ use Rattle.cov_view.specs.Views.{row_by_number}
 use Rattle.cov_view.specs.declared.row.ViewRow.{ViewRow}
 use Rattle.cov_engine.specs.declared.kept.Made.{Made}
 use Rattle.cov_engine.specs.declared.kept.KeptLine.{KeptLine}
-use Rattle.cov_engine.specs.declared.kept.Entry.{Entry}
+use Rattle.cov_engine.specs.declared.entry.Entry.{Entry}
 use Rattle.cov_engine.specs.Kept.{Kept, new_item, is_seen, the_item, Holding, nothing_held, held_after, held_from, entries_of, rows_seen}
 use Rattle.cov_engine.specs.Showing.{with_entry, AreFresh}
 use Rattle.cov_engine.specs.Holdings.{entry_kept}
@@ -27,7 +27,7 @@ use Rattle.cov_engine.proofs.Standing.{all-mapped}
 use Rattle.cov_engine.proofs.Holdings.{entries-rows}
 
 -- rows of the nodes after the first so many, in order and up to a last
-abbrev NodesFrom : ℕ → ℕ → List (Kept Row) → Type 0
+abbrev pub NodesFrom : ℕ → ℕ → List (Kept Row) → Type 0
 NodesFrom n m [] = n ≡ m
 NodesFrom n m (k ∷ ks) = (k.item.node ≡ suc n) × NodesFrom (suc n) m ks
 
@@ -48,7 +48,7 @@ edits-nodes q within ns t node line total held (edits.New kind parent name ∷ e
 edits-nodes q within ns t node line total held (edits.Insert file after text ∷ es) e h =
     edits-nodes q within ns t node (line + 1) total (held_after q within held (Inserted (node_number ns.nodes file) (address_in t (line + 1)) text)) es e h
 
-history-nodes : (q : ℕ) (ns : Numbers) (held : Holding) (history : List Command) → NodesFrom 0 ns.nodes held.rows → NodesFrom 0 (numbers_from ns history).nodes (held_from q held ns history).rows
+pub history-nodes : (q : ℕ) (ns : Numbers) (held : Holding) (history : List Command) → NodesFrom 0 ns.nodes held.rows → NodesFrom 0 (numbers_from ns history).nodes (held_from q held ns history).rows
 history-nodes q ns held [] h = h
 history-nodes q ns held (commands.Commit base choice ambition es ∷ history) h =
     history-nodes (q + 1) (numbers_after ns es) (fold (held_after (q + 1) ambition) held (numbered ns es)) history

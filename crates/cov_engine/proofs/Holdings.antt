@@ -1,5 +1,5 @@
 -- What is kept of rows and lines, and the views of it.
-use Rattle.std.proofs.Common.{◌≡◌, refl, ap, sym, subst, ◌∙◌, ℕ, zero, suc, ◌≤◌, Bool, true, false, cond, List, [], ◌∷◌, ◌++◌, map, take, append-nil, append_assoc, arith, Ok, Err}
+use Rattle.std.proofs.Common.{◌≡◌, refl, ap, sym, subst, ◌∙◌, ℕ, zero, suc, ◌≤◌, Bool, true, false, cond, List, [], ◌∷◌, ◌++◌, length, map, take, append-nil, append_assoc, arith, Ok, Err}
 use Rattle.std.specs.Prelude.{Result, IfOk}
 use Rattle.std.specs.List.{fold, AllByRecursion}
 use Rattle.cov_base.specs.declared.number.Kind.{Kind}
@@ -20,7 +20,7 @@ use Rattle.cov_view.specs.Seen.{at_row, with_lines_by}
 use Rattle.cov_view.specs.Views.{row_by_number}
 use Rattle.cov_engine.specs.declared.kept.Made.{Made}
 use Rattle.cov_engine.specs.declared.kept.KeptLine.{KeptLine}
-use Rattle.cov_engine.specs.declared.kept.Entry.{Entry}
+use Rattle.cov_engine.specs.declared.entry.Entry.{Entry}
 use Rattle.cov_engine.specs.Kept.{seen_at, Holding, held_by, rows_seen}
 use Rattle.cov_engine.specs.Files.{is_dated_seen}
 use Rattle.cov_engine.specs.Showing.{change_of, dated_of, AreInReach, with_number, with_numbers, with_entry}
@@ -29,6 +29,7 @@ use Rattle.cov_engine.specs.Sessions.{has_commit}
 use Rattle.cov_engine.proofs.Appends.{holding-goes_on}
 use Rattle.cov_engine.proofs.Seen.{seen-cons}
 use Rattle.cov_engine.proofs.Replays.{replay-seen}
+use Rattle.cov_engine.proofs.States.{numbers-kept, length-one}
 
 map-one : {A B : Type 0} (f : A → B) (xs : List A) (x : A) → map f (xs ++ x ∷ []) ≡ map f xs ++ f x ∷ []
 map-one f [] x = refl
@@ -82,7 +83,7 @@ view-rows ns c at history commits ls entries held =
     ∙ ap (λ rows. rows_seen c at rows) (sym held.rows)
     ∙ ap (λ (v : Variant). v.rows) (replay-seen c at history)
 
-more-options : (at : ℕ) (history later : List Command) → option_count (take at history) ≤ option_count (take at (history ++ later))
+pub more-options : (at : ℕ) (history later : List Command) → option_count (take at history) ≤ option_count (take at (history ++ later))
 more-options zero history later = omega arith
 more-options (suc n) [] later = omega arith
 more-options (suc n) (commands.Option name ∷ history) later =
@@ -108,6 +109,10 @@ held-declared history longer k commits ls entries held h e = rw e (record {
   rows = ap (λ (held : Holding). held.rows) (held-same history k h) ∙ held.rows;
   files = subst (λ (h : Holding). AllByRecursion (IsFileOf h.lines commits ls) entries) (sym (held-same history k h)) held.files;
   in_reach = λ at. in-reach (option_count (take at history)) _ at commits (held.in_reach at) (more-options at history (k ∷ []));
+  lines = held.lines ∙ ap (λ ns. length ns.addresses) (sym (numbers-kept history k h));
+  made_lines = held.made_lines;
+  made_entries = held.made_entries;
+  few = let one = length-one history k in let few = held.few in omega (arith, one, few);
 })
 
 pub if_ok : {A E : Type 0} (r : Result A E) (P Q : A → Type 0) → ((a : A) → P a → Q a) → IfOk r P → IfOk r Q

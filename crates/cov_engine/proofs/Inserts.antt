@@ -16,7 +16,7 @@ use Rattle.cov_engine.specs.Insertions.{Insertion, the_insert, all_edits, lines_
 use Rattle.cov_engine.proofs.Standing.{numbered-next, numbered-count, stands-edits, stands-opened, table-after, holding-stands}
 use Rattle.cov_engine.proofs.Files.{anchor-below, placed-anchor, placed-elsewhere, anchor-stays, anchor-new}
 
-anchors-append : (m : ℕ) (es fs : List Edit) → anchors_of m (es ++ fs) ≡ anchors_of m es ++ anchors_of m fs
+pub anchors-append : (m : ℕ) (es fs : List Edit) → anchors_of m (es ++ fs) ≡ anchors_of m es ++ anchors_of m fs
 anchors-append m [] fs = refl
 anchors-append m (edits.New kind parent name ∷ es) fs = anchors-append m es fs
 anchors-append m (edits.Insert file after text ∷ es) fs = ap (λ l. line_number m after ∷ l) (anchors-append m es fs)
@@ -91,6 +91,14 @@ module _ (history : List Command) (i : Insertion) where
       (numbered_from (numbers_of history) (table_with history i) (numbers_of history).nodes (lines_before history) i.begun)
       (numbered_from (numbers_of history) (table_with history i) 0 (lines_begun history i) (the_insert i ∷ [])))
 
+-- an anchor that is kept is one of the lines so far
+pub anchor-known : (history : List Command) (ambition : Formula ℕ) (i : Insertion)
+    → is_kept_anchor (file_of history i) (anchor_of history i) (held_before history ambition i).lines ≡ true → anchor_of history i ≤ lines_begun history i
+anchor-known history ambition i h =
+    let below = in_table history i in
+    anchor-below (table_with history i) (lines_begun history i) (length history + 1) (file_of history i) (anchor_of history i) (held_before history ambition i) (is_table history i)
+    (omega (arith, below)) (stands_before_insert history i ambition) h
+
 pub insert-anchor : (history : List Command) (ambition : Formula ℕ) (i : Insertion)
     → is_kept_anchor (file_of history i) (anchor_of history i) (held_before history ambition i).lines ≡ true
     → file_kept (file_of history i) (held_behind history ambition i).lines
@@ -98,8 +106,7 @@ pub insert-anchor : (history : List Command) (ambition : Formula ℕ) (i : Inser
 insert-anchor history ambition i h =
     let below = in_table history i in
     let s = stands_before_insert history i ambition in
-    let known : anchor_of history i ≤ lines_begun history i =
-    anchor-below (table_with history i) (lines_begun history i) (length history + 1) (file_of history i) (anchor_of history i) (held_before history ambition i) (is_table history i) (omega (arith, below)) s h in
+    let known = anchor-known history ambition i h in
     ap (file_kept (file_of history i)) (behind history i ambition)
     ∙ subst (λ n. file_kept (file_of history i) (placed kept_address (as_new n) (held_before history ambition i).lines)
     ≡ after_anchor_by kept_number (anchor_of history i) (as_new n) (file_kept (file_of history i) (held_before history ambition i).lines))

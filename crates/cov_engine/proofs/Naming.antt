@@ -27,7 +27,7 @@ use Rattle.cov_engine.specs.Naming.{NamesOnlyMade}
 use Rattle.cov_engine.specs.Verdict.{verdict, when_full, size_refusals, as_invalid, as_bad_record, has_no_edits, IsLegalFrom, IsLegal}
 use Rattle.cov_engine.proofs.Sessions.{edit-accepted, rest-accepted}
 
-abbrev the_node : Row → ℕ
+abbrev pub the_node : Row → ℕ
 the_node r = r.node
 
 abbrev the_parent : Row → ℕ
@@ -37,10 +37,10 @@ abbrev the_file : Line → ℕ
 the_file l = l.file
 
 -- numbers of items up to a count
-abbrev AreUpTo : {X : Type 0} → (X → ℕ) → ℕ → List X → Type 0
+abbrev pub AreUpTo : {X : Type 0} → (X → ℕ) → ℕ → List X → Type 0
 AreUpTo number count xs = AllByRecursion (λ x. number x ≤ count) xs
 
-further : {X : Type 0} (number : X → ℕ) (count more : ℕ) (xs : List X) → count ≤ more → AreUpTo number count xs → AreUpTo number more xs
+pub further : {X : Type 0} (number : X → ℕ) (count more : ℕ) (xs : List X) → count ≤ more → AreUpTo number count xs → AreUpTo number more xs
 further number count more xs le h = all-map (λ x. number x ≤ count) (λ x. number x ≤ more) (λ x below. omega (arith, below, le)) xs h
 
 one-more : {X : Type 0} (number : X → ℕ) (count : ℕ) (xs : List X) (x : X) → number x ≤ count + 1 → AreUpTo number count xs → AreUpTo number (count + 1) (xs ++ x ∷ [])
@@ -51,7 +51,7 @@ either-way P true v w p q = p
 either-way P false v w p q = q
 
 -- the node that each edit names is one of the first n, the root, or made by the edits before it, of which so many made nodes
-abbrev AreNamed : ℕ → ℕ → List Edit → Type 0
+abbrev pub AreNamed : ℕ → ℕ → List Edit → Type 0
 AreNamed n made [] = Unit {0}
 AreNamed n made (edits.New kind parent name ∷ es) = (is_made_node n made parent ≡ true) × AreNamed n (made + 1) es
 AreNamed n made (edits.Insert file after text ∷ es) = (is_made_node n made file ≡ true) × AreNamed n made es
@@ -83,7 +83,7 @@ known-made n made (nodes.New i) rows h there =
     let below : n + 1 + i ≤ n + made = present-below (n + made) (n + 1 + i) rows h (or_other (nat_eq (n + 1 + i) 0) (list_any (λ r. nat_eq r.node (n + 1 + i)) rows) no_root there) in
     grind (arith, nat_tests, below)
 
-made-number : (n m made : ℕ) (node : NodeRef) → n ≤ m → is_made_node n made node ≡ true → node_number m node ≤ m + made
+pub made-number : (n m made : ℕ) (node : NodeRef) → n ≤ m → is_made_node n made node ≡ true → node_number m node ≤ m + made
 made-number n m made (nodes.Old x) le h = let own : x ≤ n = grind (arith, nat_tests, h) in omega (arith, own, le)
 made-number n m made (nodes.New i) le h =
     let one : nat_lt i made ≡ true = h in
@@ -165,7 +165,7 @@ module _ (c : List Bool) where
   nodes-from ns v (commands.Option name ∷ history) h = nodes-from ns v history h
   nodes-from ns v (commands.Constraint expr ∷ history) h = nodes-from ns v history h
 
-  nodes-replay : (history : List Command) → AreUpTo the_node (numbers_of history).nodes (replay c history).rows
+  pub nodes-replay : (history : List Command) → AreUpTo the_node (numbers_of history).nodes (replay c history).rows
   nodes-replay history = nodes-from no_numbers bare history tt
 
 nodes-grow : (ns : Numbers) (history : List Command) → ns.nodes ≤ (numbers_from ns history).nodes
@@ -177,7 +177,7 @@ nodes-grow ns (commands.Commit base choice ambition es ∷ history) =
 nodes-grow ns (commands.Option name ∷ history) = nodes-grow ns history
 nodes-grow ns (commands.Constraint expr ∷ history) = nodes-grow ns history
 
-base-nodes : (base : ℕ) (history : List Command) → (numbers_of (take base history)).nodes ≤ (numbers_of history).nodes
+pub base-nodes : (base : ℕ) (history : List Command) → (numbers_of (take base history)).nodes ≤ (numbers_of history).nodes
 base-nodes base history =
     subst (λ (ns : Numbers). (numbers_of (take base history)).nodes ≤ ns.nodes)
     (sym (numbers_from-append no_numbers (take base history) (drop base history)) ∙ ap numbers_of (take-append-drop base history))
@@ -194,7 +194,7 @@ no-record : (refused : Option (ℕ × EditFault)) → as_bad_record refused ≡ 
 no-record None h = refl
 no-record (Some r) h = absurd (cc)
 
-edits-accepted : (history : List Command) (base : ℕ) (choice : List Bool) (ambition : Formula ℕ) (es : List Edit) → verdict history (commands.Commit base choice ambition es) ≡ None
+pub edits-accepted : (history : List Command) (base : ℕ) (choice : List Bool) (ambition : Formula ℕ) (es : List Edit) → verdict history (commands.Commit base choice ambition es) ≡ None
     → first_refused (numbers_of (take base history)) (replay choice (take base history)) es ≡ None
 edits-accepted history base choice ambition es h =
     no-record (first_refused (numbers_of (take base history)) (replay choice (take base history)) es)

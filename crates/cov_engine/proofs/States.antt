@@ -19,13 +19,13 @@ use Rattle.cov_engine.specs.Sessions.{has_commit}
 use Rattle.cov_engine.specs.States.{are_within, AreCountsOf, IsStateOf}
 use Rattle.cov_engine.specs.Verdict.{IsLegalFrom, verdict, refusals_of}
 
-options-append : (history later : List Command) → options_of (history ++ later) ≡ options_of history ++ options_of later
+pub options-append : (history later : List Command) → options_of (history ++ later) ≡ options_of history ++ options_of later
 options-append [] later = refl
 options-append (commands.Option name ∷ history) later = ap (λ names. name ∷ names) (options-append history later)
 options-append (commands.Constraint expr ∷ history) later = options-append history later
 options-append (commands.Commit base choice ambition es ∷ history) later = options-append history later
 
-constraints-append : (history later : List Command) → constraints_of (history ++ later) ≡ constraints_of history ++ constraints_of later
+pub constraints-append : (history later : List Command) → constraints_of (history ++ later) ≡ constraints_of history ++ constraints_of later
 constraints-append [] later = refl
 constraints-append (commands.Option name ∷ history) later = constraints-append history later
 constraints-append (commands.Constraint expr ∷ history) later = ap (λ exprs. expr ∷ exprs) (constraints-append history later)
@@ -49,15 +49,15 @@ within-one n [] e le within = rw (le-leb (reach e) n le) refl
 within-one n (d ∷ ds) e le within =
     both (nat_le (reach d) n) (are_within n ds) (nat_le (reach d) n) (are_within n (ds ++ e ∷ [])) (λ h. h) (within-one n ds e le) within
 
-legal-one : (before history : List Command) (k : Command) → IsLegalFrom before history → fits_command k ≡ true → verdict (before ++ history) k ≡ None → IsLegalFrom before (history ++ k ∷ [])
+pub legal-one : (before history : List Command) (k : Command) → IsLegalFrom before history → fits_command k ≡ true → verdict (before ++ history) k ≡ None → IsLegalFrom before (history ++ k ∷ [])
 legal-one before [] k legal fits accepted = (fits, ap (λ h. verdict h k) (sym (append-nil before)) ∙ accepted, tt)
 legal-one before (j ∷ history) k legal fits accepted =
     (legal.0, legal.1, legal-one (before ++ j ∷ []) history k legal.2 fits (ap (λ h. verdict h k) (append_assoc before (j ∷ []) history) ∙ accepted))
 
-sum-one : {A : Type 0} (f : A → ℕ) (xs : List A) (x : A) → sum_by f (xs ++ x ∷ []) ≡ sum_by f xs + f x
+pub sum-one : {A : Type 0} (f : A → ℕ) (xs : List A) (x : A) → sum_by f (xs ++ x ∷ []) ≡ sum_by f xs + f x
 sum-one f xs x = fold-append (λ a y. a + f y) 0 xs (x ∷ [])
 
-length-one : {A : Type 0} (xs : List A) (x : A) → length (xs ++ x ∷ []) ≡ length xs + 1
+pub length-one : {A : Type 0} (xs : List A) (x : A) → length (xs ++ x ∷ []) ≡ length xs + 1
 length-one [] x = refl
 length-one (y ∷ ys) x =
     let ih : length (ys ++ x ∷ []) ≡ length ys + 1 = length-one ys x in
@@ -65,21 +65,21 @@ length-one (y ∷ ys) x =
     let right : length (y ∷ ys) ≡ suc (length ys) = refl in
     omega (arith, ih, left, right)
 
-first-none : (b : Bool) (r : Refusal) (rs : List (Option Refusal)) → first_of (when b r ∷ rs) ≡ None → b ≡ false
+pub first-none : (b : Bool) (r : Refusal) (rs : List (Option Refusal)) → first_of (when b r ∷ rs) ≡ None → b ≡ false
 first-none false r rs h = refl
 first-none true r rs h = absurd (cc)
 
-later-none : (b : Bool) (r : Refusal) (rs : List (Option Refusal)) → first_of (when b r ∷ rs) ≡ None → first_of rs ≡ None
+pub later-none : (b : Bool) (r : Refusal) (rs : List (Option Refusal)) → first_of (when b r ∷ rs) ≡ None → first_of rs ≡ None
 later-none false r rs h = h
 later-none true r rs h = absurd (cc)
 
-below : (n m : ℕ) → nat_le n m ≡ false → m < n
+pub below : (n m : ℕ) → nat_le n m ≡ false → m < n
 below n m h = grind (arith, nat_tests, h)
 
-not-below : (n m : ℕ) → nat_lt n m ≡ false → m ≤ n
+pub not-below : (n m : ℕ) → nat_lt n m ≡ false → m ≤ n
 not-below n m h = grind (arith, nat_tests, h)
 
-numbers-kept : (history : List Command) (k : Command) → has_commit (k ∷ []) ≡ false → numbers_of (history ++ k ∷ []) ≡ numbers_of history
+pub numbers-kept : (history : List Command) (k : Command) → has_commit (k ∷ []) ≡ false → numbers_of (history ++ k ∷ []) ≡ numbers_of history
 numbers-kept history (commands.Option name) h = numbers_from-append no_numbers history (commands.Option name ∷ [])
 numbers-kept history (commands.Constraint expr) h = numbers_from-append no_numbers history (commands.Constraint expr ∷ [])
 numbers-kept history (commands.Commit base choice ambition es) h = absurd (cc)

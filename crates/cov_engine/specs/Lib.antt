@@ -1,3 +1,4 @@
+pub mod Drawing
 pub mod Files
 pub mod Holdings
 pub mod Insertions
@@ -5,6 +6,7 @@ pub mod Kept
 pub mod Laws
 pub mod Naming
 pub mod Reach
+pub mod Ready
 pub mod Sessions
 pub mod Showing
 pub mod States

@@ -1,5 +1,5 @@
 -- Sessions: what they see, and when they fit a history.
-use Rattle.std.specs.Prelude.{◌≡◌, ℕ, ◌≤◌, Bool, true, false, List, [], ◌∷◌, length, take, None}
+use Rattle.std.specs.Prelude.{◌≡◌, ℕ, ◌≤◌, Bool, true, false, List, [], ◌∷◌, length, take, drop, None}
 use Rattle.std.specs.List.{fold}
 use Rattle.cov_expr.specs.Formula.{Formula, value, reach}
 use Rattle.cov_edit.specs.declared.edit.Edit.{Edit}
@@ -41,3 +41,14 @@ abbrev pub has_commit : List Command → Bool
 has_commit [] = false
 has_commit (commands.Commit base choice ambition es ∷ history) = true
 has_commit (_ ∷ history) = has_commit history
+
+-- the session of which a commit is, but for its name
+abbrev pub session_of : ℕ → List Bool → Formula ℕ → List Edit → Session
+session_of base choice ambition es = record { name = []; base = base; choice = choice; ambition = ambition; edits = es }
+
+-- a command that may come after a history: its options are declared, and a commit is that of a good session after whose
+-- base no commit stands
+abbrev pub MayCome : List Command → Command → Type 0
+MayCome history (commands.Option name) = Unit {0}
+MayCome history (commands.Constraint expr) = reach expr ≤ option_count history
+MayCome history (commands.Commit base choice ambition es) = IsGood history (session_of base choice ambition es) × (has_commit (drop base history) ≡ false)

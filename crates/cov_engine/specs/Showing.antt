@@ -12,7 +12,7 @@ use Rattle.cov_engine.specs.Kept.{seen_at}
 use Rattle.cov_engine.specs.Files.{DatedLine, is_dated_seen}
 use Rattle.cov_engine.specs.declared.kept.Made.{Made}
 use Rattle.cov_engine.specs.declared.kept.KeptLine.{KeptLine}
-use Rattle.cov_engine.specs.declared.kept.Entry.{Entry}
+use Rattle.cov_engine.specs.declared.entry.Entry.{Entry}
 
 -- what a commit changes is seen from its position on, within its ambition; without a commit it never is
 abbrev pub change_in : Option Made → ℕ × Formula ℕ

@@ -1,16 +1,14 @@
 -- What an engine keeps of its history.
-use Rattle.std.specs.Prelude.{◌≡◌, ℕ, ◌+◌, ◌<◌, ◌≤◌, Bool, true, false, nat_le, List, [], ◌∷◌, length, None}
+use Rattle.std.specs.Prelude.{◌≡◌, ℕ, ◌+◌, ◌<◌, ◌≤◌, Bool, true, false, nat_le, List, length}
 use Rattle.std.specs.List.{list_all}
 use Rattle.cov_expr.specs.Formula.{Formula, reach}
 use Rattle.cov_expr.specs.Options.{is_declared}
 use Rattle.cov_edit.specs.declared.command.Command.{Command}
 use Rattle.cov_edit.specs.declared.command.Command.TheVariants as commands
-use Rattle.cov_edit.specs.Fits.{fits_command}
 use Rattle.cov_edit.specs.History.{options_of, option_count, constraints_of, byte_count}
 use Rattle.cov_edit.specs.Limits.{most_commands}
 use Rattle.cov_edit.specs.Numbering.{line_count, node_count}
-use Rattle.cov_engine.specs.Sessions.{has_commit}
-use Rattle.cov_engine.specs.Verdict.{IsLegal, verdict}
+use Rattle.cov_engine.specs.Verdict.{IsLegal}
 use Rattle.cov_engine.specs.declared.counts.Counts.{Counts}
 
 -- whether expressions speak of the first so many options alone
@@ -32,16 +30,6 @@ pub record IsStateOf (history : List Command) (names : List (List ℕ)) (constra
   pub most : length history ≤ most_commands
   pub few : length (constraints_of history) ≤ 256
   pub counted : AreCountsOf history counts
-
--- a history accepts a command, of which there is a copy, and there is room for a command, an option and a constraint
-pub record IsReady (history : List Command) (command copy : Command) (commands_spare options_spare rules_spare : ℕ) : Type 0 where
-  pub fits : fits_command command ≡ true
-  pub accepted : verdict history command ≡ None
-  pub declares : has_commit (command ∷ []) ≡ false
-  pub copied : copy ≡ command
-  pub command_room : 0 < commands_spare
-  pub option_room : 0 < options_spare
-  pub rule_room : 0 < rules_spare
 
 -- the number of what a command declares, these options and constraints being declared; 0 for a commit
 abbrev pub declared_number : List (List ℕ) → List (Formula ℕ) → Command → ℕ

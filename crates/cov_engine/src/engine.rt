@@ -1,6 +1,5 @@
 // A history in use.
 ghost use Rattle.std.specs.Prelude.{◌≡◌, ◌≤◌, [], ◌∷◌, false, length, take, nat_le, None, Some, IfOk, IfErr, OnOk};
-ghost use Rattle.cov_edit.specs.Fits.{reach_of};
 ghost use Rattle.cov_edit.specs.History.{options_of, option_count, first_false_in};
 ghost use Rattle.cov_expr.specs.Options.{is_declared};
 ghost use Rattle.cov_view.specs.Refusals.{when, first_of};
@@ -8,14 +7,15 @@ ghost use Rattle.cov_edit.specs.Numbering.{numbers_of};
 ghost use Rattle.cov_edit.specs.Replay.{replay};
 ghost use Rattle.cov_view.specs.Views.{Shows};
 ghost use Rattle.cov_engine.specs.Holdings.{IsHeldBy};
-ghost use Rattle.cov_engine.specs.Sessions.{has_commit};
+ghost use Rattle.cov_engine.specs.Sessions.{MayCome};
 ghost use Rattle.cov_engine.specs.States.{AreCountsOf, IsStateOf};
 ghost use Rattle.cov_engine.specs.Verdict.{verdict, RefusedBy};
 ghost use Rattle.cov_engine.specs.declared.refusal.Refusal.TheVariants as refusals;
 
 use crate::invalid::check;
 use crate::kept::{Kept, show};
-use crate::state::{State, make_room};
+use crate::sizes;
+use crate::state::{State, make_ready};
 use crate::{Counts, Invalid, Prepared, Refusal};
 use cov_base::{Choice, Memory, Position};
 use cov_edit::{Command, Commands};
@@ -127,10 +127,10 @@ impl Engine {
         show(alloc, &self.state.kept, choice, at)
     }
 
-    /// Makes everything ready for a declaration, so that its installation can't fail. A refusal hands the engine back.
+    /// Makes everything ready for a command, so that its installation can't fail. A refusal hands the engine back. A
+    /// commit takes for each edit at most time in the lines of its file.
     pub fn prepare(self, command: Command) -> Result<Prepared, (Engine, Refusal)>
-        requires declaration { has_commit (command ∷ []) ≡ false }
-        requires in_range { reach_of command ≤ option_count self }
+        requires { MayCome self command }
         ensures prepared { IfOk result (λ prepared. (prepared.history ≡ self) × (prepared.command ≡ command)) }
         ensures accepted { OnOk result (verdict self command ≡ None) }
         ensures back { IfErr result (λ refused. refused.0 ≡ self) }
@@ -143,8 +143,7 @@ impl Engine {
     }
 
     fn refusal(&self, command: &Command) -> Option<Refusal>
-        requires declaration { has_commit (command.now ∷ []) ≡ false }
-        requires in_range { reach_of command.now ≤ option_count self.now }
+        requires { MayCome self.now command.now }
         ensures { result ≡ verdict self.now command.now }
     {
         if self.state.commands.len() >= MOST_COMMANDS {
@@ -153,13 +152,12 @@ impl Engine {
         match command {
             Command::Option { name } => option_refusal(&self.state.options, name.as_slice()),
             Command::Constraint { .. } => constraint_refusal(self.state.constraints.len()),
-            Command::Commit { .. } => None,
+            Command::Commit { edits, .. } => sizes::refusal(self.state.counts, edits),
         }
     }
 
     fn make_ready(self, command: Command) -> Result<Prepared, (Engine, Refusal)>
-        requires declaration { has_commit (command ∷ []) ≡ false }
-        requires in_range { reach_of command ≤ option_count self }
+        requires may_come { MayCome self command }
         requires accepted { verdict self command ≡ None }
         ensures prepared { IfOk result (λ prepared. (prepared.history ≡ self) × (prepared.command ≡ command)) }
         ensures refused { IfErr result (λ refused. (refused.0 ≡ self) × (refused.1 ≡ refusals.Memory)) }
@@ -167,8 +165,8 @@ impl Engine {
         let Engine { mut state } = self;
         command.bounds_are_kept();
         let _most = state.options.count();
-        match make_room(&mut state, &command) {
-            Ok(copy) => Ok(Prepared::new(state, command, copy)),
+        match make_ready(&mut state, &command) {
+            Ok(ready) => Ok(Prepared::new(state, command, ready)),
             Err(Memory) => Err((Engine { state }, Refusal::Memory)),
         }
     }

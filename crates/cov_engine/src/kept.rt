@@ -8,9 +8,9 @@ ghost use Rattle.cov_view.specs.Seen.{kind_in};
 ghost use Rattle.cov_engine.specs.Kept.{seen_at};
 ghost use Rattle.cov_engine.specs.Showing.{change_of, AreInReach, with_number, with_entry, AreFresh};
 
-use cov_base::{Choice, Kind, LineNo, LineNos, Memory, Name, NodeNo, Position, Text};
+use crate::entry::Entry;
+use cov_base::{Choice, Kind, LineNo, LineNos, Memory, NodeNo, Position, Text};
 use cov_expr::Expr;
-use cov_order::Order;
 use cov_view::View;
 use std::alloc::Global;
 
@@ -26,17 +26,6 @@ pub(crate) struct Made {
 pub(crate) struct KeptLine {
     pub(crate) text: Text,
     pub(crate) commit: u32,
-}
-
-/// A row, the number from 0 of the commit that made it, and the lines ever inserted into it in order.
-#[derive(Drop)]
-pub(crate) struct Entry {
-    pub(crate) node: NodeNo,
-    pub(crate) kind: Kind,
-    pub(crate) parent: NodeNo,
-    pub(crate) name: Name,
-    pub(crate) commit: u32,
-    pub(crate) order: Order,
 }
 
 /// The commits, the lines by number, and the rows in the order in which they were made.

@@ -2,12 +2,18 @@
 #![tactic(auto)]
 
 mod counts;
+mod drawing;
 mod engine;
+mod entry;
+mod installing;
 mod invalid;
 mod kept;
 pub mod laws;
+mod number;
 mod prepared;
+mod ready;
 mod refusal;
+mod sizes;
 mod state;
 
 pub use counts::Counts;

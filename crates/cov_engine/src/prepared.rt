@@ -1,10 +1,12 @@
 // Commands that a history has accepted, and doesn't have yet.
 ghost use Rattle.std.specs.Prelude.{◌≡◌, ◌+◌, ◌-◌, ◌++◌, [], ◌∷◌, length, vec_len, vec_capacity};
-ghost use Rattle.cov_engine.specs.States.{IsStateOf, IsReady, receipt_number};
-ghost use Rattle.cov_engine.specs.Holdings.{IsHeldBy};
+ghost use Rattle.cov_engine.specs.Ready.{IsNext, IsReady};
+ghost use Rattle.cov_engine.specs.States.{IsStateOf, receipt_number};
 
 use crate::Engine;
-use crate::state::{State, declare};
+use crate::installing::{add_ready, give_up};
+use crate::ready::Ready;
+use crate::state::State;
 use cov_base::Position;
 use cov_edit::Command;
 use std::marker::Model;
@@ -14,15 +16,15 @@ use std::marker::Model;
 pub struct Prepared {
     state: State,
     command: Command,
-    copy: Command,
+    ready: Ready,
 }
 
 impl Model for Prepared {
     ghost use Rattle.std.specs.Prelude.{◌-◌, vec_len, vec_capacity};
     ghost use Rattle.std.specs.Coded.{codes};
     ghost use Rattle.cov_edit.specs.contracts.command.Command as row;
-    ghost use Rattle.cov_engine.specs.States.{IsStateOf, IsReady};
-    ghost use Rattle.cov_engine.specs.Holdings.{IsHeldBy};
+    ghost use Rattle.cov_engine.specs.States.{IsStateOf};
+    ghost use Rattle.cov_engine.specs.Ready.{IsNext, IsReady};
     ghost use Rattle.cov_engine.specs.Verdict.{Pending};
 
     ghost Value = { Pending };
@@ -31,7 +33,10 @@ impl Model for Prepared {
 
     ghost view = { λ p. record { history = p.state.commands.commands; command = p.command } };
 
-    ghost invariant = { λ p. IsStateOf p.state.commands.commands p.state.options.names p.state.constraints.items p.state.counts × IsReady p.state.commands.commands p.command p.copy p.state.commands.spare p.state.options.spare (vec_capacity p.state.constraints - vec_len p.state.constraints) × IsHeldBy p.state.commands.commands p.state.kept.commits.items p.state.kept.lines.items p.state.kept.entries.items };
+    ghost invariant = { λ p. IsStateOf p.state.commands.commands p.state.options.names p.state.constraints.items p.state.counts
+        × IsNext p.state.commands.commands p.command p.state.commands.spare
+        × IsReady p.state.commands.commands p.command p.state.options.spare (vec_capacity p.state.constraints - vec_len p.state.constraints)
+        (vec_capacity p.state.kept.commits - vec_len p.state.kept.commits) p.state.kept.commits.items p.state.kept.lines.items p.state.kept.entries.items p.ready };
 }
 
 /// What a command made: the position after it, and the option's or the constraint's number, or 0 for a commit.
@@ -42,16 +47,17 @@ pub struct Receipt {
 }
 
 impl Prepared {
-    pub(crate) fn new(state: State, command: Command, copy: Command) -> Prepared
+    pub(crate) fn new(state: State, command: Command, ready: Ready) -> Prepared
         requires state { IsStateOf state.commands.commands state.options.names state.constraints.items state.counts }
-        requires held { IsHeldBy state.commands.commands state.kept.commits.items state.kept.lines.items state.kept.entries.items }
-        requires ready { IsReady state.commands.commands command copy state.commands.spare state.options.spare (vec_capacity state.constraints - vec_len state.constraints) }
+        requires next { IsNext state.commands.commands command state.commands.spare }
+        requires ready { IsReady state.commands.commands command state.options.spare (vec_capacity state.constraints - vec_len state.constraints)
+            (vec_capacity state.kept.commits - vec_len state.kept.commits) state.kept.commits.items state.kept.lines.items state.kept.entries.items ready }
         ensures { result ≡ record { history = state.commands.commands; command = command } }
     {
         Prepared {
             state,
             command,
-            copy,
+            ready,
         }
     }
 
@@ -66,7 +72,12 @@ impl Prepared {
     pub fn cancel(self) -> Engine
         ensures { result ≡ self.history }
     {
-        let Prepared { state, .. } = self;
+        let Prepared {
+            mut state,
+            command,
+            ready,
+        } = self;
+        give_up(&mut state, &command, &ready);
         Engine::of_state(state)
     }
 
@@ -79,9 +90,9 @@ impl Prepared {
         let Prepared {
             mut state,
             command,
-            copy,
+            ready,
         } = self;
-        let number = declare(&mut state.options, &mut state.constraints, copy);
+        let number = add_ready(&mut state, &command, ready);
         match state.commands.push(command) {
             Ok(()) => (),
             Err(_) => unreachable!(),

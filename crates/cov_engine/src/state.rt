@@ -1,15 +1,19 @@
 // What an engine keeps.
-ghost use Rattle.std.specs.Prelude.{◌≡◌, ◌<◌, ◌≤◌, ◌+◌, ◌-◌, ◌++◌, [], ◌∷◌, false, length, None, IfOk, OnOk, vec_len, vec_capacity};
-ghost use Rattle.cov_edit.specs.Limits.{most_commands};
+ghost use Rattle.std.specs.Prelude.{◌≡◌, ◌<◌, ◌≤◌, ◌+◌, ◌-◌, ◌++◌, [], ◌∷◌, false, length, None, IfOk, OnOk, OnErr, vec_len, vec_capacity};
 ghost use Rattle.cov_edit.specs.History.{options_of, constraints_of};
 ghost use Rattle.cov_expr.specs.Options.{is_declared};
-ghost use Rattle.cov_engine.specs.Sessions.{has_commit};
-ghost use Rattle.cov_engine.specs.States.{MayDeclare, declared_number};
+ghost use Rattle.cov_engine.specs.Holdings.{IsHeldBy};
+ghost use Rattle.cov_engine.specs.Sessions.{has_commit, MayCome};
+ghost use Rattle.cov_engine.specs.States.{IsStateOf, MayDeclare, declared_number};
+ghost use Rattle.cov_engine.specs.Ready.{IsReady, IsCommitReady, IsInBounds};
+ghost use Rattle.cov_engine.specs.Verdict.{verdict};
 
 use crate::Counts;
-use crate::kept::Kept;
-use cov_base::Memory;
-use cov_edit::{Command, Commands};
+use crate::kept::{Kept, Made};
+use crate::ready::{Ready, draw_commit};
+use crate::sizes::{measure, with_sizes};
+use cov_base::{Memory, Position};
+use cov_edit::{Command, Commands, Edits};
 use cov_expr::{Expr, Options};
 
 /// The history with what it declares.
@@ -22,22 +26,66 @@ pub(crate) struct State {
     pub(crate) kept: Kept,
 }
 
-/// Makes room for a declaration, and a copy of it.
-pub(crate) fn make_room(state: &mut State, command: &Command) -> Result<Command, Memory>
+/// Makes everything ready for a command that is accepted.
+pub(crate) fn make_ready(state: &mut State, command: &Command) -> Result<Ready, Memory>
+    requires state { IsStateOf state.old.commands.commands state.old.options.names state.old.constraints.items state.old.counts }
+    requires held { IsHeldBy state.old.commands.commands state.old.kept.commits.items state.old.kept.lines.items state.old.kept.entries.items }
+    requires may_come { MayCome state.old.commands.commands command.now }
+    requires accepted { verdict state.old.commands.commands command.now ≡ None }
     ensures history { state.new.commands.commands ≡ state.old.commands.commands }
     ensures options { state.new.options.names ≡ state.old.options.names }
     ensures constraints { state.new.constraints.items ≡ state.old.constraints.items }
     ensures counts { state.new.counts ≡ state.old.counts }
-    ensures kept { state.new.kept ≡ state.old.kept }
-    ensures copied { IfOk result (λ copy. copy ≡ command.now) }
-    ensures command_room { OnOk result (0 < state.new.commands.spare) }
-    ensures option_room { OnOk result (0 < state.new.options.spare) }
-    ensures rule_room { OnOk result (0 < vec_capacity state.new.constraints - vec_len state.new.constraints) }
+    ensures room { OnOk result (0 < state.new.commands.spare) }
+    ensures ready { IfOk result (IsReady state.new.commands.commands command.now state.new.options.spare (vec_capacity state.new.constraints - vec_len state.new.constraints)
+        (vec_capacity state.new.kept.commits - vec_len state.new.kept.commits) state.new.kept.commits.items state.new.kept.lines.items state.new.kept.entries.items) }
+    ensures held { OnErr result (IsHeldBy state.new.commands.commands state.new.kept.commits.items state.new.kept.lines.items state.new.kept.entries.items) }
 {
     state.commands.reserve()?;
+    match command {
+        Command::Commit { ambition, edits, .. } => commit_ready(state, ambition, edits),
+        _ => declaration_ready(state, command),
+    }
+}
+
+// Makes room for a declaration, and a copy of it.
+fn declaration_ready(state: &mut State, command: &Command) -> Result<Ready, Memory>
+    requires held { IsHeldBy state.old.commands.commands state.old.kept.commits.items state.old.kept.lines.items state.old.kept.entries.items }
+    requires declaration { has_commit (command.now ∷ []) ≡ false }
+    ensures commands { state.new.commands ≡ state.old.commands }
+    ensures options { state.new.options.names ≡ state.old.options.names }
+    ensures constraints { state.new.constraints.items ≡ state.old.constraints.items }
+    ensures counts { state.new.counts ≡ state.old.counts }
+    ensures ready { IfOk result (IsReady state.new.commands.commands command.now state.new.options.spare (vec_capacity state.new.constraints - vec_len state.new.constraints)
+        (vec_capacity state.new.kept.commits - vec_len state.new.kept.commits) state.new.kept.commits.items state.new.kept.lines.items state.new.kept.entries.items) }
+    ensures held { OnErr result (IsHeldBy state.new.commands.commands state.new.kept.commits.items state.new.kept.lines.items state.new.kept.entries.items) }
+{
     state.options.reserve()?;
     state.constraints.reserve(1)?;
-    command.copy(*state.constraints.allocator())
+    let copy = command.copy(*state.constraints.allocator())?;
+    Ok(Ready::Declaration { copy })
+}
+
+// Draws a commit.
+fn commit_ready(state: &mut State, ambition: &Expr, edits: &Edits) -> Result<Ready, Memory>
+    requires state { IsStateOf state.old.commands.commands state.old.options.names state.old.constraints.items state.old.counts }
+    requires held { IsHeldBy state.old.commands.commands state.old.kept.commits.items state.old.kept.lines.items state.old.kept.entries.items }
+    requires fits { IsInBounds state.old.commands.commands edits.now }
+    ensures commands { state.new.commands ≡ state.old.commands }
+    ensures options { state.new.options.names ≡ state.old.options.names }
+    ensures constraints { state.new.constraints.items ≡ state.old.constraints.items }
+    ensures counts { state.new.counts ≡ state.old.counts }
+    ensures ready { IfOk result (IsCommitReady state.new.commands.commands ambition.now edits.now (vec_capacity state.new.kept.commits - vec_len state.new.kept.commits)
+        state.new.kept.commits.items state.new.kept.lines.items state.new.kept.entries.items) }
+    ensures held { OnErr result (IsHeldBy state.new.commands.commands state.new.kept.commits.items state.new.kept.lines.items state.new.kept.entries.items) }
+{
+    let made = Made {
+        position: Position::new(state.commands.len() as u32 + 1),
+        ambition: ambition.copy(*state.constraints.allocator())?,
+    };
+    let counts = with_sizes(state.counts, measure(edits.as_slice()));
+    draw_commit(&mut state.kept, state.counts, edits.as_slice())?;
+    Ok(Ready::Commit { made, counts })
 }
 
 /// Adds what a command declares, and answers its number.

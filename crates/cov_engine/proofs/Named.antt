@@ -1,0 +1,93 @@
+-- The nodes that a commit's edits name, and the files of the lines that a history holds.
+use Rattle.std.proofs.Common.{◌≡◌, ℕ, ◌+◌, ◌<◌, ◌≤◌, ◌^◌, Bool, false, None, List, [], ◌∷◌, ◌++◌, length, take, append_assoc, append-nil, refl, sym, ap, subst, ◌∙◌, arith}
+use Rattle.std.specs.List.{fold, AllByRecursion}
+use Rattle.cov_base.specs.Addresses.{address_in}
+use Rattle.cov_base.proofs.Ordered.{all-map, all-placed}
+use Rattle.cov_expr.specs.Formula.{Formula}
+use Rattle.cov_edit.specs.declared.edit.Edit.{Edit}
+use Rattle.cov_edit.specs.declared.edit.Edit.TheVariants as edits
+use Rattle.cov_edit.specs.declared.command.Command.{Command}
+use Rattle.cov_edit.specs.declared.command.Command.TheVariants as commands
+use Rattle.cov_edit.specs.Numbering.{Numbers, Inserted, node_number, nodes_made, no_numbers, numbers_after, numbers_of, numbered_from}
+use Rattle.cov_edit.specs.Replay.{replay}
+use Rattle.cov_edit.proofs.Replays.{numbers_from-append}
+use Rattle.cov_view.specs.Refusals.{first_refused}
+use Rattle.cov_engine.specs.Kept.{Kept, kept_address, new_line, kept_after, Holding, kept_of}
+use Rattle.cov_engine.specs.Sessions.{has_commit}
+use Rattle.cov_edit.specs.Variant.{Line}
+use Rattle.cov_engine.specs.Drawing.{AreNear}
+use Rattle.cov_engine.specs.Verdict.{verdict, IsLegalFrom, IsLegal}
+use Rattle.cov_engine.proofs.Appends.{commit-lines}
+use Rattle.cov_engine.proofs.Orders.{no_commit-holds}
+use Rattle.cov_engine.proofs.States.{numbers-kept}
+use Rattle.cov_engine.proofs.Naming.{AreUpTo, the_node, AreNamed, made-number, nodes-replay, base-nodes, edits-accepted, further, accepted-named}
+
+-- an accepted commit's edits name nodes of its base, or nodes that they make
+pub edits-named : (history : List Command) (base : ℕ) (choice : List Bool) (es : List Edit)
+    → first_refused (numbers_of (take base history)) (replay choice (take base history)) es ≡ None
+    → AreNamed (numbers_of (take base history)).nodes 0 es
+edits-named history base choice es accepted =
+    let nb : Numbers = numbers_of (take base history) in
+    accepted-named nb (numbers_after nb es).addresses nb.nodes 0 (length nb.addresses) 0 (replay choice (take base history)) es (omega arith)
+    (further the_node nb.nodes (nb.nodes + 0) (replay choice (take base history)).rows (omega arith) (nodes-replay choice (take base history)))
+    accepted
+
+-- the numbers of the nodes that such edits name are small, drawn after more nodes than those of the base
+pub named-near : (n m made : ℕ) (es : List Edit) → n ≤ m → m + (made + nodes_made es) < 2 ^ 32 → AreNamed n made es → AreNear m es
+named-near n m made [] le few named = tt
+named-near n m made (edits.New kind parent name ∷ es) le few named =
+    let at = made-number n m made parent le named.0 in
+    (omega (arith, at, few), named-near n m (made + 1) es le (omega (arith, few)) named.1)
+named-near n m made (edits.Insert file after text ∷ es) le few named =
+    let at = made-number n m made file le named.0 in
+    (omega (arith, at, few), named-near n m made es le few named.1)
+
+abbrev pub the_file : Kept Line → ℕ
+the_file k = k.item.file
+
+-- lines that are held stand in the first so many nodes
+abbrev pub AreInFiles : ℕ → List (Kept Line) → Type 0
+AreInFiles count ks = AllByRecursion (λ k. the_file k ≤ count) ks
+
+more-files : (count more : ℕ) (ks : List (Kept Line)) → count ≤ more → AreInFiles count ks → AreInFiles more ks
+more-files count more ks le h = all-map (λ k. the_file k ≤ count) (λ k. the_file k ≤ more) (λ k below. omega (arith, below, le)) ks h
+
+files-edits : (q : ℕ) (within : Formula ℕ) (n : ℕ) (ns : Numbers) (t : List (List ℕ)) (node made line total : ℕ) (ks : List (Kept Line)) (es : List Edit)
+    → n ≤ ns.nodes → total ≡ ns.nodes + (made + nodes_made es) → AreNamed n made es → AreInFiles total ks
+    → AreInFiles total (fold (kept_after q within) ks (numbered_from ns t node line es))
+files-edits q within n ns t node made line total ks [] le e named h = h
+files-edits q within n ns t node made line total ks (edits.New kind parent name ∷ es) le e named h =
+    files-edits q within n ns t (node + 1) (made + 1) line total ks es le (omega (arith, e)) named.1 h
+files-edits q within n ns t node made line total ks (edits.Insert file after text ∷ es) le e named h =
+    let at : node_number ns.nodes file ≤ ns.nodes + made = made-number n ns.nodes made file le named.0 in
+    files-edits q within n ns t node made (line + 1) total (kept_after q within ks (Inserted (node_number ns.nodes file) (address_in t (line + 1)) text)) es le e named.1
+    (all-placed kept_address (λ k. the_file k ≤ total) (new_line q within (node_number ns.nodes file) (address_in t (line + 1)) text) ks (omega (arith, at, e)) h)
+
+as-before : (history : List Command) (k : Command) → has_commit (k ∷ []) ≡ false → AreInFiles (numbers_of history).nodes (kept_of history)
+    → AreInFiles (numbers_of (history ++ k ∷ [])).nodes (kept_of (history ++ k ∷ []))
+as-before history k none h =
+    subst (λ (ns : Numbers). AreInFiles ns.nodes (kept_of (history ++ k ∷ []))) (sym (numbers-kept history k none))
+    (subst (λ (held : Holding). AreInFiles (numbers_of history).nodes held.lines) (sym (no_commit-holds history (k ∷ []) none)) h)
+
+files-one : (history : List Command) (k : Command) → verdict history k ≡ None → AreInFiles (numbers_of history).nodes (kept_of history)
+    → AreInFiles (numbers_of (history ++ k ∷ [])).nodes (kept_of (history ++ k ∷ []))
+files-one history (commands.Option name) accepted h = as-before history (commands.Option name) refl h
+files-one history (commands.Constraint expr) accepted h = as-before history (commands.Constraint expr) refl h
+files-one history (commands.Commit base choice ambition es) accepted h =
+    let ns : Numbers = numbers_of history in
+    let more : (numbers_of (history ++ commands.Commit base choice ambition es ∷ [])).nodes ≡ ns.nodes + nodes_made es =
+    ap (λ (ms : Numbers). ms.nodes) (numbers_from-append no_numbers history (commands.Commit base choice ambition es ∷ [])) in
+    subst (AreInFiles (numbers_of (history ++ commands.Commit base choice ambition es ∷ [])).nodes) (sym (commit-lines history base choice ambition es))
+    (files-edits (length history + 1) ambition (numbers_of (take base history)).nodes ns (numbers_after ns es).addresses ns.nodes 0 (length ns.addresses)
+    (numbers_of (history ++ commands.Commit base choice ambition es ∷ [])).nodes (kept_of history) es (base-nodes base history) (omega (arith, more))
+    (edits-named history base choice es (edits-accepted history base choice ambition es accepted))
+    (more-files ns.nodes (numbers_of (history ++ commands.Commit base choice ambition es ∷ [])).nodes (kept_of history) (omega (arith, more)) h))
+
+files-from : (before history : List Command) → IsLegalFrom before history → AreInFiles (numbers_of before).nodes (kept_of before)
+    → AreInFiles (numbers_of (before ++ history)).nodes (kept_of (before ++ history))
+files-from before [] legal h = subst (λ hs. AreInFiles (numbers_of hs).nodes (kept_of hs)) (sym (append-nil before)) h
+files-from before (k ∷ history) legal h =
+    subst (λ hs. AreInFiles (numbers_of hs).nodes (kept_of hs)) (append_assoc before (k ∷ []) history) (files-from (before ++ k ∷ []) history legal.2 (files-one before k legal.1 h))
+
+pub legal-files : (history : List Command) → IsLegal history → AreInFiles (numbers_of history).nodes (kept_of history)
+legal-files history legal = files-from [] history legal tt

@@ -1,0 +1,292 @@
+-- What is ready for a command, drawn, installed or given up.
+use Rattle.std.proofs.Common.{◌≡◌, ℕ, zero, suc, ◌+◌, ◌-◌, ◌<◌, ◌≤◌, ◌^◌, Bool, true, false, nat_lt, nat_le, ◌||◌, List, [], ◌∷◌, ◌++◌, length, length-append, map, take, drop, Option, Some, None, Result, Ok, Err, OnErr, append-nil, refl, sym, ap, subst, ◌∙◌, arith}
+use Rattle.std.specs.List.{AllByRecursion, sum_by}
+use Rattle.std.proofs.lemmas.Bool.Decides.{nat_tests}
+use Rattle.cov_base.proofs.Tables.{length-with_lines}
+use Rattle.cov_expr.specs.Formula.{Formula}
+use Rattle.cov_edit.specs.declared.edit.Edit.{Edit}
+use Rattle.cov_edit.specs.declared.command.Command.{Command}
+use Rattle.cov_edit.specs.declared.command.Command.TheVariants as commands
+use Rattle.cov_edit.specs.Fits.{fits_command}
+use Rattle.cov_edit.specs.History.{options_of, option_count, constraints_of, text_bytes, command_bytes, byte_count}
+use Rattle.cov_edit.specs.Limits.{most_commands}
+use Rattle.cov_edit.specs.Numbering.{Numbers, nodes_made, anchors_of, no_numbers, numbers_after, numbers_of, line_count, node_count}
+use Rattle.cov_edit.proofs.Replays.{numbers_from-append}
+use Rattle.cov_view.specs.Refusals.{when, first_of}
+use Rattle.cov_engine.specs.declared.counts.Counts.{Counts}
+use Rattle.cov_engine.specs.declared.entry.Entry.{Entry}
+use Rattle.cov_engine.specs.declared.kept.Made.{Made}
+use Rattle.cov_engine.specs.declared.kept.KeptLine.{KeptLine}
+use Rattle.cov_engine.specs.declared.ready.Ready.{Ready}
+use Rattle.cov_engine.specs.declared.sizes.Sizes.{Sizes}
+use Rattle.cov_engine.specs.declared.ready.Ready.TheVariants as ready
+use Rattle.cov_engine.specs.declared.refusal.Refusal.{Refusal}
+use Rattle.cov_engine.specs.declared.refusal.Refusal.TheVariants as refusals
+use Rattle.cov_engine.specs.Kept.{Kept, kept_of}
+use Rattle.cov_engine.specs.Holdings.{entry_kept, IsFileOf, IsHeldBy}
+use Rattle.cov_engine.specs.Sessions.{IsGood, has_commit, session_of, MayCome}
+use Rattle.cov_engine.specs.States.{are_within, AreCountsOf, IsStateOf}
+use Rattle.cov_engine.specs.Verdict.{IsLegal, verdict, refusals_of, when_full, size_refusals, has_no_edits}
+use Rattle.cov_engine.specs.Drawing.{Stored, stored, sizes_of, sizes_refusal, new_lines, new_entries, AreNumbered, AreNear, HasRoom, CanTakeAll, with_new_lines, IsDrawn}
+use Rattle.cov_engine.specs.Ready.{IsNext, IsInBounds, AreCountsWith, IsCommitReady, IsReady, edits_in}
+use Rattle.cov_engine.proofs.Standing.{all-mapped}
+use Rattle.cov_engine.proofs.FileLines.{all-unmapped}
+use Rattle.cov_engine.proofs.Sessions.{good-passes}
+use Rattle.cov_engine.proofs.States.{legal-one, length-one, sum-one, options-append, constraints-append, below, first-none}
+use Rattle.cov_engine.proofs.Committed.{stored_kept, kept-stored, new-lines-count}
+use Rattle.cov_engine.proofs.Rooms.{map-length}
+use Rattle.cov_engine.proofs.Installed.{held-numbered, held-count, lines-few, nodes-few, edits-few, bytes-few, edits-near, drawn-numbered, drawn-takes, held-committed}
+
+-- the verdict on the commit of a good session is that of its sizes
+pub sized-verdict : (history : List Command) (counts : Counts) (base : ℕ) (choice : List Bool) (ambition : Formula ℕ) (es : List Edit)
+    → AreCountsOf history counts → IsGood history (session_of base choice ambition es) → length history < 2 ^ 20 → sizes_refusal counts es ≡ verdict history (commands.Commit base choice ambition es)
+sized-verdict history counts base choice ambition es are good h =
+    sized ∙ ap (λ b. first_of (when b refusals.Full ∷ (size_refusals history es ++ when (has_no_edits es) refusals.Empty ∷ []))) (sym not-full)
+    ∙ sym (good-passes history (session_of base choice ambition es) good)
+  where
+    sized : sizes_refusal counts es ≡ first_of (size_refusals history es ++ when (has_no_edits es) refusals.Empty ∷ [])
+    sized = rw (are.lines, are.nodes, are.bytes) refl
+
+    not-full : nat_le most_commands (length history) ≡ false
+    not-full = grind (arith, nat_tests, h)
+
+-- an accepted commit is within the limits
+pub in-bounds : (history : List Command) (base : ℕ) (choice : List Bool) (ambition : Formula ℕ) (es : List Edit) → verdict history (commands.Commit base choice ambition es) ≡ None → IsInBounds history es
+in-bounds history base choice ambition es accepted = record {
+  near = edits-near history base choice ambition es accepted;
+  edits = edits-few history base choice ambition es accepted;
+  lines = lines-few history base choice ambition es accepted;
+  nodes = nodes-few history base choice ambition es accepted;
+  bytes = bytes-few history base choice ambition es accepted;
+}
+
+-- entries that are the same but for their room hold the same
+module _ (history : List Command) (commits : List Made) (ls : List KeptLine) (old now : List Entry) (same : map stored now ≡ map stored old) where
+  abbrev IsStoredFile : Stored → Type 0
+  IsStoredFile s = Rattle.cov_engine.specs.Files.file_dated s.node (kept_of history) ≡ map (Rattle.cov_engine.specs.Showing.dated_of commits ls) s.lines
+
+  pub held-stored : IsHeldBy history commits ls old → IsHeldBy history commits ls now
+  held-stored held = record {
+    rows = held.rows ∙ sym (kept-stored commits old) ∙ ap (map (stored_kept commits)) (sym same) ∙ kept-stored commits now;
+    files = all-unmapped IsStoredFile stored now (subst (AllByRecursion IsStoredFile) (sym same) (all-mapped (IsFileOf (kept_of history) commits ls) IsStoredFile stored (λ e h. h) old held.files));
+    in_reach = held.in_reach;
+    lines = held.lines;
+    made_lines = held.made_lines;
+    made_entries = all-unmapped (λ (s : Stored). s.commit < length commits) stored now
+        (subst (AllByRecursion (λ (s : Stored). s.commit < length commits)) (sym same)
+        (all-mapped (λ (e : Entry). e.commit < length commits) (λ (s : Stored). s.commit < length commits) stored (λ e h. h) old held.made_entries));
+    few = held.few;
+  }
+
+take-front : {X : Type 0} (n : ℕ) (xs ys : List X) → n ≡ length xs → take n (xs ++ ys) ≡ xs
+take-front zero [] ys e = none ys
+  where
+    none : {X : Type 0} (ys : List X) → take 0 ys ≡ []
+    none [] = refl
+    none (y ∷ ys) = refl
+take-front zero (x ∷ xs) ys e = absurd (omega (arith, e))
+take-front (suc n) [] ys e = absurd (omega (arith, e))
+take-front (suc n) (x ∷ xs) ys e = ap (λ l. x ∷ l) (take-front n xs ys (omega (arith, e)))
+
+taken-stored : (n : ℕ) (es : List Entry) → map stored (take n es) ≡ take n (map stored es)
+taken-stored zero [] = refl
+taken-stored zero (e ∷ es) = refl
+taken-stored (suc n) [] = refl
+taken-stored (suc n) (e ∷ es) = ap (λ l. stored e ∷ l) (taken-stored n es)
+
+-- what is drawn is cut off again
+pub given-up : (history : List Command) (ambition : Formula ℕ) (es : List Edit) (counts : Counts) (commits : List Made) (made : Made) (ls : List KeptLine) (entries : List Entry)
+    (commits' : List Made) (ls' : List KeptLine) (entries' : List Entry) → AreCountsOf history counts → IsDrawn history ambition es commits made ls entries
+    → commits' ≡ commits → ls' ≡ take counts.lines ls → map stored entries' ≡ map stored (take (counts.nodes - 1) entries) → IsHeldBy history commits' ls' entries'
+given-up history ambition es counts commits made ls entries commits' ls' entries' are drawn ce le ee =
+    let nodes = are.nodes in
+    let lines = are.lines in
+    let held_nodes = held-count history commits drawn.old_entries drawn.held.rows in
+    let held_lines = drawn.held.lines in
+    let count = map-length drawn.old_entries in
+    subst (λ cs. IsHeldBy history cs ls' entries') (sym ce)
+    (subst (λ xs. IsHeldBy history commits xs entries')
+    (sym (le ∙ ap (take counts.lines) drawn.lines ∙ take-front counts.lines drawn.old_lines (new_lines (length commits) es) (omega (arith, lines, held_lines))))
+    (held-stored history commits drawn.old_lines drawn.old_entries entries'
+    (ee ∙ taken-stored (counts.nodes - 1) entries ∙ ap (take (counts.nodes - 1)) drawn.rows
+    ∙ take-front (counts.nodes - 1) (map stored drawn.old_entries) (new_entries (numbers_of history).nodes (length commits) (numbers_of history).nodes es) (omega (arith, nodes, held_nodes, count)))
+    drawn.held))
+
+module _ (history : List Command) (base : ℕ) (choice : List Bool) (ambition : Formula ℕ) (es : List Edit) where
+  abbrev commit : Command
+  commit = commands.Commit base choice ambition es
+
+  numbers-with : numbers_of (history ++ commit ∷ []) ≡ numbers_after (numbers_of history) es
+  numbers-with = numbers_from-append no_numbers history (commit ∷ [])
+
+  -- the counts with a commit
+  pub counts-with : (counts : Counts) → AreCountsWith history es counts → AreCountsOf (history ++ commit ∷ []) counts
+  counts-with counts with =
+      let ns = numbers_of history in
+      let grown = length-with_lines ns.addresses (anchors_of (length ns.addresses) es) in
+      let more = ap (λ (ms : Numbers). length ms.addresses) numbers-with in
+      let made = ap (λ (ms : Numbers). ms.nodes) numbers-with in
+      let same = sym (new-lines-count 0 (length ns.addresses) es) ∙ new-lines-count 0 0 es in
+      let sum = sum-one command_bytes history commit in
+      let lines = with.lines in
+      let nodes = with.nodes in
+      let bytes = with.bytes in
+      record {
+        lines = omega (arith, grown, more, same, lines);
+        nodes = omega (arith, made, nodes);
+        bytes = omega (arith, sum, bytes);
+      }
+
+  options-same : options_of (history ++ commit ∷ []) ≡ options_of history
+  options-same = options-append history (commit ∷ []) ∙ append-nil (options_of history)
+
+  constraints-same : constraints_of (history ++ commit ∷ []) ≡ constraints_of history
+  constraints-same = constraints-append history (commit ∷ []) ∙ append-nil (constraints_of history)
+
+  -- the state with a commit
+  pub state-with : (names : List (List ℕ)) (constraints : List (Formula ℕ)) (counts new : Counts) → fits_command commit ≡ true → verdict history commit ≡ None → AreCountsWith history es new
+      → IsStateOf history names constraints counts → IsStateOf (history ++ commit ∷ []) names constraints new
+  state-with names constraints counts new fits accepted with old = record {
+    legal = legal-one [] history commit old.legal fits accepted;
+    options = old.options ∙ sym options-same;
+    rules = old.rules ∙ sym constraints-same;
+    within = subst (λ ns. are_within (length ns) (constraints_of (history ++ commit ∷ [])) ≡ true) (sym options-same)
+        (subst (λ exprs. are_within (option_count history) exprs ≡ true) (sym constraints-same) old.within);
+    most =
+        let less : length history < most_commands = below most_commands (length history) (first-none _ refusals.Full (refusals_of history commit) accepted) in
+        let more = length-one history commit in
+        omega (arith, less, more);
+    few = subst (λ exprs. length exprs ≤ 256) (sym constraints-same) old.few;
+    counted = counts-with new with;
+  }
+
+first-nodes : (history : List Command) (counts : Counts) → AreCountsOf history counts → counts.nodes - 1 ≡ (numbers_of history).nodes
+first-nodes history counts are = let nodes = are.nodes in omega (arith, nodes)
+
+-- a command for which a commit is ready
+module _ (history : List Command) (names : List (List ℕ)) (constraints : List (Formula ℕ)) (old new : Counts) (os rs ks : ℕ) (commits : List Made) (made : Made) (ls : List KeptLine) (entries : List Entry)
+    (state : IsStateOf history names constraints old) where
+  abbrev IsThat : Command → Type 0
+  IsThat command = IsReady history command os rs ks commits ls entries (ready.Commit made new)
+
+  pub ready-numbered : (command : Command) (spare : ℕ) → IsNext history command spare → IsThat command → AreNumbered 0 entries
+  ready-numbered (commands.Option name) spare next r = absurd r
+  ready-numbered (commands.Constraint expr) spare next r = absurd r
+  ready-numbered (commands.Commit base choice ambition es) spare next r =
+      drawn-numbered history base choice ambition es state.legal r.0.0 r.0.1 next.accepted commits made ls entries r.1.0
+
+  -- the counts before are those of the history
+  pub ready-takes : (command : Command) (spare : ℕ) (edits : List Edit) → IsNext history command spare → IsThat command → edits ≡ edits_in command → CanTakeAll (old.nodes - 1) old.lines old.lines edits entries
+  ready-takes (commands.Option name) spare edits next r e = absurd r
+  ready-takes (commands.Constraint expr) spare edits next r e = absurd r
+  ready-takes (commands.Commit base choice ambition es) spare edits next r e =
+      subst (λ n. CanTakeAll n old.lines old.lines edits entries) (sym (first-nodes history old state.counted))
+      (subst (λ m. CanTakeAll (numbers_of history).nodes m m edits entries) (sym state.counted.lines)
+      (subst (λ some. CanTakeAll (numbers_of history).nodes (line_count history) (line_count history) some entries) (sym e)
+      (drawn-takes history base choice ambition es state.legal r.0.0 r.0.1 next.accepted commits made ls entries r.1.0)))
+
+  pub ready-state : (command : Command) (spare : ℕ) → IsNext history command spare → IsThat command → IsStateOf (history ++ command ∷ []) names constraints new
+  ready-state (commands.Option name) spare next r = absurd r
+  ready-state (commands.Constraint expr) spare next r = absurd r
+  ready-state (commands.Commit base choice ambition es) spare next r = state-with history base choice ambition es names constraints old new next.fits next.accepted r.1.1 state
+
+  pub ready-held : (command : Command) (spare : ℕ) (edits : List Edit) (commits' : List Made) (ls' : List KeptLine) (entries' : List Entry) → IsNext history command spare → IsThat command → edits ≡ edits_in command
+      → commits' ≡ commits ++ made ∷ [] → ls' ≡ ls → entries' ≡ with_new_lines (old.nodes - 1) old.lines old.lines edits entries → IsHeldBy (history ++ command ∷ []) commits' ls' entries'
+  ready-held (commands.Option name) spare edits commits' ls' entries' next r e ce le ee = absurd r
+  ready-held (commands.Constraint expr) spare edits commits' ls' entries' next r e ce le ee = absurd r
+  ready-held (commands.Commit base choice ambition es) spare edits commits' ls' entries' next r e ce le ee =
+      subst (λ cs. IsHeldBy (history ++ commands.Commit base choice ambition es ∷ []) cs ls' entries') (sym ce)
+      (subst (λ xs. IsHeldBy (history ++ commands.Commit base choice ambition es ∷ []) (commits ++ made ∷ []) xs entries') (sym le)
+      (subst (λ en. IsHeldBy (history ++ commands.Commit base choice ambition es ∷ []) (commits ++ made ∷ []) ls en)
+      (ap (λ n. with_new_lines n (line_count history) (line_count history) es entries) (sym (first-nodes history old state.counted))
+      ∙ ap (λ m. with_new_lines (old.nodes - 1) m m es entries) (sym state.counted.lines)
+      ∙ ap (λ some. with_new_lines (old.nodes - 1) old.lines old.lines some entries) (sym e) ∙ sym ee)
+      (held-committed history base choice ambition es state.legal r.0.0 r.0.1 next.accepted commits made ls entries r.1.0)))
+
+  -- given up, it leaves what is held
+  pub ready-given-up : (command : Command) (commits' : List Made) (ls' : List KeptLine) (entries' : List Entry) → IsThat command
+      → commits' ≡ commits → ls' ≡ take old.lines ls → map stored entries' ≡ map stored (take (old.nodes - 1) entries) → IsHeldBy history commits' ls' entries'
+  ready-given-up (commands.Option name) commits' ls' entries' r ce le ee = absurd r
+  ready-given-up (commands.Constraint expr) commits' ls' entries' r ce le ee = absurd r
+  ready-given-up (commands.Commit base choice ambition es) commits' ls' entries' r ce le ee = given-up history ambition es old commits made ls entries commits' ls' entries' state.counted r.1.0 ce le ee
+
+pub declaration-held : (history : List Command) (command copy : Command) (os rs ks : ℕ) (commits : List Made) (ls : List KeptLine) (entries : List Entry)
+    → IsReady history command os rs ks commits ls entries (ready.Declaration copy) → IsHeldBy history commits ls entries
+declaration-held history (commands.Option name) copy os rs ks commits ls entries r = r.held
+declaration-held history (commands.Constraint expr) copy os rs ks commits ls entries r = r.held
+declaration-held history (commands.Commit base choice ambition es) copy os rs ks commits ls entries r = absurd r.1
+
+-- the edits of an accepted command name near nodes
+pub next-near : (history : List Command) (command : Command) (counts : Counts) (edits : List Edit) → AreCountsOf history counts → verdict history command ≡ None → edits ≡ edits_in command → AreNear (counts.nodes - 1) edits
+next-near history command counts edits are accepted e = subst (AreNear (counts.nodes - 1)) (sym e) (by command accepted)
+  where
+    by : (command : Command) → verdict history command ≡ None → AreNear (counts.nodes - 1) (edits_in command)
+    by (commands.Option name) accepted = tt
+    by (commands.Constraint expr) accepted = tt
+    by (commands.Commit base choice ambition es) accepted =
+        subst (λ n. AreNear n es) (sym (first-nodes history counts are)) (edits-near history base choice ambition es accepted)
+
+-- a history with edits that are within its limits
+module _ (history : List Command) (ambition : Formula ℕ) (es : List Edit) (counts : Counts) (commits : List Made) (ls : List KeptLine) (entries : List Entry)
+    (are : AreCountsOf history counts) (held : IsHeldBy history commits ls entries) (within : IsInBounds history es) where
+  pub held-nodes : counts.nodes ≡ length entries + 1
+  held-nodes =
+      let count = held-count history commits entries held.rows in
+      let nodes = are.nodes in
+      omega (arith, count, nodes)
+
+  pub held-near : (some : List Edit) → some ≡ es → AreNear (length entries) some
+  held-near some e = subst (AreNear (length entries)) (sym e) (subst (λ n. AreNear n es) (sym (held-count history commits entries held.rows)) within.near)
+
+  pub held-few : (some : List Edit) → some ≡ es → length entries + nodes_made some < 2 ^ 32 - 1
+  held-few some e =
+      let count = held-count history commits entries held.rows in
+      let nodes = within.nodes in
+      let same = ap nodes_made e in
+      omega (arith, count, nodes, same)
+
+  -- what is drawn of them is ready
+  pub is-ready : (spare : ℕ) (made : Made) (new : Counts) (commits' : List Made) (ls' : List KeptLine) (entries' : List Entry) (some : List Edit) → some ≡ es
+      → made.position ≡ length history + 1 → made.ambition ≡ ambition
+      → new ≡ record { lines = counts.lines + length (anchors_of 0 es); nodes = counts.nodes + nodes_made es; bytes = counts.bytes + text_bytes es }
+      → commits' ≡ commits → ls' ≡ ls ++ new_lines (length commits) some
+      → map stored entries' ≡ map stored entries ++ new_entries (length entries) (length commits) (length entries) some → AllByRecursion (HasRoom (length entries) some) entries' → 0 < spare
+      → IsDrawn history ambition es commits' made ls' entries' × AreCountsWith history es new × (0 < spare)
+  is-ready spare made new commits' ls' entries' some e at amb ne ce le ee room free =
+      let count = held-count history commits entries held.rows in (
+        record {
+          old_lines = ls;
+          old_entries = entries;
+          held = subst (λ cs. IsHeldBy history cs ls entries) (sym ce) held;
+          made_is = λ j. record { position = at j; ambition = amb j };
+          lines = le ∙ ap (λ k. ls ++ new_lines k some) (ap length (sym ce)) ∙ ap (λ x. ls ++ new_lines (length commits') x) e;
+          rows = ee ∙ ap (λ n. map stored entries ++ new_entries n (length commits) n some) count
+              ∙ ap (λ k. map stored entries ++ new_entries (numbers_of history).nodes k (numbers_of history).nodes some) (ap length (sym ce))
+              ∙ ap (λ x. map stored entries ++ new_entries (numbers_of history).nodes (length commits') (numbers_of history).nodes x) e;
+          room = subst (λ x. AllByRecursion (HasRoom (numbers_of history).nodes x) entries') e (subst (λ n. AllByRecursion (HasRoom n some) entries') count room);
+        },
+        record {
+          lines = ap (λ (k : Counts). k.lines) ne ∙ ap (λ n. n + length (anchors_of 0 es)) are.lines;
+          nodes = ap (λ (k : Counts). k.nodes) ne ∙ ap (λ n. n + nodes_made es) are.nodes;
+          bytes = ap (λ (k : Counts). k.bytes) ne ∙ ap (λ n. n + text_bytes es) are.bytes;
+        },
+        free,
+      )
+
+pub held-again : (history : List Command) (commits commits' : List Made) (ls ls' : List KeptLine) (entries entries' : List Entry) → IsHeldBy history commits ls entries
+    → commits' ≡ commits → ls' ≡ ls → map stored entries' ≡ map stored entries → IsHeldBy history commits' ls' entries'
+held-again history commits commits' ls ls' entries entries' held ce le ee =
+    subst (λ cs. IsHeldBy history cs ls' entries') (sym ce) (subst (λ xs. IsHeldBy history commits xs entries') (sym le) (held-stored history commits ls entries entries' ee held))
+
+pub on-any : {A E : Type 0} (r : Result A E) (P : Type 0) → P → OnErr r P
+on-any (Ok a) P p = tt
+on-any (Err e) P p = p
+
+-- counts with the sizes of edits
+pub counted : (counts : Counts) (sizes : Sizes) (some es : List Edit) (new : Counts)
+    → new ≡ record { lines = counts.lines + sizes.lines; nodes = counts.nodes + sizes.nodes; bytes = counts.bytes + sizes.bytes } → sizes ≡ sizes_of some → some ≡ es
+    → new ≡ record { lines = counts.lines + length (anchors_of 0 es); nodes = counts.nodes + nodes_made es; bytes = counts.bytes + text_bytes es }
+counted counts sizes some es new is measured same = is ∙ ap (with counts) (measured ∙ ap sizes_of same)
+  where
+    with : Counts → Sizes → Counts
+    with counts s = record { lines = counts.lines + s.lines; nodes = counts.nodes + s.nodes; bytes = counts.bytes + s.bytes }

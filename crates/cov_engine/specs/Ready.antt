@@ -1,0 +1,65 @@
+-- What is ready for a command.
+use Rattle.std.specs.Prelude.{◌≡◌, ℕ, ◌+◌, ◌^◌, ◌<◌, ◌≤◌, true, false, List, [], ◌∷◌, length, None}
+use Rattle.cov_expr.specs.Formula.{Formula}
+use Rattle.cov_edit.specs.declared.edit.Edit.{Edit}
+use Rattle.cov_edit.specs.declared.command.Command.{Command}
+use Rattle.cov_edit.specs.declared.command.Command.TheVariants as commands
+use Rattle.cov_edit.specs.Fits.{fits_command}
+use Rattle.cov_edit.specs.History.{text_bytes, byte_count}
+use Rattle.cov_edit.specs.Numbering.{nodes_made, anchors_of, numbers_of, line_count, node_count}
+use Rattle.cov_engine.specs.Drawing.{AreNear, IsDrawn}
+use Rattle.cov_engine.specs.Holdings.{IsHeldBy}
+use Rattle.cov_engine.specs.Sessions.{has_commit, MayCome}
+use Rattle.cov_engine.specs.Verdict.{verdict}
+use Rattle.cov_engine.specs.declared.counts.Counts.{Counts}
+use Rattle.cov_engine.specs.declared.entry.Entry.{Entry}
+use Rattle.cov_engine.specs.declared.kept.KeptLine.{KeptLine}
+use Rattle.cov_engine.specs.declared.kept.Made.{Made}
+use Rattle.cov_engine.specs.declared.ready.Ready.{Ready}
+use Rattle.cov_engine.specs.declared.ready.Ready.TheVariants as ready
+
+-- a history accepts a command, and has room for it
+pub record IsNext (history : List Command) (command : Command) (spare : ℕ) : Type 0 where
+  pub fits : fits_command command ≡ true
+  pub accepted : verdict history command ≡ None
+  pub room : 0 < spare
+
+-- edits that a history accepts keep within its limits
+pub record IsInBounds (history : List Command) (es : List Edit) : Type 0 where
+  pub near : AreNear (numbers_of history).nodes es
+  pub edits : length es ≤ 16384
+  pub lines : line_count history + length (anchors_of 0 es) ≤ 2 ^ 20
+  pub nodes : node_count history + nodes_made es ≤ 65536
+  pub bytes : byte_count history + text_bytes es ≤ 2 ^ 30
+
+-- the counts are those of a history with edits more
+pub record AreCountsWith (history : List Command) (es : List Edit) (counts : Counts) : Type 0 where
+  pub lines : counts.lines ≡ line_count history + length (anchors_of 0 es)
+  pub nodes : counts.nodes ≡ node_count history + nodes_made es
+  pub bytes : counts.bytes ≡ byte_count history + text_bytes es
+
+-- there is a copy of a declaration, and room for an option and a constraint
+pub record IsDeclarationReady (history : List Command) (command copy : Command) (options_spare rules_spare : ℕ) (commits : List Made) (ls : List KeptLine) (entries : List Entry) : Type 0 where
+  pub declares : has_commit (command ∷ []) ≡ false
+  pub copied : copy ≡ command
+  pub option_room : 0 < options_spare
+  pub rule_room : 0 < rules_spare
+  pub held : IsHeldBy history commits ls entries
+
+-- a commit is drawn, and there is room for it
+abbrev pub IsCommitReady : List Command → Formula ℕ → List Edit → ℕ → List Made → List KeptLine → List Entry → Ready → Type 0
+IsCommitReady history ambition es spare commits ls entries (ready.Declaration copy) = ⊥
+IsCommitReady history ambition es spare commits ls entries (ready.Commit made counts) = IsDrawn history ambition es commits made ls entries × AreCountsWith history es counts × (0 < spare)
+
+-- what a command wants is ready
+abbrev pub IsReady : List Command → Command → ℕ → ℕ → ℕ → List Made → List KeptLine → List Entry → Ready → Type 0
+IsReady history (commands.Commit base choice ambition es) options_spare rules_spare commits_spare commits ls entries r =
+    MayCome history (commands.Commit base choice ambition es) × IsCommitReady history ambition es commits_spare commits ls entries r
+IsReady history command options_spare rules_spare commits_spare commits ls entries (ready.Declaration copy) =
+    IsDeclarationReady history command copy options_spare rules_spare commits ls entries
+IsReady history command options_spare rules_spare commits_spare commits ls entries (ready.Commit made counts) = ⊥
+
+-- the edits of a commit
+abbrev pub edits_in : Command → List Edit
+edits_in (commands.Commit base choice ambition es) = es
+edits_in _ = []

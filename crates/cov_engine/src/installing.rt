@@ -1,0 +1,96 @@
+// Commands that are installed, or given up.
+ghost use Rattle.std.specs.Prelude.{◌≡◌, ◌-◌, ◌++◌, [], ◌∷◌, vec_len, vec_capacity};
+ghost use Rattle.cov_engine.specs.Holdings.{IsHeldBy};
+ghost use Rattle.cov_engine.specs.Ready.{IsNext, IsReady, IsDeclarationReady, edits_in};
+ghost use Rattle.cov_engine.specs.States.{IsStateOf, receipt_number};
+ghost use Rattle.cov_engine.specs.declared.ready.Ready.TheVariants as ready;
+
+use crate::Counts;
+use crate::drawing::{install, undraw};
+use crate::kept::Made;
+use crate::ready::Ready;
+use crate::state::{State, declare};
+use cov_edit::{Command, Edit};
+
+/// Adds all of a command that is ready but the command itself, and answers the number on its receipt.
+pub(crate) fn add_ready(state: &mut State, command: &Command, ready: Ready) -> u32
+    requires state { IsStateOf state.old.commands.commands state.old.options.names state.old.constraints.items state.old.counts }
+    requires next { IsNext state.old.commands.commands command.now state.old.commands.spare }
+    requires ready { IsReady state.old.commands.commands command.now state.old.options.spare (vec_capacity state.old.constraints - vec_len state.old.constraints)
+        (vec_capacity state.old.kept.commits - vec_len state.old.kept.commits) state.old.kept.commits.items state.old.kept.lines.items state.old.kept.entries.items ready }
+    ensures commands { state.new.commands ≡ state.old.commands }
+    ensures state { IsStateOf (state.old.commands.commands ++ command.now ∷ []) state.new.options.names state.new.constraints.items state.new.counts }
+    ensures held { IsHeldBy (state.old.commands.commands ++ command.now ∷ []) state.new.kept.commits.items state.new.kept.lines.items state.new.kept.entries.items }
+    ensures number { result ≡ receipt_number state.old.commands.commands command.now }
+{
+    match ready {
+        Ready::Declaration { copy } => add_declaration(state, command, copy),
+        Ready::Commit { made, counts } => add_commit(state, command, made, counts),
+    }
+}
+
+fn add_declaration(state: &mut State, command: &Command, copy: Command) -> u32
+    requires state { IsStateOf state.old.commands.commands state.old.options.names state.old.constraints.items state.old.counts }
+    requires next { IsNext state.old.commands.commands command.now state.old.commands.spare }
+    requires ready { IsDeclarationReady state.old.commands.commands command.now copy state.old.options.spare (vec_capacity state.old.constraints - vec_len state.old.constraints)
+        state.old.kept.commits.items state.old.kept.lines.items state.old.kept.entries.items }
+    ensures commands { state.new.commands ≡ state.old.commands }
+    ensures state { IsStateOf (state.old.commands.commands ++ command.now ∷ []) state.new.options.names state.new.constraints.items state.new.counts }
+    ensures held { IsHeldBy (state.old.commands.commands ++ command.now ∷ []) state.new.kept.commits.items state.new.kept.lines.items state.new.kept.entries.items }
+    ensures number { result ≡ receipt_number state.old.commands.commands command.now }
+{
+    declare(&mut state.options, &mut state.constraints, copy)
+}
+
+fn add_commit(state: &mut State, command: &Command, made: Made, counts: Counts) -> u32
+    requires state { IsStateOf state.old.commands.commands state.old.options.names state.old.constraints.items state.old.counts }
+    requires next { IsNext state.old.commands.commands command.now state.old.commands.spare }
+    requires ready { IsReady state.old.commands.commands command.now state.old.options.spare (vec_capacity state.old.constraints - vec_len state.old.constraints)
+        (vec_capacity state.old.kept.commits - vec_len state.old.kept.commits) state.old.kept.commits.items state.old.kept.lines.items state.old.kept.entries.items (ready.Commit made counts) }
+    ensures commands { state.new.commands ≡ state.old.commands }
+    ensures state { IsStateOf (state.old.commands.commands ++ command.now ∷ []) state.new.options.names state.new.constraints.items state.new.counts }
+    ensures held { IsHeldBy (state.old.commands.commands ++ command.now ∷ []) state.new.kept.commits.items state.new.kept.lines.items state.new.kept.entries.items }
+    ensures number { result ≡ receipt_number state.old.commands.commands command.now }
+{
+    install(
+        &mut state.kept,
+        state.counts.nodes - 1,
+        state.counts.lines,
+        edits_in(command),
+        made,
+    );
+    state.counts = counts;
+    0
+}
+
+/// Gives up what is ready for a command.
+pub(crate) fn give_up(state: &mut State, command: &Command, ready: &Ready)
+    requires state { IsStateOf state.old.commands.commands state.old.options.names state.old.constraints.items state.old.counts }
+    requires next { IsNext state.old.commands.commands command.now state.old.commands.spare }
+    requires ready { IsReady state.old.commands.commands command.now state.old.options.spare (vec_capacity state.old.constraints - vec_len state.old.constraints)
+        (vec_capacity state.old.kept.commits - vec_len state.old.kept.commits) state.old.kept.commits.items state.old.kept.lines.items state.old.kept.entries.items ready.now }
+    ensures commands { state.new.commands ≡ state.old.commands }
+    ensures options { state.new.options ≡ state.old.options }
+    ensures constraints { state.new.constraints ≡ state.old.constraints }
+    ensures counts { state.new.counts ≡ state.old.counts }
+    ensures held { IsHeldBy state.old.commands.commands state.new.kept.commits.items state.new.kept.lines.items state.new.kept.entries.items }
+{
+    match ready {
+        Ready::Declaration { .. } => (),
+        Ready::Commit { .. } => undraw(
+            &mut state.kept,
+            state.counts.nodes - 1,
+            state.counts.lines,
+            edits_in(command),
+        ),
+    }
+}
+
+fn edits_in(command: &Command) -> &[Edit]
+    ensures { result.now ≡ edits_in command.now }
+{
+    match command {
+        Command::Commit { edits, .. } => edits.as_slice(),
+        _ => &[],
+    }
+}

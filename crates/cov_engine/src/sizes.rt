@@ -1,0 +1,120 @@
+// How much edits make.
+ghost use Rattle.std.specs.Prelude.{◌≡◌, ◌<◌, ◌+◌, ◌*◌, ◌^◌, ◌≤◌, ◌||◌, [], ◌∷◌, true, nat_lt, length};
+ghost use Rattle.std.specs.List.{list_all};
+ghost use Rattle.cov_edit.specs.EditFits.{fits_edit};
+ghost use Rattle.cov_edit.specs.History.{edit_bytes};
+ghost use Rattle.cov_edit.specs.Numbering.{nodes_made, anchors_of};
+ghost use Rattle.cov_engine.specs.Drawing.{sizes_of, sizes_refusal};
+ghost use Rattle.cov_engine.specs.declared.refusal.Refusal.TheVariants as refusals;
+ghost use Rattle.cov_view.specs.Refusals.{when, first_of};
+
+use crate::{Counts, Refusal};
+use cov_edit::{Edit, Edits};
+
+/// How many lines and nodes edits make, and how many bytes of text they insert.
+#[derive(Clone, Copy)]
+pub(crate) struct Sizes {
+    pub(crate) lines: u32,
+    pub(crate) nodes: u32,
+    pub(crate) bytes: u64,
+}
+
+pub(crate) fn measure(edits: &[Edit]) -> Sizes
+    requires few { length edits.now ≤ 16384 }
+    requires fits { list_all fits_edit edits.now ≡ true }
+    ensures sizes { result ≡ sizes_of edits.now }
+    ensures few { result.bytes ≤ 16384 * 4096 }
+{
+    let mut sizes = Sizes {
+        lines: 0,
+        nodes: 0,
+        bytes: 0,
+    };
+    let mut ahead = edits;
+    while let [edit, rest @ ..] = ahead {
+        sizes = with_edit(sizes, edit);
+        ahead = rest;
+    }
+    sizes
+}
+
+// The sizes with those of an edit more.
+fn with_edit(sizes: Sizes, edit: &Edit) -> Sizes
+    requires few { (sizes.lines ≤ 16384) × (sizes.nodes ≤ 16384) × (sizes.bytes ≤ 16384 * 4096) }
+    requires fits { fits_edit edit.now ≡ true }
+    ensures lines { result.lines ≡ sizes.lines + length (anchors_of 0 (edit.now ∷ [])) }
+    ensures nodes { result.nodes ≡ sizes.nodes + nodes_made (edit.now ∷ []) }
+    ensures bytes { result.bytes ≡ sizes.bytes + edit_bytes edit.now }
+{
+    match edit {
+        Edit::New { .. } => Sizes {
+            nodes: sizes.nodes + 1,
+            ..sizes
+        },
+        Edit::Insert { text, .. } => Sizes {
+            lines: sizes.lines + 1,
+            nodes: sizes.nodes,
+            bytes: sizes.bytes + text.len() as u64,
+        },
+    }
+}
+
+/// The greatest number of edits of a commit.
+const MOST_EDITS: usize = 16384;
+
+/// The greatest numbers of lines and of nodes of a history.
+const MOST_LINES: u64 = 1 << 20;
+const MOST_NODES: u64 = 65536;
+
+/// The greatest numbers of bytes of text of a commit and of a history.
+const MOST_COMMIT_BYTES: u64 = 1 << 24;
+const MOST_BYTES: u64 = 1 << 30;
+
+/// The refusal of edits that are too many, make too much or are none, where so much is there already.
+pub(crate) fn refusal(counts: Counts, edits: &Edits) -> Option<Refusal>
+    ensures { result ≡ sizes_refusal counts edits.now }
+{
+    if edits.len() > MOST_EDITS {
+        return Some(Refusal::TooManyEdits);
+    }
+    let sizes = measure(edits.as_slice());
+    match refusal_of_sizes(counts, sizes) {
+        Some(refusal) => Some(refusal),
+        None => match edits.is_empty() {
+            true => Some(Refusal::Empty),
+            false => None,
+        },
+    }
+}
+
+fn refusal_of_sizes(counts: Counts, sizes: Sizes) -> Option<Refusal>
+    requires few { sizes.bytes ≤ 16384 * 4096 }
+    ensures { result ≡ first_of (when (nat_lt (2 ^ 20) (counts.lines + sizes.lines)) refusals.TooManyLines ∷
+        when (nat_lt 65536 (counts.nodes + sizes.nodes)) refusals.TooManyNodes ∷
+        when (nat_lt (2 ^ 24) sizes.bytes || nat_lt (2 ^ 30) (counts.bytes + sizes.bytes)) refusals.TooManyBytes ∷ []) }
+{
+    if u64::from(counts.lines) + u64::from(sizes.lines) > MOST_LINES {
+        return Some(Refusal::TooManyLines);
+    }
+    if u64::from(counts.nodes) + u64::from(sizes.nodes) > MOST_NODES {
+        return Some(Refusal::TooManyNodes);
+    }
+    if sizes.bytes > MOST_COMMIT_BYTES || counts.bytes > MOST_BYTES - sizes.bytes {
+        return Some(Refusal::TooManyBytes);
+    }
+    None
+}
+
+/// The counts with what edits make more.
+pub(crate) fn with_sizes(counts: Counts, sizes: Sizes) -> Counts
+    requires lines { counts.lines + sizes.lines < 2 ^ 32 }
+    requires nodes { counts.nodes + sizes.nodes < 2 ^ 32 }
+    requires bytes { counts.bytes + sizes.bytes < 2 ^ 64 }
+    ensures { result ≡ record { lines = counts.lines + sizes.lines; nodes = counts.nodes + sizes.nodes; bytes = counts.bytes + sizes.bytes } }
+{
+    Counts {
+        lines: counts.lines + sizes.lines,
+        nodes: counts.nodes + sizes.nodes,
+        bytes: counts.bytes + sizes.bytes,
+    }
+}
