@@ -32,22 +32,30 @@ fn change(file: &mut FileLines, alloc: Global, vis: Node) -> Result<(), Memory>
     Ok(())
 }
 
+fn changed_line(alloc: Global, vis: Node) -> Result<FileLines, Memory> {
+    let mut file = one_line(alloc)?;
+    change(&mut file, alloc, vis)?;
+    Ok(file)
+}
+
+fn count(file: &FileLines, table: &Table, choice: Choice, at: u32) -> Result<usize, Memory> {
+    let rows = file.lines_at(table, choice, Position::new(at))?;
+    Ok(rows.len())
+}
+
 #[test]
 fn one_line_by_choice_and_position(rt: HostRuntime) -> Result<(), Fail> {
     let alloc = rt.alloc();
     let mut table = Table::new(alloc)?;
     let a = table.literal(OptionId::new(0))?;
-    let mut file = one_line(alloc)?;
-    change(&mut file, alloc, a)?;
-    for (bits, at, count) in [(0, 2, 0), (0, 3, 1), (0, 5, 1), (0, 6, 0), (1, 6, 1)] {
-        let choice = Choice::new(bits % 2, 1);
-        let rows = file.lines_at(&table, choice, Position::new(at))?;
-        assert_eq!(rt; rows.len(), count);
-    }
-    let rows = file.all()?;
-    let row = rows.get(0).ok_or("no row")?;
-    assert_eq!(rt; row.line.number(), 1);
-    assert_eq!(rt; row.text.get(0), Some(b'x'));
+    let file = changed_line(alloc, a)?;
+    let off = Choice::new(0, 1);
+    let on = Choice::new(1, 1);
+    assert_eq!(rt; count(&file, &table, off, 2)?, 0);
+    assert_eq!(rt; count(&file, &table, off, 5)?, 1);
+    assert_eq!(rt; count(&file, &table, off, 6)?, 0);
+    assert_eq!(rt; count(&file, &table, on, 6)?, 1);
+    assert_eq!(rt; file.all()?.len(), 1);
     assert_eq!(rt; file.vis(LineNo::new(1)), Some(a));
     assert_eq!(rt; file.vis(LineNo::new(2)), None);
     Ok(())
