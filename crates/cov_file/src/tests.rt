@@ -1,80 +1,62 @@
-use crate::{FileLines, FileRows};
-use cov_base::{Choice, LineNo, LineNos, OptionId, Position, Text};
-use cov_dd::{TRUE, Table};
-use std::process::Abort;
+ghost use Rattle.std.specs.Prelude.{◌≡◌, ◌≤◌, ◌∷◌, [], IfOk};
+ghost use Rattle.cov_file.specs.Dated.{numbers_of};
+
+use crate::FileLines;
+use cov_base::{Choice, LineNo, LineNos, Memory, OptionId, Position, Text};
+use cov_dd::{Node, TRUE, Table};
+use std::alloc::Global;
 use std::test::Fail;
 
-// Rows have these numbers, and texts of one byte.
-fn lists(rt: &impl Abort, rows: &FileRows, lines: &[(u32, u8)]) {
-    assert_eq!(rt; rows.len(), lines.len());
-    for index in 0..lines.len() {
-        match rows.get(index) {
-            Some(row) => {
-                assert_eq!(rt; row.line.number(), lines[index].0);
-                assert_eq!(rt; row.text.get(0), Some(lines[index].1));
-            }
-            None => assert!(rt; false),
-        }
-    }
+// A file with the line 1 from position 3 on.
+fn one_line(alloc: Global) -> Result<FileLines, Memory>
+    ensures numbers { IfOk result (λ file. numbers_of file.lines ≡ 1 ∷ []) }
+    ensures newest { IfOk result (λ file. file.newest ≡ 3) }
+{
+    let text = Text::from_slice(alloc, b"x")?;
+    let deletes = LineNos::new(alloc);
+    let mut file = FileLines::new(alloc);
+    file.prepare(1, &deletes)?;
+    file.insert(LineNo::new(0), LineNo::new(1), text, TRUE, Position::new(3));
+    Ok(file)
 }
 
-#[test]
-fn inserted_lines(rt: HostRuntime) -> Result<(), Fail> {
-    let alloc = rt.alloc();
-    let mut table = Table::new(alloc)?;
-    let a = table.literal(OptionId::new(0))?;
-    let x = Text::from_slice(alloc, b"x")?;
-    let y = Text::from_slice(alloc, b"y")?;
-    let mut file = FileLines::new(alloc);
-    file.prepare(2, &LineNos::new(alloc))?;
-    file.insert(LineNo::new(0), LineNo::new(1), x, TRUE, Position::new(3));
-    file.insert(LineNo::new(0), LineNo::new(2), y, a, Position::new(3));
-    let off = Choice::new(0, 1);
-    let on = Choice::new(1, 1);
-    lists(&rt, &file.lines_at(&table, on, Position::new(2))?, &[]);
-    lists(
-        &rt,
-        &file.lines_at(&table, on, Position::new(3))?,
-        &[(2, b'y'), (1, b'x')],
-    );
-    lists(
-        &rt,
-        &file.lines_at(&table, off, Position::new(4))?,
-        &[(1, b'x')],
-    );
-    lists(&rt, &file.all()?, &[(2, b'y'), (1, b'x')]);
-    assert_eq!(rt; file.vis(LineNo::new(2)), Some(a));
-    assert_eq!(rt; file.vis(LineNo::new(3)), None);
+// Gives the line 1 another visibility from position 6 on.
+fn change(file: &mut FileLines, alloc: Global, vis: Node) -> Result<(), Memory>
+    requires numbers { numbers_of file.old.lines ≡ 1 ∷ [] }
+    requires newest { file.old.newest ≤ 6 }
+{
+    let mut deletes = LineNos::new(alloc);
+    deletes.push(LineNo::new(1))?;
+    file.prepare(0, &deletes)?;
+    file.delete(LineNo::new(1), vis, Position::new(6));
     Ok(())
 }
 
+fn changed_line(alloc: Global, vis: Node) -> Result<FileLines, Memory> {
+    let mut file = one_line(alloc)?;
+    change(&mut file, alloc, vis)?;
+    Ok(file)
+}
+
+fn count(file: &FileLines, table: &Table, choice: Choice, at: u32) -> Result<usize, Memory> {
+    let rows = file.lines_at(table, choice, Position::new(at))?;
+    Ok(rows.len())
+}
+
 #[test]
-fn deleted_line(rt: HostRuntime) -> Result<(), Fail> {
+fn one_line_by_choice_and_position(rt: HostRuntime) -> Result<(), Fail> {
     let alloc = rt.alloc();
     let mut table = Table::new(alloc)?;
     let a = table.literal(OptionId::new(0))?;
-    let x = Text::from_slice(alloc, b"x")?;
-    let mut deletes = LineNos::new(alloc);
-    let mut file = FileLines::new(alloc);
-    file.prepare(1, &deletes)?;
-    file.insert(LineNo::new(0), LineNo::new(1), x, TRUE, Position::new(3));
-    deletes.push(LineNo::new(1))?;
-    file.prepare(0, &deletes)?;
-    file.delete(LineNo::new(1), a, Position::new(6));
+    let file = changed_line(alloc, a)?;
     let off = Choice::new(0, 1);
     let on = Choice::new(1, 1);
-    lists(
-        &rt,
-        &file.lines_at(&table, off, Position::new(5))?,
-        &[(1, b'x')],
-    );
-    lists(&rt, &file.lines_at(&table, off, Position::new(6))?, &[]);
-    lists(
-        &rt,
-        &file.lines_at(&table, on, Position::new(6))?,
-        &[(1, b'x')],
-    );
-    lists(&rt, &file.all()?, &[(1, b'x')]);
+    assert_eq!(rt; count(&file, &table, off, 2)?, 0);
+    assert_eq!(rt; count(&file, &table, off, 5)?, 1);
+    assert_eq!(rt; count(&file, &table, off, 6)?, 0);
+    assert_eq!(rt; count(&file, &table, on, 6)?, 1);
+    assert_eq!(rt; file.all()?.len(), 1);
     assert_eq!(rt; file.vis(LineNo::new(1)), Some(a));
+    assert_eq!(rt; file.vis(LineNo::new(2)), None);
     Ok(())
 }
