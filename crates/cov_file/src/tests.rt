@@ -3,7 +3,7 @@ ghost use Rattle.cov_file.specs.Dated.{numbers_of};
 
 use crate::FileLines;
 use cov_base::{Choice, LineNo, LineNos, Memory, OptionId, Position, Text};
-use cov_dd::{Node, TRUE, Table};
+use cov_dd::{FALSE, Node, TRUE, Table};
 use std::alloc::Global;
 use std::test::Fail;
 
@@ -32,6 +32,7 @@ fn change(file: &mut FileLines, alloc: Global, vis: Node) -> Result<(), Memory>
     Ok(())
 }
 
+// A file with the line 1 on all choices from position 3 on, and on those of a node from position 6 on.
 fn changed_line(alloc: Global, vis: Node) -> Result<FileLines, Memory> {
     let mut file = one_line(alloc)?;
     change(&mut file, alloc, vis)?;
@@ -43,20 +44,30 @@ fn count(file: &FileLines, table: &Table, choice: Choice, at: u32) -> Result<usi
     Ok(rows.len())
 }
 
-#[test]
-fn one_line_by_choice_and_position(rt: HostRuntime) -> Result<(), Fail> {
-    let alloc = rt.alloc();
+// How many lines are shown before and after the line 1 is hidden where option 0 is off.
+fn shown(alloc: Global, choice: Choice) -> Result<[usize; 2], Memory> {
     let mut table = Table::new(alloc)?;
-    let a = table.literal(OptionId::new(0))?;
-    let file = changed_line(alloc, a)?;
-    let off = Choice::new(0, 1);
-    let on = Choice::new(1, 1);
-    assert_eq!(rt; count(&file, &table, off, 2)?, 0);
-    assert_eq!(rt; count(&file, &table, off, 5)?, 1);
-    assert_eq!(rt; count(&file, &table, off, 6)?, 0);
-    assert_eq!(rt; count(&file, &table, on, 6)?, 1);
+    let vis = table.literal(OptionId::new(0))?;
+    let file = changed_line(alloc, vis)?;
+    let before = count(&file, &table, choice, 5)?;
+    let after = count(&file, &table, choice, 6)?;
+    Ok([before, after])
+}
+
+#[test]
+fn a_line_by_choice_and_position(rt: HostRuntime) -> Result<(), Fail> {
+    let off = shown(rt.alloc(), Choice::new(0, 1))?;
+    let on = shown(rt.alloc(), Choice::new(1, 1))?;
+    assert_eq!(rt; off, [1, 0]);
+    assert_eq!(rt; on, [1, 1]);
+    Ok(())
+}
+
+#[test]
+fn a_hidden_line_is_listed(rt: HostRuntime) -> Result<(), Fail> {
+    let file = changed_line(rt.alloc(), FALSE)?;
     assert_eq!(rt; file.all()?.len(), 1);
-    assert_eq!(rt; file.vis(LineNo::new(1)), Some(a));
+    assert_eq!(rt; file.vis(LineNo::new(1)), Some(FALSE));
     assert_eq!(rt; file.vis(LineNo::new(2)), None);
     Ok(())
 }
