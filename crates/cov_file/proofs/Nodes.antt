@@ -1,5 +1,5 @@
 -- The nodes and texts of lines, and how they stay when one line is put behind or changed.
-use Rattle.std.proofs.Common.{◌≡◌, ℕ, zero, suc, ◌+◌, ◌<◌, ◌≤◌, Bool, true, false, cond, not, nat_lt, nat_eq, nat_le, ◌==◌, ◌||◌, List, [], ◌∷◌, ◌++◌, length, set, get_or, map, Option, Some, None, slice_get, position, unwrap_or, refl, sym, ap, ◌∙◌, arith}
+use Rattle.std.proofs.Common.{◌≡◌, ℕ, suc, ◌+◌, ◌<◌, ◌≤◌, Bool, true, false, cond, not, nat_lt, nat_eq, nat_le, ◌==◌, ◌||◌, List, [], ◌∷◌, ◌++◌, length, set, Some, None, slice_get, position, unwrap_or, refl, sym, ap, ◌∙◌, arith}
 use Rattle.std.specs.List.{AllByRecursion, find, list_any, position_or_len}
 use Rattle.std.specs.Map.{keys_of, lookup}
 use Rattle.std.specs.Ordering.{is_le, nat_cmp}

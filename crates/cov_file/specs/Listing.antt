@@ -1,5 +1,5 @@
 -- What a file keeps: for each position of a change the nodes of all lines, in the order in which they were inserted.
-use Rattle.std.specs.Prelude.{◌≡◌, ℕ, ◌≤◌, Bool, true, false, nat_eq, nat_le, List, [], ◌∷◌, map, length, Option, None, Some, unwrap_or, if◌then◌else◌}
+use Rattle.std.specs.Prelude.{◌≡◌, ℕ, ◌≤◌, Bool, true, nat_eq, nat_le, List, [], ◌∷◌, map, length, Option, None, Some, unwrap_or, if◌then◌else◌}
 use Rattle.std.specs.List.{AllByRecursion, filter, list_any}
 use Rattle.std.specs.Map.{keys_of, lookup}
 use Rattle.cov_dd.specs.declared.triple.Triple.{Triple}

@@ -1,4 +1,4 @@
-use Rattle.std.proofs.Common.{◌≡◌, ◌≤◌, ◌∙◌, sym, ap, subst, true≢false}
+use Rattle.std.proofs.Common.{◌≤◌, ◌∙◌, sym, ap, subst, true≢false}
 use Rattle.std.specs.Map.{keys_of}
 use Rattle.cov_order.specs.Orders.{has_line}
 use Rattle.cov_file.specs.Dated.{with_change, numbers_of, AreAlike}

@@ -1,4 +1,4 @@
-use Rattle.std.proofs.Common.{◌≡◌, ◌≤◌, ◌+◌, min, ◌∙◌, sym, ap, subst, true, false, cond, nat_eq, ◌||◌, None, Some, arith}
+use Rattle.std.proofs.Common.{◌≡◌, ◌≤◌, ◌+◌, min, ◌∙◌, sym, ap, subst, true, false, cond, nat_eq, None, Some, arith}
 use Rattle.std.specs.Option.{option_map_or}
 use Rattle.indexmap.specs.IndexMap.{spare}
 use Rattle.cov_base.specs.Addresses.{after_anchor}

@@ -1,4 +1,4 @@
-use Rattle.std.proofs.Common.{◌≡◌, ◌≤◌, ◌∙◌, sym, ap, subst, true, cond, None, Some}
+use Rattle.std.proofs.Common.{◌≡◌, ◌≤◌, ap, subst, true, cond, None, Some}
 use Rattle.std.proofs.Math.Nat.{le-min}
 use Rattle.cov_order.specs.Orders.{has_line}
 use Rattle.cov_file.specs.Listing.{lists_of}

@@ -2,7 +2,7 @@ use Rattle.std.proofs.Common.{◌∙◌, sym, ap, reverse, ℕ, List, nat_le}
 use Rattle.std.specs.List.{find}
 use Rattle.std.specs.Option.{option_copied}
 use Rattle.std.specs.Ordering.{is_le, nat_cmp}
-use Rattle.cov_file.specs.Listing.{Listing, list_at, lists_of}
+use Rattle.cov_file.specs.Listing.{Listing, list_at}
 use Rattle.cov_file.proofs.Nodes.{list_found, list_none, older_listed}
 use Rattle.cov_file.proofs.lists.NodeLists.at.Goals as goal
 
