@@ -63,12 +63,7 @@ pub(crate) fn draw_entries(
     Ok(())
 }
 
-fn draw_entry(
-    entries: &mut Vec<Entry>,
-    before: u32,
-    commit: u32,
-    edit: &Edit,
-) -> Result<(), Memory>
+fn draw_entry(entries: &mut Vec<Entry>, before: u32, commit: u32, edit: &Edit) -> Result<(), Memory>
     requires near { AreNear before (edit.now ∷ []) }
     requires few { length entries.old.items < 2 ^ 32 - 1 }
     ensures ok { OnOk result (map stored entries.new.items ≡ map stored entries.old.items ++ new_entries before commit (length entries.old.items) (edit.now ∷ [])) }

@@ -64,10 +64,12 @@ const MOST_EDITS: usize = 16384;
 
 /// The greatest numbers of lines and of nodes of a history.
 const MOST_LINES: u64 = 1 << 20;
+
 const MOST_NODES: u64 = 65536;
 
 /// The greatest numbers of bytes of text of a commit and of a history.
 const MOST_COMMIT_BYTES: u64 = 1 << 24;
+
 const MOST_BYTES: u64 = 1 << 30;
 
 /// The refusal of edits that are too many, make too much or are none, where so much is there already.
