@@ -1,22 +1,39 @@
 -- So far into a script.
-use Rattle.std.proofs.Common.{◌≡◌, ◌∙◌, refl, sym, ap, subst, ℕ, Bool, true, false, ◌||◌, List, [], ◌∷◌, ◌++◌, append_assoc, Option, Some, None, Result, Ok, Err, nat_le}
-use Rattle.std.specs.Prelude.{if◌then◌else◌, length}
-use Rattle.std.specs.Str.{bytes_eq}
-use Rattle.std.specs.List.{list_any}
+use Rattle.std.proofs.Common.{◌≡◌, ◌∙◌, refl, sym, ap, subst, ℕ, Bool, true, false, ◌||◌, List, [], ◌∷◌, ◌++◌, append_assoc, Option, Some, None, Result, Ok, Err, nat_lt}
+use Rattle.std.specs.Prelude.{if◌then◌else◌, length, is_some}
 use Rattle.cov_base.specs.Lines.{lines_of}
 use Rattle.cov_expr.specs.Binding.{full_choice}
-use Rattle.cov_expr.specs.Formula.{Formula}
+use Rattle.cov_expr.specs.Formula.{Formula, value}
 use Rattle.cov_expr.specs.Naming.{bound_expression}
-use Rattle.cov_expr.specs.Validity.{first_false}
 use Rattle.cov_expr.specs.declared.naming.NameFault.{NameFault}
+use Rattle.cov_base.specs.Spelling.{is_option_name}
+use Rattle.cov_base.specs.declared.number.Kind.TheVariants as kinds
+use Rattle.cov_base.specs.declared.number.NodeRef.TheVariants as nodes
+use Rattle.cov_script.specs.Lines.{form_of}
+use Rattle.cov_script.specs.declared.line.Line.{Line}
+use Rattle.cov_script.specs.declared.line.Line.TheVariants as lines
+use Rattle.cov_script.specs.declared.line.LineField.{LineField}
+use Rattle.cov_script.specs.declared.line.LineSyntax.{LineSyntax}
+use Rattle.cov_edit.specs.declared.edit.Edit.{Edit}
+use Rattle.cov_edit.specs.declared.edit.Edit.TheVariants as edits
+use Rattle.cov_edit.specs.declared.command.Command.{Command}
+use Rattle.cov_edit.specs.declared.command.Command.TheVariants as commands
+use Rattle.cov_edit.specs.History.{options_of, first_false_in}
+use Rattle.cov_edit.specs.Replay.{replay}
+use Rattle.cov_edit.specs.Variant.{Variant}
+use Rattle.cov_view.specs.Refusals.{is_dir}
+use Rattle.cov_engine.specs.Sessions.{Session, seen, commit_of}
+use Rattle.cov_engine.specs.Verdict.{verdict}
+use Rattle.cov_engine.specs.declared.refusal.Refusal.{Refusal}
 use Rattle.cov_io.specs.Progress.{Progress}
 use Rattle.cov_serve.specs.Outcome.{Outcome, answers}
-use Rattle.cov_serve.specs.Step.{State, bound_in, completed_in, judged, served, step}
-use Rattle.cov_serve.specs.Reading.{form_of}
+use Rattle.cov_serve.specs.Editing.{addition_refusal, ref_in, line_ref}
+use Rattle.cov_view.specs.Paths.{path_node}
+use Rattle.cov_serve.specs.States.{State, named, is_used}
+use Rattle.cov_serve.specs.Step.{appended_if, bound_in, judged, completed_in, opened_unless, opened_for, opened_on, added_unless, added, file_made, inserted_at, inserted_in, committed_if, committed_in, dropped_in, file_told, told_unless, told_in, with_file, served, served_if, step}
 use Rattle.cov_serve.specs.Turns.{EndsWith, GoesOn, IsWhole, ServesFirst, Turns, WritesFront, ahead_of, answer_of, is_refusal, status_at_end}
 use Rattle.cov_serve.specs.declared.answer.Answer.{Answer}
-use Rattle.cov_serve.specs.declared.form.Form.{Form}
-use Rattle.cov_serve.specs.declared.form.Form.TheVariants.{Silent, Declaration, Constraint, Completion, TooLong, Unknown}
+use Rattle.cov_serve.specs.declared.code.Code.{Code}
 use Rattle.cov_serve.specs.declared.status.Status.{Status}
 use Rattle.cov_serve.specs.declared.turn.Turn.TheVariants.{Ended, Served}
 
@@ -28,29 +45,118 @@ either_says : (b : Bool) (x y : Outcome State) → SaysRefusal x → SaysRefusal
 either_says true x y p q = p
 either_says false x y p q = q
 
-bound_says : (state : State) (bound : Result (Formula ℕ) NameFault) → SaysRefusal (bound_in state bound)
-bound_says state (Ok expr) = either_says (nat_le 256 (length state.constraints)) _ _ refl refl
-bound_says state (Err fault) = refl
+appended_says : (st : State) (command : Command) (n : ℕ) (ns : List ℕ) (refusal : Option Refusal) → SaysRefusal (appended_if st command (n ∷ ns) refusal)
+appended_says st command n ns (Some r) = refl
+appended_says st command n ns None = refl
 
-judged_says : (state : State) (choice : List Bool) (broken : Option ℕ) → SaysRefusal (judged state choice broken)
-judged_says state choice (Some rule) = refl
-judged_says state choice None = refl
+bound_says : (st : State) (bound : Result (Formula ℕ) NameFault) → SaysRefusal (bound_in st bound)
+bound_says st (Ok expr) = appended_says st (commands.Constraint expr) _ _ (verdict st.history (commands.Constraint expr))
+bound_says st (Err fault) = refl
 
-completed_says : (state : State) (choice : Option (List Bool)) → SaysRefusal (completed_in state choice)
-completed_says state None = refl
-completed_says state (Some choice) = judged_says state choice (first_false state.constraints choice)
+judged_says : (st : State) (c : List Bool) (broken : Option ℕ) → SaysRefusal (judged st c broken)
+judged_says st c (Some rule) = refl
+judged_says st c None = refl
 
-form_says : (state : State) (form : Form) → SaysRefusal (served state form)
-form_says state Silent = refl
-form_says state (Declaration name) =
-    either_says (nat_le 64 (length state.options)) _ _ refl (either_says (list_any (bytes_eq name) state.options) _ _ refl refl)
-form_says state (Constraint expr) = bound_says state (bound_expression state.options expr)
-form_says state (Completion bindings) = completed_says state (full_choice state.options bindings)
-form_says state TooLong = refl
-form_says state Unknown = refl
+completed_says : (st : State) (c : Option (List Bool)) → SaysRefusal (completed_in st c)
+completed_says st None = refl
+completed_says st (Some c) = judged_says st c (first_false_in st.history c)
 
-pub step_says : (state : State) (line : List ℕ) → SaysRefusal (step state line)
-step_says state line = form_says state (form_of line)
+opened_says : (st : State) (name : List ℕ) (c : List Bool) (ambition : Formula ℕ) (broken : Option ℕ) → SaysRefusal (opened_unless st name c ambition broken)
+opened_says st name c ambition (Some rule) = refl
+opened_says st name c ambition None = either_says (value ambition c) _ _ refl refl
+
+opened_for_says : (st : State) (name : List ℕ) (c : List Bool) (bound : Result (Formula ℕ) NameFault) → SaysRefusal (opened_for st name c bound)
+opened_for_says st name c (Ok ambition) = opened_says st name c ambition (first_false_in st.history c)
+opened_for_says st name c (Err fault) = refl
+
+opened_on_says : (st : State) (name : List ℕ) (c : Option (List Bool)) (ambition : Formula (List ℕ)) → SaysRefusal (opened_on st name c ambition)
+opened_on_says st name None ambition = refl
+opened_on_says st name (Some c) ambition = opened_for_says st name c (bound_expression (options_of st.history) ambition)
+
+added_unless_says : (st : State) (s : Session) (e : Edit) (n : ℕ) (ns : List ℕ) (refusal : Option Code) → SaysRefusal (added_unless st s e (n ∷ ns) refusal)
+added_unless_says st s e n ns (Some code) = refl
+added_unless_says st s e n ns None = refl
+
+added_says : (st : State) (session : Option Session) (e : Edit) (n : ℕ) (ns : List ℕ) → SaysRefusal (added st session e (n ∷ ns))
+added_says st None e n ns = refl
+added_says st (Some s) e n ns = added_unless_says st s e n ns (addition_refusal st.history s e)
+
+inserted_at_says : (st : State) (s : Session) (line : LineField) (text : List ℕ) (node : Option ℕ) → SaysRefusal (inserted_at st s line text node)
+inserted_at_says st s line text None = refl
+inserted_at_says st s line text (Some node) = added_says st (Some s) (edits.Insert (ref_in st.history s node) (line_ref line) text) _ _
+
+inserted_says : (st : State) (path : List (List ℕ)) (line : LineField) (text : List ℕ) (session : Option Session) → SaysRefusal (inserted_in st path line text session)
+inserted_says st path line text None = refl
+inserted_says st path line text (Some s) = inserted_at_says st s line text (path_node (seen s st.history).rows 0 path)
+
+committed_if_says : (st : State) (command : Command) (refusal : Option Refusal) → SaysRefusal (committed_if st command refusal)
+committed_if_says st command (Some r) = refl
+committed_if_says st command None = refl
+
+committed_says : (st : State) (session : Option Session) → SaysRefusal (committed_in st session)
+committed_says st None = refl
+committed_says st (Some s) = committed_if_says st (commit_of s) (verdict st.history (commit_of s))
+
+dropped_says : (st : State) (session : Option Session) → SaysRefusal (dropped_in st session)
+dropped_says st None = refl
+dropped_says st (Some s) = refl
+
+file_says : (st : State) (v : Variant) (node : Option ℕ) → SaysRefusal (file_told st v node)
+file_says st v None = refl
+file_says st v (Some node) = either_says (is_dir v.rows node) _ _ refl refl
+
+told_unless_says : (st : State) (c : List Bool) (path : List (List ℕ)) (broken : Option ℕ) → SaysRefusal (told_unless st c path broken)
+told_unless_says st c path (Some rule) = refl
+told_unless_says st c path None = file_says st (replay c st.history) (path_node (replay c st.history).rows 0 path)
+
+told_says : (st : State) (c : Option (List Bool)) (path : List (List ℕ)) → SaysRefusal (told_in st c path)
+told_says st None path = refl
+told_says st (Some c) path = told_unless_says st c path (first_false_in st.history c)
+
+with_file_says : (st : State) (path : List (List ℕ)) (go : List ℕ → Outcome State) → ((file : List ℕ) → SaysRefusal (go file)) → SaysRefusal (with_file st path go)
+with_file_says st [] go h = refl
+with_file_says st (file ∷ []) go h = h file
+with_file_says st (file ∷ name ∷ names) go h = refl
+
+form_says : (st : State) (line : Line) → SaysRefusal (served st line)
+form_says st lines.Nothing = refl
+form_says st (lines.Option token) =
+    either_says (is_option_name token) _ _ (appended_says st (commands.Option token) _ _ (verdict st.history (commands.Option token))) refl
+form_says st (lines.Constraint expr) = bound_says st (bound_expression (options_of st.history) expr)
+form_says st (lines.Complete bindings) = completed_says st (full_choice (options_of st.history) bindings)
+form_says st (lines.OpenSession name bindings ambition) =
+    either_says (is_some st.session) _ _ refl (opened_on_says st name (full_choice (options_of st.history) bindings) ambition)
+form_says st (lines.MakeFile name path) =
+    with_file_says st path (λ file. file_made st name file)
+    (λ file. either_says (is_used st file) _ _ refl (added_says st (named st.session name) (edits.New kinds.File (nodes.Old 0) file) _ _))
+form_says st (lines.Insert name path line text) =
+    with_file_says st path (λ file. inserted_in st path line text (named st.session name)) (λ file. inserted_says st path line text (named st.session name))
+form_says st (lines.Commit name) = committed_says st (named st.session name)
+form_says st (lines.Discard name) = dropped_says st (named st.session name)
+form_says st (lines.Cat bindings path) =
+    with_file_says st path (λ file. told_in st (full_choice (options_of st.history) bindings) path)
+    (λ file. told_says st (full_choice (options_of st.history) bindings) path)
+form_says st (lines.Prefer expr) = refl
+form_says st (lines.Default token on) = refl
+form_says st (lines.MakeDir name path) = refl
+form_says st (lines.Rename name path to) = refl
+form_says st (lines.Move name path target) = refl
+form_says st (lines.Remove name path) = refl
+form_says st (lines.Delete name path line) = refl
+form_says st (lines.Replace name path line text) = refl
+form_says st (lines.Show name path) = refl
+form_says st (lines.List name path) = refl
+form_says st (lines.Refresh name) = refl
+form_says st (lines.Checkout tree bindings) = refl
+form_says st (lines.Alt bindings token path) = refl
+form_says st (lines.Presence line) = refl
+
+if_says : (st : State) (form : Result Line LineSyntax) → SaysRefusal (served_if st form)
+if_says st (Ok line) = form_says st line
+if_says st (Err fault) = refl
+
+pub step_says : (st : State) (line : List ℕ) → SaysRefusal (step st line)
+step_says st line = either_says (nat_lt 8192 (length line)) _ _ refl (if_says st (form_of line))
 
 or_assoc : (a b c : Bool) → (a || (b || c)) ≡ ((a || b) || c)
 or_assoc true b c = refl

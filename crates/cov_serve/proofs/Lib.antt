@@ -1,4 +1,11 @@
+pub mod Adding
 pub mod Counting
+pub mod Examples
 pub mod Going
+pub mod Growing
+pub mod Naming
+pub mod Refusals
+pub mod Spoken
+pub mod ToldFiles
+pub mod ToldLines
 pub mod Turning
-pub mod Within

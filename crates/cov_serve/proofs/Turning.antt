@@ -8,9 +8,9 @@ use Rattle.cov_io.specs.Items.{GivesTold}
 use Rattle.cov_io.specs.Progress.{Progress}
 use Rattle.cov_io.specs.declared.reading.Item.TheVariants as items
 use Rattle.cov_serve.specs.Outcome.{Outcome, answers}
-use Rattle.cov_serve.specs.Reading.{short_form}
-use Rattle.cov_serve.specs.Step.{State, step, served, refused}
-use Rattle.cov_serve.specs.declared.form.Form.TheVariants.{TooLong}
+use Rattle.cov_script.specs.Lines.{form_of}
+use Rattle.cov_serve.specs.States.{State}
+use Rattle.cov_serve.specs.Step.{step, served_if, refused}
 use Rattle.cov_serve.specs.Turns.{IsServed, ServesFirst, Turns, WritesFront, ahead_of, turn_of}
 use Rattle.cov_serve.specs.declared.answer.Answer.{Answer}
 use Rattle.cov_serve.specs.declared.code.Code.TheVariants.{Long}
@@ -39,7 +39,7 @@ first_served state text before line rest ahead written (Err status) lines ahead_
 -- a line of over 8,192 bytes is refused
 pub long_step : (state : State) (line : List ℕ) → 8192 < length line → step state line ≡ refused state Long
 long_step state line long =
-    ap (λ b. served state (if b then TooLong else short_form line)) (lt-ltb 8192 (length line) long)
+    ap (λ b. if b then refused state Long else served_if state (form_of line)) (lt-ltb 8192 (length line) long)
 
 -- the next line that a reader gives was served
 pub line_turn : (state : State) (text before line : List ℕ) (old new : Progress) (left later out written : Option (List ℕ)) (r : Result (State × Answer) Status)

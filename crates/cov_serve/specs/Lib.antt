@@ -1,6 +1,13 @@
+pub mod Additions
+pub mod Codes
+pub mod Editing
+pub mod Keeping
+pub mod Listing
 pub mod Outcome
 pub mod Program
-pub mod Reading
+pub mod Refusing
 pub mod Replies
+pub mod States
 pub mod Step
+pub mod Texts
 pub mod Turns

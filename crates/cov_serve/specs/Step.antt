@@ -1,87 +1,195 @@
 -- The model of the program: what one line of a script does.
-use Rattle.std.specs.Prelude.{ℕ, ◌+◌, Bool, true, false, nat_le, List, [], ◌∷◌, ◌++◌, length, Option, Some, None, Result, Ok, Err, if◌then◌else◌}
-use Rattle.std.specs.Str.{bytes_eq}
-use Rattle.std.specs.List.{list_all, list_any}
-use Rattle.cov_base.specs.Lines.{lines_of}
+use Rattle.std.specs.Prelude.{ℕ, ◌+◌, Bool, true, false, nat_lt, List, [], ◌∷◌, ◌++◌, length, map, is_some, Option, Some, None, Result, Ok, Err, if◌then◌else◌}
+use Rattle.cov_base.specs.Lines.{lines_of as script_lines}
+use Rattle.cov_base.specs.Spelling.{is_option_name}
+use Rattle.cov_base.specs.declared.number.Kind.TheVariants as kinds
+use Rattle.cov_base.specs.declared.number.NodeRef.TheVariants as nodes
 use Rattle.cov_expr.specs.Binding.{full_choice}
-use Rattle.cov_expr.specs.Formula.{Formula, reach}
+use Rattle.cov_expr.specs.Formula.{Formula, value}
 use Rattle.cov_expr.specs.Naming.{bound_expression}
-use Rattle.cov_expr.specs.Validity.{first_false}
 use Rattle.cov_expr.specs.declared.naming.NameFault.{NameFault}
+use Rattle.cov_script.specs.Lines.{form_of}
+use Rattle.cov_script.specs.declared.line.Line.{Line}
+use Rattle.cov_script.specs.declared.line.Line.TheVariants as lines
+use Rattle.cov_script.specs.declared.line.LineField.{LineField}
+use Rattle.cov_script.specs.declared.line.LineSyntax.{LineSyntax}
+use Rattle.cov_edit.specs.declared.edit.Edit.{Edit}
+use Rattle.cov_edit.specs.declared.edit.Edit.TheVariants as edits
+use Rattle.cov_edit.specs.declared.command.Command.{Command}
+use Rattle.cov_edit.specs.declared.command.Command.TheVariants as commands
+use Rattle.cov_edit.specs.History.{options_of, option_count, constraints_of, first_false_in}
+use Rattle.cov_edit.specs.Replay.{replay}
+use Rattle.cov_edit.specs.Variant.{Variant, lines_of}
+use Rattle.cov_view.specs.Refusals.{is_dir}
+use Rattle.cov_view.specs.Views.{by_number}
+use Rattle.cov_engine.specs.Sessions.{Session, seen, commit_of}
+use Rattle.cov_engine.specs.Verdict.{verdict}
+use Rattle.cov_engine.specs.declared.refusal.Refusal.{Refusal}
+use Rattle.cov_serve.specs.Codes.{refusal_code}
+use Rattle.cov_serve.specs.Editing.{with_edit, addition_refusal, ref_in, line_ref, own_lines}
 use Rattle.cov_serve.specs.Outcome.{Outcome, answers}
-use Rattle.cov_serve.specs.Reading.{form_of}
-use Rattle.cov_serve.specs.declared.form.Form.{Form}
-use Rattle.cov_serve.specs.declared.form.Form.TheVariants.{Silent, Declaration, Constraint, Completion, TooLong, Unknown}
-use Rattle.cov_serve.specs.Replies.{refused_reply, option_reply, constraint_reply, choice_reply}
+use Rattle.cov_view.specs.Paths.{path_node}
+use Rattle.cov_serve.specs.Replies.{refused_reply, option_reply, constraint_reply, choice_reply, open_reply, done_reply, line_reply, commit_reply, file_reply}
+use Rattle.cov_serve.specs.States.{State, at_start, with_command, with_session, named, is_used}
 use Rattle.cov_serve.specs.declared.code.Code.{Code}
-use Rattle.cov_serve.specs.declared.code.Code.TheVariants.{Long, Exists, Full, Invalid, NotBuilt}
+use Rattle.cov_serve.specs.declared.code.Code.TheVariants.{Long, Invalid, NotBuilt, NoSession, OutsideAmbition, NoSuchPath, NotFile}
 
--- what a script has made so far: the names of the options in order of declaration, and the constraints in order
-pub record State : Type 0 where
-  pub options : List (List ℕ)
-  pub constraints : List (Formula ℕ)
-
--- whether expressions speak of the first so many options alone
-abbrev pub are_within : ℕ → List (Formula ℕ) → Bool
-are_within count exprs = list_all (λ e. nat_le (reach e) count) exprs
-
--- the state before the first line
-abbrev pub at_start : State
-at_start = record { options = []; constraints = [] }
+-- a line that is accepted, with the state after it
+abbrev pub accepted : State → List ℕ → Outcome State
+accepted st reply = record { state = st; reply = reply; is_refused = false }
 
 -- a line without a reply
 abbrev pub passed_over : State → Outcome State
-passed_over state = record { state = state; reply = []; is_refused = false }
+passed_over st = accepted st []
 
 -- a refused line changes nothing
 abbrev pub refused : State → Code → Outcome State
-refused state code = record { state = state; reply = refused_reply code; is_refused = true }
+refused st code = record { state = st; reply = refused_reply code; is_refused = true }
 
--- an option is declared unless there are 64 or it is declared already
+-- a command is appended unless the history refuses it
+abbrev pub appended_if : State → Command → List ℕ → Option Refusal → Outcome State
+appended_if st command reply (Some r) = refused st (refusal_code r)
+appended_if st command reply None = accepted (with_command st command) reply
+
+-- a command is appended if the history accepts it
+abbrev pub appended : State → Command → List ℕ → Outcome State
+appended st command reply = appended_if st command reply (verdict st.history command)
+
+-- an option is declared; what is no option's name is no form
 abbrev pub declared_in : State → List ℕ → Outcome State
-declared_in state name =
-    if nat_le 64 (length state.options) then refused state Full
-    else (if list_any (bytes_eq name) state.options then refused state Exists
-    else record { state = record { options = state.options ++ name ∷ []; constraints = state.constraints }; reply = option_reply (length state.options); is_refused = false })
+declared_in st token =
+    if is_option_name token then appended st (commands.Option token) (option_reply (option_count st.history)) else refused st NotBuilt
 
--- a constraint over declared options is added unless there are 256
-abbrev pub added : State → Formula ℕ → Outcome State
-added state expr =
-    if nat_le 256 (length state.constraints) then refused state Full
-    else record {
-      state = record { options = state.options; constraints = state.constraints ++ expr ∷ [] };
-      reply = constraint_reply (length state.constraints + 1);
-      is_refused = false;
-    }
-
--- a constraint with a name that no option has is no form
+-- a constraint is added; one with a name that no option has is no form
 abbrev pub bound_in : State → Result (Formula ℕ) NameFault → Outcome State
-bound_in state (Ok expr) = added state expr
-bound_in state (Err fault) = refused state NotBuilt
+bound_in st (Ok expr) = appended st (commands.Constraint expr) (constraint_reply (length (constraints_of st.history) + 1))
+bound_in st (Err fault) = refused st NotBuilt
 
 -- a choice is told, or the first constraint that is false on it
 abbrev pub judged : State → List Bool → Option ℕ → Outcome State
-judged state choice (Some rule) = refused state (Invalid rule)
-judged state choice None = record { state = state; reply = choice_reply state.options choice; is_refused = false }
+judged st c (Some rule) = refused st (Invalid rule)
+judged st c None = accepted st (choice_reply (options_of st.history) c)
 
 -- a choice that doesn't bind each option once, in order of declaration, is no form
 abbrev pub completed_in : State → Option (List Bool) → Outcome State
-completed_in state None = refused state NotBuilt
-completed_in state (Some choice) = judged state choice (first_false state.constraints choice)
+completed_in st None = refused st NotBuilt
+completed_in st (Some c) = judged st c (first_false_in st.history c)
+
+-- a session is open that has no edits yet
+abbrev pub begun : State → List ℕ → List Bool → Formula ℕ → Outcome State
+begun st name c ambition =
+    accepted (with_session st (Some (record { name = name; base = length st.history; choice = c; ambition = ambition; edits = [] })))
+    (open_reply (length st.history) (options_of st.history) c)
+
+-- a session is opened on a choice within its ambition
+abbrev pub opened_within : State → List ℕ → List Bool → Formula ℕ → Outcome State
+opened_within st name c ambition = if value ambition c then begun st name c ambition else refused st OutsideAmbition
+
+-- a session is opened on a choice that breaks no constraint
+abbrev pub opened_unless : State → List ℕ → List Bool → Formula ℕ → Option ℕ → Outcome State
+opened_unless st name c ambition (Some rule) = refused st (Invalid rule)
+opened_unless st name c ambition None = opened_within st name c ambition
+
+-- a session is opened; an ambition with a name that no option has is no form
+abbrev pub opened_for : State → List ℕ → List Bool → Result (Formula ℕ) NameFault → Outcome State
+opened_for st name c (Ok ambition) = opened_unless st name c ambition (first_false_in st.history c)
+opened_for st name c (Err fault) = refused st NotBuilt
+
+-- a session is opened; a choice that doesn't bind each option once, in order of declaration, is no form
+abbrev pub opened_on : State → List ℕ → Option (List Bool) → Formula (List ℕ) → Outcome State
+opened_on st name None ambition = refused st NotBuilt
+opened_on st name (Some c) ambition = opened_for st name c (bound_expression (options_of st.history) ambition)
+
+-- a session is opened while none is
+abbrev pub opened : State → List ℕ → List (List ℕ × Bool) → Formula (List ℕ) → Outcome State
+opened st name bindings ambition =
+    if is_some st.session then refused st NotBuilt
+    else opened_on st name (full_choice (options_of st.history) bindings) ambition
+
+-- an edit is added to a session unless this refuses it
+abbrev pub added_unless : State → Session → Edit → List ℕ → Option Code → Outcome State
+added_unless st s e reply (Some code) = refused st code
+added_unless st s e reply None = accepted (with_session st (Some (with_edit s e))) reply
+
+-- an edit is added to a session, if there is one
+abbrev pub added : State → Option Session → Edit → List ℕ → Outcome State
+added st None e reply = refused st NoSession
+added st (Some s) e reply = added_unless st s e reply (addition_refusal st.history s e)
+
+-- a file is made in the root; a name that was used is no form
+abbrev pub file_made : State → List ℕ → List ℕ → Outcome State
+file_made st name file =
+    if is_used st file then refused st NotBuilt
+    else added st (named st.session name) (edits.New kinds.File (nodes.Old 0) file) done_reply
+
+-- a line is inserted into the file that a session sees at a path
+abbrev pub inserted_at : State → Session → LineField → List ℕ → Option ℕ → Outcome State
+inserted_at st s line text None = refused st NoSuchPath
+inserted_at st s line text (Some node) = added st (Some s) (edits.Insert (ref_in st.history s node) (line_ref line) text) (line_reply (own_lines s))
+
+-- a line is inserted in a session, if there is one
+abbrev pub inserted_in : State → List (List ℕ) → LineField → List ℕ → Option Session → Outcome State
+inserted_in st path line text None = refused st NoSession
+inserted_in st path line text (Some s) = inserted_at st s line text (path_node (seen s st.history).rows 0 path)
+
+-- the commit of a session is appended and ends it, unless the history refuses it
+abbrev pub committed_if : State → Command → Option Refusal → Outcome State
+committed_if st command (Some r) = refused st (refusal_code r)
+committed_if st command None = accepted (with_session (with_command st command) None) (commit_reply (length st.history + 1))
+
+-- a session is committed, if there is one
+abbrev pub committed_in : State → Option Session → Outcome State
+committed_in st None = refused st NoSession
+committed_in st (Some s) = committed_if st (commit_of s) (verdict st.history (commit_of s))
+
+-- a session is given up, if there is one
+abbrev pub dropped_in : State → Option Session → Outcome State
+dropped_in st None = refused st NoSession
+dropped_in st (Some s) = accepted (with_session st None) done_reply
+
+-- the lines of a file in a variant are told
+abbrev pub file_told : State → Variant → Option ℕ → Outcome State
+file_told st v None = refused st NoSuchPath
+file_told st v (Some node) = if is_dir v.rows node then refused st NotFile else accepted st (file_reply (map by_number (lines_of v node)))
+
+-- a file is told in the variant of a choice that breaks no constraint
+abbrev pub told_unless : State → List Bool → List (List ℕ) → Option ℕ → Outcome State
+told_unless st c path (Some rule) = refused st (Invalid rule)
+told_unless st c path None = file_told st (replay c st.history) (path_node (replay c st.history).rows 0 path)
+
+-- a file is told; a choice that doesn't bind each option once, in order of declaration, is no form
+abbrev pub told_in : State → Option (List Bool) → List (List ℕ) → Outcome State
+told_in st None path = refused st NotBuilt
+told_in st (Some c) path = told_unless st c path (first_false_in st.history c)
+
+-- a line whose path doesn't have exactly one name is no form
+abbrev pub with_file : State → List (List ℕ) → (List ℕ → Outcome State) → Outcome State
+with_file st (file ∷ []) go = go file
+with_file st _ go = refused st NotBuilt
 
 -- what a line of a form does
-abbrev pub served : State → Form → Outcome State
-served state Silent = passed_over state
-served state (Declaration name) = declared_in state name
-served state (Constraint expr) = bound_in state (bound_expression state.options expr)
-served state (Completion bindings) = completed_in state (full_choice state.options bindings)
-served state TooLong = refused state Long
-served state Unknown = refused state NotBuilt
+abbrev pub served : State → Line → Outcome State
+served st lines.Nothing = passed_over st
+served st (lines.Option token) = declared_in st token
+served st (lines.Constraint expr) = bound_in st (bound_expression (options_of st.history) expr)
+served st (lines.Complete bindings) = completed_in st (full_choice (options_of st.history) bindings)
+served st (lines.OpenSession name bindings ambition) = opened st name bindings ambition
+served st (lines.MakeFile name path) = with_file st path (λ file. file_made st name file)
+served st (lines.Insert name path line text) = with_file st path (λ file. inserted_in st path line text (named st.session name))
+served st (lines.Commit name) = committed_in st (named st.session name)
+served st (lines.Discard name) = dropped_in st (named st.session name)
+served st (lines.Cat bindings path) = with_file st path (λ file. told_in st (full_choice (options_of st.history) bindings) path)
+served st _ = refused st NotBuilt
+
+-- what a line does, if it has a form
+abbrev pub served_if : State → Result Line LineSyntax → Outcome State
+served_if st (Ok line) = served st line
+served_if st (Err fault) = refused st NotBuilt
 
 -- what a line does
 abbrev pub step : State → List ℕ → Outcome State
-step state line = served state (form_of line)
+step st line = if nat_lt 8192 (length line) then refused st Long else served_if st (form_of line)
 
 -- what a whole script does
 abbrev pub model : List ℕ → Outcome State
-model script = answers step at_start (lines_of script)
+model script = answers step at_start (script_lines script)

@@ -7,7 +7,8 @@ use Rattle.cov_io.specs.Progress.{Progress, TracksEnd, IsTooMuch, potential}
 use Rattle.cov_io.specs.declared.reading.LineFault.{LineFault}
 use Rattle.cov_io.specs.declared.reading.LineFault.TheVariants as faults
 use Rattle.cov_serve.specs.Outcome.{Outcome, answers}
-use Rattle.cov_serve.specs.Step.{State, step}
+use Rattle.cov_serve.specs.States.{State}
+use Rattle.cov_serve.specs.Step.{step}
 use Rattle.cov_serve.specs.declared.answer.Answer.{Answer}
 use Rattle.cov_serve.specs.declared.answer.Answer.TheVariants.{Nothing, Refused, Accepted}
 use Rattle.cov_serve.specs.declared.answer.Reply.{Reply}

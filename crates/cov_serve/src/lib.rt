@@ -3,12 +3,17 @@
 
 mod answer;
 mod code;
-mod form;
+mod editing;
 mod line;
+mod names;
+mod opening;
 mod program;
 mod reply;
 mod server;
+mod serving;
+mod session;
 mod status;
+mod telling;
 mod turn;
 
 pub use answer::Answer;

@@ -15,7 +15,7 @@ use cov_io::Sink;
 
 /// Serves one line, and puts its reply in one call. At an `Err` the server is gone and the run ends.
 pub fn serve_line<K: Sink>(
-    mut server: Server,
+    server: Server,
     line: &[u8],
     out: &mut K,
 ) -> Result<(Server, Answer), Status>
@@ -26,7 +26,7 @@ pub fn serve_line<K: Sink>(
     ensures later { K.faults out.old ≤ K.faults out.new }
 {
     match server.answer(line) {
-        Ok(reply) => put_reply(server, reply, out),
+        Ok((server, reply)) => put_reply(server, reply, out),
         Err(Memory) => Err(Status::NoMemory),
     }
 }
@@ -40,7 +40,7 @@ pub fn serve_long<K: Sink>(server: Server, out: &mut K) -> Result<(Server, Answe
     ensures later { K.faults out.old ≤ K.faults out.new }
 {
     match server.refuse(Code::Long) {
-        Ok(reply) => put_reply(server, reply, out),
+        Ok((server, reply)) => put_reply(server, reply, out),
         Err(Memory) => Err(Status::NoMemory),
     }
 }

@@ -1,7 +1,8 @@
 // The program: what its words say is done with the devices that it is handed.
-ghost use Rattle.std.specs.Prelude.{◌≡◌, ◌≢◌, ◌⊎◌, ◌<◌, ◌≤◌, ◌+◌, ◌^◌, ◌++◌, List, ℕ, Some, length};
+ghost use Rattle.std.specs.Prelude.{◌≡◌, ◌≢◌, ◌⊎◌, ◌<◌, ◌≤◌, ◌+◌, ◌^◌, ◌++◌, List, ℕ, Some, IfOk, length};
 ghost use Rattle.cov_base.specs.Causes.{Rose};
 ghost use Rattle.cov_io.specs.Progress.{CountsGiven};
+ghost use Rattle.cov_serve.specs.States.{at_start};
 ghost use Rattle.cov_serve.specs.Step.{model};
 ghost use Rattle.cov_serve.specs.Turns.{IsWhole, Later, StopsScript, WritesFront, counts};
 ghost use Rattle.cov_serve.specs.Program.{run_words, usage_line, EndsServed, StopsUsage, at_first, is_run_words};
@@ -87,10 +88,18 @@ fn serve_script<S: Source, K: Sink>(alloc: Global, script: &mut S, out: &mut K) 
         (counts (S.faults script.old) (K.faults out.old) (S.given script.old) (S.ends script.old))
         (counts (S.faults script.new) (K.faults out.new) (S.given script.new) (S.ends script.new)) }
 {
-    match Lines::new(alloc) {
-        Ok(lines) => serve_all(Server::new(alloc), lines, script, out),
+    match make(alloc) {
+        Ok((server, lines)) => serve_all(server, lines, script, out),
         Err(Memory) => Status::NoMemory,
     }
+}
+
+// The server and the reader of lines before the first line.
+fn make(alloc: Global) -> Result<(Server, Lines), Memory>
+    ensures server { IfOk result (λ made. made.0 ≡ at_start) }
+    ensures lines { IfOk result (λ made. made.1 ≡ at_first) }
+{
+    Ok((Server::new(alloc)?, Lines::new(alloc)?))
 }
 
 fn put_usage<K: Sink>(out: &mut K) -> Status

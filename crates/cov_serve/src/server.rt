@@ -1,191 +1,157 @@
-// The state of a run, and what each line does to it.
-ghost use Rattle.std.specs.Prelude.{◌≡◌, ◌<◌, ◌≤◌, ◌++◌, ◌∷◌, [], true, false, IfOk, OnErr, length};
-ghost use Rattle.cov_expr.specs.Binding.{full_choice};
-ghost use Rattle.cov_expr.specs.Formula.{reach};
-ghost use Rattle.cov_expr.specs.Naming.{bound_expression};
-ghost use Rattle.cov_expr.specs.Options.{is_declared};
-ghost use Rattle.cov_expr.specs.Validity.{first_false};
-ghost use Rattle.cov_serve.specs.Step.{added, are_within, at_start, bound_in, completed_in, declared_in, judged, passed_over, refused, step};
+// The state of a run.
+ghost use Rattle.std.specs.Prelude.{◌≡◌, ◌++◌, [], ◌∷◌, true, false, codes, Option as Maybe, IfOk};
+ghost use Rattle.std.specs.Fmt.{decimal};
+ghost use Rattle.cov_engine.specs.Sessions.{MayCome, has_commit};
+ghost use Rattle.cov_engine.specs.States.{receipt_number};
+ghost use Rattle.cov_engine.specs.Verdict.{RefusedBy};
+ghost use Rattle.cov_engine.specs.declared.refusal.Refusal.{Refusal as AnyRefusal};
+ghost use Rattle.cov_serve.specs.Refusing.{IsRefusedBy, code_unless_wanting};
+ghost use Rattle.cov_serve.specs.States.{at_start};
+ghost use Rattle.cov_serve.specs.Step.{accepted, appended, passed_over, refused};
+ghost use Rattle.cov_serve.specs.Texts.{is_said};
 ghost use Rattle.cov_serve.specs.Turns.{Gives};
-ghost use Rattle.cov_serve.specs.Replies.{option_reply};
 
 use crate::answer::{Answer, Reply};
 use crate::code::Code;
-use crate::form::{Form, read};
-use crate::reply::{choice_text, constraint_text, option_text, refused_text};
-use cov_base::{Choice, Memory, OptionName, Text};
-use cov_expr::{Expr, NameFault, Options, RawChoice, RawExpr};
+use crate::names::Names;
+use crate::reply::{numbered_text, refused_text};
+use crate::session::OpenSession;
+use cov_base::{Memory, Text};
+use cov_edit::Command;
+use cov_engine::{Engine, Refusal};
 use std::alloc::Global;
 use std::marker::Model;
 
-/// The greatest number of options.
-const MOST_OPTIONS: u8 = 64;
-
-/// The greatest number of constraints.
-const MOST_CONSTRAINTS: usize = 256;
-
-/// What the script has made so far.
+/// What the script has made so far. The used names are those of the nodes that the history makes.
 #[derive(Drop)]
 pub struct Server {
-    alloc: Global,
-    options: Options,
-    constraints: Vec<Expr>,
+    pub(crate) alloc: Global,
+    pub(crate) engine: Engine,
+    pub(crate) used: Names,
+    pub(crate) session: Option<OpenSession>,
 }
 
 impl Model for Server {
-    ghost use Rattle.std.specs.Prelude.{◌≡◌, ◌≤◌, true, length, nat_le, vec_len};
-    ghost use Rattle.std.specs.List.{list_all};
-    ghost use Rattle.cov_expr.specs.Formula.{reach};
-    ghost use Rattle.cov_serve.specs.Step.{State, are_within};
+    ghost use Rattle.std.specs.Prelude.{option_map};
     ghost use Rattle.std.specs.Coded.{codes, coded_ℕ};
     ghost use Rattle.cov_expr.specs.Formula.{formula_code};
+    ghost use Rattle.cov_edit.specs.contracts.command.Command as command_row;
+    ghost use Rattle.cov_edit.specs.contracts.edit.Edit as edit_row;
+    ghost use Rattle.cov_serve.specs.States.{State};
+    ghost use Rattle.cov_serve.specs.Keeping.{as_session, Keeps};
 
     ghost Value = { State };
 
-    ghost coded = { Prim.hlevel (codes, formula_code coded_ℕ) };
+    ghost coded = { Prim.hlevel (codes, formula_code coded_ℕ, command_row.the_row.coded, edit_row.the_row.coded) };
 
-    ghost view = { λ s. record { options = s.options.names; constraints = s.constraints.items } };
+    ghost view = { λ s. record { history = s.engine; session = option_map as_session s.session } };
 
-    ghost invariant = { λ s. (vec_len s.constraints ≤ 256) × (are_within (length s.options.names) s.constraints.items ≡ true) };
+    ghost invariant = { λ s. Keeps s.engine s.used s.session };
 }
 
+/// The server after a line, and the reply; or want of memory, after which the server is gone.
+pub type Served = Result<(Server, Reply), Memory>;
+
 impl Server {
-    pub fn new(alloc: Global) -> Server
-        ensures { result ≡ at_start }
+    pub fn new(alloc: Global) -> Result<Server, Memory>
+        ensures { IfOk result (λ server. server ≡ at_start) }
     {
-        Server {
+        Ok(Server {
             alloc,
-            options: Options::new(alloc),
-            constraints: Vec::new(alloc),
-        }
+            engine: Engine::new(alloc)?,
+            used: Names::new(alloc),
+            session: None,
+        })
     }
 
-    /// Does what a line says, and makes its reply. Want of memory leaves the server as it was.
-    pub fn answer(&mut self, line: &[u8]) -> Result<Reply, Memory>
-        ensures ok { IfOk result (Gives (step self.old line.now) self.new) }
-        ensures err { OnErr result (self.new ≡ self.old) }
+    pub(crate) fn pass_over(self) -> (Server, Reply)
+        ensures { Gives (passed_over self) result.0 result.1 }
     {
-        match read(self.alloc, line)? {
-            Form::Silent => Ok(self.pass_over()),
-            Form::Declaration(name) => self.declare(name),
-            Form::Constraint(expr) => self.bind(expr),
-            Form::Completion(choice) => self.complete(choice),
-            Form::TooLong => self.refuse(Code::Long),
-            Form::Unknown => self.refuse(Code::NotBuilt),
-        }
-    }
-
-    fn pass_over(&self) -> Reply
-        ensures { Gives (passed_over self.now) self.now result }
-    {
-        Reply {
-            text: Text::new(self.alloc),
-            answer: Answer::Nothing,
-        }
+        let text = Text::new(self.alloc);
+        let answer = Answer::Nothing;
+        (self, Reply { text, answer })
     }
 
     /// The reply that refuses a line.
-    pub fn refuse(&self, code: Code) -> Result<Reply, Memory>
-        ensures { IfOk result (Gives (refused self.now code) self.now) }
+    pub fn refuse(self, code: Code) -> Served
+        ensures { IfOk result (λ next. Gives (refused self code) next.0 next.1) }
     {
-        Ok(Reply {
-            text: refused_text(self.alloc, code)?,
-            answer: Answer::Refused,
-        })
+        let text = refused_text(self.alloc, code)?;
+        let answer = Answer::Refused;
+        Ok((self, Reply { text, answer }))
     }
 
-    fn declare(&mut self, name: OptionName) -> Result<Reply, Memory>
-        ensures ok { IfOk result (Gives (declared_in self.old name) self.new) }
-        ensures err { OnErr result (self.new ≡ self.old) }
+    pub(crate) fn accept(self, text: Text) -> (Server, Reply)
+        requires { is_said text ≡ true }
+        ensures { Gives (accepted self text) result.0 result.1 }
     {
-        if self.options.count() >= MOST_OPTIONS {
-            return self.refuse(Code::Full);
-        }
-        match self.options.find(name.as_slice()) {
-            Some(_) => self.refuse(Code::Exists),
-            None => self.declare_new(name),
-        }
+        let answer = Answer::Accepted;
+        (self, Reply { text, answer })
     }
 
-    fn declare_new(&mut self, name: OptionName) -> Result<Reply, Memory>
-        requires below { length self.old.options < 64 }
-        requires fresh { is_declared self.old.options name ≡ false }
-        ensures ok { IfOk result (Gives (record { state = record { options = self.old.options ++ name ∷ []; constraints = self.old.constraints }; reply = option_reply (length self.old.options); is_refused = false }) self.new) }
-        ensures err { OnErr result (self.new ≡ self.old) }
+    pub(crate) fn refuse_for(self, refusal: Refusal) -> Served
+        ensures { IfOk result (λ next. (wanted : Maybe AnyRefusal) → RefusedBy refusal wanted → IsRefusedBy self wanted next.0 next.1) }
     {
-        let text = option_text(self.alloc, self.options.count())?;
-        self.options.reserve()?;
-        self.options.declare(name);
-        Ok(Reply {
-            text,
-            answer: Answer::Accepted,
-        })
-    }
-
-    fn bind(&mut self, expr: RawExpr) -> Result<Reply, Memory>
-        ensures ok { IfOk result (Gives (bound_in self.old (bound_expression self.old.options expr)) self.new) }
-        ensures err { OnErr result (self.new ≡ self.old) }
-    {
-        match expr.bind(self.alloc, &self.options) {
-            Ok(expr) => self.add(expr),
-            Err(NameFault::UnknownOption { .. }) => self.refuse(Code::NotBuilt),
-            Err(NameFault::Memory) => Err(Memory),
+        match code_unless_wanting(refusal) {
+            Some(code) => self.refuse(code),
+            None => Err(Memory),
         }
     }
 
-    fn add(&mut self, expr: Expr) -> Result<Reply, Memory>
-        requires { reach expr ≤ length self.old.options }
-        ensures ok { IfOk result (Gives (added self.old expr) self.new) }
-        ensures err { OnErr result (self.new ≡ self.old) }
+    /// Appends a command that declares something, unless the history refuses it. The reply is these words and the
+    /// number of what is declared.
+    pub(crate) fn append(self, command: Command, words: &[u8]) -> Served
+        requires may { MayCome self.history command }
+        requires declares { has_commit (command ∷ []) ≡ false }
+        requires said { is_said words.now ≡ true }
+        ensures { IfOk result (λ next. Gives (appended self command (words.now ++ (decimal (receipt_number self.history command) ++ codes "\n"))) next.0 next.1) }
     {
-        if self.constraints.len() >= MOST_CONSTRAINTS {
-            return self.refuse(Code::Full);
-        }
-        let text = constraint_text(self.alloc, self.constraints.len() + 1)?;
-        self.constraints.push(expr)?;
-        Ok(Reply {
-            text,
-            answer: Answer::Accepted,
-        })
-    }
-
-    fn complete(&self, choice: RawChoice) -> Result<Reply, Memory>
-        ensures { IfOk result (Gives (completed_in self.now (full_choice self.now.options choice)) self.now) }
-    {
-        match choice.bind_full(&self.options) {
-            Some(choice) => self.judge(choice),
-            None => self.refuse(Code::NotBuilt),
-        }
-    }
-
-    fn judge(&self, choice: Choice) -> Result<Reply, Memory>
-        requires { length choice ≡ length self.now.options }
-        ensures { IfOk result (Gives (judged self.now choice (first_false self.now.constraints choice)) self.now) }
-    {
-        match first_false_of(self.constraints.as_slice(), choice) {
-            Some(rule) => self.refuse(Code::Invalid(rule)),
-            None => Ok(Reply {
-                text: choice_text(self.alloc, &self.options, choice)?,
-                answer: Answer::Accepted,
-            }),
+        let Server {
+            alloc,
+            engine,
+            used,
+            session,
+        } = self;
+        match engine.prepare(command) {
+            Ok(prepared) => {
+                let (engine, receipt) = prepared.install();
+                let server = Server {
+                    alloc,
+                    engine,
+                    used,
+                    session,
+                };
+                Ok(server.accept(numbered_text(alloc, words, receipt.number)?))
+            }
+            Err((engine, refusal)) => {
+                let server = Server {
+                    alloc,
+                    engine,
+                    used,
+                    session,
+                };
+                server.refuse_for(refusal)
+            }
         }
     }
 }
 
-// The number, from 1, of the first constraint that is false on a choice.
-fn first_false_of(constraints: &[Expr], choice: Choice) -> Option<u32>
-    requires few { length constraints.now ≤ 256 }
-    requires within { are_within (length choice) constraints.now ≡ true }
-    ensures { result ≡ first_false constraints.now choice }
+fn code_unless_wanting(refusal: Refusal) -> Option<Code>
+    ensures { result ≡ code_unless_wanting refusal }
 {
-    let mut rule = 1;
-    let mut ahead = constraints;
-    while let [constraint, rest @ ..] = ahead {
-        if !constraint.value(choice) {
-            return Some(rule);
-        }
-        rule += 1;
-        ahead = rest;
+    match refusal {
+        Refusal::Full => Some(Code::Full),
+        Refusal::Exists => Some(Code::Exists),
+        Refusal::BadBase => Some(Code::BadBase),
+        Refusal::BadOption => Some(Code::BadOption),
+        Refusal::TooManyEdits => Some(Code::TooManyEdits),
+        Refusal::TooManyLines => Some(Code::TooManyLines),
+        Refusal::TooManyNodes => Some(Code::TooManyNodes),
+        Refusal::TooManyBytes => Some(Code::TooManyBytes),
+        Refusal::Invalid { rule } => Some(Code::Invalid(rule)),
+        Refusal::OutsideAmbition => Some(Code::OutsideAmbition),
+        Refusal::Empty => Some(Code::Empty),
+        Refusal::BadRecord { edit } => Some(Code::BadRecord(edit)),
+        Refusal::Memory => None,
     }
-    None
 }

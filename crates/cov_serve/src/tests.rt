@@ -91,6 +91,59 @@ fn scripts_are_served(rt: HostRuntime) -> Result<(), Fail> {
     Ok(())
 }
 
+const SESSIONS: [Case; 5] = [
+    (
+        b"open s - for true\ncommit s\ninsert s /m 0 x\nmkfile s /m\nopen t - for true\ndrop s\ncommit s\n",
+        b"ok open 0 -\nrefused empty\nrefused no-such-path\nok\nrefused not-built\nok\nrefused no-session\n",
+        Status::SomeRefused,
+    ),
+    (
+        b"open s - for true\nmkfile s /m\ninsert s /m 0 one\ncommit s\nopen s - for true\ninsert s /m 1 two\ncommit s\ncat - /m\n",
+        b"ok open 0 -\nok\nok +0\nok commit 1\nok open 1 -\nok +0\nok commit 2\nok 2\n1 one\n2 two\n",
+        Status::Done,
+    ),
+    (
+        b"option a\nopen s a=off for a\n",
+        b"ok option 0\nrefused outside-ambition\n",
+        Status::SomeRefused,
+    ),
+    (
+        b"option d\nopen s d=on for true\nmkfile s /m\ninsert s /m 0 A\ncommit s\nopen s d=on for d\ninsert s /m 1 B\ncommit s\nopen s d=on for true\ninsert s /m 2 C\ncommit s\nopen s d=off for true\ninsert s /m 1 X\ncommit s\ncat d=on /m\ncat d=off /m\n",
+        b"ok option 0\nok open 1 d=on\nok\nok +0\nok commit 2\nok open 2 d=on\nok +0\nok commit 3\nok open 3 d=on\nok +0\nok commit 4\nok open 4 d=off\nok +0\nok commit 5\nok 4\n1 A\n4 X\n2 B\n3 C\nok 3\n1 A\n4 X\n3 C\n",
+        Status::Done,
+    ),
+    (
+        b"option a\nopen s a=on for a\nmkfile s /m\noption b\nconstraint !a\ninsert s /m 0 one\ninsert s /m 7 two\ninsert s /n 0 two\nmkfile s /m\ncommit s\ncat a=on,b=on /m\ncat a=off,b=on /m\nconstraint a | b\ncat a=off,b=off /m\nopen s a=on,b=off for b\n",
+        b"ok option 0\nok open 1 a=on\nok\nok option 1\nok constraint 1\nok +0\nrefused no-such-line\nrefused no-such-path\nrefused not-built\nok commit 4\nrefused invalid 1\nrefused no-such-path\nok constraint 2\nrefused invalid 2\nrefused invalid 1\n",
+        Status::SomeRefused,
+    ),
+];
+
+#[test]
+fn sessions_are_served(rt: HostRuntime) -> Result<(), Fail> {
+    for case in &SESSIONS {
+        expect(&rt, rt.alloc(), SERVED, *case)?;
+    }
+    Ok(())
+}
+
+// A session on which 4,096 bytes are inserted again and again reaches the bytes of a commit, and then its edits run out.
+#[test]
+fn sessions_are_limited(rt: HostRuntime) -> Result<(), Fail> {
+    let alloc = rt.alloc();
+    let mut script = String::from_str(alloc, "open s - for true\nmkfile s /m\n")?;
+    let mut written = String::from_str(alloc, "ok open 0 -\nok\n")?;
+    let text = "x".repeat(alloc, 4096)?;
+    for number in 0..4096u32 {
+        writeln!(script, "insert s /m 0 {text}")?;
+        writeln!(written, "ok +{number}")?;
+    }
+    script.push_str("insert s /m 0 x\ninsert s /m 0 \ninsert s /m 5 x\n")?;
+    written.push_str("refused too-many-bytes\nok +4096\nrefused too-many-bytes\n")?;
+    let case = (script.as_bytes(), written.as_bytes(), Status::SomeRefused);
+    expect(&rt, alloc, SERVED, case)
+}
+
 #[test]
 fn limits_are_kept(rt: HostRuntime) -> Result<(), Fail> {
     let alloc = rt.alloc();

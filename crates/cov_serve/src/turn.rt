@@ -41,12 +41,20 @@ fn serve_next<S: Source, K: Sink>(
     ensures falls { IfOk result (Falls lines.old lines.new) }
 {
     match lines.next(script) {
-        Ok(Item::End) => Ok(Turn::Ended),
+        Ok(Item::End) => {
+            close(server);
+            Ok(Turn::Ended)
+        }
         Ok(Item::Line(line)) => as_turn(serve_line(server, line.as_slice(), out)),
         Ok(Item::Long) => as_turn(serve_long(server, out)),
-        Err(fault) => Err(status_of(fault)),
+        Err(fault) => {
+            close(server);
+            Err(status_of(fault))
+        }
     }
 }
+
+fn close(_: Server) {}
 
 fn as_turn(served: Result<(Server, Answer), Status>) -> Result<Turn, Status>
     ensures { result ≡ turn_of served }

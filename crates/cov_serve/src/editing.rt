@@ -1,0 +1,228 @@
+// How the session that is open is edited, committed and given up.
+ghost use Rattle.std.specs.Prelude.{◌≡◌, true, if◌then◌else◌, None, Some, Option as Maybe, option_map, IfOk, length};
+ghost use Rattle.cov_edit.specs.EditFits.{has_line_text, is_line_text};
+ghost use Rattle.cov_engine.specs.Sessions.{commit_of};
+ghost use Rattle.cov_engine.specs.Verdict.{verdict};
+ghost use Rattle.cov_serve.specs.States.{is_used, named};
+ghost use Rattle.cov_serve.specs.Editing.{line_ref};
+ghost use Rattle.cov_serve.specs.Step.{added, file_made, inserted_in, with_file, committed_in, committed_if, dropped_in};
+ghost use Rattle.cov_serve.specs.Texts.{is_said};
+ghost use Rattle.cov_serve.specs.Turns.{Gives};
+
+use crate::code::Code;
+use crate::reply::{done_text, numbered_text};
+use crate::server::{Served, Server};
+use cov_base::{Kind, LineNo, LineRef, Memory, MemoryOr, Name, NodeNo, NodeRef, Path, Text};
+use cov_edit::{Command, Edit};
+use cov_script::LineField;
+
+impl Server {
+    // Whether the session that is open has the name.
+    fn has_session(&self, name: &Name) -> bool
+        ensures { named self.now.session name.now ≡ (if result then self.now.session else None) }
+    {
+        match &self.session {
+            Some(session) => session.name.as_slice() == name.as_slice(),
+            None => false,
+        }
+    }
+
+    // Whether the history or the session that is open makes a node of that name.
+    fn is_used(&self, name: &Name) -> bool
+        ensures { result ≡ is_used self.now name.now }
+    {
+        match &self.session {
+            Some(session) => self.used.has(name.as_slice()) || session.names.has(name.as_slice()),
+            None => self.used.has(name.as_slice()),
+        }
+    }
+
+    /// Makes a file in the root.
+    pub(crate) fn make_file(self, name: Name, path: Path) -> Served
+        ensures { IfOk result (λ next. Gives (with_file self path (λ file. file_made self name file)) next.0 next.1) }
+    {
+        match path.as_slice() {
+            [file] => match file.copy() {
+                Ok(file) => self.make_named(name, file),
+                Err(Memory) => Err(Memory),
+            },
+            _ => self.refuse(Code::NotBuilt),
+        }
+    }
+
+    fn make_named(self, name: Name, file: Name) -> Served
+        ensures { IfOk result (λ next. Gives (file_made self name file) next.0 next.1) }
+    {
+        if self.is_used(&file) {
+            return self.refuse(Code::NotBuilt);
+        }
+        if !self.has_session(&name) {
+            return self.refuse(Code::NoSession);
+        }
+        let text = done_text(self.alloc)?;
+        let edit = Edit::New {
+            kind: Kind::File,
+            parent: NodeRef::Old(NodeNo::new(0)),
+            name: file,
+        };
+        self.edit(edit, text)
+    }
+
+    /// Inserts a line into a file that the session sees in the root.
+    pub(crate) fn insert(self, name: Name, path: Path, line: LineField, text: Text) -> Served
+        requires { is_line_text text ≡ true }
+        ensures { IfOk result (λ next. Gives (with_file self path (λ file. inserted_in self path line text (named self.session name))) next.0 next.1) }
+    {
+        if path.len() != 1 {
+            return self.refuse(Code::NotBuilt);
+        }
+        if !self.has_session(&name) {
+            return self.refuse(Code::NoSession);
+        }
+        self.insert_at(path, line, text)
+    }
+
+    fn insert_at(self, path: Path, line: LineField, text: Text) -> Served
+        requires { is_line_text text ≡ true }
+        ensures { IfOk result (λ next. Gives (inserted_in self path line text self.session) next.0 next.1) }
+    {
+        let Some(session) = &self.session else {
+            return self.refuse(Code::NoSession);
+        };
+        let Some(file) = session.view.resolve(&path) else {
+            return self.refuse(Code::NoSuchPath);
+        };
+        let reply = numbered_text(self.alloc, b"ok +", session.view.lines_made())?;
+        let after = line_ref(line);
+        self.edit(Edit::Insert { file, after, text }, reply)
+    }
+
+    // Adds an edit to the session.
+    fn edit(self, edit: Edit, text: Text) -> Served
+        requires text { has_line_text edit ≡ true }
+        requires said { is_said text ≡ true }
+        ensures { IfOk result (λ next. Gives (added self self.session edit text) next.0 next.1) }
+    {
+        let Server {
+            alloc,
+            engine,
+            used,
+            session,
+        } = self;
+        let Some(mut session) = session else {
+            let server = Server {
+                alloc,
+                engine,
+                used,
+                session: None,
+            };
+            return server.refuse(Code::NoSession);
+        };
+        let added = session.add(alloc, edit);
+        let server = Server {
+            alloc,
+            engine,
+            used,
+            session: Some(session),
+        };
+        match added {
+            Ok(()) => Ok(server.accept(text)),
+            Err(MemoryOr::Refused(code)) => server.refuse(code),
+            Err(MemoryOr::Memory) => Err(Memory),
+        }
+    }
+
+    /// Appends the commit of the session, which ends with it, unless the history refuses it.
+    pub(crate) fn commit(self, name: Name) -> Served
+        ensures { IfOk result (λ next. Gives (committed_in self (named self.session name)) next.0 next.1) }
+    {
+        if !self.has_session(&name) {
+            return self.refuse(Code::NoSession);
+        }
+        let Some(session) = &self.session else {
+            return self.refuse(Code::NoSession);
+        };
+        let command = session.command(self.alloc)?;
+        self.append_commit(command)
+    }
+
+    fn append_commit(self, command: Command) -> Served
+        requires { option_map commit_of self.session ≡ Some command }
+        ensures { IfOk result (λ next. Gives (committed_if self command (verdict self.history command)) next.0 next.1) }
+    {
+        let Server {
+            alloc,
+            engine,
+            mut used,
+            session,
+        } = self;
+        let Some(session) = session else {
+            unreachable!()
+        };
+        match engine.prepare(command) {
+            Ok(prepared) => {
+                used.add_all(alloc, &session.names)?;
+                let (engine, receipt) = prepared.install();
+                let server = Server {
+                    alloc,
+                    engine,
+                    used,
+                    session: None,
+                };
+                let text = numbered_text(alloc, b"ok commit ", receipt.position.number())?;
+                Ok(server.accept(text))
+            }
+            Err((engine, refusal)) => {
+                let server = Server {
+                    alloc,
+                    engine,
+                    used,
+                    session: Some(session),
+                };
+                server.refuse_for(refusal)
+            }
+        }
+    }
+
+    /// Gives the session up.
+    pub(crate) fn discard(self, name: Name) -> Served
+        ensures { IfOk result (λ next. Gives (dropped_in self (named self.session name)) next.0 next.1) }
+    {
+        if !self.has_session(&name) {
+            return self.refuse(Code::NoSession);
+        }
+        self.end_session()
+    }
+
+    fn end_session(self) -> Served
+        ensures { IfOk result (λ next. Gives (dropped_in self self.session) next.0 next.1) }
+    {
+        if self.session.is_none() {
+            return self.refuse(Code::NoSession);
+        }
+        let text = done_text(self.alloc)?;
+        let Server {
+            alloc,
+            engine,
+            used,
+            ..
+        } = self;
+        let server = Server {
+            alloc,
+            engine,
+            used,
+            session: None,
+        };
+        Ok(server.accept(text))
+    }
+}
+
+// A line as an edit names it.
+fn line_ref(line: LineField) -> LineRef
+    ensures { result ≡ line_ref line }
+{
+    match line {
+        LineField::Number(number) => LineRef::Old(LineNo::new(number)),
+        LineField::Own(number) => LineRef::New(number),
+    }
+}
