@@ -13,7 +13,7 @@ invariant_of-self-2 c =
     let row : ViewRow = c.args.row in
     c.in_ok-insert.ensures.keys
     ∙ ap (insert_key same_key c.self.inside.keys.keys) c.key_of.ensures
-    ∙ ap (λ ks. insert_key same_key ks (key_of row.node)) c.self.invariant
+    ∙ ap (λ ks. insert_key same_key ks (key_of row.node)) c.self.invariant.0
     ∙ key_added same_key agrees row.node rows (ap (λ (rs : List ViewRow). has_row rs row.node) c.self.view_is ∙ c.requires)
     ∙ sym (map-append (λ (r : ViewRow). key_of r.node) rows (row ∷ []))
     ∙ ap keys_of (sym (c.in-Ok.ensures.items ∙ ap (λ (rs : List ViewRow). rs ++ row ∷ []) c.reserve.ensures.items))
