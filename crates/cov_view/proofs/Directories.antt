@@ -1,10 +1,10 @@
 -- The index of names in directories.
 use Rattle.std.specs.Global.{Vec}
-use Rattle.std.proofs.Common.{◌≡◌, ℕ, zero, suc, ◌+◌, Bool, true, false, cond, ◌&&◌, List, [], ◌∷◌, ◌++◌, length, Option, Some, None, Result, Ok, Err, OnOk, OnErr, is_some, position, refl, sym, ap, subst, ◌∙◌, arith}
+use Rattle.std.proofs.Common.{◌≡◌, ℕ, zero, suc, ◌+◌, Bool, true, false, cond, ◌&&◌, List, [], ◌∷◌, ◌++◌, length, Option, Some, None, Result, Ok, Err, OnOk, OnErr, is_some, position, Bor, refl, sym, ap, subst, ◌∙◌, arith}
 use Rattle.std.specs.Cmp.Lexicographic.{nat_list_eq_equiv, bytes_decides}
 use Rattle.std.specs.List.{list_any, position_from}
 use Rattle.std.specs.Map.{lookup}
-use Rattle.std.specs.Option.{option_or}
+use Rattle.std.specs.Option.{option_copied, option_or}
 use Rattle.std.specs.Str.{bytes_eq}
 use Rattle.std.proofs.lemmas.Bool.Decides.{nat_tests}
 use Rattle.std.proofs.lemmas.Iterator.Adapters.{position_from-zero}
@@ -43,6 +43,22 @@ asked dir name i key = at key i
   where
     at : (key : ChildKey NodeKey (Vec ℕ)) → is_asked (key_of dir) name key ≡ is_child_key dir name key
     at key = λ j. (ap (same_key (key_of dir)) (sym (node-back key.dir)) ∙ agrees dir (node_of key.dir)) j && nat_list_eq_equiv.symm name key.name.items j
+
+-- whether two keys are the same, as they are compared
+abbrev pub same_child : ChildKey NodeKey (Vec ℕ) → ChildKey NodeKey (Vec ℕ) → Bool
+same_child key = is_asked key.dir key.name.items
+
+-- what is asked for a row is its name in its directory
+pub asked_row : (r : ViewRow) (dir : NodeKey) (name : List ℕ) → dir ≡ key_of r.parent → name ≡ r.name → is_asked dir name ≡ is_child_key r.parent r.name
+asked_row r dir name d n = (λ i. is_asked (d i) (n i)) ∙ asked r.parent r.name
+
+pub none_is : {A : Type 0} (o : Option A) → is_some o ≡ false → o ≡ None
+none_is None e = refl
+none_is (Some x) e = absurd (cc)
+
+pub copied_some : {A : Type 0} (o : Option (Bor A)) → is_some o ≡ is_some (option_copied o)
+copied_some None = refl
+copied_some (Some x) = refl
 
 position_from-append : (p : ViewRow → Bool) (k : ℕ) (rows : List ViewRow) (r : ViewRow) → position_from p k (rows ++ r ∷ []) ≡ option_or (position_from p k rows) (cond (p r) (Some (k + length rows)) None)
 position_from-append p k [] r = ap (λ n. cond (p r) (Some n) None) (omega arith)
