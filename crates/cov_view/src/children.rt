@@ -1,8 +1,7 @@
 // The names in directories, each found with one look-up.
-ghost use Rattle.std.specs.Prelude.{◌≡◌, ◌&&◌, ◌∷◌, ◌++◌, [], position, OnOk, OnErr};
-ghost use Rattle.std.specs.Str.{bytes_eq};
-ghost use Rattle.cov_view.specs.Keys.{AreChildren};
-ghost use Rattle.cov_view.specs.References.{same_node};
+ghost use Rattle.std.specs.Prelude.{◌≡◌, ◌∷◌, ◌++◌, [], OnOk, OnErr};
+ghost use Rattle.std.specs.Map.{lookup};
+ghost use Rattle.cov_view.specs.Keys.{is_child_key, AreChildren};
 
 use crate::row::ViewRow;
 use crate::rows::{NodeKey, key_of};
@@ -52,12 +51,10 @@ impl Children {
         }
     }
 
-    /// The place of the first row of that name in a directory.
-    pub(crate) fn place(&self, rows: &[ViewRow], dir: &NodeRef, name: &[u8]) -> Option<usize>
-        requires { AreChildren rows.now self.now.places.entries }
-        ensures { result ≡ position (λ r. same_node r.parent dir.now && bytes_eq r.name name.now) rows.now }
+    /// The place of the first row of that name in a directory. It takes no memory, and time in the name.
+    pub(crate) fn place(&self, dir: &NodeRef, name: &[u8]) -> Option<usize>
+        ensures { result ≡ lookup (is_child_key dir.now name.now) self.now.places.entries }
     {
-        let _ = rows;
         let dir = key_of(dir);
         self.places.get(&ChildKey { dir, name }).copied()
     }

@@ -124,7 +124,7 @@ impl Rows {
     fn child(&self, dir: &NodeRef, name: &[u8]) -> Option<&ViewRow>
         ensures { option_copied result ≡ find (λ r. same_node r.parent dir.now && bytes_eq r.name name.now) self.now }
     {
-        match self.children.place(self.rows.as_slice(), dir, name) {
+        match self.children.place(dir, name) {
             Some(at) => self.row(at),
             None => None,
         }

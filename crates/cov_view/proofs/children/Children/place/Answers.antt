@@ -11,4 +11,3 @@ returns c =
     c.copied.ensures ∙ c.get.ensures.value
     ∙ ap (λ k. lookup (is_asked k name) places) c.key_of-dir.ensures
     ∙ ap (λ test. lookup test places) (asked dir name)
-    ∙ c.requires dir name

@@ -14,13 +14,12 @@ pub invariant_of-self-2 : goal.invariant_of-self-2
 invariant_of-self-2 c =
     let rows = c.self.inside.rows.items in
     let row : ViewRow = c.args.row in
-    let joined = c.in-Ok-push.ensures.items ∙ ap (λ (rs : List ViewRow). rs ++ row ∷ []) c.reserve.ensures.items in
-    (
-    c.in-Ok.ensures.keys
-    ∙ ap (insert_key same_key c.reserve-2.new.self.keys) c.key_of.ensures
-    ∙ ap (λ ks. insert_key same_key ks (key_of row.node)) (c.reserve-2.ensures.keys ∙ c.self.invariant.0)
-    ∙ key_added same_key agrees row.node rows (ap (λ (rs : List ViewRow). has_row rs row.node) c.self.view_is ∙ c.requires)
-    ∙ sym (map-append (λ (r : ViewRow). key_of r.node) rows (row ∷ []))
-    ∙ ap keys_of (sym joined),
-    subst (λ (rs : List ViewRow). AreChildren rs c.note.new.self.places.entries) (ap (λ (rs : List ViewRow). rs ++ row ∷ []) c.as_slice.ensures.value ∙ sym c.in-Ok-push.ensures.items) c.in_ok-note.ensures.ok,
+    let joined = c.in-Ok-push.ensures.items ∙ ap (λ (rs : List ViewRow). rs ++ row ∷ []) c.reserve.ensures.items in (
+      c.in-Ok.ensures.keys
+          ∙ ap (insert_key same_key c.reserve-2.new.self.keys) c.key_of.ensures
+          ∙ ap (λ ks. insert_key same_key ks (key_of row.node)) (c.reserve-2.ensures.keys ∙ c.self.invariant.0)
+          ∙ key_added same_key agrees row.node rows (ap (λ (rs : List ViewRow). has_row rs row.node) c.self.view_is ∙ c.requires)
+          ∙ sym (map-append (λ (r : ViewRow). key_of r.node) rows (row ∷ []))
+          ∙ ap keys_of (sym joined),
+      subst (λ (rs : List ViewRow). AreChildren rs c.note.new.self.places.entries) (ap (λ (rs : List ViewRow). rs ++ row ∷ []) c.as_slice.ensures.value ∙ sym c.in-Ok-push.ensures.items) c.in_ok-note.ensures.ok,
     )
