@@ -1,10 +1,7 @@
 // The nodes of a variant.
-ghost use Rattle.std.specs.Prelude.{◌≡◌, ◌<◌, ◌&&◌, ◌||◌, IfSome, ℕ, length, position};
-ghost use Rattle.std.specs.List.{find};
-ghost use Rattle.std.specs.Option.{option_copied};
-ghost use Rattle.std.specs.Str.{bytes_eq};
-ghost use Rattle.cov_view.specs.References.{is_root, is_head, same_node};
-ghost use Rattle.cov_view.specs.Seen.{row_at, has_child, child_in, has_line_in, AreRows};
+ghost use Rattle.std.specs.Prelude.{◌≡◌, ◌||◌};
+ghost use Rattle.cov_view.specs.References.{is_root, is_head};
+ghost use Rattle.cov_view.specs.Seen.{has_line_in};
 
 use crate::ViewLines;
 use crate::line::is_head;

@@ -60,13 +60,6 @@ impl Rows {
         *self.rows.allocator()
     }
 
-    /// The rows in order.
-    pub(crate) fn as_slice(&self) -> &[ViewRow]
-        ensures { result.now ≡ self.now }
-    {
-        self.rows.as_slice()
-    }
-
     /// Appends the row of a node that has none yet.
     pub(crate) fn push(&mut self, row: ViewRow) -> Result<(), Memory>
         requires { has_row self.old row.node ≡ false }
