@@ -1,5 +1,5 @@
 -- Rows by their keys.
-use Rattle.std.proofs.Common.{◌≡◌, ℕ, suc, ◌+◌, ◌<◌, ◌≤◌, Bool, true, false, cond, ◌||◌, not, nat_lt, List, [], ◌∷◌, ◌++◌, length, map, slice_get, Some, None, is_some, Result, Ok, Err, OnOk, OnErr, position, refl, sym, ap, ◌∙◌, arith}
+use Rattle.std.proofs.Common.{◌≡◌, ℕ, suc, ◌+◌, ◌≤◌, Bool, true, false, cond, ◌||◌, not, nat_lt, List, [], ◌∷◌, ◌++◌, length, map, slice_get, Some, None, is_some, Result, Ok, Err, OnOk, OnErr, position, refl, sym, ap, ◌∙◌, arith}
 use Rattle.std.specs.List.{find, list_any, position_or_len}
 use Rattle.std.proofs.lemmas.Bool.Decides.{nat_tests}
 use Rattle.std.proofs.lemmas.List.{length-map}
@@ -9,7 +9,7 @@ use Rattle.cov_base.specs.declared.number.NodeRef.{NodeRef}
 use Rattle.cov_base.specs.declared.number.NodeRef.TheVariants as nodes
 use Rattle.cov_view.specs.Keys.{key_of}
 use Rattle.cov_view.specs.References.{same_node}
-use Rattle.cov_view.specs.Seen.{row_at, has_row, at_row, with_lines_by}
+use Rattle.cov_view.specs.Seen.{has_row, at_row, with_lines_by}
 use Rattle.cov_view.specs.declared.line.ViewLine.{ViewLine}
 use Rattle.cov_view.specs.declared.row.ViewRow.{ViewRow}
 use Rattle.cov_view.specs.contracts.rows.NodeKeyPartialEq.TheImpl.{eq-value}
