@@ -1,14 +1,15 @@
 -- Rows by their keys.
-use Rattle.std.proofs.Common.{◌≡◌, ℕ, suc, ◌+◌, ◌<◌, ◌≤◌, Bool, true, false, cond, ◌||◌, not, nat_lt, List, [], ◌∷◌, ◌++◌, length, map, slice_get, Some, None, Result, Ok, Err, OnOk, OnErr, position, refl, sym, ap, ◌∙◌, arith}
-use Rattle.std.specs.List.{list_any, position_or_len}
+use Rattle.std.proofs.Common.{◌≡◌, ℕ, suc, ◌+◌, ◌≤◌, Bool, true, false, cond, ◌||◌, not, nat_lt, List, [], ◌∷◌, ◌++◌, length, map, slice_get, Some, None, is_some, Result, Ok, Err, OnOk, OnErr, position, refl, sym, ap, ◌∙◌, arith}
+use Rattle.std.specs.List.{find, list_any, position_or_len}
 use Rattle.std.proofs.lemmas.Bool.Decides.{nat_tests}
 use Rattle.std.proofs.lemmas.List.{length-map}
+use Rattle.std.proofs.lemmas.List.Folds.{find_at}
 use Rattle.indexmap.specs.IndexSet.{insert_key}
 use Rattle.cov_base.specs.declared.number.NodeRef.{NodeRef}
 use Rattle.cov_base.specs.declared.number.NodeRef.TheVariants as nodes
 use Rattle.cov_view.specs.Keys.{key_of}
 use Rattle.cov_view.specs.References.{same_node}
-use Rattle.cov_view.specs.Seen.{row_at, has_row, at_row, with_lines_by}
+use Rattle.cov_view.specs.Seen.{has_row, at_row, with_lines_by}
 use Rattle.cov_view.specs.declared.line.ViewLine.{ViewLine}
 use Rattle.cov_view.specs.declared.row.ViewRow.{ViewRow}
 use Rattle.cov_view.specs.contracts.rows.NodeKeyPartialEq.TheImpl.{eq-value}
@@ -51,46 +52,39 @@ pub keys-kept : {A F : Type 0} (r : Result A F) (node : NodeRef) (f : List ViewL
 keys-kept (Ok x) node f old new ok err = ap keys_of ok ∙ keys-lines node f old
 keys-kept (Err e) node f old new ok err = ap keys_of err
 
-first_row : (node : NodeRef) (rows : List ViewRow) → position_or_len (λ r. same_node r.node node) rows < length rows
-    → slice_get rows (position_or_len (λ r. same_node r.node node) rows) ≡ row_at rows node
-first_row node [] h = absurd (omega (arith, h))
-first_row node (r ∷ rows) h = at (same_node r.node node) h (λ k. first_row node rows k)
-  where
-    at : (b : Bool) → cond (not b) (1 + position_or_len (λ r. same_node r.node node) rows) 0 < suc (length rows)
-        → (position_or_len (λ r. same_node r.node node) rows < length rows → slice_get rows (position_or_len (λ r. same_node r.node node) rows) ≡ row_at rows node)
-        → slice_get (r ∷ rows) (cond (not b) (1 + position_or_len (λ r. same_node r.node node) rows) 0) ≡ cond b (Some r) (row_at rows node)
-    at true k rest = refl
-    at false k rest =
-        let one : 1 + position_or_len (λ r. same_node r.node node) rows ≡ suc (position_or_len (λ r. same_node r.node node) rows) = omega arith in
-        ap (slice_get (r ∷ rows)) one ∙ rest (omega (arith, k))
-
-no_row : (node : NodeRef) (rows : List ViewRow) → length rows ≤ position_or_len (λ r. same_node r.node node) rows → row_at rows node ≡ None
-no_row node [] h = refl
-no_row node (r ∷ rows) h = at (same_node r.node node) h (λ k. no_row node rows k)
-  where
-    at : (b : Bool) → suc (length rows) ≤ cond (not b) (1 + position_or_len (λ r. same_node r.node node) rows) 0
-        → (length rows ≤ position_or_len (λ r. same_node r.node node) rows → row_at rows node ≡ None)
-        → cond b (Some r) (row_at rows node) ≡ None
-    at true k rest = absurd (omega (arith, k))
-    at false k rest = rest (omega (arith, k))
-
-module _ (node : NodeRef) (rows : List ViewRow) where
-  -- the row at the place of a node
-  pub placed_row : (i : ℕ) → position (λ r. same_node r.node node) rows ≡ Some i → slice_get rows i ≡ row_at rows node
-  placed_row i h = at (nat_lt (position_or_len (λ r. same_node r.node node) rows) (length rows)) refl h
+module _ (p : ViewRow → Bool) where
+  no_row : (rows : List ViewRow) → length rows ≤ position_or_len p rows → find p rows ≡ None
+  no_row [] h = refl
+  no_row (r ∷ rows) h = at (p r) h (λ k. no_row rows k)
     where
-      at : (b : Bool) → nat_lt (position_or_len (λ r. same_node r.node node) rows) (length rows) ≡ b → cond b (Some (position_or_len (λ r. same_node r.node node) rows)) None ≡ Some i → slice_get rows i ≡ row_at rows node
-      at true e k =
-          let same : position_or_len (λ r. same_node r.node node) rows ≡ i = cc in
-          ap (slice_get rows) (sym same) ∙ first_row node rows (grind (arith, nat_tests, e))
-      at false e k = absurd (cc)
+      at : (b : Bool) → suc (length rows) ≤ cond (not b) (1 + position_or_len p rows) 0 → (length rows ≤ position_or_len p rows → find p rows ≡ None)
+          → cond b (Some r) (find p rows) ≡ None
+      at true k rest = absurd (omega (arith, k))
+      at false k rest = rest (omega (arith, k))
 
-  pub no_place : position (λ r. same_node r.node node) rows ≡ None → row_at rows node ≡ None
-  no_place h = at (nat_lt (position_or_len (λ r. same_node r.node node) rows) (length rows)) refl h
+  -- the row at the place of the first that passes
+  pub placed_row : (rows : List ViewRow) (i : ℕ) → position p rows ≡ Some i → slice_get rows i ≡ find p rows
+  placed_row rows i h = at (nat_lt (position_or_len p rows) (length rows)) h
     where
-      at : (b : Bool) → nat_lt (position_or_len (λ r. same_node r.node node) rows) (length rows) ≡ b → cond b (Some (position_or_len (λ r. same_node r.node node) rows)) None ≡ None → row_at rows node ≡ None
+      at : (b : Bool) → cond b (Some (position_or_len p rows)) None ≡ Some i → slice_get rows i ≡ find p rows
+      at true k = let same : position_or_len p rows ≡ i = cc in ap (slice_get rows) (sym same) ∙ sym (find_at p rows)
+      at false k = absurd (cc)
+
+  pub no_place : (rows : List ViewRow) → position p rows ≡ None → find p rows ≡ None
+  no_place rows h = at (nat_lt (position_or_len p rows) (length rows)) refl h
+    where
+      at : (b : Bool) → nat_lt (position_or_len p rows) (length rows) ≡ b → cond b (Some (position_or_len p rows)) None ≡ None → find p rows ≡ None
       at true e k = absurd (cc)
-      at false e k = no_row node rows (grind (arith, nat_tests, e))
+      at false e k = no_row rows (grind (arith, nat_tests, e))
+
+  -- a row is found exactly where one passes
+  pub is_found : (rows : List ViewRow) → is_some (find p rows) ≡ list_any p rows
+  is_found [] = refl
+  is_found (r ∷ rows) = at (p r) (is_found rows)
+    where
+      at : (b : Bool) → is_some (find p rows) ≡ list_any p rows → is_some (cond b (Some r) (find p rows)) ≡ (b || list_any p rows)
+      at true rest = refl
+      at false rest = rest
 
 -- whether two keys are the same, as they are compared
 abbrev pub same_key : NodeKey → NodeKey → Bool

@@ -1,5 +1,6 @@
 pub mod Applying
 pub mod Changes
+pub mod Directories
 pub mod Finding
 pub mod Inserts
 pub mod Keys

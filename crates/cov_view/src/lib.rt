@@ -2,6 +2,7 @@
 #![tactic(auto)]
 
 mod changing;
+mod children;
 mod fault;
 mod line;
 mod row;

@@ -1,13 +1,16 @@
 // The rows of a view, each found by its node with one look-up.
-ghost use Rattle.std.specs.Prelude.{◌≡◌, ◌<◌, [], ◌∷◌, ◌++◌, false, IfSome, OnOk, OnErr, length, position, slice_get};
+ghost use Rattle.std.specs.Prelude.{◌≡◌, ◌<◌, ◌&&◌, [], ◌∷◌, ◌++◌, false, IfSome, OnOk, OnErr, length, position, slice_get};
+ghost use Rattle.std.specs.List.{find};
 ghost use Rattle.std.specs.Option.{option_copied};
+ghost use Rattle.std.specs.Str.{bytes_eq};
 ghost use Rattle.cov_view.specs.Keys.{key_of};
 ghost use Rattle.cov_view.specs.Lines.{after_ref};
 ghost use Rattle.cov_view.specs.References.{same_node};
-ghost use Rattle.cov_view.specs.Seen.{row_at, has_row, at_row, with_lines_by};
+ghost use Rattle.cov_view.specs.Seen.{row_at, has_row, has_child, child_in, at_row, with_lines_by};
 
 use crate::ViewLine;
 use crate::changing::{append_line, insert_line};
+use crate::children::Children;
 use crate::row::ViewRow;
 use cov_base::{LineRef, Memory, NodeNo, NodeRef};
 use indexmap::IndexSet;
@@ -21,23 +24,25 @@ pub(crate) enum NodeKey {
     New(u32),
 }
 
-/// The rows in the order in which they were added; the i-th key is that of row i.
+/// The rows in the order in which they were added; the i-th key is that of row i, and each name in a directory is found
+/// at its first row.
 #[derive(Debug, Drop)]
 pub(crate) struct Rows {
     rows: Vec<ViewRow>,
     keys: IndexSet<NodeKey>,
+    children: Children,
 }
 
 impl Model for Rows {
     ghost use Rattle.std.specs.Prelude.{◌≡◌, List, map};
     ghost use Rattle.cov_view.specs.declared.row.ViewRow.{ViewRow};
-    ghost use Rattle.cov_view.specs.Keys.{key_of};
+    ghost use Rattle.cov_view.specs.Keys.{key_of, AreChildren};
 
     ghost Value = { List ViewRow };
 
     ghost view = { λ r. r.rows.items };
 
-    ghost invariant = { λ r. r.keys.keys ≡ map (λ row. key_of row.node) r.rows.items };
+    ghost invariant = { λ r. (r.keys.keys ≡ map (λ row. key_of row.node) r.rows.items) × AreChildren r.rows.items r.children.places.entries };
 }
 
 impl Rows {
@@ -47,18 +52,12 @@ impl Rows {
         Rows {
             rows: Vec::new(alloc),
             keys: IndexSet::new(alloc),
+            children: Children::new(alloc),
         }
     }
 
     pub(crate) fn allocator(&self) -> Global {
         *self.rows.allocator()
-    }
-
-    /// The rows in order.
-    pub(crate) fn as_slice(&self) -> &[ViewRow]
-        ensures { result.now ≡ self.now }
-    {
-        self.rows.as_slice()
     }
 
     /// Appends the row of a node that has none yet.
@@ -68,7 +67,12 @@ impl Rows {
         ensures err { OnErr result (self.new ≡ self.old) }
     {
         self.rows.reserve(1)?;
-        self.keys.insert(key_of(&row.node))?;
+        self.keys.reserve(1)?;
+        self.children.note(self.rows.as_slice(), &row)?;
+        match self.keys.insert(key_of(&row.node)) {
+            Ok(_) => {}
+            Err(_) => unreachable!(),
+        }
         match self.rows.push(row) {
             Ok(()) => Ok(()),
             Err(_) => unreachable!(),
@@ -88,6 +92,32 @@ impl Rows {
         ensures { option_copied result ≡ row_at self.now node.now }
     {
         match self.place(node) {
+            Some(at) => self.row(at),
+            None => None,
+        }
+    }
+
+    /// Whether a directory has a node of that name.
+    pub(crate) fn has_child(&self, dir: &NodeRef, name: &[u8]) -> bool
+        ensures { result ≡ has_child self.now dir.now name.now }
+    {
+        self.child(dir, name).is_some()
+    }
+
+    /// The node of that name in a directory.
+    pub(crate) fn child_in(&self, dir: &NodeRef, name: &[u8]) -> Option<NodeRef>
+        ensures { result ≡ child_in self.now dir.now name.now }
+    {
+        match self.child(dir, name) {
+            Some(row) => Some(row.node),
+            None => None,
+        }
+    }
+
+    fn child(&self, dir: &NodeRef, name: &[u8]) -> Option<&ViewRow>
+        ensures { option_copied result ≡ find (λ r. same_node r.parent dir.now && bytes_eq r.name name.now) self.now }
+    {
+        match self.children.place(dir, name) {
             Some(at) => self.row(at),
             None => None,
         }
@@ -123,7 +153,7 @@ impl Rows {
     }
 }
 
-fn key_of(node: &NodeRef) -> NodeKey
+pub(crate) fn key_of(node: &NodeRef) -> NodeKey
     ensures { result ≡ key_of node.now }
 {
     match node {

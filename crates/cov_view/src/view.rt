@@ -14,7 +14,7 @@ ghost use Rattle.cov_view.specs.Paths.{path_node, shown_kind, AreLinesOf};
 ghost use Rattle.cov_view.specs.Seen.{Seen, kind_in, node_at, lines_in, has_child, has_line_in, new_fault, insert_fault, seen_fault, seen_after, at_row, with_lines_by, AreRows};
 ghost use Rattle.cov_view.specs.Views.{Shows, table_after, next_by_number, FaultBy};
 
-use crate::row::{ViewRow, child_in, has_anchor, has_child, is_root};
+use crate::row::{ViewRow, has_anchor, is_root};
 use crate::rows::Rows;
 use crate::{EditFault, ReadFaultOfView, ViewLine, ViewLines};
 use cov_base::{Kind, LineNo, LineRef, Memory, Name, NodeNo, NodeRef, Path, Text};
@@ -126,8 +126,8 @@ impl View {
         }
     }
 
-    /// The node to which a path leads, None exactly where a name on it isn't there. It takes no memory, and for each
-    /// name time in the number of nodes.
+    /// The node to which a path leads, None exactly where a name on it isn't there. It takes no memory, and time
+    /// in the names of the path.
     pub fn resolve(&self, path: &Path) -> Option<NodeRef>
         ensures node { result ≡ node_at self.now.rows (NodeRef.Old 0) path.now }
         ensures there { IfSome result (λ node. is_some (kind_in self.now.rows node) ≡ true) }
@@ -142,7 +142,7 @@ impl View {
     {
         let mut node = NodeRef::Old(NodeNo::new(0));
         'names: for name in path.as_slice() {
-            match child_in(self.rows.as_slice(), &node, name.as_slice()) {
+            match self.rows.child_in(&node, name.as_slice()) {
                 Some(child) => node = child,
                 None => return None,
             }
@@ -185,7 +185,7 @@ impl View {
     }
 
     /// Applies an edit, unless each variant that the view shows refuses it; then the view stays as it is.
-    /// An insertion takes time in the lines of its file, a new node in the number of nodes.
+    /// An insertion takes time in the lines of its file, a new node in its name.
     pub fn apply(&mut self, edit: &Edit) -> Result<(), EditFault>
         requires nodes { self.old.nodes_made < 2 ^ 32 - 1 }
         requires lines { self.old.lines_made < 2 ^ 32 - 1 }
@@ -225,7 +225,7 @@ impl View {
         match self.kind_of(parent) {
             None => Some(EditFault::NoSuchNode),
             Some(Kind::File) => Some(EditFault::NotDirectory),
-            Some(Kind::Dir) => match has_child(self.rows.as_slice(), parent, name) {
+            Some(Kind::Dir) => match self.rows.has_child(parent, name) {
                 true => Some(EditFault::NameTaken),
                 false => None,
             },

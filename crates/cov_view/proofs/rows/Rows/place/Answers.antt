@@ -9,6 +9,6 @@ returns-clause-place c =
     let node = c.args.node.now in
     c.get_index_of.ensures.index
     ∙ ap (λ k. position (same_key k) c.self.inside.keys.keys) c.key_of.ensures
-    ∙ ap (position (same_key (key_of node))) c.self.invariant
+    ∙ ap (position (same_key (key_of node))) c.self.invariant.0
     ∙ keyed same_key agrees node c.self.inside.rows.items
     ∙ ap (position (λ r. same_node r.node node)) c.self.view_is

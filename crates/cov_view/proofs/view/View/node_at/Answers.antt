@@ -11,18 +11,18 @@ names-init c = ap (λ n. node_at c.args.self.now.rows (nodes.Old n) c.as_slice-n
 pub returns-in-None : goal.returns-in-None
 returns-in-None c =
     let rows = c.args.self.now.rows in
-    let same : c.as_slice.result.now ≡ rows = c.as_slice.ensures ∙ ap (λ (s : Seen). s.rows) c.self.view_is in
-    let name = c.as_slice-in-names.ensures.bytes ∙ c.name-item.is in
-    let missing = sym (c.child_in.ensures ∙ ap (λ (r : List ViewRow). child_in r c.names.node c.as_slice-in-names.result.now) same ∙ ap (λ (n : List ℕ). child_in rows c.names.node n) name) ∙ c.in-None.is in
+    let same : c.self.inside.rows ≡ rows = ap (λ (s : Seen). s.rows) c.self.view_is in
+    let name = c.as_slice.ensures.bytes ∙ c.name-item.is in
+    let missing = sym (c.child_in.ensures ∙ ap (λ (r : List ViewRow). child_in r c.names.node c.as_slice.result.now) same ∙ ap (λ (n : List ℕ). child_in rows c.names.node n) name) ∙ c.in-None.is in
     sym (name_missing rows c.names.node c.as_slice-name-items.result.now c.names.name-index c.name-item.result c.names-test.true missing)
     ∙ c.names.invariant ∙ ap (node_at rows (nodes.Old 0)) c.as_slice-name-items.ensures
 
 pub names-preserved : goal.names-preserved
 names-preserved c =
     let rows = c.args.self.now.rows in
-    let same : c.as_slice.result.now ≡ rows = c.as_slice.ensures ∙ ap (λ (s : Seen). s.rows) c.self.view_is in
-    let name = c.as_slice-in-names.ensures.bytes ∙ c.name-item.is in
-    let found = sym (c.child_in.ensures ∙ ap (λ (r : List ViewRow). child_in r c.names.node c.as_slice-in-names.result.now) same ∙ ap (λ (n : List ℕ). child_in rows c.names.node n) name) ∙ c.in-Some.is in
+    let same : c.self.inside.rows ≡ rows = ap (λ (s : Seen). s.rows) c.self.view_is in
+    let name = c.as_slice.ensures.bytes ∙ c.name-item.is in
+    let found = sym (c.child_in.ensures ∙ ap (λ (r : List ViewRow). child_in r c.names.node c.as_slice.result.now) same ∙ ap (λ (n : List ℕ). child_in rows c.names.node n) name) ∙ c.in-Some.is in
     sym (name_found rows c.names.node c.in-Some.child c.as_slice-name-items.result.now c.names.name-index c.name-item.result c.names-test.true found) ∙ c.names.invariant
 
 pub returns : goal.returns
