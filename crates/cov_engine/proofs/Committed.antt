@@ -1,44 +1,41 @@
 -- What is kept after a commit.
-use Rattle.std.proofs.Common.{◌≡◌, ℕ, zero, suc, ◌+◌, ◌-◌, ◌<◌, ◌≤◌, ◌^◌, Bool, true, false, cond, nat_eq, List, [], ◌∷◌, ◌++◌, length, length-append, map, take, drop, Option, Some, None, slice_get, append_assoc, append-nil, refl, sym, ap, subst, ◌∙◌, arith}
-use Rattle.std.specs.List.{fold, filter, AllByRecursion}
+use Rattle.std.proofs.Common.{◌≡◌, ℕ, zero, suc, ◌+◌, ◌-◌, ◌<◌, ◌≤◌, ◌^◌, Bool, true, false, cond, nat_eq, List, [], ◌∷◌, ◌++◌, length, length-append, map, drop, Option, Some, None, slice_get, append_assoc, append-nil, refl, sym, ap, subst, ◌∙◌, arith}
+use Rattle.std.specs.List.{fold, AllByRecursion}
 use Rattle.std.proofs.lemmas.Bool.Decides.{nat_tests}
-use Rattle.cov_base.specs.Addresses.{line_of, IsTable, IsLineOf, itself, after_anchor, after_anchor_by}
+use Rattle.cov_base.specs.Addresses.{line_of, IsLineOf, after_anchor, after_anchor_by}
 use Rattle.cov_base.specs.Rows.{Row}
-use Rattle.cov_base.proofs.Ordered.{all-map, all-both, all-append, all-filter}
+use Rattle.cov_base.proofs.Ordered.{all-both, all-filter}
 use Rattle.cov_base.proofs.Placing.{map-after_anchor}
 use Rattle.cov_base.proofs.Tables.{line_of-in, length-with_lines}
 use Rattle.cov_base.specs.declared.number.Kind.{Kind}
 use Rattle.cov_base.specs.declared.number.NodeRef.{NodeRef}
 use Rattle.cov_base.specs.declared.number.LineRef.{LineRef}
-use Rattle.cov_expr.specs.Formula.{Formula, reach}
+use Rattle.cov_expr.specs.Formula.{Formula}
 use Rattle.cov_edit.specs.declared.edit.Edit.{Edit}
 use Rattle.cov_edit.specs.declared.edit.Edit.TheVariants as edits
 use Rattle.cov_edit.specs.declared.command.Command.{Command}
 use Rattle.cov_edit.specs.declared.command.Command.TheVariants as commands
-use Rattle.cov_edit.specs.History.{option_count}
-use Rattle.cov_edit.specs.Numbering.{Numbers, node_number, line_number, nodes_made, anchors_of, no_numbers, numbers_after, numbers_of, numbered_from}
+use Rattle.cov_edit.specs.Numbering.{Numbers, node_number, line_number, anchors_of, no_numbers, numbers_after, numbers_of, numbered_from}
 use Rattle.cov_edit.specs.Variant.{Line}
 use Rattle.cov_edit.proofs.Replays.{numbers_from-append}
 use Rattle.cov_engine.specs.declared.kept.Made.{Made}
 use Rattle.cov_engine.specs.declared.kept.KeptLine.{KeptLine}
 use Rattle.cov_engine.specs.declared.entry.Entry.{Entry}
-use Rattle.cov_engine.specs.Kept.{Kept, new_item, kept_address, kept_number, kept_after, entries_after, Holding, held_after, held_by, kept_of, entries_of, file_kept, is_kept_anchor}
+use Rattle.cov_engine.specs.Kept.{Kept, new_item, kept_address, kept_number, kept_after, entries_after, Holding, held_after, held_by, kept_of, file_kept, is_kept_anchor}
 use Rattle.cov_engine.specs.Files.{DatedLine, dated_number, dated, file_dated, file_order, Takes}
-use Rattle.cov_engine.specs.Insertions.{Insertion, all_edits, lines_begun, file_of, anchor_of, held_before, held_behind}
-use Rattle.cov_engine.specs.Showing.{change_in, change_of, dated_from, dated_of, AreInReach}
-use Rattle.cov_engine.specs.Holdings.{entry_kept, IsFileOf, IsHeldBy}
-use Rattle.cov_engine.specs.Sessions.{Session, IsGood, has_commit, session_of}
-use Rattle.cov_engine.specs.Verdict.{IsLegal}
-use Rattle.cov_engine.specs.Drawing.{Stored, stored, new_lines, new_entries, inserts_into, AreNear, HasRoom, AreNumbered, after_line, with_new_line, CanTake, with_new_lines, CanTakeAll}
-use Rattle.cov_engine.proofs.Appends.{commit-lines, commit-rows, lines-edits}
+use Rattle.cov_engine.specs.Insertions.{Insertion, lines_begun, held_before, held_behind}
+use Rattle.cov_engine.specs.Showing.{change_in, change_of, dated_from, dated_of}
+use Rattle.cov_engine.specs.Holdings.{entry_kept}
+use Rattle.cov_engine.specs.Sessions.{IsGood, has_commit, session_of}
+use Rattle.cov_engine.specs.Drawing.{Stored, stored, new_lines, new_entries, inserts_into, AreNear, HasRoom, after_line, with_new_line, CanTake, with_new_lines, CanTakeAll}
+use Rattle.cov_engine.proofs.Appends.{lines-edits}
 use Rattle.cov_engine.proofs.Standing.{all-mapped, holding-stands}
 use Rattle.cov_engine.proofs.Inserts.{anchors-append, anchor-known, insert-elsewhere}
 use Rattle.cov_engine.proofs.Orders.{insert-dated, order-takes}
 use Rattle.cov_engine.proofs.Sessions.{accepted-anchored}
-use Rattle.cov_engine.proofs.FileLines.{dated-line, all-unmapped}
-use Rattle.cov_engine.proofs.Holdings.{more-options, in-reach}
+use Rattle.cov_engine.proofs.FileLines.{dated-line}
 use Rattle.cov_engine.proofs.States.{length-one}
-use Rattle.cov_engine.proofs.Named.{the_file, AreInFiles, legal-files}
+use Rattle.cov_engine.proofs.Named.{the_file, AreInFiles}
 
 -- lists
 get-front : {X : Type 0} (xs ys : List X) (i : ℕ) → i < length xs → slice_get (xs ++ ys) i ≡ slice_get xs i
@@ -252,11 +249,17 @@ module _ (history : List Command) (base : ℕ) (choice : List Bool) (ambition : 
       kept.1 near.1 (omega (arith, few))
       (all-mapped (HasRoom ns.nodes (edits.Insert file after text ∷ later)) (HasRoom ns.nodes later) (with_new_line f anchor (made + 1)) (room-next ns.nodes file after text later anchor (made + 1)) entries room)
       (all-mapped (HasLines (lines_at begun) commits ls) (HasLines (lines_at (begun ++ edits.Insert file after text ∷ [])) commits ls) (with_new_line f anchor (made + 1))
-      (lines-next begun later file after text all made counted kept.0) entries lines) in
-      ((near.0, omega (arith, low, few), omega (arith, few),
-      all-both (HasLines (lines_at begun) commits ls) (HasRoom ns.nodes (edits.Insert file after text ∷ later)) (CanTake f anchor (made + 1))
-      (λ e l r. takes begun later file after text all made counted kept.0 e l (room-node ns.nodes file after text later e r)) entries lines room,
-      rest.0), rest.1)
+      (lines-next begun later file after text all made counted kept.0) entries lines) in (
+        (
+          near.0,
+          omega (arith, low, few),
+          omega (arith, few),
+          all-both (HasLines (lines_at begun) commits ls) (HasRoom ns.nodes (edits.Insert file after text ∷ later)) (CanTake f anchor (made + 1))
+              (λ e l r. takes begun later file after text all made counted kept.0 e l (room-node ns.nodes file after text later e r)) entries lines room,
+          rest.0,
+        ),
+        rest.1,
+      )
 
 -- the lines that a commit's edits insert are kept behind those before
 pub kept-behind : (history : List Command) (base : ℕ) (choice : List Bool) (ambition : Formula ℕ) (es : List Edit)

@@ -16,7 +16,7 @@ use Rattle.cov_edit.specs.Variant.{Variant, Line, lines_of}
 use Rattle.cov_edit.specs.Replay.{replay}
 use Rattle.cov_view.specs.declared.line.ViewLine.{ViewLine}
 use Rattle.cov_view.specs.declared.row.ViewRow.{ViewRow}
-use Rattle.cov_view.specs.References.{same_node, is_dir_kind, is_made_line}
+use Rattle.cov_view.specs.References.{same_node, is_made_line}
 use Rattle.cov_view.specs.Seen.{has_row, kind_in, at_row, with_lines_by}
 use Rattle.cov_view.specs.Views.{ShowsLines, line_by_number, by_number}
 use Rattle.cov_view.proofs.Changes.{not_there}

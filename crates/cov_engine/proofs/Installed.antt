@@ -1,5 +1,5 @@
 -- A commit that is drawn, and then installed.
-use Rattle.std.proofs.Common.{◌≡◌, ℕ, zero, suc, ◌+◌, ◌<◌, ◌≤◌, ◌^◌, Bool, true, false, ◌||◌, nat_eq, nat_lt, List, [], ◌∷◌, ◌++◌, length, length-append, map, take, drop, Option, Some, None, append_assoc, append-nil, refl, sym, ap, subst, ◌∙◌, arith}
+use Rattle.std.proofs.Common.{◌≡◌, ℕ, zero, suc, ◌+◌, ◌<◌, ◌≤◌, ◌^◌, Bool, true, false, ◌||◌, nat_eq, nat_lt, List, [], ◌∷◌, ◌++◌, length, map, take, drop, Option, Some, None, refl, sym, ap, subst, ◌∙◌, arith}
 use Rattle.std.specs.List.{AllByRecursion}
 use Rattle.std.proofs.lemmas.Bool.Decides.{nat_tests}
 use Rattle.cov_base.proofs.Ordered.{all-map, all-append}
@@ -8,21 +8,20 @@ use Rattle.cov_edit.specs.declared.edit.Edit.{Edit}
 use Rattle.cov_edit.specs.declared.command.Command.{Command}
 use Rattle.cov_edit.specs.declared.command.Command.TheVariants as commands
 use Rattle.cov_edit.specs.History.{option_count, text_bytes, byte_count}
-use Rattle.cov_edit.specs.Numbering.{Numbers, nodes_made, anchors_of, no_numbers, numbers_after, numbers_of, numbered_from, line_count, node_count}
-use Rattle.cov_edit.proofs.Replays.{numbers_from-append}
+use Rattle.cov_edit.specs.Numbering.{nodes_made, anchors_of, no_numbers, numbers_after, numbers_of, numbered_from, line_count, node_count}
 use Rattle.cov_view.specs.Refusals.{when, first_of}
 use Rattle.cov_engine.specs.declared.kept.Made.{Made}
 use Rattle.cov_engine.specs.declared.kept.KeptLine.{KeptLine}
 use Rattle.cov_engine.specs.declared.entry.Entry.{Entry}
 use Rattle.cov_engine.specs.declared.refusal.Refusal.{Refusal}
 use Rattle.cov_engine.specs.declared.refusal.Refusal.TheVariants as refusals
-use Rattle.cov_engine.specs.Kept.{Kept, nothing_held, held_by, kept_of, entries_of}
+use Rattle.cov_engine.specs.Kept.{nothing_held, held_by, kept_of, entries_of}
 use Rattle.cov_engine.specs.Files.{dated, dated_number, file_dated}
 use Rattle.cov_engine.specs.Showing.{change_in, change_of, dated_of, AreInReach}
 use Rattle.cov_engine.specs.Holdings.{entry_kept, IsFileOf, IsHeldBy}
 use Rattle.cov_engine.specs.Sessions.{IsGood, has_commit, session_of}
 use Rattle.cov_engine.specs.Verdict.{IsLegal, verdict, when_full, refusals_of}
-use Rattle.cov_engine.specs.Drawing.{Stored, stored, new_lines, new_entries, AreNear, AreNumbered, HasRoom, with_new_lines, CanTakeAll, IsDrawn}
+use Rattle.cov_engine.specs.Drawing.{Stored, stored, new_lines, new_entries, AreNear, AreNumbered, with_new_lines, CanTakeAll, IsDrawn}
 use Rattle.cov_engine.proofs.Appends.{commit-lines, commit-rows, lines-edits}
 use Rattle.cov_engine.proofs.Standing.{all-mapped}
 use Rattle.cov_engine.proofs.FileLines.{all-unmapped}
@@ -226,10 +225,12 @@ module _ (history : List Command) (base : ℕ) (choice : List Bool) (ambition : 
       let same = sym (new-lines-count 0 m es) ∙ new-lines-count 0 0 es in
       let both = all-taken history base choice ambition es good alone all_commits ls es [] m entries refl (omega arith)
       (kept-behind history base choice ambition es good alone commits made ls drawn.old_lines m es drawn.made_is drawn.lines (sym drawn.held.lines))
-      (edits-near history base choice ambition es accepted) (omega (arith, few, same)) drawn.room start-lines in
-      (both.0, subst (λ ks. AllByRecursion (HasLines ks all_commits ls) (with_new_lines n m m es entries))
-      (lines-edits (length history + 1) ambition (held_by history) (numbered_from (numbers_of history) (numbers_after (numbers_of history) es).addresses n m es)
-      ∙ sym (commit-lines history base choice ambition es)) both.1)
+      (edits-near history base choice ambition es accepted) (omega (arith, few, same)) drawn.room start-lines in (
+        both.0,
+        subst (λ ks. AllByRecursion (HasLines ks all_commits ls) (with_new_lines n m m es entries))
+            (lines-edits (length history + 1) ambition (held_by history) (numbered_from (numbers_of history) (numbers_after (numbers_of history) es).addresses n m es)
+            ∙ sym (commit-lines history base choice ambition es)) both.1,
+      )
 
   pub drawn-takes : CanTakeAll n m m es entries
   drawn-takes = taken.0

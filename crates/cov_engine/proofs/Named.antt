@@ -1,5 +1,5 @@
 -- The nodes that a commit's edits name, and the files of the lines that a history holds.
-use Rattle.std.proofs.Common.{◌≡◌, ℕ, ◌+◌, ◌<◌, ◌≤◌, ◌^◌, Bool, false, None, List, [], ◌∷◌, ◌++◌, length, take, append_assoc, append-nil, refl, sym, ap, subst, ◌∙◌, arith}
+use Rattle.std.proofs.Common.{◌≡◌, ℕ, ◌+◌, ◌<◌, ◌≤◌, ◌^◌, Bool, false, None, List, [], ◌∷◌, ◌++◌, length, take, append_assoc, append-nil, refl, sym, ap, subst, arith}
 use Rattle.std.specs.List.{fold, AllByRecursion}
 use Rattle.cov_base.specs.Addresses.{address_in}
 use Rattle.cov_base.proofs.Ordered.{all-map, all-placed}
@@ -20,7 +20,7 @@ use Rattle.cov_engine.specs.Verdict.{verdict, IsLegalFrom, IsLegal}
 use Rattle.cov_engine.proofs.Appends.{commit-lines}
 use Rattle.cov_engine.proofs.Orders.{no_commit-holds}
 use Rattle.cov_engine.proofs.States.{numbers-kept}
-use Rattle.cov_engine.proofs.Naming.{AreUpTo, the_node, AreNamed, made-number, nodes-replay, base-nodes, edits-accepted, further, accepted-named}
+use Rattle.cov_engine.proofs.Naming.{the_node, AreNamed, made-number, nodes-replay, base-nodes, edits-accepted, further, accepted-named}
 
 -- an accepted commit's edits name nodes of its base, or nodes that they make
 pub edits-named : (history : List Command) (base : ℕ) (choice : List Bool) (es : List Edit)

@@ -1,6 +1,6 @@
 -- What is ready for a command, drawn, installed or given up.
-use Rattle.std.proofs.Common.{◌≡◌, ℕ, zero, suc, ◌+◌, ◌-◌, ◌<◌, ◌≤◌, ◌^◌, Bool, true, false, nat_lt, nat_le, ◌||◌, List, [], ◌∷◌, ◌++◌, length, length-append, map, take, drop, Option, Some, None, Result, Ok, Err, OnErr, append-nil, refl, sym, ap, subst, ◌∙◌, arith}
-use Rattle.std.specs.List.{AllByRecursion, sum_by}
+use Rattle.std.proofs.Common.{◌≡◌, ℕ, zero, suc, ◌+◌, ◌-◌, ◌<◌, ◌≤◌, ◌^◌, Bool, true, false, nat_le, List, [], ◌∷◌, ◌++◌, length, map, take, None, Result, Ok, Err, OnErr, append-nil, refl, sym, ap, subst, ◌∙◌, arith}
+use Rattle.std.specs.List.{AllByRecursion}
 use Rattle.std.proofs.lemmas.Bool.Decides.{nat_tests}
 use Rattle.cov_base.proofs.Tables.{length-with_lines}
 use Rattle.cov_expr.specs.Formula.{Formula}
@@ -8,34 +8,32 @@ use Rattle.cov_edit.specs.declared.edit.Edit.{Edit}
 use Rattle.cov_edit.specs.declared.command.Command.{Command}
 use Rattle.cov_edit.specs.declared.command.Command.TheVariants as commands
 use Rattle.cov_edit.specs.Fits.{fits_command}
-use Rattle.cov_edit.specs.History.{options_of, option_count, constraints_of, text_bytes, command_bytes, byte_count}
+use Rattle.cov_edit.specs.History.{options_of, option_count, constraints_of, text_bytes, command_bytes}
 use Rattle.cov_edit.specs.Limits.{most_commands}
-use Rattle.cov_edit.specs.Numbering.{Numbers, nodes_made, anchors_of, no_numbers, numbers_after, numbers_of, line_count, node_count}
+use Rattle.cov_edit.specs.Numbering.{Numbers, nodes_made, anchors_of, no_numbers, numbers_after, numbers_of, line_count}
 use Rattle.cov_edit.proofs.Replays.{numbers_from-append}
 use Rattle.cov_view.specs.Refusals.{when, first_of}
 use Rattle.cov_engine.specs.declared.counts.Counts.{Counts}
 use Rattle.cov_engine.specs.declared.entry.Entry.{Entry}
 use Rattle.cov_engine.specs.declared.kept.Made.{Made}
 use Rattle.cov_engine.specs.declared.kept.KeptLine.{KeptLine}
-use Rattle.cov_engine.specs.declared.ready.Ready.{Ready}
 use Rattle.cov_engine.specs.declared.sizes.Sizes.{Sizes}
 use Rattle.cov_engine.specs.declared.ready.Ready.TheVariants as ready
-use Rattle.cov_engine.specs.declared.refusal.Refusal.{Refusal}
 use Rattle.cov_engine.specs.declared.refusal.Refusal.TheVariants as refusals
-use Rattle.cov_engine.specs.Kept.{Kept, kept_of}
-use Rattle.cov_engine.specs.Holdings.{entry_kept, IsFileOf, IsHeldBy}
-use Rattle.cov_engine.specs.Sessions.{IsGood, has_commit, session_of, MayCome}
+use Rattle.cov_engine.specs.Kept.{kept_of}
+use Rattle.cov_engine.specs.Holdings.{IsFileOf, IsHeldBy}
+use Rattle.cov_engine.specs.Sessions.{IsGood, session_of}
 use Rattle.cov_engine.specs.States.{are_within, AreCountsOf, IsStateOf}
-use Rattle.cov_engine.specs.Verdict.{IsLegal, verdict, refusals_of, when_full, size_refusals, has_no_edits}
+use Rattle.cov_engine.specs.Verdict.{verdict, refusals_of, size_refusals, has_no_edits}
 use Rattle.cov_engine.specs.Drawing.{Stored, stored, sizes_of, sizes_refusal, new_lines, new_entries, AreNumbered, AreNear, HasRoom, CanTakeAll, with_new_lines, IsDrawn}
-use Rattle.cov_engine.specs.Ready.{IsNext, IsInBounds, AreCountsWith, IsCommitReady, IsReady, edits_in}
+use Rattle.cov_engine.specs.Ready.{IsNext, IsInBounds, AreCountsWith, IsReady, edits_in}
 use Rattle.cov_engine.proofs.Standing.{all-mapped}
 use Rattle.cov_engine.proofs.FileLines.{all-unmapped}
 use Rattle.cov_engine.proofs.Sessions.{good-passes}
 use Rattle.cov_engine.proofs.States.{legal-one, length-one, sum-one, options-append, constraints-append, below, first-none}
 use Rattle.cov_engine.proofs.Committed.{stored_kept, kept-stored, new-lines-count}
 use Rattle.cov_engine.proofs.Rooms.{map-length}
-use Rattle.cov_engine.proofs.Installed.{held-numbered, held-count, lines-few, nodes-few, edits-few, bytes-few, edits-near, drawn-numbered, drawn-takes, held-committed}
+use Rattle.cov_engine.proofs.Installed.{held-count, lines-few, nodes-few, edits-few, bytes-few, edits-near, drawn-numbered, drawn-takes, held-committed}
 
 -- the verdict on the commit of a good session is that of its sizes
 pub sized-verdict : (history : List Command) (counts : Counts) (base : ℕ) (choice : List Bool) (ambition : Formula ℕ) (es : List Edit)

@@ -14,9 +14,8 @@ ghost use Rattle.cov_engine.specs.declared.refusal.Refusal.TheVariants as refusa
 
 use crate::invalid::check;
 use crate::kept::{Kept, show};
-use crate::sizes;
 use crate::state::{State, make_ready};
-use crate::{Counts, Invalid, Prepared, Refusal};
+use crate::{Counts, Invalid, Prepared, Refusal, sizes};
 use cov_base::{Choice, Memory, Position};
 use cov_edit::{Command, Commands};
 use cov_expr::Options;

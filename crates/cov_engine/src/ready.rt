@@ -14,14 +14,9 @@ use cov_edit::{Command, Edit};
 #[derive(Drop)]
 pub(crate) enum Ready {
     /// A copy of the declaration.
-    Declaration {
-        copy: Command,
-    },
+    Declaration { copy: Command },
     /// The position and ambition of the commit, and the counts with it. Its lines and rows are drawn.
-    Commit {
-        made: Made,
-        counts: Counts,
-    },
+    Commit { made: Made, counts: Counts },
 }
 
 /// Draws what a commit's edits make; on `Err` nothing of it is there.

@@ -43,7 +43,11 @@ pub(crate) fn make_ready(state: &mut State, command: &Command) -> Result<Ready, 
 {
     state.commands.reserve()?;
     match command {
-        Command::Commit { ambition, edits, .. } => commit_ready(state, ambition, edits),
+        Command::Commit {
+            ambition,
+            edits,
+            ..
+        } => commit_ready(state, ambition, edits),
         _ => declaration_ready(state, command),
     }
 }

@@ -1,4 +1,3 @@
-use Rattle.std.proofs.Common.{length}
 use Rattle.cov_engine.proofs.Rooms.{front-stored, drawn-numbers}
 use Rattle.cov_engine.proofs.drawing.draw.Goals as goal
 

@@ -1,4 +1,4 @@
-use Rattle.std.proofs.Common.{◌≡◌, ◌+◌, ◌<◌, ◌≤◌, ◌-◌, ◌^◌, ◌++◌, length, map, take}
+use Rattle.std.proofs.Common.{◌≡◌, ◌+◌, ◌<◌, ◌-◌, ◌^◌, ◌++◌, length, map, take}
 use Rattle.cov_edit.specs.Numbering.{nodes_made}
 use Rattle.cov_engine.specs.Drawing.{stored, new_entries, AreNear}
 use Rattle.cov_engine.proofs.drawing.draw_entries.Given as goal

@@ -1,4 +1,4 @@
-use Rattle.std.proofs.Common.{◌≡◌, sym, ◌∙◌, ◌≤◌, length}
+use Rattle.std.proofs.Common.{sym, ◌∙◌, ◌≤◌, length}
 use Rattle.cov_view.proofs.Changes.{on_ok}
 use Rattle.cov_engine.proofs.Entries.{index-some, index-none, set-stored, ready-set, ready-outside}
 use Rattle.cov_engine.proofs.entry.add_room.Goals as goal

@@ -1,4 +1,4 @@
-use Rattle.std.proofs.Common.{◌≡◌, ap, sym, ◌∙◌, ◌+◌, ◌<◌, get_or, set, length, arith}
+use Rattle.std.proofs.Common.{ap, sym, ◌∙◌, set, length, arith}
 use Rattle.cov_engine.specs.Drawing.{CanTake, after_line}
 use Rattle.cov_engine.proofs.Entries.{index-some, index-none, get-all, get-node, set-here, outside-same}
 use Rattle.cov_engine.proofs.entry.insert_line.Goals as goal

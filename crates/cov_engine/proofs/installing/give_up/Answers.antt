@@ -1,4 +1,4 @@
-use Rattle.std.proofs.Common.{sym, subst}
+use Rattle.std.proofs.Common.{subst}
 use Rattle.cov_engine.specs.Ready.{IsReady}
 use Rattle.cov_engine.proofs.Readied.{next-near, ready-given-up}
 use Rattle.cov_engine.proofs.installing.give_up.Goals as goal

@@ -1,5 +1,4 @@
 use Rattle.std.proofs.Common.{◌≡◌, sym, ap, subst, ◌∙◌, None}
-use Rattle.cov_edit.specs.Recorded.{Recorded}
 use Rattle.cov_edit.specs.declared.command.Command.TheVariants as commands
 use Rattle.cov_engine.specs.Ready.{IsInBounds}
 use Rattle.cov_engine.specs.Verdict.{verdict}
