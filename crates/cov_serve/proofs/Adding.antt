@@ -23,13 +23,12 @@ use Rattle.cov_view.specs.Views.{Shows, table_after, next_by_number, FaultBy}
 use Rattle.cov_view.specs.declared.fault.EditFault.{EditFault}
 use Rattle.cov_view.specs.declared.fault.EditFault.TheVariants as faults
 use Rattle.cov_engine.specs.Laws.{HoldingStands}
-use Rattle.cov_engine.specs.Sessions.{Session, IsGood, seen, has_commit}
+use Rattle.cov_engine.specs.Sessions.{Session, seen, has_commit}
 use Rattle.cov_serve.specs.Additions.{RefusedWith, HasNoted, edit_refusal}
 use Rattle.cov_serve.specs.Codes.{edit_code}
 use Rattle.cov_serve.specs.Editing.{with_edit, as_code, addition_refusal}
 use Rattle.cov_serve.specs.Keeping.{as_session, IsCounted, IsOpen, numbers_at_base, table_of}
 use Rattle.cov_serve.specs.States.{has_name, names_made}
-use Rattle.cov_serve.specs.declared.code.Code.{Code}
 use Rattle.cov_serve.specs.declared.code.Code.TheVariants as codes
 use Rattle.cov_serve.specs.declared.session.OpenSession.{OpenSession}
 

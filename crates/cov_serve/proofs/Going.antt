@@ -1,5 +1,5 @@
 -- So far into a script.
-use Rattle.std.proofs.Common.{◌≡◌, ◌∙◌, refl, sym, ap, subst, ℕ, Bool, true, false, ◌||◌, List, [], ◌∷◌, ◌++◌, append_assoc, Option, Some, None, Result, Ok, Err, nat_lt}
+use Rattle.std.proofs.Common.{◌≡◌, ◌∙◌, refl, sym, ap, ℕ, Bool, true, false, ◌||◌, List, [], ◌∷◌, ◌++◌, append_assoc, Option, Some, None, Result, Ok, Err, nat_lt}
 use Rattle.std.specs.Prelude.{if◌then◌else◌, length, is_some}
 use Rattle.cov_base.specs.Lines.{lines_of}
 use Rattle.cov_expr.specs.Binding.{full_choice}
@@ -31,11 +31,9 @@ use Rattle.cov_serve.specs.Editing.{addition_refusal, ref_in, line_ref}
 use Rattle.cov_view.specs.Paths.{path_node}
 use Rattle.cov_serve.specs.States.{State, named, is_used}
 use Rattle.cov_serve.specs.Step.{appended_if, bound_in, judged, completed_in, opened_unless, opened_for, opened_on, added_unless, added, file_made, inserted_at, inserted_in, committed_if, committed_in, dropped_in, file_told, told_unless, told_in, with_file, served, served_if, step}
-use Rattle.cov_serve.specs.Turns.{EndsWith, GoesOn, IsWhole, ServesFirst, Turns, WritesFront, ahead_of, answer_of, is_refusal, status_at_end}
+use Rattle.cov_serve.specs.Turns.{EndsWith, GoesOn, IsWhole, ServesFirst, WritesFront, ahead_of, answer_of, is_refusal, status_at_end}
 use Rattle.cov_serve.specs.declared.answer.Answer.{Answer}
 use Rattle.cov_serve.specs.declared.code.Code.{Code}
-use Rattle.cov_serve.specs.declared.status.Status.{Status}
-use Rattle.cov_serve.specs.declared.turn.Turn.TheVariants.{Ended, Served}
 
 -- the answer to an outcome says whether it refuses
 abbrev pub SaysRefusal : Outcome State → Type 0

@@ -1,6 +1,6 @@
 -- What the server keeps as its history grows.
-use Rattle.std.proofs.Common.{◌≡◌, ◌∙◌, refl, sym, ap, subst, ℕ, zero, suc, ◌+◌, ◌≤◌, Bool, true, false, cond, ◌||◌, ◌&&◌, not, nat_lt, List, [], ◌∷◌, ◌++◌, length, length-append, append_assoc, take, drop, Option, Some, None, option_map, arith}
-use Rattle.std.specs.List.{fold, list_all, position_or_len}
+use Rattle.std.proofs.Common.{◌≡◌, ◌∙◌, refl, sym, ap, subst, ℕ, zero, suc, ◌+◌, ◌≤◌, Bool, true, false, cond, ◌||◌, ◌&&◌, not, nat_lt, List, [], ◌∷◌, ◌++◌, length, append_assoc, take, drop, Option, Some, None, option_map, arith}
+use Rattle.std.specs.List.{fold, position_or_len}
 use Rattle.std.specs.Str.{bytes_eq}
 use Rattle.std.proofs.lemmas.Bool.Decides.{nat_tests}
 use Rattle.std.proofs.Math.Seq.{take-length}
@@ -13,12 +13,11 @@ use Rattle.cov_edit.specs.History.{text_bytes, constraints_of, option_count, fir
 use Rattle.cov_edit.specs.Numbering.{nodes_made, anchors_of, numbers_of, numbers_after, numbered}
 use Rattle.cov_edit.specs.Variant.{edited}
 use Rattle.cov_edit.specs.Replay.{replay}
-use Rattle.cov_view.specs.Seen.{Seen}
 use Rattle.cov_view.specs.Views.{Shows}
 use Rattle.cov_engine.specs.Sessions.{Session, IsGood, MayCome, has_commit, commit_of}
 use Rattle.cov_engine.specs.Verdict.{Pending}
 use Rattle.cov_engine.proofs.Sessions.{good-stays}
-use Rattle.cov_serve.specs.Keeping.{AreSameNames, as_session, IsCounted, IsOpen, IsOpenIf, Keeps}
+use Rattle.cov_serve.specs.Keeping.{as_session, IsOpen, IsOpenIf, Keeps}
 use Rattle.cov_serve.specs.States.{has_name, names_made, used_names}
 use Rattle.cov_serve.specs.declared.session.OpenSession.{OpenSession}
 

@@ -1,5 +1,5 @@
 -- Files that are told, and sessions that end.
-use Rattle.std.proofs.Common.{◌≡◌, ℕ, Bool, true, false, cond, ◌&&◌, not, List, map, take, Option, Some, None, is_some, option_map, Result, Ok, Err, IfOk, refl, sym, ap, subst, ◌∙◌}
+use Rattle.std.proofs.Common.{◌≡◌, ℕ, Bool, true, false, cond, ◌&&◌, not, List, map, Option, Some, None, is_some, option_map, Result, Ok, Err, IfOk, sym, ap, subst, ◌∙◌}
 use Rattle.cov_base.specs.declared.number.NodeRef.{NodeRef}
 use Rattle.cov_edit.specs.Numbering.{Numbers, node_number}
 use Rattle.cov_edit.specs.Variant.{Variant, lines_of}

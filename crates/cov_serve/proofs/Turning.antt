@@ -1,5 +1,5 @@
 -- One turn after another.
-use Rattle.std.proofs.Common.{◌≡◌, ◌∙◌, refl, sym, ap, subst, ℕ, ◌<◌, Bool, true, false, List, [], ◌∷◌, ◌++◌, length, append_assoc, Option, Some, None, Result, Ok, Err, IfOk, OnOk, OnErr}
+use Rattle.std.proofs.Common.{◌≡◌, ◌∙◌, refl, sym, ap, subst, ℕ, ◌<◌, List, ◌∷◌, ◌++◌, length, append_assoc, Option, Some, None, Result, Ok, Err, IfOk, OnOk, OnErr}
 use Rattle.std.specs.Prelude.{if◌then◌else◌}
 use Rattle.std.proofs.lemmas.Bool.{lt-ltb}
 use Rattle.cov_base.specs.Lines.{lines_of}
@@ -11,7 +11,7 @@ use Rattle.cov_serve.specs.Outcome.{Outcome, answers}
 use Rattle.cov_script.specs.Lines.{form_of}
 use Rattle.cov_serve.specs.States.{State}
 use Rattle.cov_serve.specs.Step.{step, served_if, refused}
-use Rattle.cov_serve.specs.Turns.{IsServed, ServesFirst, Turns, WritesFront, ahead_of, turn_of}
+use Rattle.cov_serve.specs.Turns.{IsServed, Turns, ahead_of, turn_of}
 use Rattle.cov_serve.specs.declared.answer.Answer.{Answer}
 use Rattle.cov_serve.specs.declared.code.Code.TheVariants.{Long}
 use Rattle.cov_serve.specs.declared.status.Status.{Status}

@@ -1,10 +1,9 @@
 -- Edits that a session takes.
-use Rattle.std.specs.Prelude.{◌≡◌, ◌||◌, ℕ, ◌≤◌, List, [], ◌∷◌, ◌++◌, Option, Some, None}
+use Rattle.std.specs.Prelude.{◌≡◌, ◌||◌, ℕ, List, [], ◌∷◌, ◌++◌, Option, Some}
 use Rattle.cov_base.specs.declared.error.MemoryOr.{MemoryOr}
 use Rattle.cov_base.specs.declared.error.MemoryOr.TheVariants as memory_or
 use Rattle.cov_edit.specs.declared.edit.Edit.{Edit}
 use Rattle.cov_edit.specs.History.{text_bytes}
-use Rattle.cov_edit.specs.Limits.{most_commit_bytes}
 use Rattle.cov_view.specs.declared.fault.EditFault.{EditFault}
 use Rattle.cov_view.specs.declared.fault.EditFault.TheVariants as faults
 use Rattle.cov_serve.specs.Codes.{edit_code}

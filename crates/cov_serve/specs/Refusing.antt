@@ -1,5 +1,5 @@
 -- Lines that the history refuses.
-use Rattle.std.specs.Prelude.{List, ℕ, Option, Some, None}
+use Rattle.std.specs.Prelude.{Option, Some, None}
 use Rattle.cov_engine.specs.declared.refusal.Refusal.{Refusal}
 use Rattle.cov_engine.specs.declared.refusal.Refusal.TheVariants as refusals
 use Rattle.cov_serve.specs.Codes.{refusal_code}

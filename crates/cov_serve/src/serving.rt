@@ -81,12 +81,21 @@ impl Server {
             Line::Move { name, path, target } => self.leave((name, path, target)),
             Line::Remove { name, path } => self.leave((name, path)),
             Line::Delete { name, path, .. } => self.leave((name, path)),
-            Line::Replace { name, path, text, .. } => self.leave((name, path, text)),
+            Line::Replace {
+                name,
+                path,
+                text,
+                ..
+            } => self.leave((name, path, text)),
             Line::Show { name, path } => self.leave((name, path)),
             Line::List { name, path } => self.leave((name, path)),
             Line::Refresh { name } => self.leave(name),
             Line::Checkout { tree, choice } => self.leave((tree, choice)),
-            Line::Alt { choice, token, path } => self.leave((choice, token, path)),
+            Line::Alt {
+                choice,
+                token,
+                path,
+            } => self.leave((choice, token, path)),
             Line::Presence { .. } => self.refuse(Code::NotBuilt),
         }
     }

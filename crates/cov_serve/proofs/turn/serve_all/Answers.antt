@@ -1,8 +1,7 @@
-use Rattle.std.proofs.Common.{◌≡◌, Some, Bool}
 use Rattle.cov_base.specs.Lines.{lines_of}
 use Rattle.cov_serve.specs.Outcome.{answers}
 use Rattle.cov_serve.specs.Step.{step}
-use Rattle.cov_serve.specs.Turns.{IsWhole, ahead_of, counts}
+use Rattle.cov_serve.specs.Turns.{ahead_of, counts}
 use Rattle.cov_serve.proofs.Counting.{counted_then, given_then}
 use Rattle.cov_serve.proofs.Going.{goes_on, ended, stopped, whole_front, left_is_empty, ends_whole}
 use Rattle.cov_serve.proofs.turn.serve_all.Goals as goal

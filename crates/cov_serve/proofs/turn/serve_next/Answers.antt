@@ -1,6 +1,3 @@
-use Rattle.std.proofs.Common.{sym, subst, List, ℕ}
-use Rattle.cov_io.specs.Items.{GivesTold}
-use Rattle.cov_io.specs.declared.reading.Item.TheVariants as items
 use Rattle.cov_serve.proofs.Turning.{line_turn, long_turn}
 use Rattle.cov_serve.proofs.turn.serve_next.Goals as goal
 

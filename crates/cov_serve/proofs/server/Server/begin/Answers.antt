@@ -1,4 +1,4 @@
-use Rattle.std.proofs.Common.{◌≡◌, ◌≤◌, ◌∙◌, sym, ap, subst, refl, ℕ, take, length}
+use Rattle.std.proofs.Common.{◌≡◌, ◌≤◌, ◌∙◌, sym, ap, subst, refl, take}
 use Rattle.cov_expr.specs.Formula.{reach}
 use Rattle.cov_edit.specs.History.{option_count, first_false_in}
 use Rattle.cov_edit.specs.Numbering.{numbers_of}
