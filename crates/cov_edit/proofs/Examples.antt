@@ -1,5 +1,5 @@
 -- Worked histories.
-use Rattle.std.proofs.Common.{◌≡◌, ℕ, Bool, true, false, List, [], ◌∷◌, map, refl}
+use Rattle.std.proofs.Common.{◌≡◌, ℕ, Bool, true, false, List, [], ◌∷◌, ◌++◌, map, refl}
 use Rattle.std.specs.Prelude.{codes}
 use Rattle.cov_base.specs.Addresses.{line_of}
 use Rattle.cov_base.specs.declared.number.Kind.TheVariants as kinds
@@ -10,8 +10,10 @@ use Rattle.cov_edit.specs.declared.edit.Edit.{Edit}
 use Rattle.cov_edit.specs.declared.edit.Edit.TheVariants as edits
 use Rattle.cov_edit.specs.declared.command.Command.{Command}
 use Rattle.cov_edit.specs.declared.command.Command.TheVariants as commands
+use Rattle.cov_edit.specs.History.{text_bytes}
 use Rattle.cov_edit.specs.Variant.{lines_of}
 use Rattle.cov_edit.specs.Replay.{replay}
+use Rattle.cov_edit.specs.Touched.{touched}
 
 -- the number and the text of each line of file 1 in the variant of a choice
 abbrev read : List Bool → List Command → List (ℕ × List ℕ)
@@ -49,3 +51,40 @@ with_anchor = refl
 
 without_anchor : read (false ∷ []) absent_anchor ≡ (1, codes "A") ∷ (4, codes "X") ∷ (3, codes "C") ∷ []
 without_anchor = refl
+
+-- B is taken out everywhere, from a variant that shows it
+abbrev without_B : List Command
+without_B = absent_anchor ++ commands.Commit 5 (true ∷ []) True (edits.Delete (nodes.Old 1) (lines.Old 2) ∷ []) ∷ []
+
+deleted : read (true ∷ []) without_B ≡ (1, codes "A") ∷ (4, codes "X") ∷ (3, codes "C") ∷ []
+deleted = refl
+
+deleted_where_absent : read (false ∷ []) without_B ≡ (1, codes "A") ∷ (4, codes "X") ∷ (3, codes "C") ∷ []
+deleted_where_absent = refl
+
+-- then X where d is on
+abbrev without_X : List Command
+without_X = without_B ++ commands.Commit 6 (true ∷ []) (On 0) (edits.Delete (nodes.Old 1) (lines.Old 4) ∷ []) ∷ []
+
+deleted_within : read (true ∷ []) without_X ≡ (1, codes "A") ∷ (3, codes "C") ∷ []
+deleted_within = refl
+
+kept_outside : read (false ∷ []) without_X ≡ (1, codes "A") ∷ (4, codes "X") ∷ (3, codes "C") ∷ []
+kept_outside = refl
+
+-- a line that the same edits insert, which is named as the first of them
+abbrev insert_and_delete : List Edit
+insert_and_delete = edits.Insert (nodes.Old 1) (lines.Old 1) (codes "x") ∷ edits.Delete (nodes.Old 1) (lines.New 0) ∷ []
+
+own_line_deleted : read [] (two_lines ++ commands.Commit 2 [] True insert_and_delete ∷ []) ≡ (1, codes "one") ∷ (2, codes "two") ∷ []
+own_line_deleted = refl
+
+deleted_text_counts : text_bytes insert_and_delete ≡ 1
+deleted_text_counts = refl
+
+-- a line is taken out of the file that is named alone
+other_file : read [] (two_lines ++ commands.Commit 2 [] True (edits.Delete (nodes.Old 2) (lines.Old 1) ∷ []) ∷ []) ≡ (1, codes "one") ∷ (2, codes "two") ∷ []
+other_file = refl
+
+deletes_touch : touched (edits.Delete (nodes.Old 1) (lines.New 0) ∷ edits.Delete (nodes.New 0) (lines.Old 1) ∷ []) ≡ 1 ∷ []
+deletes_touch = refl

@@ -13,8 +13,10 @@ is_line_text bytes = nat_le (length bytes) 4096 && not (list_any (λ b. nat_eq b
 abbrev pub has_line_text : Edit → Bool
 has_line_text (edits.New kind parent name) = true
 has_line_text (edits.Insert file after text) = is_line_text text
+has_line_text (edits.Delete file line) = true
 
 -- whether an edit's name is well spelt and its text can be a line's
 abbrev pub fits_edit : Edit → Bool
 fits_edit (edits.New kind parent name) = is_name name
 fits_edit (edits.Insert file after text) = is_line_text text
+fits_edit (edits.Delete file line) = true

@@ -36,6 +36,7 @@ first_false_in history c = first_false (constraints_of history) c
 abbrev pub edit_bytes : Edit → ℕ
 edit_bytes (edits.New kind parent name) = 0
 edit_bytes (edits.Insert file after text) = length text
+edit_bytes (edits.Delete file line) = 0
 
 -- the bytes of text that edits insert
 abbrev pub text_bytes : List Edit → ℕ

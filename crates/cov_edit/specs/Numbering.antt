@@ -35,12 +35,14 @@ abbrev pub nodes_made : List Edit → ℕ
 nodes_made [] = 0
 nodes_made (edits.New kind parent name ∷ es) = 1 + nodes_made es
 nodes_made (edits.Insert file after text ∷ es) = nodes_made es
+nodes_made (edits.Delete file line ∷ es) = nodes_made es
 
 -- the anchors of the lines that edits insert, n lines having been made before
 abbrev pub anchors_of : ℕ → List Edit → List ℕ
 anchors_of n [] = []
 anchors_of n (edits.New kind parent name ∷ es) = anchors_of n es
 anchors_of n (edits.Insert file after text ∷ es) = line_number n after ∷ anchors_of n es
+anchors_of n (edits.Delete file line ∷ es) = anchors_of n es
 
 -- the numbers after edits
 abbrev pub numbers_after : Numbers → List Edit → Numbers
@@ -81,6 +83,8 @@ numbered_from ns table node line (edits.New kind parent name ∷ es) =
     OnRows (Created (node + 1) kind (node_number ns.nodes parent) name) ∷ numbered_from ns table (node + 1) line es
 numbered_from ns table node line (edits.Insert file after text ∷ es) =
     Inserted (node_number ns.nodes file) (address_in table (line + 1)) text ∷ numbered_from ns table node (line + 1) es
+numbered_from ns table node line (edits.Delete file which ∷ es) =
+    Deleted (node_number ns.nodes file) (address_in table (line_number (length ns.addresses) which)) ∷ numbered_from ns table node line es
 
 -- the edits by numbers and addresses, drawn after these numbers
 abbrev pub numbered : Numbers → List Edit → List NumberedEdit

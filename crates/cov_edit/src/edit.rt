@@ -20,6 +20,11 @@ pub enum Edit {
         after: LineRef,
         text: Text,
     },
+    /// Takes a line out of a file.
+    Delete {
+        file: NodeRef,
+        line: LineRef,
+    },
 }
 
 impl Edit {
@@ -38,6 +43,10 @@ impl Edit {
                 after: *after,
                 text: Text::from_slice(alloc, text.as_slice())?,
             }),
+            Edit::Delete { file, line } => Ok(Edit::Delete {
+                file: *file,
+                line: *line,
+            }),
         }
     }
 
@@ -49,7 +58,7 @@ impl Edit {
             Edit::New { name, .. } => {
                 let _spelling = name.as_slice();
             }
-            Edit::Insert { .. } => {}
+            Edit::Insert { .. } | Edit::Delete { .. } => {}
         }
     }
 }
