@@ -1,5 +1,5 @@
 -- A view after an accepted edit shows the edited variant.
-use Rattle.std.proofs.Common.{◌≡◌, ℕ, Bool, true, false, ◌||◌, List, length, Option, Some, None, is_some, refl, sym, ap, ◌∙◌}
+use Rattle.std.proofs.Common.{◌≡◌, ℕ, Bool, true, false, ◌&&◌, ◌||◌, not, List, length, Option, Some, None, is_some, refl, sym, ap, ◌∙◌}
 use Rattle.std.specs.Option.{option_map_or}
 use Rattle.std.specs.List.{fold}
 use Rattle.cov_base.specs.Addresses.{IsTable}
@@ -11,28 +11,34 @@ use Rattle.cov_edit.specs.Numbering.{Numbers}
 use Rattle.cov_edit.specs.Variant.{Variant, edited}
 use Rattle.cov_view.specs.References.{is_head}
 use Rattle.cov_view.specs.Lines.{is_among}
-use Rattle.cov_view.specs.Seen.{Seen, row_at, kind_in, has_line_in, has_child, new_fault, insert_fault, seen_fault, seen_after, AreRows}
+use Rattle.cov_view.specs.Seen.{Seen, row_at, kind_in, has_line_in, has_child, new_fault, line_fault, seen_fault, seen_after, AreRows}
 use Rattle.cov_view.specs.Views.{Shows, table_after, next_by_number}
 use Rattle.cov_view.specs.declared.row.ViewRow.{ViewRow}
+use Rattle.cov_view.proofs.Naming.{and-left, and-right}
 use Rattle.cov_view.proofs.Refusing.{file_row, made_lines}
 use Rattle.cov_view.proofs.Showing.{there-made, shows-new}
 use Rattle.cov_view.proofs.Inserts.{anchor-made, shows-insert}
+use Rattle.cov_view.proofs.Deletes.{shows-delete}
 
 is_there : (k : Option Kind) (taken : Bool) → new_fault k taken ≡ None → is_some k ≡ true
 is_there None taken h = absurd (cc)
 is_there (Some kinds.File) taken h = refl
 is_there (Some kinds.Dir) taken h = refl
 
-is_file : (k : Option Kind) (anchor : Bool) → insert_fault k anchor ≡ None → k ≡ Some kinds.File
-is_file None anchor h = absurd (cc)
-is_file (Some kinds.File) anchor h = refl
-is_file (Some kinds.Dir) anchor h = absurd (cc)
+is_file : (k : Option Kind) (had : Bool) → line_fault k had ≡ None → k ≡ Some kinds.File
+is_file None had h = absurd (cc)
+is_file (Some kinds.File) had h = refl
+is_file (Some kinds.Dir) had h = absurd (cc)
 
-is_anchor : (k : Option Kind) (anchor : Bool) → insert_fault k anchor ≡ None → anchor ≡ true
-is_anchor None anchor h = absurd (cc)
-is_anchor (Some kinds.Dir) anchor h = absurd (cc)
-is_anchor (Some kinds.File) true h = refl
-is_anchor (Some kinds.File) false h = absurd (cc)
+is_had : (k : Option Kind) (had : Bool) → line_fault k had ≡ None → had ≡ true
+is_had None had h = absurd (cc)
+is_had (Some kinds.Dir) had h = absurd (cc)
+is_had (Some kinds.File) true h = refl
+is_had (Some kinds.File) false h = absurd (cc)
+
+isn't : (b : Bool) → not b ≡ true → b ≡ false
+isn't true h = absurd (cc)
+isn't false h = refl
 
 module _ (ns : Numbers) (table : List (List ℕ)) (s : Seen) (v : Variant) (shows : Shows ns table s v) where
   -- an edit that a view accepts keeps it a view of the edited variant
@@ -48,8 +54,22 @@ module _ (ns : Numbers) (table : List (List ℕ)) (s : Seen) (v : Variant) (show
       let behind : (r : ViewRow) → row_at s.rows file ≡ Some r → (is_head after || is_among after r.lines) ≡ true =
       λ r at.
       sym (ap (λ o. is_head after || option_map_or (λ (q : ViewRow). is_among after q.lines) o false) at)
-      ∙ is_anchor (kind_in s.rows file) anchor accepted in
+      ∙ is_had (kind_in s.rows file) anchor accepted in
       shows-insert ns table s v shows tab file after text
       (there-made ns s file shows.made (ap is_some file_is))
       (anchor-made (length ns.addresses) s.lines_made after row.0.lines (behind row.0 row.1) (made_lines ns table s v shows file row.0 row.1))
       once behind
+  shows-after (edits.Delete file line) tab once accepted =
+      let had = not (is_head line) && has_line_in s.rows file line in
+      let both : had ≡ true = is_had (kind_in s.rows file) had accepted in
+      let file_is : kind_in s.rows file ≡ Some kinds.File = is_file (kind_in s.rows file) had accepted in
+      let row = file_row s.rows file file_is in
+      let no_head : is_head line ≡ false = isn't (is_head line) (and-left (not (is_head line)) (has_line_in s.rows file line) both) in
+      let among : is_among line row.0.lines ≡ true =
+      sym (ap (λ o. option_map_or (λ (q : ViewRow). is_among line q.lines) o false) row.1)
+      ∙ and-right (not (is_head line)) (has_line_in s.rows file line) both in
+      shows-delete ns table s v shows tab file line
+      (there-made ns s file shows.made (ap is_some file_is))
+      no_head
+      (anchor-made (length ns.addresses) s.lines_made line row.0.lines (ap (λ b. b || is_among line row.0.lines) no_head ∙ among) (made_lines ns table s v shows file row.0 row.1))
+      once

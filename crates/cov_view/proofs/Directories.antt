@@ -135,7 +135,7 @@ position_from-lines p node f same k (r ∷ rows) = at (same_node r.node node) (p
     at true rest = ap (λ b. cond b (Some k) (position_from p (k + 1) rows)) (same r)
     at false rest = ap (cond (p r) (Some k)) rest
 
-children_lines : (node : NodeRef) (f : List ViewLine → List ViewLine) (rows : List ViewRow) (places : List (ChildKey NodeKey (Vec ℕ) × ℕ)) → AreChildren rows places → AreChildren (at_row node (with_lines_by f) rows) places
+pub children_lines : (node : NodeRef) (f : List ViewLine → List ViewLine) (rows : List ViewRow) (places : List (ChildKey NodeKey (Vec ℕ) × ℕ)) → AreChildren rows places → AreChildren (at_row node (with_lines_by f) rows) places
 children_lines node f rows places h = λ dir name.
     h dir name ∙ position_from-zero (is_child dir name) rows
     ∙ sym (position_from-zero (is_child dir name) (at_row node (with_lines_by f) rows) ∙ position_from-lines (is_child dir name) node f (λ r. refl) 0 rows)

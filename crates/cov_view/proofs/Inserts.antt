@@ -21,7 +21,7 @@ use Rattle.cov_view.specs.declared.row.ViewRow.{ViewRow}
 use Rattle.cov_view.proofs.Naming.{and-left, same-node, same-line, node-same, line-same, made-known, made-known_line, made-number, made-line_number, made-more_line}
 use Rattle.cov_view.proofs.Refusing.{any-map, among-known}
 
-in_order-filter : {X : Type 0} (address : X → List ℕ) (p : X → Bool) (xs : List X) → AreInOrder address xs → AreInOrder address (filter p xs)
+pub in_order-filter : {X : Type 0} (address : X → List ℕ) (p : X → Bool) (xs : List X) → AreInOrder address xs → AreInOrder address (filter p xs)
 in_order-filter address p [] o = tt
 in_order-filter address p (x ∷ xs) o = at (p x) (in_order-filter address p xs o.1)
   where
@@ -29,7 +29,7 @@ in_order-filter address p (x ∷ xs) o = at (p x) (in_order-filter address p xs 
     at true rest = (all-filter (λ y. stands_before (address x) (address y) ≡ true) p xs o.0, rest)
     at false rest = rest
 
-rows-same : (ns : Numbers) (file : NodeRef) (f : List ViewLine → List ViewLine) (rows : List ViewRow) → map (row_by_number ns) (at_row file (with_lines_by f) rows) ≡ map (row_by_number ns) rows
+pub rows-same : (ns : Numbers) (file : NodeRef) (f : List ViewLine → List ViewLine) (rows : List ViewRow) → map (row_by_number ns) (at_row file (with_lines_by f) rows) ≡ map (row_by_number ns) rows
 rows-same ns file f [] = refl
 rows-same ns file f (r ∷ rows) = at (same_node r.node file) (rows-same ns file f rows)
   where
@@ -53,7 +53,7 @@ module _ (P Q : ViewRow → Type 0) (node : NodeRef) (f : ViewRow → ViewRow)
       right true b e = absurd (cc)
 
   -- what the changed row has and what all others have
-  all-at_row : (made : ℕ) (rows : List ViewRow) → AreRows made rows → AllByRecursion P rows → AllByRecursion Q (at_row node f rows)
+  pub all-at_row : (made : ℕ) (rows : List ViewRow) → AreRows made rows → AllByRecursion P rows → AllByRecursion Q (at_row node f rows)
   all-at_row made [] once all = tt
   all-at_row made (r ∷ rows) once all = at (same_node r.node node) refl (all-at_row made rows once.3 all.1)
     where

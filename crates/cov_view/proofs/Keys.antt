@@ -39,7 +39,7 @@ module _ (e : NodeKey → NodeKey → Bool) (agrees : (a b : NodeRef) → e (key
   key_added rows fresh = ap (λ b. cond b (keys_of rows) (keys_of rows ++ key_of node ∷ [])) (any-key rows ∙ fresh)
 
 -- other lines leave the keys as they are
-keys-lines : (node : NodeRef) (f : List ViewLine → List ViewLine) (rows : List ViewRow) → keys_of (at_row node (with_lines_by f) rows) ≡ keys_of rows
+pub keys-lines : (node : NodeRef) (f : List ViewLine → List ViewLine) (rows : List ViewRow) → keys_of (at_row node (with_lines_by f) rows) ≡ keys_of rows
 keys-lines node f [] = refl
 keys-lines node f (r ∷ rows) = at (same_node r.node node) (keys-lines node f rows)
   where

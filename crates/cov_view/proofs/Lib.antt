@@ -1,6 +1,8 @@
 pub mod Applying
 pub mod Changes
+pub mod Deletes
 pub mod Directories
+pub mod Examples
 pub mod Finding
 pub mod Inserts
 pub mod Keys

@@ -15,7 +15,7 @@ use Rattle.cov_edit.specs.Variant.{Variant, Line, lines_of}
 use Rattle.cov_view.specs.References.{is_root, is_head, is_dir_kind, same_node, same_line, is_known_line, is_made_line}
 use Rattle.cov_view.specs.Refusals.{when, first_of, has_node, is_dir, has_line, has_name, refusal}
 use Rattle.cov_view.specs.Lines.{is_among}
-use Rattle.cov_view.specs.Seen.{Seen, row_at, kind_in, has_child, has_line_in, new_fault, insert_fault, seen_fault}
+use Rattle.cov_view.specs.Seen.{Seen, row_at, kind_in, has_child, has_line_in, new_fault, line_fault, seen_fault}
 use Rattle.cov_view.specs.Views.{row_by_number, line_by_number, by_number, ShowsLines, IsMade, Shows, FaultBy}
 use Rattle.cov_view.specs.declared.fault.EditFault.{EditFault}
 use Rattle.cov_view.specs.declared.fault.EditFault.TheVariants as faults
@@ -117,13 +117,13 @@ module _ (ns : Numbers) (table : List (List ℕ)) (s : Seen) (v : Variant) (show
       last true = refl
       last false = refl
 
-  refuse_insert : (k : Option Kind) (here d anchor anchor' : Bool) → here ≡ is_some k → (is_some k ≡ true → d ≡ kind_is_dir k) → (k ≡ Some kinds.File → anchor ≡ anchor')
-      → first_of (when (not here) faults.NoSuchNode ∷ when d faults.NotFile ∷ when (not anchor) faults.NoSuchLine ∷ []) ≡ insert_fault k anchor'
-  refuse_insert None here d anchor anchor' e f g = ap (λ b. first_of (when (not b) faults.NoSuchNode ∷ when d faults.NotFile ∷ when (not anchor) faults.NoSuchLine ∷ [])) e
-  refuse_insert (Some kinds.Dir) here d anchor anchor' e f g =
+  refuse_line : (k : Option Kind) (here d anchor anchor' : Bool) → here ≡ is_some k → (is_some k ≡ true → d ≡ kind_is_dir k) → (k ≡ Some kinds.File → anchor ≡ anchor')
+      → first_of (when (not here) faults.NoSuchNode ∷ when d faults.NotFile ∷ when (not anchor) faults.NoSuchLine ∷ []) ≡ line_fault k anchor'
+  refuse_line None here d anchor anchor' e f g = ap (λ b. first_of (when (not b) faults.NoSuchNode ∷ when d faults.NotFile ∷ when (not anchor) faults.NoSuchLine ∷ [])) e
+  refuse_line (Some kinds.Dir) here d anchor anchor' e f g =
       ap (λ b. first_of (when (not b) faults.NoSuchNode ∷ when d faults.NotFile ∷ when (not anchor) faults.NoSuchLine ∷ [])) e
       ∙ ap (λ b. first_of (when b faults.NotFile ∷ when (not anchor) faults.NoSuchLine ∷ [])) (f refl)
-  refuse_insert (Some kinds.File) here d anchor anchor' e f g =
+  refuse_line (Some kinds.File) here d anchor anchor' e f g =
       ap (λ b. first_of (when (not b) faults.NoSuchNode ∷ when d faults.NotFile ∷ when (not anchor) faults.NoSuchLine ∷ [])) e
       ∙ ap (λ b. first_of (when b faults.NotFile ∷ when (not anchor) faults.NoSuchLine ∷ [])) (f refl)
       ∙ last anchor ∙ ap (λ b. cond b None (Some faults.NoSuchLine)) (g refl)
@@ -146,10 +146,20 @@ module _ (ns : Numbers) (table : List (List ℕ)) (s : Seen) (v : Variant) (show
       (λ h. is_dir-rows parent ∙ dir ns s s.rows shows.made parent h)
       (λ h. ap (λ (rows : List Row). has_name rows (node_number ns.nodes parent) name) shows.rows ∙ child-known ns s parent name s.rows (there-known ns s s.rows shows.made parent h) shows.made)
   refused-as (edits.Insert file after text) =
-      refuse_insert (kind_in s.rows file) (has_node ns v file) (is_dir v.rows (node_number ns.nodes file)) (is_head after || has_line ns v (node_number ns.nodes file) after) (is_head after || has_line_in s.rows file after)
+      refuse_line (kind_in s.rows file) (has_node ns v file) (is_dir v.rows (node_number ns.nodes file)) (is_head after || has_line ns v (node_number ns.nodes file) after) (is_head after || has_line_in s.rows file after)
       (here file)
       (λ h. is_dir-rows file ∙ dir ns s s.rows shows.made file h)
       (λ h. ap (λ b. is_head after || b) (line-there file after h))
+  refused-as (edits.Delete file line) =
+      ap (λ b. first_of (when (not (has_node ns v file)) faults.NoSuchNode ∷ when (is_dir v.rows (node_number ns.nodes file)) faults.NotFile ∷ when b faults.NoSuchLine ∷ [])) (no_line (is_head line))
+      ∙ refuse_line (kind_in s.rows file) (has_node ns v file) (is_dir v.rows (node_number ns.nodes file)) (not (is_head line) && has_line ns v (node_number ns.nodes file) line) (not (is_head line) && has_line_in s.rows file line)
+      (here file)
+      (λ h. is_dir-rows file ∙ dir ns s s.rows shows.made file h)
+      (λ h. ap (λ b. not (is_head line) && b) (line-there file line h))
+    where
+      no_line : (head : Bool) → (head || not (has_line ns v (node_number ns.nodes file) line)) ≡ not (not head && has_line ns v (node_number ns.nodes file) line)
+      no_line true = refl
+      no_line false = refl
 
 -- a fault that is the refusal, or want of memory
 pub fault-by : (f : EditFault) (refused : Option EditFault) → refused ≡ Some f → FaultBy f refused

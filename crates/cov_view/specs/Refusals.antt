@@ -61,6 +61,17 @@ refusal ns v (edits.Insert file after text) =
     first_of (when (not (has_node ns v file)) faults.NoSuchNode
     ∷ when (is_dir v.rows f) faults.NotFile
     ∷ when (not (is_head after || has_line ns v f after)) faults.NoSuchLine ∷ [])
+refusal ns v (edits.Delete file line) =
+    let f = node_number ns.nodes file in
+    first_of (when (not (has_node ns v file)) faults.NoSuchNode
+    ∷ when (is_dir v.rows f) faults.NotFile
+    ∷ when (is_head line || not (has_line ns v f line)) faults.NoSuchLine ∷ [])
+
+-- whether an edit may want memory; what only takes away doesn't
+abbrev pub takes_memory : Edit → Bool
+takes_memory (edits.New kind parent name) = true
+takes_memory (edits.Insert file after text) = true
+takes_memory (edits.Delete file line) = false
 
 -- a refusal of edit i, or else that of those after it
 abbrev pub refused_at : ℕ → Option EditFault → Option (ℕ × EditFault) → Option (ℕ × EditFault)

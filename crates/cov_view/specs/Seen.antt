@@ -1,5 +1,5 @@
 -- What a view keeps, by references, and what edits do to it.
-use Rattle.std.specs.Prelude.{◌≡◌, ℕ, ◌+◌, Bool, true, false, ◌&&◌, ◌||◌, List, [], ◌∷◌, ◌++◌, Option, Some, None, option_map, if◌then◌else◌}
+use Rattle.std.specs.Prelude.{◌≡◌, ℕ, ◌+◌, Bool, true, false, ◌&&◌, ◌||◌, not, List, [], ◌∷◌, ◌++◌, Option, Some, None, option_map, if◌then◌else◌}
 use Rattle.std.specs.Option.{option_map_or}
 use Rattle.std.specs.Str.{bytes_eq}
 use Rattle.std.specs.List.{find, list_any}
@@ -12,7 +12,7 @@ use Rattle.cov_base.specs.declared.number.LineRef.TheVariants as lines
 use Rattle.cov_edit.specs.declared.edit.Edit.{Edit}
 use Rattle.cov_edit.specs.declared.edit.Edit.TheVariants as edits
 use Rattle.cov_view.specs.References.{is_root, is_head, is_dir_kind, same_node, is_new_below}
-use Rattle.cov_view.specs.Lines.{is_among, after_ref}
+use Rattle.cov_view.specs.Lines.{is_among, after_ref, without_ref}
 use Rattle.cov_view.specs.declared.fault.EditFault.{EditFault}
 use Rattle.cov_view.specs.declared.fault.EditFault.TheVariants as faults
 use Rattle.cov_view.specs.declared.line.ViewLine.{ViewLine}
@@ -73,16 +73,17 @@ new_fault None taken = Some faults.NoSuchNode
 new_fault (Some kinds.File) taken = Some faults.NotDirectory
 new_fault (Some kinds.Dir) taken = if taken then Some faults.NameTaken else None
 
--- the refusal of a new line in a file, by the kind of what is to be the file, and whether the line can be an anchor
-abbrev pub insert_fault : Option Kind → Bool → Option EditFault
-insert_fault None anchor = Some faults.NoSuchNode
-insert_fault (Some kinds.Dir) anchor = Some faults.NotFile
-insert_fault (Some kinds.File) anchor = if anchor then None else Some faults.NoSuchLine
+-- the refusal of an edit at a line of a file, by the kind of what is to be the file, and whether the line can be had
+abbrev pub line_fault : Option Kind → Bool → Option EditFault
+line_fault None had = Some faults.NoSuchNode
+line_fault (Some kinds.Dir) had = Some faults.NotFile
+line_fault (Some kinds.File) had = if had then None else Some faults.NoSuchLine
 
 -- the refusal of an edit by references
 abbrev pub seen_fault : List ViewRow → Edit → Option EditFault
 seen_fault rows (edits.New kind parent name) = new_fault (kind_in rows parent) (has_child rows parent name)
-seen_fault rows (edits.Insert file after text) = insert_fault (kind_in rows file) (is_head after || has_line_in rows file after)
+seen_fault rows (edits.Insert file after text) = line_fault (kind_in rows file) (is_head after || has_line_in rows file after)
+seen_fault rows (edits.Delete file line) = line_fault (kind_in rows file) (not (is_head line) && has_line_in rows file line)
 
 -- a row with other lines
 abbrev pub with_lines_by : (List ViewLine → List ViewLine) → ViewRow → ViewRow
@@ -104,6 +105,11 @@ seen_after s (edits.Insert file after text) = record {
   rows = at_row file (with_lines_by (after_ref after (record { line = lines.New s.lines_made; text = text }))) s.rows;
   nodes_made = s.nodes_made;
   lines_made = s.lines_made + 1;
+}
+seen_after s (edits.Delete file line) = record {
+  rows = at_row file (with_lines_by (without_ref line)) s.rows;
+  nodes_made = s.nodes_made;
+  lines_made = s.lines_made;
 }
 
 -- rows of nodes that each stand once, none of them the root, those that edits made being the first so many

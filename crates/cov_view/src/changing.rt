@@ -1,6 +1,6 @@
 // Changes of the lines of one row.
 ghost use Rattle.std.specs.Prelude.{◌≡◌, [], ◌∷◌, ◌++◌, OnOk, OnErr, position};
-ghost use Rattle.cov_view.specs.Lines.{after_ref};
+ghost use Rattle.cov_view.specs.Lines.{after_ref, without_ref};
 ghost use Rattle.cov_view.specs.References.{same_node};
 ghost use Rattle.cov_view.specs.Seen.{at_row, with_lines_by};
 
@@ -40,5 +40,21 @@ pub(crate) fn insert_line(
     match place {
         Some(at) => rows[at].lines.insert_after(after, line),
         None => Ok(()),
+    }
+}
+
+/// Takes a line out of a file, whose row stands at a place.
+pub(crate) fn delete_line(
+    rows: &mut [ViewRow],
+    file: &NodeRef,
+    place: Option<usize>,
+    line: &LineRef,
+)
+    requires { place ≡ position (λ r. same_node r.node file.now) rows.old }
+    ensures { rows.new ≡ at_row file.now (with_lines_by (without_ref line.now)) rows.old }
+{
+    match place {
+        Some(at) => rows[at].lines.delete(line),
+        None => {}
     }
 }

@@ -52,6 +52,13 @@ mod tests {
         let lines = view.lines(NodeRef::Old(NodeNo::new(1)))?;
         assert_eq!(rt; lines.len(), 2);
         assert_eq!(rt; lines.get(1).map(|line| line.line), Some(LineRef::New(0)));
+        view.apply(&Edit::Delete {
+            file: NodeRef::Old(NodeNo::new(1)),
+            line: LineRef::Old(LineNo::new(1)),
+        })?;
+        let left = view.lines(NodeRef::Old(NodeNo::new(1)))?;
+        assert_eq!(rt; left.len(), 1);
+        assert_eq!(rt; left.get(0).map(|line| line.line), Some(LineRef::New(0)));
         Ok(())
     }
 }

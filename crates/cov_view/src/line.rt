@@ -1,9 +1,9 @@
 // The lines of one file.
-ghost use Rattle.std.specs.Prelude.{◌≡◌, ◌≤◌, ◌==◌, ◌||◌, [], ◌∷◌, ◌++◌, length, slice_get, position, IfOk, OnOk, OnErr};
+ghost use Rattle.std.specs.Prelude.{◌≡◌, ◌≤◌, ◌==◌, ◌&&◌, ◌||◌, not, [], ◌∷◌, ◌++◌, length, slice_get, position, IfOk, OnOk, OnErr};
 ghost use Rattle.std.specs.List.{insert};
 ghost use Rattle.std.specs.Option.{option_copied};
 ghost use Rattle.cov_view.specs.References.{is_head, same_line};
-ghost use Rattle.cov_view.specs.Lines.{is_among, after_ref};
+ghost use Rattle.cov_view.specs.Lines.{is_among, after_ref, without_ref};
 
 use cov_base::{LineRef, Memory, Text};
 use std::alloc::Global;
@@ -97,6 +97,13 @@ impl ViewLines {
         is_head(after) || is_among(&self.items, after)
     }
 
+    // Whether a line is one of these; the head isn't.
+    pub(crate) fn has_line(&self, line: &LineRef) -> bool
+        ensures { result ≡ (not (is_head line.now) && is_among line.now self.now) }
+    {
+        !is_head(line) && is_among(&self.items, line)
+    }
+
     // Puts a line directly after its anchor, or first where that is the head.
     pub(crate) fn insert_after(&mut self, after: &LineRef, line: ViewLine) -> Result<(), Memory>
         ensures ok { OnOk result (self.new ≡ after_ref after.now line self.old) }
@@ -105,6 +112,13 @@ impl ViewLines {
         let at = place(&self.items, after);
         self.items.insert(at, line)?;
         Ok(())
+    }
+
+    // Takes a line out, without memory and in one pass over the lines.
+    pub(crate) fn delete(&mut self, line: &LineRef)
+        ensures { self.new ≡ without_ref line.now self.old }
+    {
+        self.items.retain(|other| !same_line(&other.line, line));
     }
 }
 

@@ -1,5 +1,5 @@
 // The nodes of a variant.
-ghost use Rattle.std.specs.Prelude.{◌≡◌, ◌||◌};
+ghost use Rattle.std.specs.Prelude.{◌≡◌, ◌&&◌, ◌||◌, not};
 ghost use Rattle.cov_view.specs.References.{is_root, is_head};
 ghost use Rattle.cov_view.specs.Seen.{has_line_in};
 
@@ -25,6 +25,16 @@ pub(crate) fn has_anchor(rows: &Rows, file: &NodeRef, after: &LineRef) -> bool
     match rows.get(file) {
         Some(row) => row.lines.has_anchor(after),
         None => is_head(after),
+    }
+}
+
+/// Whether a file has a line that can be taken out; the head can't.
+pub(crate) fn has_line(rows: &Rows, file: &NodeRef, line: &LineRef) -> bool
+    ensures { result ≡ (not (is_head line.now) && has_line_in rows.now file.now line.now) }
+{
+    match rows.get(file) {
+        Some(row) => row.lines.has_line(line),
+        None => false,
     }
 }
 

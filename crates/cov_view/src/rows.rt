@@ -4,12 +4,12 @@ ghost use Rattle.std.specs.List.{find};
 ghost use Rattle.std.specs.Option.{option_copied};
 ghost use Rattle.std.specs.Str.{bytes_eq};
 ghost use Rattle.cov_view.specs.Keys.{key_of};
-ghost use Rattle.cov_view.specs.Lines.{after_ref};
+ghost use Rattle.cov_view.specs.Lines.{after_ref, without_ref};
 ghost use Rattle.cov_view.specs.References.{same_node};
 ghost use Rattle.cov_view.specs.Seen.{row_at, has_row, has_child, child_in, at_row, with_lines_by};
 
 use crate::ViewLine;
-use crate::changing::{append_line, insert_line};
+use crate::changing::{append_line, delete_line, insert_line};
 use crate::children::Children;
 use crate::row::ViewRow;
 use cov_base::{LineRef, Memory, NodeNo, NodeRef};
@@ -150,6 +150,14 @@ impl Rows {
     {
         let place = self.place(file);
         insert_line(&mut self.rows, file, place, after, line)
+    }
+
+    /// Takes a line out of a file, without memory and in one pass over the lines of that file.
+    pub(crate) fn delete_line(&mut self, file: &NodeRef, line: &LineRef)
+        ensures { self.new ≡ at_row file.now (with_lines_by (without_ref line.now)) self.old }
+    {
+        let place = self.place(file);
+        delete_line(&mut self.rows, file, place, line);
     }
 }
 

@@ -1,5 +1,5 @@
 // One variant with edits on top.
-ghost use Rattle.std.specs.Prelude.{◌≡◌, ◌<◌, ◌-◌, ◌^◌, ◌+◌, ◌&&◌, ◌||◌, true, false, List, ℕ, [], ◌∷◌, ◌++◌, length, None, Some, is_some, option_map, IfSome, IfOk, IfErr, IsErrOf, OnOk, OnErr};
+ghost use Rattle.std.specs.Prelude.{◌≡◌, ◌<◌, ◌-◌, ◌^◌, ◌+◌, ◌&&◌, ◌||◌, not, true, false, Bool, List, ℕ, [], ◌∷◌, ◌++◌, length, None, Some, is_some, option_map, IfSome, IfOk, IfErr, IsErrOf, OnOk, OnErr};
 ghost use Rattle.std.specs.List.{fold};
 ghost use Rattle.cov_base.specs.Addresses.{IsTable};
 ghost use Rattle.cov_base.specs.declared.number.Kind.TheVariants.{File, Dir};
@@ -8,13 +8,13 @@ ghost use Rattle.cov_base.specs.declared.number.LineRef.TheVariants as lines;
 ghost use Rattle.cov_edit.specs.Numbering.{Numbers, node_number, nodes_made, anchors_of};
 ghost use Rattle.cov_edit.specs.Variant.{Variant, edited};
 ghost use Rattle.cov_view.specs.References.{is_head, is_made_node};
-ghost use Rattle.cov_view.specs.Lines.{after_ref};
-ghost use Rattle.cov_view.specs.Refusals.{has_node, is_dir, refusal};
+ghost use Rattle.cov_view.specs.Lines.{after_ref, without_ref};
+ghost use Rattle.cov_view.specs.Refusals.{has_node, is_dir, refusal, takes_memory};
 ghost use Rattle.cov_view.specs.Paths.{path_node, shown_kind, AreLinesOf};
-ghost use Rattle.cov_view.specs.Seen.{Seen, kind_in, node_at, lines_in, has_child, has_line_in, new_fault, insert_fault, seen_fault, seen_after, at_row, with_lines_by, AreRows};
+ghost use Rattle.cov_view.specs.Seen.{Seen, kind_in, node_at, lines_in, has_child, new_fault, line_fault, seen_fault, seen_after, at_row, with_lines_by, AreRows};
 ghost use Rattle.cov_view.specs.Views.{Shows, table_after, next_by_number, FaultBy};
 
-use crate::row::{ViewRow, has_anchor, is_root};
+use crate::row::{ViewRow, has_anchor, has_line, is_root};
 use crate::rows::Rows;
 use crate::{EditFault, ReadFaultOfView, ViewLine, ViewLines};
 use cov_base::{Kind, LineNo, LineRef, Memory, Name, NodeNo, NodeRef, Path, Text};
@@ -185,7 +185,7 @@ impl View {
     }
 
     /// Applies an edit, unless each variant that the view shows refuses it; then the view stays as it is.
-    /// An insertion takes time in the lines of its file, a new node in its name.
+    /// An insertion or deletion takes time in the lines of its file, a new node in its name. A deletion takes no memory.
     pub fn apply(&mut self, edit: &Edit) -> Result<(), EditFault>
         requires nodes { self.old.nodes_made < 2 ^ 32 - 1 }
         requires lines { self.old.lines_made < 2 ^ 32 - 1 }
@@ -196,6 +196,7 @@ impl View {
         ensures nodes { OnOk result (self.new.nodes_made ≡ self.old.nodes_made + nodes_made (edit.now ∷ [])) }
         ensures lines { OnOk result (self.new.lines_made ≡ self.old.lines_made + length (anchors_of 0 (edit.now ∷ []))) }
         ensures refused { IfErr result (λ f. (ns : Numbers) (table : List (List ℕ)) (v : Variant) → Shows ns table self.old v → FaultBy f (refusal ns v edit.now)) }
+        ensures memory { IsErrOf result EditFault.Memory → takes_memory edit.now ≡ true }
         ensures same { OnErr result (self.new ≡ self.old) }
     {
         match self.fault(edit) {
@@ -215,7 +216,10 @@ impl View {
         let _ = &self.rows;
         match edit {
             Edit::New { parent, name, .. } => self.new_fault(parent, name.as_slice()),
-            Edit::Insert { file, after, .. } => self.insert_fault(file, after),
+            Edit::Insert { file, after, .. } => {
+                self.line_fault(file, has_anchor(&self.rows, file, after))
+            }
+            Edit::Delete { file, line } => self.line_fault(file, has_line(&self.rows, file, line)),
         }
     }
 
@@ -232,13 +236,13 @@ impl View {
         }
     }
 
-    fn insert_fault(&self, file: &NodeRef, after: &LineRef) -> Option<EditFault>
-        ensures { result ≡ insert_fault (kind_in self.now.rows file.now) (is_head after.now || has_line_in self.now.rows file.now after.now) }
+    fn line_fault(&self, file: &NodeRef, had: bool) -> Option<EditFault>
+        ensures { result ≡ line_fault (kind_in self.now.rows file.now) had }
     {
         match self.kind_of(file) {
             None => Some(EditFault::NoSuchNode),
             Some(Kind::Dir) => Some(EditFault::NotFile),
-            Some(Kind::File) => match has_anchor(&self.rows, file, after) {
+            Some(Kind::File) => match had {
                 true => None,
                 false => Some(EditFault::NoSuchLine),
             },
@@ -282,6 +286,15 @@ impl View {
         Ok(())
     }
 
+    // Takes a line out.
+    fn delete(&mut self, file: &NodeRef, line: &LineRef)
+        ensures rows { self.new.rows ≡ at_row file.now (with_lines_by (without_ref line.now)) self.old.rows }
+        ensures nodes { self.new.nodes_made ≡ self.old.nodes_made }
+        ensures lines { self.new.lines_made ≡ self.old.lines_made }
+    {
+        self.rows.delete_line(file, line);
+    }
+
     // Does what an edit does.
     fn act(&mut self, edit: &Edit) -> Result<(), Memory>
         requires nodes { self.old.nodes_made < 2 ^ 32 - 1 }
@@ -289,11 +302,16 @@ impl View {
         ensures rows { OnOk result (self.new.rows ≡ (seen_after self.old edit.now).rows) }
         ensures nodes_made { OnOk result (self.new.nodes_made ≡ (seen_after self.old edit.now).nodes_made) }
         ensures lines_made { OnOk result (self.new.lines_made ≡ (seen_after self.old edit.now).lines_made) }
+        ensures memory { OnErr result (takes_memory edit.now ≡ true) }
         ensures err { OnErr result (self.new ≡ self.old) }
     {
         match edit {
             Edit::New { kind, parent, name } => self.make(*kind, parent, name),
             Edit::Insert { file, after, text } => self.insert(file, after, text),
+            Edit::Delete { file, line } => {
+                self.delete(file, line);
+                Ok(())
+            }
         }
     }
 }
