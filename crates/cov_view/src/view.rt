@@ -1,5 +1,5 @@
 // One variant with edits on top.
-ghost use Rattle.std.specs.Prelude.{◌≡◌, ◌<◌, ◌-◌, ◌^◌, ◌+◌, ◌&&◌, ◌||◌, not, true, false, Bool, List, ℕ, [], ◌∷◌, ◌++◌, length, None, Some, is_some, option_map, IfSome, IfOk, IfErr, IsErrOf, OnOk, OnErr};
+ghost use Rattle.std.specs.Prelude.{◌≡◌, ◌<◌, ◌-◌, ◌^◌, ◌+◌, ◌&&◌, true, false, List, ℕ, [], ◌∷◌, ◌++◌, length, None, Some, is_some, option_map, IfSome, IfOk, IfErr, IsErrOf, OnOk, OnErr};
 ghost use Rattle.std.specs.List.{fold};
 ghost use Rattle.cov_base.specs.Addresses.{IsTable};
 ghost use Rattle.cov_base.specs.declared.number.Kind.TheVariants.{File, Dir};
@@ -7,7 +7,7 @@ ghost use Rattle.cov_base.specs.declared.number.NodeRef.TheVariants.{Old};
 ghost use Rattle.cov_base.specs.declared.number.LineRef.TheVariants as lines;
 ghost use Rattle.cov_edit.specs.Numbering.{Numbers, node_number, nodes_made, anchors_of};
 ghost use Rattle.cov_edit.specs.Variant.{Variant, edited};
-ghost use Rattle.cov_view.specs.References.{is_head, is_made_node};
+ghost use Rattle.cov_view.specs.References.{is_made_node};
 ghost use Rattle.cov_view.specs.Lines.{after_ref, without_ref};
 ghost use Rattle.cov_view.specs.Refusals.{has_node, is_dir, refusal, takes_memory};
 ghost use Rattle.cov_view.specs.Paths.{path_node, shown_kind, AreLinesOf};
