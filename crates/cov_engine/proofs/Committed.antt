@@ -26,7 +26,7 @@ use Rattle.cov_engine.specs.Files.{DatedLine, dated_number, dated, file_dated, f
 use Rattle.cov_engine.specs.Insertions.{Insertion, lines_begun, held_before, held_behind}
 use Rattle.cov_engine.specs.Showing.{change_in, change_of, dated_from, dated_of}
 use Rattle.cov_engine.specs.Holdings.{entry_kept}
-use Rattle.cov_engine.specs.Sessions.{IsGood, has_commit, session_of}
+use Rattle.cov_engine.specs.Sessions.{IsGood, has_commit, has_delete, session_of}
 use Rattle.cov_engine.specs.Drawing.{Stored, stored, new_lines, new_entries, inserts_into, AreNear, HasRoom, after_line, with_new_line, CanTake, with_new_lines, CanTakeAll}
 use Rattle.cov_engine.proofs.Appends.{lines-edits}
 use Rattle.cov_engine.proofs.Standing.{all-mapped, holding-stands}
@@ -114,6 +114,7 @@ new-same : (q : ℕ) (within : Formula ℕ) (ns : Numbers) (t : List (List ℕ))
 new-same q within ns t node line ks [] kind parent name = refl
 new-same q within ns t node line ks (edits.New k p n ∷ begun) kind parent name = new-same q within ns t (node + 1) line ks begun kind parent name
 new-same q within ns t node line ks (edits.Insert file after text ∷ begun) kind parent name = new-same q within ns t node (line + 1) _ begun kind parent name
+new-same q within ns t node line ks (edits.Delete file which ∷ begun) kind parent name = new-same q within ns t node line _ begun kind parent name
 
 module _ (history : List Command) (base : ℕ) (choice : List Bool) (ambition : Formula ℕ) (es : List Edit)
     (good : IsGood history (session_of base choice ambition es)) (alone : has_commit (drop base history) ≡ false) (commits : List Made) (ls : List KeptLine) where
@@ -135,11 +136,12 @@ module _ (history : List Command) (base : ℕ) (choice : List Bool) (ambition : 
   abbrev the_line : ℕ → List ℕ → DatedLine
   the_line number text = record { line = number; text = text; changes = (length history + 1, ambition) ∷ [] }
 
-  -- the lines of edits are among the kept ones, with the numbers after the first so many
+  -- the lines of edits are among the kept ones, with the numbers after the first so many, and no edit takes a line out
   abbrev pub AreKept : ℕ → List Edit → Type 0
   AreKept made [] = Unit {0}
   AreKept made (edits.New kind parent name ∷ later) = AreKept made later
   AreKept made (edits.Insert file after text ∷ later) = (dated_of commits ls (made + 1) ≡ the_line (made + 1) text) × AreKept (made + 1) later
+  AreKept made (edits.Delete file line ∷ later) = ⊥
 
   module _ (begun later : List Edit) (file : NodeRef) (after : LineRef) (text : List ℕ) (all : begun ++ edits.Insert file after text ∷ later ≡ es)
       (made : ℕ) (counted : made ≡ m + length (anchors_of m begun)) (kept : dated_of commits ls (made + 1) ≡ the_line (made + 1) text) where
@@ -237,6 +239,7 @@ module _ (history : List Command) (base : ℕ) (choice : List Bool) (ambition : 
       ∙ new-same (length history + 1) ambition ns (the_table es) ns.nodes m (kept_of history) begun kind parent name
       ∙ sym (lines-edits (length history + 1) ambition (held_by history) (numbered_from ns (the_table es) ns.nodes m begun))))
       lines)
+  all-taken (edits.Delete file line ∷ later) begun made entries all counted kept near few room lines = absurd kept
   all-taken (edits.Insert file after text ∷ later) begun made entries all counted kept near few room lines =
       let anchor = line_number m after in
       let f = node_number ns.nodes file in
@@ -265,18 +268,19 @@ module _ (history : List Command) (base : ℕ) (choice : List Bool) (ambition : 
 pub kept-behind : (history : List Command) (base : ℕ) (choice : List Bool) (ambition : Formula ℕ) (es : List Edit)
     (good : IsGood history (session_of base choice ambition es)) (alone : has_commit (drop base history) ≡ false) (commits : List Made) (made : Made) (ls front : List KeptLine) (line : ℕ) (later : List Edit)
     → made ≡ record { position = length history + 1; ambition = ambition }
-    → ls ≡ front ++ new_lines (length commits) later → line ≡ length front → AreKept history base choice ambition es good alone (commits ++ made ∷ []) ls line later
-kept-behind history base choice ambition es good alone commits made ls front line [] is all at = tt
-kept-behind history base choice ambition es good alone commits made ls front line (edits.New kind parent name ∷ later) is all at =
-    kept-behind history base choice ambition es good alone commits made ls front line later is all at
-kept-behind history base choice ambition es good alone commits made ls front line (edits.Insert file after text ∷ later) is all at =
+    → ls ≡ front ++ new_lines (length commits) later → line ≡ length front → has_delete later ≡ false → AreKept history base choice ambition es good alone (commits ++ made ∷ []) ls line later
+kept-behind history base choice ambition es good alone commits made ls front line [] is all at none = tt
+kept-behind history base choice ambition es good alone commits made ls front line (edits.Delete file which ∷ later) is all at none = absurd (cc)
+kept-behind history base choice ambition es good alone commits made ls front line (edits.New kind parent name ∷ later) is all at none =
+    kept-behind history base choice ambition es good alone commits made ls front line later is all at none
+kept-behind history base choice ambition es good alone commits made ls front line (edits.Insert file after text ∷ later) is all at none =
     let one : line + 1 - 1 ≡ length front = omega (arith, at) in
     let new : KeptLine = record { text = text; commit = length commits } in
     let there : slice_get ls (line + 1 - 1) ≡ Some new = ap (slice_get ls) one ∙ ap (λ xs. slice_get xs (length front)) all ∙ get-next front new (new_lines (length commits) later) in
     let grown = length-one front new in (
       (ap (dated_from (commits ++ made ∷ []) (line + 1)) there ∙ ap (λ change. the_dated change) (change-last commits made ∙ ap (λ (k : Made). (k.position, k.ambition)) is)),
       kept-behind history base choice ambition es good alone commits made ls (front ++ new ∷ []) (line + 1) later is
-          (all ∙ sym (append_assoc front (new ∷ []) (new_lines (length commits) later))) (omega (arith, at, grown)),
+          (all ∙ sym (append_assoc front (new ∷ []) (new_lines (length commits) later))) (omega (arith, at, grown)) none,
     )
   where
     the_dated : ℕ × Formula ℕ → DatedLine
@@ -310,6 +314,7 @@ rows-behind q within ms t node line commit commits ks (edits.New kind parent nam
     with_change : Row → ℕ × Formula ℕ → Kept Row
     with_change row change = record { item = row; changes = change ∷ [] }
 rows-behind q within ms t node line commit commits ks (edits.Insert file after text ∷ es) is = rows-behind q within ms t node (line + 1) commit commits ks es is
+rows-behind q within ms t node line commit commits ks (edits.Delete file which ∷ es) is = rows-behind q within ms t node line commit commits ks es is
 
 -- lines put at their places leave the rows
 row-same : (commits : List Made) (file anchor line : ℕ) (e : Entry) → entry_kept commits (with_new_line file anchor line e) ≡ entry_kept commits e
@@ -327,6 +332,7 @@ rows-of commits file after line (e ∷ es) =
 pub rows-put : (commits : List Made) (n m made : ℕ) (es : List Edit) (entries : List Entry) → map (entry_kept commits) (with_new_lines n m made es entries) ≡ map (entry_kept commits) entries
 rows-put commits n m made [] entries = refl
 rows-put commits n m made (edits.New kind parent name ∷ es) entries = rows-put commits n m made es entries
+rows-put commits n m made (edits.Delete file line ∷ es) entries = rows-put commits n m made es entries
 rows-put commits n m made (edits.Insert file after text ∷ es) entries =
     rows-put commits n m (made + 1) es (map (with_new_line (node_number n file) (line_number m after) (made + 1)) entries)
     ∙ rows-of commits (node_number n file) (line_number m after) (made + 1) entries
@@ -341,6 +347,7 @@ commit-same count file anchor line e h = by (nat_eq e.node file)
 pub made-put : (count n m made : ℕ) (es : List Edit) (entries : List Entry) → AllByRecursion (λ e. e.commit < count) entries → AllByRecursion (λ e. e.commit < count) (with_new_lines n m made es entries)
 made-put count n m made [] entries all = all
 made-put count n m made (edits.New kind parent name ∷ es) entries all = made-put count n m made es entries all
+made-put count n m made (edits.Delete file line ∷ es) entries all = made-put count n m made es entries all
 made-put count n m made (edits.Insert file after text ∷ es) entries all =
     made-put count n m (made + 1) es (map (with_new_line (node_number n file) (line_number m after) (made + 1)) entries)
     (all-mapped (λ e. e.commit < count) (λ e. e.commit < count) (with_new_line (node_number n file) (line_number m after) (made + 1)) (commit-same count (node_number n file) (line_number m after) (made + 1)) entries all)
@@ -368,11 +375,13 @@ in-range history file =
 pub new-lines-count : (commit m : ℕ) (es : List Edit) → length (new_lines commit es) ≡ length (anchors_of m es)
 new-lines-count commit m [] = refl
 new-lines-count commit m (edits.New kind parent name ∷ es) = new-lines-count commit m es
+new-lines-count commit m (edits.Delete file line ∷ es) = new-lines-count commit m es
 new-lines-count commit m (edits.Insert file after text ∷ es) = ap (λ n. suc n) (new-lines-count commit m es)
 
 pub new-lines-made : (commit : ℕ) (es : List Edit) → AllByRecursion (λ l. l.commit < commit + 1) (new_lines commit es)
 new-lines-made commit [] = tt
 new-lines-made commit (edits.New kind parent name ∷ es) = new-lines-made commit es
+new-lines-made commit (edits.Delete file line ∷ es) = new-lines-made commit es
 new-lines-made commit (edits.Insert file after text ∷ es) = (omega arith, new-lines-made commit es)
 
 pub new-entries-all : (P : Stored → Type 0) (n commit made : ℕ) (es : List Edit)
@@ -382,6 +391,7 @@ new-entries-all P n commit made [] f = tt
 new-entries-all P n commit made (edits.New kind parent name ∷ es) f =
     (f (made + 1) (node_number n parent) kind name (omega arith), new-entries-all P n commit (made + 1) es (λ node parent kind name h. f node parent kind name (omega (arith, h))))
 new-entries-all P n commit made (edits.Insert file after text ∷ es) f = new-entries-all P n commit made es f
+new-entries-all P n commit made (edits.Delete file line ∷ es) f = new-entries-all P n commit made es f
 
 pub lines-after : (history : List Command) (base : ℕ) (choice : List Bool) (ambition : Formula ℕ) (es : List Edit) (ls : List KeptLine) (commit : ℕ) → length ls ≡ length (numbers_of history).addresses
     → length (ls ++ new_lines commit es) ≡ length (numbers_of (history ++ commands.Commit base choice ambition es ∷ [])).addresses

@@ -12,7 +12,7 @@ use Rattle.cov_edit.specs.declared.edit.Edit.{Edit}
 use Rattle.cov_edit.specs.declared.edit.Edit.TheVariants as edits
 use Rattle.cov_edit.specs.declared.command.Command.{Command}
 use Rattle.cov_edit.specs.declared.command.Command.TheVariants as commands
-use Rattle.cov_edit.specs.Numbering.{Numbers, NumberedEdit, OnRows, Inserted, node_number, nodes_made, no_numbers, numbers_after, numbers_from, numbers_of, numbered_from, numbered}
+use Rattle.cov_edit.specs.Numbering.{Numbers, NumberedEdit, OnRows, Inserted, Deleted, node_number, line_number, nodes_made, no_numbers, numbers_after, numbers_from, numbers_of, numbered_from, numbered}
 use Rattle.cov_view.specs.References.{same_node}
 use Rattle.cov_view.specs.Seen.{row_at, kind_in}
 use Rattle.cov_view.specs.Views.{row_by_number}
@@ -47,6 +47,8 @@ edits-nodes q within ns t node line total held (edits.New kind parent name ∷ e
     (subst (λ m. NodesFrom 0 m (held.rows ++ new_item q within row ∷ [])) (sym one) (nodes-append 0 node held.rows (new_item q within row) one h))
 edits-nodes q within ns t node line total held (edits.Insert file after text ∷ es) e h =
     edits-nodes q within ns t node (line + 1) total (held_after q within held (Inserted (node_number ns.nodes file) (address_in t (line + 1)) text)) es e h
+edits-nodes q within ns t node line total held (edits.Delete file which ∷ es) e h =
+    edits-nodes q within ns t node line total (held_after q within held (Deleted (node_number ns.nodes file) (address_in t (line_number (length ns.addresses) which)))) es e h
 
 pub history-nodes : (q : ℕ) (ns : Numbers) (held : Holding) (history : List Command) → NodesFrom 0 ns.nodes held.rows → NodesFrom 0 (numbers_from ns history).nodes (held_from q held ns history).rows
 history-nodes q ns held [] h = h

@@ -8,7 +8,7 @@ use Rattle.cov_expr.specs.Formula.{Formula}
 use Rattle.cov_edit.specs.declared.edit.Edit.{Edit}
 use Rattle.cov_edit.specs.declared.edit.Edit.TheVariants as edits
 use Rattle.cov_edit.specs.declared.command.Command.{Command}
-use Rattle.cov_edit.specs.Numbering.{Numbers, OnRows, Inserted, node_number, line_number, anchors_of, numbers_of, numbered_from}
+use Rattle.cov_edit.specs.Numbering.{Numbers, OnRows, Inserted, Deleted, node_number, line_number, anchors_of, numbers_of, numbered_from}
 use Rattle.cov_edit.specs.Variant.{Line}
 use Rattle.cov_edit.proofs.Replays.{fold-append}
 use Rattle.cov_engine.specs.Kept.{Kept, kept_address, kept_number, Holding, held_after, held_by, file_kept, is_kept_anchor, Stands}
@@ -19,6 +19,7 @@ use Rattle.cov_engine.proofs.Files.{anchor-below, placed-anchor, placed-elsewher
 pub anchors-append : (m : ℕ) (es fs : List Edit) → anchors_of m (es ++ fs) ≡ anchors_of m es ++ anchors_of m fs
 anchors-append m [] fs = refl
 anchors-append m (edits.New kind parent name ∷ es) fs = anchors-append m es fs
+anchors-append m (edits.Delete file line ∷ es) fs = anchors-append m es fs
 anchors-append m (edits.Insert file after text ∷ es) fs = ap (λ l. line_number m after ∷ l) (anchors-append m es fs)
 
 with_lines-append : (t : List (List ℕ)) (ms ns : List ℕ) → with_lines t (ms ++ ns) ≡ with_lines (with_lines t ms) ns
@@ -34,6 +35,8 @@ numbered-insert ns t node line next m [] i e =
 numbered-insert ns t node line next m (edits.New kind parent name ∷ es) i e = ap (λ l. OnRows (Created (node + 1) kind (node_number ns.nodes parent) name) ∷ l) (numbered-insert ns t (node + 1) line next m es i e)
 numbered-insert ns t node line next m (edits.Insert file after text ∷ es) i e =
     ap (λ l. Inserted (node_number ns.nodes file) (address_in t (line + 1)) text ∷ l) (numbered-insert ns t node (line + 1) next m es i (omega (arith, e)))
+numbered-insert ns t node line next m (edits.Delete file which ∷ es) i e =
+    ap (λ l. Deleted (node_number ns.nodes file) (address_in t (line_number (length ns.addresses) which)) ∷ l) (numbered-insert ns t node line next m es i e)
 
 module _ (history : List Command) (i : Insertion) where
   abbrev begun : List ℕ

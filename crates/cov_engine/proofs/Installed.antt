@@ -19,7 +19,7 @@ use Rattle.cov_engine.specs.Kept.{nothing_held, held_by, kept_of, entries_of}
 use Rattle.cov_engine.specs.Files.{dated, dated_number, file_dated}
 use Rattle.cov_engine.specs.Showing.{change_in, change_of, dated_of, AreInReach}
 use Rattle.cov_engine.specs.Holdings.{entry_kept, IsFileOf, IsHeldBy}
-use Rattle.cov_engine.specs.Sessions.{IsGood, has_commit, session_of}
+use Rattle.cov_engine.specs.Sessions.{IsGood, has_commit, has_delete, session_of}
 use Rattle.cov_engine.specs.Verdict.{IsLegal, verdict, when_full, refusals_of}
 use Rattle.cov_engine.specs.Drawing.{Stored, stored, new_lines, new_entries, AreNear, AreNumbered, with_new_lines, CanTakeAll, IsDrawn}
 use Rattle.cov_engine.proofs.Appends.{commit-lines, commit-rows, lines-edits}
@@ -168,7 +168,7 @@ in-reach-more history k ambition commits made is low old at commit seen = by com
         last false f = behind commit (grind (arith, nat_tests, e, f))
 
 module _ (history : List Command) (base : ℕ) (choice : List Bool) (ambition : Formula ℕ) (es : List Edit) (legal : IsLegal history)
-    (good : IsGood history (session_of base choice ambition es)) (alone : has_commit (drop base history) ≡ false)
+    (good : IsGood history (session_of base choice ambition es)) (alone : has_commit (drop base history) ≡ false) (keeping : has_delete es ≡ false)
     (accepted : verdict history (commands.Commit base choice ambition es) ≡ None)
     (commits : List Made) (made : Made) (ls : List KeptLine) (entries : List Entry) (drawn : IsDrawn history ambition es commits made ls entries) where
   abbrev n : ℕ
@@ -224,7 +224,7 @@ module _ (history : List Command) (base : ℕ) (choice : List Bool) (ambition : 
       let few = lines-few history base choice ambition es accepted in
       let same = sym (new-lines-count 0 m es) ∙ new-lines-count 0 0 es in
       let both = all-taken history base choice ambition es good alone all_commits ls es [] m entries refl (omega arith)
-      (kept-behind history base choice ambition es good alone commits made ls drawn.old_lines m es drawn.made_is drawn.lines (sym drawn.held.lines))
+      (kept-behind history base choice ambition es good alone commits made ls drawn.old_lines m es drawn.made_is drawn.lines (sym drawn.held.lines) keeping)
       (edits-near history base choice ambition es accepted) (omega (arith, few, same)) drawn.room start-lines in (
         both.0,
         subst (λ ks. AllByRecursion (HasLines ks all_commits ls) (with_new_lines n m m es entries))

@@ -34,6 +34,9 @@ module _ (n m made next : ℕ) (edit d : Edit) (old new : List Entry) where
       by (edits.Insert file after text) is =
           let one : next ≡ made + 1 = let m = more ∙ ap (λ x. made + length (anchors_of 0 (x ∷ []))) is in omega (arith, m) in
           ap (λ k. with_new_lines n m k rest new) one ∙ ap (λ es. with_new_lines n m (made + 1) rest es) (put ∙ ap (λ x. with_new_lines n m made (x ∷ []) old) is)
+      by (edits.Delete file line) is =
+          let none : next ≡ made = let m = more ∙ ap (λ x. made + length (anchors_of 0 (x ∷ []))) is in omega (arith, m) in
+          ap (λ k. with_new_lines n m k rest new) none ∙ ap (λ es. with_new_lines n m made rest es) (put ∙ ap (λ x. with_new_lines n m made (x ∷ []) old) is)
 
   pub takes-rest : (ahead : List Edit) → edit ≡ get_or ahead 0 d → 1 ≤ length ahead → new ≡ with_new_lines n m made (edit ∷ []) old → next ≡ made + length (anchors_of 0 (edit ∷ []))
       → CanTakeAll n m made ahead old → CanTakeAll n m next (rest_of ahead) new
@@ -48,10 +51,14 @@ module _ (n m made next : ℕ) (edit d : Edit) (old new : List Entry) where
           let one : next ≡ made + 1 = let m = more ∙ ap (λ x. made + length (anchors_of 0 (x ∷ []))) is in omega (arith, m) in
           subst (λ k. CanTakeAll n m k rest new) (sym one)
           (subst (λ es. CanTakeAll n m (made + 1) rest es) (sym (put ∙ ap (λ x. with_new_lines n m made (x ∷ []) old) is)) takes.4)
+      by (edits.Delete file line) is takes =
+          let none : next ≡ made = let m = more ∙ ap (λ x. made + length (anchors_of 0 (x ∷ []))) is in omega (arith, m) in
+          subst (λ k. CanTakeAll n m k rest new) (sym none) (subst (λ es. CanTakeAll n m made rest es) (sym (put ∙ ap (λ x. with_new_lines n m made (x ∷ []) old) is)) takes)
 
   pub numbered-rest : new ≡ with_new_lines n m made (edit ∷ []) old → AreNumbered 0 old → AreNumbered 0 new
   numbered-rest put numbered = subst (AreNumbered 0) (sym put) (by edit)
     where
       by : (e : Edit) → AreNumbered 0 (with_new_lines n m made (e ∷ []) old)
       by (edits.New kind parent name) = numbered
+      by (edits.Delete file line) = numbered
       by (edits.Insert file after text) = numbered-line (node_number n file) (line_number m after) (made + 1) 0 old numbered

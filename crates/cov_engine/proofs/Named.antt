@@ -1,5 +1,5 @@
 -- The nodes that a commit's edits name, and the files of the lines that a history holds.
-use Rattle.std.proofs.Common.{◌≡◌, ℕ, ◌+◌, ◌<◌, ◌≤◌, ◌^◌, Bool, false, None, List, [], ◌∷◌, ◌++◌, length, take, append_assoc, append-nil, refl, sym, ap, subst, arith}
+use Rattle.std.proofs.Common.{◌≡◌, ℕ, ◌+◌, ◌<◌, ◌≤◌, ◌^◌, Bool, true, false, cond, None, List, [], ◌∷◌, ◌++◌, length, take, append_assoc, append-nil, refl, sym, ap, subst, arith}
 use Rattle.std.specs.List.{fold, AllByRecursion}
 use Rattle.cov_base.specs.Addresses.{address_in}
 use Rattle.cov_base.proofs.Ordered.{all-map, all-placed}
@@ -8,16 +8,17 @@ use Rattle.cov_edit.specs.declared.edit.Edit.{Edit}
 use Rattle.cov_edit.specs.declared.edit.Edit.TheVariants as edits
 use Rattle.cov_edit.specs.declared.command.Command.{Command}
 use Rattle.cov_edit.specs.declared.command.Command.TheVariants as commands
-use Rattle.cov_edit.specs.Numbering.{Numbers, Inserted, node_number, nodes_made, no_numbers, numbers_after, numbers_of, numbered_from}
+use Rattle.cov_edit.specs.Numbering.{Numbers, Inserted, Deleted, node_number, line_number, nodes_made, no_numbers, numbers_after, numbers_of, numbered_from}
 use Rattle.cov_edit.specs.Replay.{replay}
 use Rattle.cov_edit.proofs.Replays.{numbers_from-append}
 use Rattle.cov_view.specs.Refusals.{first_refused}
-use Rattle.cov_engine.specs.Kept.{Kept, kept_address, new_line, kept_after, Holding, kept_of}
+use Rattle.cov_engine.specs.Kept.{Kept, hidden, hidden_where, kept_address, new_line, kept_after, Holding, kept_of}
 use Rattle.cov_engine.specs.Sessions.{has_commit}
-use Rattle.cov_edit.specs.Variant.{Line}
+use Rattle.cov_edit.specs.Variant.{Line, is_line}
 use Rattle.cov_engine.specs.Drawing.{AreNear}
 use Rattle.cov_engine.specs.Verdict.{verdict, IsLegalFrom, IsLegal}
 use Rattle.cov_engine.proofs.Appends.{commit-lines}
+use Rattle.cov_engine.proofs.Standing.{all-mapped}
 use Rattle.cov_engine.proofs.Orders.{no_commit-holds}
 use Rattle.cov_engine.proofs.States.{numbers-kept}
 use Rattle.cov_engine.proofs.Naming.{the_node, AreNamed, made-number, nodes-replay, base-nodes, edits-accepted, further, accepted-named}
@@ -41,6 +42,9 @@ named-near n m made (edits.New kind parent name ∷ es) le few named =
 named-near n m made (edits.Insert file after text ∷ es) le few named =
     let at = made-number n m made file le named.0 in
     (omega (arith, at, few), named-near n m made es le few named.1)
+named-near n m made (edits.Delete file line ∷ es) le few named =
+    let at = made-number n m made file le named.0 in
+    (omega (arith, at, few), named-near n m made es le few named.1)
 
 abbrev pub the_file : Kept Line → ℕ
 the_file k = k.item.file
@@ -52,6 +56,13 @@ AreInFiles count ks = AllByRecursion (λ k. the_file k ≤ count) ks
 more-files : (count more : ℕ) (ks : List (Kept Line)) → count ≤ more → AreInFiles count ks → AreInFiles more ks
 more-files count more ks le h = all-map (λ k. the_file k ≤ count) (λ k. the_file k ≤ more) (λ k below. omega (arith, below, le)) ks h
 
+hidden-file : (q : ℕ) (within : Formula ℕ) (file : ℕ) (address : List ℕ) (total : ℕ) (k : Kept Line) → the_file k ≤ total → the_file (hidden_where (is_line file address) q within k) ≤ total
+hidden-file q within file address total k h = by (is_line file address k.item)
+  where
+    by : (b : Bool) → the_file (cond b (hidden q within k) k) ≤ total
+    by true = h
+    by false = h
+
 files-edits : (q : ℕ) (within : Formula ℕ) (n : ℕ) (ns : Numbers) (t : List (List ℕ)) (node made line total : ℕ) (ks : List (Kept Line)) (es : List Edit)
     → n ≤ ns.nodes → total ≡ ns.nodes + (made + nodes_made es) → AreNamed n made es → AreInFiles total ks
     → AreInFiles total (fold (kept_after q within) ks (numbered_from ns t node line es))
@@ -62,6 +73,11 @@ files-edits q within n ns t node made line total ks (edits.Insert file after tex
     let at : node_number ns.nodes file ≤ ns.nodes + made = made-number n ns.nodes made file le named.0 in
     files-edits q within n ns t node made (line + 1) total (kept_after q within ks (Inserted (node_number ns.nodes file) (address_in t (line + 1)) text)) es le e named.1
     (all-placed kept_address (λ k. the_file k ≤ total) (new_line q within (node_number ns.nodes file) (address_in t (line + 1)) text) ks (omega (arith, at, e)) h)
+files-edits q within n ns t node made line total ks (edits.Delete file which ∷ es) le e named h =
+    let f : ℕ = node_number ns.nodes file in
+    let address : List ℕ = address_in t (line_number (length ns.addresses) which) in
+    files-edits q within n ns t node made line total (kept_after q within ks (Deleted f address)) es le e named.1
+    (all-mapped (λ k. the_file k ≤ total) (λ k. the_file k ≤ total) (hidden_where (is_line f address) q within) (λ k below. hidden-file q within f address total k below) ks h)
 
 as-before : (history : List Command) (k : Command) → has_commit (k ∷ []) ≡ false → AreInFiles (numbers_of history).nodes (kept_of history)
     → AreInFiles (numbers_of (history ++ k ∷ [])).nodes (kept_of (history ++ k ∷ []))

@@ -7,15 +7,15 @@ use Rattle.cov_base.specs.Addresses.{address_in}
 use Rattle.cov_base.specs.Rows.{Row, Created, is_present}
 use Rattle.cov_base.specs.declared.number.NodeRef.{NodeRef}
 use Rattle.cov_base.specs.declared.number.NodeRef.TheVariants as nodes
-use Rattle.cov_base.proofs.Ordered.{all-map, all-append, all-placed}
+use Rattle.cov_base.proofs.Ordered.{all-map, all-append, all-filter, all-placed}
 use Rattle.cov_expr.specs.Formula.{Formula, value, reach}
 use Rattle.cov_edit.specs.declared.edit.Edit.{Edit}
 use Rattle.cov_edit.specs.declared.edit.Edit.TheVariants as edits
 use Rattle.cov_edit.specs.declared.command.Command.{Command}
 use Rattle.cov_edit.specs.declared.command.Command.TheVariants as commands
 use Rattle.cov_edit.specs.History.{option_count, first_false_in}
-use Rattle.cov_edit.specs.Numbering.{Numbers, NumberedEdit, OnRows, Inserted, node_number, nodes_made, no_numbers, numbers_after, numbers_from, numbers_of, numbered_from}
-use Rattle.cov_edit.specs.Variant.{Variant, Line, bare, line_address, edited}
+use Rattle.cov_edit.specs.Numbering.{Numbers, NumberedEdit, OnRows, Inserted, Deleted, node_number, line_number, nodes_made, no_numbers, numbers_after, numbers_from, numbers_of, numbered_from}
+use Rattle.cov_edit.specs.Variant.{Variant, Line, bare, line_address, is_line, edited}
 use Rattle.cov_edit.specs.Replay.{applying, commit_changes, changes_from, applied, replay}
 use Rattle.cov_edit.proofs.Replays.{fold-append, numbers_from-append, replay-append, replay-commit}
 use Rattle.cov_view.specs.References.{is_known_node, is_made_node}
@@ -55,6 +55,7 @@ abbrev pub AreNamed : ℕ → ℕ → List Edit → Type 0
 AreNamed n made [] = Unit {0}
 AreNamed n made (edits.New kind parent name ∷ es) = (is_made_node n made parent ≡ true) × AreNamed n (made + 1) es
 AreNamed n made (edits.Insert file after text ∷ es) = (is_made_node n made file ≡ true) × AreNamed n made es
+AreNamed n made (edits.Delete file line ∷ es) = (is_made_node n made file ≡ true) × AreNamed n made es
 
 -- what the rows of a variant and the verdict tell of references
 present-below : (count node : ℕ) (rows : List Row) → AreUpTo the_node count rows → list_any (λ r. nat_eq r.node node) rows ≡ true → node ≤ count
@@ -113,6 +114,11 @@ accepted-named ns t node made line k v (edits.Insert file after text ∷ es) e h
   accepted-named ns t node made (line + 1) (k + 1) (edited v (Inserted (node_number ns.nodes file) (address_in t (line + 1)) text)) es e h
       (rest-accepted k (refusal ns v (edits.Insert file after text)) _ accepted),
 )
+accepted-named ns t node made line k v (edits.Delete file which ∷ es) e h accepted = (
+  known-made ns.nodes made file v.rows h (first-passes (has_node ns v file) faults.NoSuchNode _ (edit-accepted k (refusal ns v (edits.Delete file which)) _ accepted)),
+  accepted-named ns t node made line (k + 1) (edited v (Deleted (node_number ns.nodes file) (address_in t (line_number (length ns.addresses) which)))) es e h
+      (rest-accepted k (refusal ns v (edits.Delete file which)) _ accepted),
+)
 
 -- edits, each where it applies
 module _ (c : List Bool) (within : Formula ℕ) where
@@ -128,6 +134,10 @@ module _ (c : List Bool) (within : Formula ℕ) where
   nodes-edits ns t node line total v (edits.Insert file after text ∷ es) e h =
       let d : NumberedEdit = Inserted (node_number ns.nodes file) (address_in t (line + 1)) text in
       nodes-edits ns t node (line + 1) total (applied c v (applying within d)) es e
+      (either-way (λ w. AreUpTo the_node node w.rows) (value within c) (edited v d) v h h)
+  nodes-edits ns t node line total v (edits.Delete file which ∷ es) e h =
+      let d : NumberedEdit = Deleted (node_number ns.nodes file) (address_in t (line_number (length ns.addresses) which)) in
+      nodes-edits ns t node line total (applied c v (applying within d)) es e
       (either-way (λ w. AreUpTo the_node node w.rows) (value within c) (edited v d) v h h)
 
   names-edits : (n : ℕ) (ns : Numbers) (t : List (List ℕ)) (node made line total : ℕ) (v : Variant) (es : List Edit) → n ≤ ns.nodes → node ≡ ns.nodes + made → total ≡ node + nodes_made es
@@ -151,6 +161,13 @@ module _ (c : List Bool) (within : Formula ℕ) where
       names-edits n ns t node made (line + 1) total (applied c v (applying within d)) es le begun e named.1
       (either-way (NamesOnlyMade node) (value within c) (edited v d) v
       (record { nodes = h.nodes; parents = h.parents; files = all-placed line_address (λ l. l.file ≤ node) new v.lines below h.files }) h)
+  names-edits n ns t node made line total v (edits.Delete file which ∷ es) le begun e named h =
+      let f : ℕ = node_number ns.nodes file in
+      let address : List ℕ = address_in t (line_number (length ns.addresses) which) in
+      let d : NumberedEdit = Deleted f address in
+      names-edits n ns t node made line total (applied c v (applying within d)) es le begun e named.1
+      (either-way (NamesOnlyMade node) (value within c) (edited v d) v
+      (record { nodes = h.nodes; parents = h.parents; files = all-filter (λ l. l.file ≤ node) (λ l. not (is_line f address l)) v.lines h.files }) h)
 
 -- nodes have the numbers that the history drew, legal or not
 module _ (c : List Bool) where

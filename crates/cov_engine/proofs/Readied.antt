@@ -171,7 +171,7 @@ module _ (history : List Command) (names : List (List ℕ)) (constraints : List 
   ready-numbered (commands.Option name) spare next r = absurd r
   ready-numbered (commands.Constraint expr) spare next r = absurd r
   ready-numbered (commands.Commit base choice ambition es) spare next r =
-      drawn-numbered history base choice ambition es state.legal r.0.0 r.0.1 next.accepted commits made ls entries r.1.0
+      drawn-numbered history base choice ambition es state.legal r.0.0 r.0.1 r.0.2 next.accepted commits made ls entries r.1.0
 
   -- the counts before are those of the history
   pub ready-takes : (command : Command) (spare : ℕ) (edits : List Edit) → IsNext history command spare → IsThat command → edits ≡ edits_in command → CanTakeAll (old.nodes - 1) old.lines old.lines edits entries
@@ -181,7 +181,7 @@ module _ (history : List Command) (names : List (List ℕ)) (constraints : List 
       subst (λ n. CanTakeAll n old.lines old.lines edits entries) (sym (first-nodes history old state.counted))
       (subst (λ m. CanTakeAll (numbers_of history).nodes m m edits entries) (sym state.counted.lines)
       (subst (λ some. CanTakeAll (numbers_of history).nodes (line_count history) (line_count history) some entries) (sym e)
-      (drawn-takes history base choice ambition es state.legal r.0.0 r.0.1 next.accepted commits made ls entries r.1.0)))
+      (drawn-takes history base choice ambition es state.legal r.0.0 r.0.1 r.0.2 next.accepted commits made ls entries r.1.0)))
 
   pub ready-state : (command : Command) (spare : ℕ) → IsNext history command spare → IsThat command → IsStateOf (history ++ command ∷ []) names constraints new
   ready-state (commands.Option name) spare next r = absurd r
@@ -199,7 +199,7 @@ module _ (history : List Command) (names : List (List ℕ)) (constraints : List 
       (ap (λ n. with_new_lines n (line_count history) (line_count history) es entries) (sym (first-nodes history old state.counted))
       ∙ ap (λ m. with_new_lines (old.nodes - 1) m m es entries) (sym state.counted.lines)
       ∙ ap (λ some. with_new_lines (old.nodes - 1) old.lines old.lines some entries) (sym e) ∙ sym ee)
-      (held-committed history base choice ambition es state.legal r.0.0 r.0.1 next.accepted commits made ls entries r.1.0)))
+      (held-committed history base choice ambition es state.legal r.0.0 r.0.1 r.0.2 next.accepted commits made ls entries r.1.0)))
 
   -- given up, it leaves what is held
   pub ready-given-up : (command : Command) (commits' : List Made) (ls' : List KeptLine) (entries' : List Entry) → IsThat command

@@ -28,6 +28,7 @@ near-rest n (e ∷ es) h = subst (AreNear n) (sym (rest-is e es)) h.1
 
 inserts-first : (n node : ℕ) (e : Edit) (es : List Edit) → inserts_into n node (e ∷ es) ≡ inserts_into n node (e ∷ []) + inserts_into n node es
 inserts-first n node (edits.New kind parent name) es = omega arith
+inserts-first n node (edits.Delete file line) es = omega arith
 inserts-first n node (edits.Insert file after text) es = by (nat_eq (node_number n file) node)
   where
     by : (b : Bool) → cond b (suc (inserts_into n node es)) (inserts_into n node es) ≡ cond b 1 0 + inserts_into n node es
@@ -37,6 +38,7 @@ inserts-first n node (edits.Insert file after text) es = by (nat_eq (node_number
 pub inserts-few : (n node : ℕ) (es : List Edit) → inserts_into n node es ≤ length es
 inserts-few n node [] = omega arith
 inserts-few n node (edits.New kind parent name ∷ es) = let ih = inserts-few n node es in omega (arith, ih)
+inserts-few n node (edits.Delete file line ∷ es) = let ih = inserts-few n node es in omega (arith, ih)
 inserts-few n node (edits.Insert file after text ∷ es) = by (nat_eq (node_number n file) node) (inserts-few n node es)
   where
     by : (b : Bool) → inserts_into n node es ≤ length es → cond b (suc (inserts_into n node es)) (inserts_into n node es) ≤ suc (length es)
@@ -93,6 +95,7 @@ numbers-append : (k n commit made : ℕ) (es : List Edit) → made ≡ k → Are
 numbers-append k n commit made [] e = tt
 numbers-append k n commit made (edits.New kind parent name ∷ es) e = (omega (arith, e), numbers-append (k + 1) n commit (made + 1) es (omega (arith, e)))
 numbers-append k n commit made (edits.Insert file after text ∷ es) e = numbers-append k n commit made es e
+numbers-append k n commit made (edits.Delete file line ∷ es) e = numbers-append k n commit made es e
 
 numbers-both : (k end : ℕ) (ss ts : List Stored) → end ≡ k + length ss → AreNumbers k ss → AreNumbers end ts → AreNumbers k (ss ++ ts)
 numbers-both k end [] ts e h g = let same : end ≡ k = omega (arith, e) in subst (λ n. AreNumbers n ts) same g

@@ -15,7 +15,7 @@ use Rattle.cov_edit.specs.declared.edit.Edit.TheVariants as edits
 use Rattle.cov_edit.specs.declared.command.Command.{Command}
 use Rattle.cov_edit.specs.declared.command.Command.TheVariants as commands
 use Rattle.cov_edit.specs.History.{option_count, constraints_of, is_valid_in}
-use Rattle.cov_edit.specs.Numbering.{Numbers, NumberedEdit, OnRows, Inserted, no_numbers, node_number, line_number, numbers_from, numbers_of, numbered_from, numbered}
+use Rattle.cov_edit.specs.Numbering.{Numbers, NumberedEdit, OnRows, Inserted, Deleted, no_numbers, node_number, line_number, numbers_from, numbers_of, numbered_from, numbered}
 use Rattle.cov_edit.specs.Variant.{Variant, edited}
 use Rattle.cov_edit.specs.Replay.{applying, changes_from, applied, replay}
 use Rattle.cov_edit.proofs.Replays.{numbers_from-append, replay-append, replay-commit, all_within}
@@ -169,6 +169,8 @@ insert-accepted ns t node line k v (edits.New kind parent name ∷ es) i h =
     insert-accepted ns t (node + 1) line (k + 1) (edited v (OnRows (Created (node + 1) kind (node_number ns.nodes parent) name))) es i (rest-accepted k (refusal ns v (edits.New kind parent name)) _ h)
 insert-accepted ns t node line k v (edits.Insert file after text ∷ es) i h =
     insert-accepted ns t node (line + 1) (k + 1) (edited v (Inserted (node_number ns.nodes file) (address_in t (line + 1)) text)) es i (rest-accepted k (refusal ns v (edits.Insert file after text)) _ h)
+insert-accepted ns t node line k v (edits.Delete file which ∷ es) i h =
+    insert-accepted ns t node line (k + 1) (edited v (Deleted (node_number ns.nodes file) (address_in t (line_number (length ns.addresses) which)))) es i (rest-accepted k (refusal ns v (edits.Delete file which)) _ h)
 
 -- an accepted insert has its anchor
 anchor-there : (ns : Numbers) (v : Variant) (i : Insertion) → refusal ns v (the_insert i) ≡ None → (is_head i.after || has_line ns v (node_number ns.nodes i.file) i.after) ≡ true

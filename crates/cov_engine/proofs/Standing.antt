@@ -35,11 +35,13 @@ pub numbered-next : (ns : Numbers) (t : List (List ℕ)) (node line m : ℕ) (es
     → AreNext t line (numbered_from ns t node line es)
 numbered-next ns t node line m [] h = tt
 numbered-next ns t node line m (edits.New kind parent name ∷ es) h = (tt, numbered-next ns t (node + 1) line m es h)
+numbered-next ns t node line m (edits.Delete file which ∷ es) h = (tt, numbered-next ns t node line m es h)
 numbered-next ns t node line m (edits.Insert file after text ∷ es) h = ((omega (arith, h), refl), numbered-next ns t node (line + 1) m es (omega (arith, h)))
 
 pub numbered-count : (ns : Numbers) (t : List (List ℕ)) (node line m : ℕ) (es : List Edit) → fold count_after line (numbered_from ns t node line es) ≡ line + length (anchors_of m es)
 numbered-count ns t node line m [] = omega arith
 numbered-count ns t node line m (edits.New kind parent name ∷ es) = numbered-count ns t (node + 1) line m es
+numbered-count ns t node line m (edits.Delete file which ∷ es) = numbered-count ns t node line m es
 numbered-count ns t node line m (edits.Insert file after text ∷ es) = omega (arith, numbered-count ns t node (line + 1) m es)
 
 pub all-mapped : {X Y : Type 0} (P : X → Type 0) (Q : Y → Type 0) (f : X → Y) → ((x : X) → P x → Q (f x)) → (xs : List X) → AllByRecursion P xs → AllByRecursion Q (map f xs)

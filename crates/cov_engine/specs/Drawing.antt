@@ -54,6 +54,7 @@ abbrev pub new_lines : ℕ → List Edit → List KeptLine
 new_lines commit [] = []
 new_lines commit (edits.New kind parent name ∷ es) = new_lines commit es
 new_lines commit (edits.Insert file after text ∷ es) = record { text = text; commit = commit } ∷ new_lines commit es
+new_lines commit (edits.Delete file line ∷ es) = new_lines commit es
 
 -- the rows that a commit's edits make, n nodes having been made before the commit and so many before these edits
 abbrev pub new_entries : ℕ → ℕ → ℕ → List Edit → List Stored
@@ -61,19 +62,22 @@ new_entries n commit made [] = []
 new_entries n commit made (edits.New kind parent name ∷ es) =
     record { node = made + 1; kind = kind; parent = node_number n parent; name = name; commit = commit; lines = [] } ∷ new_entries n commit (made + 1) es
 new_entries n commit made (edits.Insert file after text ∷ es) = new_entries n commit made es
+new_entries n commit made (edits.Delete file line ∷ es) = new_entries n commit made es
 
 -- how many lines edits insert into a file, n nodes having been made before
 abbrev pub inserts_into : ℕ → ℕ → List Edit → ℕ
 inserts_into n file [] = 0
 inserts_into n file (edits.New kind parent name ∷ es) = inserts_into n file es
 inserts_into n file (edits.Insert f after text ∷ es) = if nat_eq (node_number n f) file then suc (inserts_into n file es) else inserts_into n file es
+inserts_into n file (edits.Delete f line ∷ es) = inserts_into n file es
 
--- the node in which an edit makes something
+-- the node in which an edit makes or takes something
 abbrev pub place_of : Edit → NodeRef
 place_of (edits.New kind parent name) = parent
 place_of (edits.Insert file after text) = file
+place_of (edits.Delete file line) = file
 
--- the nodes in which edits make something have numbers below 2^32, n nodes having been made before
+-- the nodes in which edits make or take something have numbers below 2^32, n nodes having been made before
 abbrev pub AreNear : ℕ → List Edit → Type 0
 AreNear n es = AllByRecursion (λ e. node_number n (place_of e) < 2 ^ 32) es
 
@@ -124,6 +128,7 @@ with_new_lines n m made [] entries = entries
 with_new_lines n m made (edits.New kind parent name ∷ es) entries = with_new_lines n m made es entries
 with_new_lines n m made (edits.Insert file after text ∷ es) entries =
     with_new_lines n m (made + 1) es (map (with_new_line (node_number n file) (line_number m after) (made + 1)) entries)
+with_new_lines n m made (edits.Delete file line ∷ es) entries = with_new_lines n m made es entries
 
 -- the entries can take the lines of edits, one after another
 abbrev pub CanTakeAll : ℕ → ℕ → ℕ → List Edit → List Entry → Type 0
@@ -133,6 +138,7 @@ CanTakeAll n m made (edits.Insert file after text ∷ es) entries =
     (node_number n file < 2 ^ 32) × (line_number m after < 2 ^ 32) × (made + 1 < 2 ^ 32)
     × AllByRecursion (CanTake (node_number n file) (line_number m after) (made + 1)) entries
     × CanTakeAll n m (made + 1) es (map (with_new_line (node_number n file) (line_number m after) (made + 1)) entries)
+CanTakeAll n m made (edits.Delete file line ∷ es) entries = CanTakeAll n m made es entries
 
 -- a commit is drawn: its lines and rows are kept behind those that the history holds, each file has room for its lines,
 -- and its ambition is ready

@@ -3,6 +3,7 @@ use Rattle.std.specs.Prelude.{◌≡◌, ℕ, ◌≤◌, Bool, true, false, List
 use Rattle.std.specs.List.{fold}
 use Rattle.cov_expr.specs.Formula.{Formula, value, reach}
 use Rattle.cov_edit.specs.declared.edit.Edit.{Edit}
+use Rattle.cov_edit.specs.declared.edit.Edit.TheVariants as edits
 use Rattle.cov_edit.specs.declared.command.Command.{Command}
 use Rattle.cov_edit.specs.declared.command.Command.TheVariants as commands
 use Rattle.cov_edit.specs.History.{option_count, is_valid_in}
@@ -42,13 +43,19 @@ has_commit [] = false
 has_commit (commands.Commit base choice ambition es ∷ history) = true
 has_commit (_ ∷ history) = has_commit history
 
+-- whether an edit among edits takes a line out
+abbrev pub has_delete : List Edit → Bool
+has_delete [] = false
+has_delete (edits.Delete file line ∷ es) = true
+has_delete (_ ∷ es) = has_delete es
+
 -- the session of which a commit is, but for its name
 abbrev pub session_of : ℕ → List Bool → Formula ℕ → List Edit → Session
 session_of base choice ambition es = record { name = []; base = base; choice = choice; ambition = ambition; edits = es }
 
 -- a command that may come after a history: its options are declared, and a commit is that of a good session after whose
--- base no commit stands
+-- base no commit stands, and takes no line out
 abbrev pub MayCome : List Command → Command → Type 0
 MayCome history (commands.Option name) = Unit {0}
 MayCome history (commands.Constraint expr) = reach expr ≤ option_count history
-MayCome history (commands.Commit base choice ambition es) = IsGood history (session_of base choice ambition es) × (has_commit (drop base history) ≡ false)
+MayCome history (commands.Commit base choice ambition es) = IsGood history (session_of base choice ambition es) × (has_commit (drop base history) ≡ false) × (has_delete es ≡ false)

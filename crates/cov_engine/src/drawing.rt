@@ -34,7 +34,7 @@ fn draw_line(lines: &mut Vec<KeptLine>, commit: u32, edit: &Edit) -> Result<(), 
     ensures err { OnErr result (lines.new.items ≡ lines.old.items) }
 {
     match edit {
-        Edit::New { .. } => Ok(()),
+        Edit::New { .. } | Edit::Delete { .. } => Ok(()),
         Edit::Insert { text, .. } => {
             let text = text.copy()?;
             lines.push(KeptLine { text, commit })?;
@@ -84,7 +84,7 @@ fn draw_entry(entries: &mut Vec<Entry>, before: u32, commit: u32, edit: &Edit) -
             entries.push(entry)?;
             Ok(())
         }
-        Edit::Insert { .. } => Ok(()),
+        Edit::Insert { .. } | Edit::Delete { .. } => Ok(()),
     }
 }
 
@@ -112,7 +112,7 @@ fn add_room_for(entries: &mut [Entry], before: u32, edit: &Edit) -> Result<(), M
         AllByRecursion (IsReadyFor (λ node. count node + inserts_into before node (edit.now ∷ []))) entries.new) }
 {
     match edit {
-        Edit::New { .. } => Ok(()),
+        Edit::New { .. } | Edit::Delete { .. } => Ok(()),
         Edit::Insert { file, .. } => add_room(entries, node_number(before, file)),
     }
 }
@@ -134,7 +134,7 @@ fn forget_room_for(entries: &mut [Entry], before: u32, edit: &Edit)
     ensures { map stored entries.new ≡ map stored entries.old }
 {
     match edit {
-        Edit::New { .. } => (),
+        Edit::New { .. } | Edit::Delete { .. } => (),
         Edit::Insert { file, .. } => forget_room(entries, node_number(before, file)),
     }
 }
@@ -162,7 +162,7 @@ fn insert_line_of(entries: &mut [Entry], nodes: u32, lines: u32, made: u32, edit
     ensures made { result ≡ made + length (anchors_of 0 (edit.now ∷ [])) }
 {
     match edit {
-        Edit::New { .. } => made,
+        Edit::New { .. } | Edit::Delete { .. } => made,
         Edit::Insert { file, after, .. } => {
             let line = made + 1;
             insert_line(

@@ -56,6 +56,7 @@ fn with_edit(sizes: Sizes, edit: &Edit) -> Sizes
             nodes: sizes.nodes,
             bytes: sizes.bytes + text.len() as u64,
         },
+        Edit::Delete { .. } => sizes,
     }
 }
 
