@@ -27,11 +27,11 @@ of_files : (count_reply 2 ++ concat (shown_line (Old 5) (codes "one  two") ∷ s
 unfolding digits
 of_files = refl
 
-refused_with_more : map (refused_reply names) (refusals.Syntax 17 ∷ refusals.UnknownOption (codes "on") ∷ refusals.Repeated 1 ∷ refusals.Invalid 2 ∷ refusals.Incomplete 0 ∷ [])
-    ≡ codes "refused syntax 17\n" ∷ codes "refused unknown-option on\n" ∷ codes "refused repeated safe\n" ∷ codes "refused invalid 2\n" ∷ codes "refused incomplete fast\n" ∷ []
+refused_with_more : map (refused_reply names) (refusals.Syntax 17 ∷ refusals.UnknownOption (codes "on") ∷ refusals.Repeated 1 ∷ refusals.Invalid 2 ∷ refusals.Incomplete 0 ∷ refusals.BadRecord 16383 ∷ [])
+    ≡ codes "refused syntax 17\n" ∷ codes "refused unknown-option on\n" ∷ codes "refused repeated safe\n" ∷ codes "refused invalid 2\n" ∷ codes "refused incomplete fast\n" ∷ codes "refused bad-record 16383\n" ∷ []
 unfolding digits
 refused_with_more = refl
 
-refused_alone : map (refused_reply names) (refusals.TooLong ∷ refusals.Long ∷ refusals.BadName ∷ refusals.NoVariantLeft ∷ refusals.OutsideAmbition ∷ refusals.NotBuilt ∷ [])
-    ≡ codes "refused too-long\n" ∷ codes "refused long\n" ∷ codes "refused bad-name\n" ∷ codes "refused no-variant-left\n" ∷ codes "refused outside-ambition\n" ∷ codes "refused not-built\n" ∷ []
+refused_alone : map (refused_reply names) (refusals.TooLong ∷ refusals.Long ∷ refusals.BadName ∷ refusals.NoVariantLeft ∷ refusals.OutsideAmbition ∷ refusals.BadBase ∷ refusals.BadOption ∷ refusals.NotBuilt ∷ [])
+    ≡ codes "refused too-long\n" ∷ codes "refused long\n" ∷ codes "refused bad-name\n" ∷ codes "refused no-variant-left\n" ∷ codes "refused outside-ambition\n" ∷ codes "refused bad-base\n" ∷ codes "refused bad-option\n" ∷ codes "refused not-built\n" ∷ []
 refused_alone = refl

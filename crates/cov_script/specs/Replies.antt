@@ -33,6 +33,9 @@ code_word refusals.TooManyBytes = codes "too-many-bytes"
 code_word refusals.TooManyLines = codes "too-many-lines"
 code_word refusals.TooManyNodes = codes "too-many-nodes"
 code_word refusals.Empty = codes "empty"
+code_word refusals.BadBase = codes "bad-base"
+code_word refusals.BadOption = codes "bad-option"
+code_word (refusals.BadRecord edit) = codes "bad-record"
 code_word refusals.NotBuilt = codes "not-built"
 
 -- what a refusal says behind its first word: a number, a name that is no option's, or an option's name
@@ -41,6 +44,7 @@ code_detail names (refusals.Syntax at) = codes " " ++ decimal at
 code_detail names (refusals.UnknownOption name) = codes " " ++ name
 code_detail names (refusals.Repeated option) = codes " " ++ option_name names option
 code_detail names (refusals.Invalid rule) = codes " " ++ decimal rule
+code_detail names (refusals.BadRecord edit) = codes " " ++ decimal edit
 code_detail names (refusals.Incomplete option) = codes " " ++ option_name names option
 code_detail names _ = []
 

@@ -50,6 +50,12 @@ pub enum Code {
     TooManyNodes,
     /// There are no edits to commit.
     Empty,
+    /// The base of a commit is beyond the history.
+    BadBase,
+    /// An option isn't declared.
+    BadOption,
+    /// The edit with this number, from 0, is the first that its variant refuses.
+    BadRecord { edit: u32 },
     /// The line has a form that isn't served.
     NotBuilt,
 }
@@ -92,6 +98,9 @@ fn word_of(code: &Code) -> &'static [u8]
         Code::TooManyLines => b"too-many-lines",
         Code::TooManyNodes => b"too-many-nodes",
         Code::Empty => b"empty",
+        Code::BadBase => b"bad-base",
+        Code::BadOption => b"bad-option",
+        Code::BadRecord { .. } => b"bad-record",
         Code::NotBuilt => b"not-built",
     }
 }
@@ -109,6 +118,7 @@ fn append_detail(
     match code {
         Code::Syntax { at } => append_number(alloc, text, *at),
         Code::Invalid { rule } => append_number(alloc, text, *rule),
+        Code::BadRecord { edit } => append_number(alloc, text, *edit),
         Code::UnknownOption { name } => append_word(text, name.as_slice()),
         Code::Repeated { option } | Code::Incomplete { option } => append_word(
             text,

@@ -29,7 +29,7 @@ use Rattle.cov_serve.specs.Codes.{edit_code}
 use Rattle.cov_serve.specs.Editing.{with_edit, as_code, addition_refusal}
 use Rattle.cov_serve.specs.Keeping.{as_session, IsCounted, IsOpen, numbers_at_base, table_of}
 use Rattle.cov_serve.specs.States.{has_name, names_made}
-use Rattle.cov_serve.specs.declared.code.Code.TheVariants as codes
+use Rattle.cov_script.specs.declared.code.Code.TheVariants as codes
 use Rattle.cov_serve.specs.declared.session.OpenSession.{OpenSession}
 
 anchors-append : (m : ℕ) (es fs : List Edit) → anchors_of m (es ++ fs) ≡ anchors_of m es ++ anchors_of m fs

@@ -33,7 +33,7 @@ use Rattle.cov_serve.specs.States.{State, named, is_used}
 use Rattle.cov_serve.specs.Step.{appended_if, bound_in, judged, completed_in, opened_unless, opened_for, opened_on, added_unless, added, file_made, inserted_at, inserted_in, committed_if, committed_in, dropped_in, file_told, told_unless, told_in, with_file, served, served_if, step}
 use Rattle.cov_serve.specs.Turns.{EndsWith, GoesOn, IsWhole, ServesFirst, WritesFront, ahead_of, answer_of, is_refusal, status_at_end}
 use Rattle.cov_serve.specs.declared.answer.Answer.{Answer}
-use Rattle.cov_serve.specs.declared.code.Code.{Code}
+use Rattle.cov_script.specs.declared.code.Code.{Code}
 
 -- the answer to an outcome says whether it refuses
 abbrev pub SaysRefusal : Outcome State → Type 0

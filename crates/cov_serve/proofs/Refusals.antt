@@ -10,7 +10,7 @@ use Rattle.cov_serve.specs.States.{State}
 use Rattle.cov_serve.specs.Step.{committed_if, refused}
 use Rattle.cov_serve.specs.Turns.{Gives}
 use Rattle.cov_serve.specs.declared.answer.Reply.{Reply}
-use Rattle.cov_serve.specs.declared.code.Code.{Code}
+use Rattle.cov_script.specs.declared.code.Code.{Code}
 
 module _ (st next : State) (reply : Reply) (code : Code) (gives : Gives (refused st code) next reply) where
   at : (r : Refusal) → Some (refusal_code r) ≡ Some code → (wanted : Option Refusal) → wanted ≡ Some r → IsRefusedBy st wanted next reply

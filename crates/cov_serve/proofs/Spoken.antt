@@ -1,6 +1,7 @@
 -- What lines say, and the nodes that they name.
-use Rattle.std.proofs.Common.{◌≡◌, ℕ, ◌+◌, ◌-◌, ◌<◌, true, false, cond, nat_le, List, Some, Result, Ok, IfOk, sym, ap, subst, ◌∙◌, arith}
+use Rattle.std.proofs.Common.{◌≡◌, ℕ, ◌+◌, ◌-◌, ◌<◌, true, false, cond, nat_le, List, [], ◌∷◌, length, Some, Result, Ok, IfOk, sym, ap, subst, ◌∙◌, arith}
 use Rattle.std.proofs.lemmas.Bool.Decides.{nat_tests}
+use Rattle.std.specs.Prelude.{slice_get}
 use Rattle.cov_base.specs.declared.number.NodeRef.{NodeRef}
 use Rattle.cov_base.specs.declared.number.NodeRef.TheVariants as nodes
 use Rattle.cov_base.specs.declared.number.LineRef.{LineRef}
@@ -17,9 +18,10 @@ use Rattle.cov_script.specs.declared.line.Line.TheVariants as lines
 use Rattle.cov_view.specs.References.{is_made_node}
 use Rattle.cov_serve.specs.Editing.{node_ref, line_ref, own_lines}
 use Rattle.cov_serve.specs.Keeping.{as_session, numbers_at_base}
-use Rattle.cov_serve.specs.Replies.{line_reply}
+use Rattle.cov_serve.specs.Outcome.{Outcome}
+use Rattle.cov_script.specs.Replies.{new_line_reply}
 use Rattle.cov_serve.specs.States.{State}
-use Rattle.cov_serve.specs.Step.{added, inserted_at, inserted_in}
+use Rattle.cov_serve.specs.Step.{added, inserted_at, inserted_in, with_file}
 use Rattle.cov_serve.specs.Turns.{Gives}
 use Rattle.cov_serve.specs.declared.answer.Reply.{Reply}
 use Rattle.cov_serve.specs.declared.session.OpenSession.{OpenSession}
@@ -52,6 +54,12 @@ has-text law bytes (lines.Checkout t c) h = tt
 has-text law bytes (lines.Alt c t p) h = tt
 has-text law bytes (lines.Presence n) h = tt
 
+-- a path of one name
+pub one-name : (st : State) (path : List (List ℕ)) (file : List ℕ) (go : List ℕ → Outcome State) → length path ≡ 1 → slice_get path 0 ≡ Some file → with_file st path go ≡ go file
+one-name st [] file go one there = absurd (omega (arith, one))
+one-name st (x ∷ []) file go one there = ap go (let same : x ≡ file = cc in same)
+one-name st (x ∷ y ∷ xs) file go one there = absurd (omega (arith, one))
+
 -- the number of a made node gives its reference again
 pub made-again : (n made : ℕ) (node : NodeRef) → is_made_node n made node ≡ true → node_ref n (node_number n node) ≡ node
 made-again n made (nodes.Old x) h = ap (λ b. cond b (nodes.Old x) (nodes.New (x - n - 1))) known
@@ -73,17 +81,17 @@ module _ (st : State) (s : OpenSession) (file : NodeRef) (after : LineRef) (path
   base_nodes = (numbers_at_base st.history (as_session s)).nodes
 
   inserted : st.session ≡ Some (as_session s) → Some (node_number base_nodes file) ≡ path_node (seen (as_session s) st.history).rows 0 path
-      → is_made_node base_nodes s.view.nodes_made file ≡ true → after ≡ line_ref line → reply ≡ line_reply (own_lines (as_session s))
+      → is_made_node base_nodes s.view.nodes_made file ≡ true → after ≡ line_ref line → reply ≡ new_line_reply (own_lines (as_session s))
       → added st st.session insert reply ≡ inserted_in st path line text st.session
   inserted live there made is_at said =
       ap (λ o. added st o insert reply) live
       ∙ ap (λ a. added st (Some (as_session s)) (edits.Insert file a text) reply) is_at
       ∙ ap (λ r. added st (Some (as_session s)) (edits.Insert file (line_ref line) text) r) said
-      ∙ ap (λ f. added st (Some (as_session s)) (edits.Insert f (line_ref line) text) (line_reply (own_lines (as_session s)))) (sym (made-again base_nodes s.view.nodes_made file made))
+      ∙ ap (λ f. added st (Some (as_session s)) (edits.Insert f (line_ref line) text) (new_line_reply (own_lines (as_session s)))) (sym (made-again base_nodes s.view.nodes_made file made))
       ∙ ap (inserted_at st (as_session s) line text) there
       ∙ ap (inserted_in st path line text) (sym live)
 
   pub insert-found : {E : Type 0} (result : Result (State × Reply) E) → st.session ≡ Some (as_session s) → Some (node_number base_nodes file) ≡ path_node (seen (as_session s) st.history).rows 0 path
-      → is_made_node base_nodes s.view.nodes_made file ≡ true → after ≡ line_ref line → reply ≡ line_reply (own_lines (as_session s))
+      → is_made_node base_nodes s.view.nodes_made file ≡ true → after ≡ line_ref line → reply ≡ new_line_reply (own_lines (as_session s))
       → IfOk result (λ next. Gives (added st st.session insert reply) next.0 next.1) → IfOk result (λ next. Gives (inserted_in st path line text st.session) next.0 next.1)
   insert-found result live there made is_at said gives = subst (λ o. IfOk result (λ next. Gives o next.0 next.1)) (inserted live there made is_at said) gives

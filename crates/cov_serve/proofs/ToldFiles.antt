@@ -9,12 +9,13 @@ use Rattle.cov_view.specs.Views.{by_number}
 use Rattle.cov_view.specs.declared.line.ViewLine.{ViewLine}
 use Rattle.cov_serve.specs.Keeping.{as_session}
 use Rattle.cov_serve.specs.Listing.{numbered_within}
-use Rattle.cov_serve.specs.Replies.{done_reply, file_reply}
+use Rattle.cov_serve.specs.Replies.{file_reply}
 use Rattle.cov_serve.specs.States.{State, with_session}
 use Rattle.cov_serve.specs.Step.{accepted, refused, dropped_in, file_told}
 use Rattle.cov_serve.specs.Turns.{Gives}
 use Rattle.cov_serve.specs.declared.answer.Reply.{Reply}
-use Rattle.cov_serve.specs.declared.code.Code.TheVariants.{NotFile}
+use Rattle.cov_script.specs.Replies.{plain_reply}
+use Rattle.cov_script.specs.declared.code.Code.TheVariants.{NotFile}
 use Rattle.cov_serve.specs.declared.session.OpenSession.{OpenSession}
 use Rattle.cov_serve.proofs.ToldLines.{by-number}
 
@@ -24,7 +25,7 @@ if-ok (Err e) P Q f h = tt
 
 -- the session that is open ends
 pub ended : (st : State) (kept : Option OpenSession) (next : State) (reply : Reply) → st.session ≡ option_map as_session kept → (b : Bool) → is_some kept ≡ not b → b ≡ false
-    → Gives (accepted (with_session st None) done_reply) next reply → Gives (dropped_in st st.session) next reply
+    → Gives (accepted (with_session st None) plain_reply) next reply → Gives (dropped_in st st.session) next reply
 ended st None next reply live b some none gives = absurd (let not_b : not b ≡ true = ap not none in cc)
 ended st (Some s) next reply live b some none gives = subst (λ o. Gives (dropped_in st o) next reply) (sym live) gives
 

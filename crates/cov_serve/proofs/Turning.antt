@@ -13,7 +13,7 @@ use Rattle.cov_serve.specs.States.{State}
 use Rattle.cov_serve.specs.Step.{step, served_if, refused}
 use Rattle.cov_serve.specs.Turns.{IsServed, Turns, ahead_of, turn_of}
 use Rattle.cov_serve.specs.declared.answer.Answer.{Answer}
-use Rattle.cov_serve.specs.declared.code.Code.TheVariants.{Long}
+use Rattle.cov_script.specs.declared.code.Code.TheVariants.{Long}
 use Rattle.cov_serve.specs.declared.status.Status.{Status}
 
 -- a line was served that is the first of a text

@@ -1,10 +1,10 @@
 -- The codes of refusals.
+use Rattle.cov_script.specs.declared.code.Code.{Code}
+use Rattle.cov_script.specs.declared.code.Code.TheVariants as codes
 use Rattle.cov_view.specs.declared.fault.EditFault.{EditFault}
 use Rattle.cov_view.specs.declared.fault.EditFault.TheVariants as faults
 use Rattle.cov_engine.specs.declared.refusal.Refusal.{Refusal}
 use Rattle.cov_engine.specs.declared.refusal.Refusal.TheVariants as refusals
-use Rattle.cov_serve.specs.declared.code.Code.{Code}
-use Rattle.cov_serve.specs.declared.code.Code.TheVariants as codes
 
 -- the code of an edit's refusal; want of memory is none
 abbrev pub edit_code : EditFault → Code

@@ -16,8 +16,8 @@ use Rattle.cov_view.specs.Refusals.{when, first_of, first_refused}
 use Rattle.cov_view.specs.declared.fault.EditFault.{EditFault}
 use Rattle.cov_engine.specs.Sessions.{Session}
 use Rattle.cov_serve.specs.Codes.{edit_code}
-use Rattle.cov_serve.specs.declared.code.Code.{Code}
-use Rattle.cov_serve.specs.declared.code.Code.TheVariants as codes
+use Rattle.cov_script.specs.declared.code.Code.{Code}
+use Rattle.cov_script.specs.declared.code.Code.TheVariants as codes
 
 -- the session with one edit more
 abbrev pub with_edit : Session → Edit → Session

@@ -7,7 +7,7 @@ use Rattle.cov_serve.specs.States.{State}
 use Rattle.cov_serve.specs.Step.{refused}
 use Rattle.cov_serve.specs.Turns.{Gives}
 use Rattle.cov_serve.specs.declared.answer.Reply.{Reply}
-use Rattle.cov_serve.specs.declared.code.Code.{Code}
+use Rattle.cov_script.specs.declared.code.Code.{Code}
 
 -- the code of a refusal, unless memory is wanting
 abbrev pub code_unless_wanting : Refusal → Option Code

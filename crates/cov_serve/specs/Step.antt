@@ -13,6 +13,7 @@ use Rattle.cov_script.specs.declared.line.Line.{Line}
 use Rattle.cov_script.specs.declared.line.Line.TheVariants as lines
 use Rattle.cov_script.specs.declared.line.LineField.{LineField}
 use Rattle.cov_script.specs.declared.line.LineSyntax.{LineSyntax}
+use Rattle.cov_script.specs.Replies.{refused_reply, option_reply, constraint_reply, complete_reply, open_reply, plain_reply, new_line_reply, commit_reply}
 use Rattle.cov_edit.specs.declared.edit.Edit.{Edit}
 use Rattle.cov_edit.specs.declared.edit.Edit.TheVariants as edits
 use Rattle.cov_edit.specs.declared.command.Command.{Command}
@@ -29,10 +30,10 @@ use Rattle.cov_serve.specs.Codes.{refusal_code}
 use Rattle.cov_serve.specs.Editing.{with_edit, addition_refusal, ref_in, line_ref, own_lines}
 use Rattle.cov_serve.specs.Outcome.{Outcome, answers}
 use Rattle.cov_view.specs.Paths.{path_node}
-use Rattle.cov_serve.specs.Replies.{refused_reply, option_reply, constraint_reply, choice_reply, open_reply, done_reply, line_reply, commit_reply, file_reply}
+use Rattle.cov_serve.specs.Replies.{file_reply}
 use Rattle.cov_serve.specs.States.{State, at_start, with_command, with_session, named, is_used}
-use Rattle.cov_serve.specs.declared.code.Code.{Code}
-use Rattle.cov_serve.specs.declared.code.Code.TheVariants.{Long, Invalid, NotBuilt, NoSession, OutsideAmbition, NoSuchPath, NotFile}
+use Rattle.cov_script.specs.declared.code.Code.{Code}
+use Rattle.cov_script.specs.declared.code.Code.TheVariants.{Long, Invalid, NotBuilt, NoSession, OutsideAmbition, NoSuchPath, NotFile}
 
 -- a line that is accepted, with the state after it
 abbrev pub accepted : State → List ℕ → Outcome State
@@ -44,7 +45,7 @@ passed_over st = accepted st []
 
 -- a refused line changes nothing
 abbrev pub refused : State → Code → Outcome State
-refused st code = record { state = st; reply = refused_reply code; is_refused = true }
+refused st code = record { state = st; reply = refused_reply (options_of st.history) code; is_refused = true }
 
 -- a command is appended unless the history refuses it
 abbrev pub appended_if : State → Command → List ℕ → Option Refusal → Outcome State
@@ -68,7 +69,7 @@ bound_in st (Err fault) = refused st NotBuilt
 -- a choice is told, or the first constraint that is false on it
 abbrev pub judged : State → List Bool → Option ℕ → Outcome State
 judged st c (Some rule) = refused st (Invalid rule)
-judged st c None = accepted st (choice_reply (options_of st.history) c)
+judged st c None = accepted st (complete_reply (options_of st.history) c)
 
 -- a choice that doesn't bind each option once, in order of declaration, is no form
 abbrev pub completed_in : State → Option (List Bool) → Outcome State
@@ -120,12 +121,12 @@ added st (Some s) e reply = added_unless st s e reply (addition_refusal st.histo
 abbrev pub file_made : State → List ℕ → List ℕ → Outcome State
 file_made st name file =
     if is_used st file then refused st NotBuilt
-    else added st (named st.session name) (edits.New kinds.File (nodes.Old 0) file) done_reply
+    else added st (named st.session name) (edits.New kinds.File (nodes.Old 0) file) plain_reply
 
 -- a line is inserted into the file that a session sees at a path
 abbrev pub inserted_at : State → Session → LineField → List ℕ → Option ℕ → Outcome State
 inserted_at st s line text None = refused st NoSuchPath
-inserted_at st s line text (Some node) = added st (Some s) (edits.Insert (ref_in st.history s node) (line_ref line) text) (line_reply (own_lines s))
+inserted_at st s line text (Some node) = added st (Some s) (edits.Insert (ref_in st.history s node) (line_ref line) text) (new_line_reply (own_lines s))
 
 -- a line is inserted in a session, if there is one
 abbrev pub inserted_in : State → List (List ℕ) → LineField → List ℕ → Option Session → Outcome State
@@ -145,7 +146,7 @@ committed_in st (Some s) = committed_if st (commit_of s) (verdict st.history (co
 -- a session is given up, if there is one
 abbrev pub dropped_in : State → Option Session → Outcome State
 dropped_in st None = refused st NoSession
-dropped_in st (Some s) = accepted (with_session st None) done_reply
+dropped_in st (Some s) = accepted (with_session st None) plain_reply
 
 -- the lines of a file in a variant are told
 abbrev pub file_told : State → Variant → Option ℕ → Outcome State

@@ -1,6 +1,10 @@
 // How the session that is open is edited, committed and given up.
 ghost use Rattle.std.specs.Prelude.{◌≡◌, true, if◌then◌else◌, None, Some, Option as Maybe, option_map, IfOk, length};
+ghost use Rattle.cov_base.specs.declared.number.Kind.TheVariants.{File};
+ghost use Rattle.cov_base.specs.declared.number.NodeRef.TheVariants.{Old};
+ghost use Rattle.cov_script.specs.Replies.{plain_reply};
 ghost use Rattle.cov_edit.specs.EditFits.{has_line_text, is_line_text};
+ghost use Rattle.cov_edit.specs.declared.edit.Edit.TheVariants as edits;
 ghost use Rattle.cov_engine.specs.Sessions.{commit_of};
 ghost use Rattle.cov_engine.specs.Verdict.{verdict};
 ghost use Rattle.cov_serve.specs.States.{is_used, named};
@@ -9,12 +13,10 @@ ghost use Rattle.cov_serve.specs.Step.{added, file_made, inserted_in, with_file,
 ghost use Rattle.cov_serve.specs.Texts.{is_said};
 ghost use Rattle.cov_serve.specs.Turns.{Gives};
 
-use crate::code::Code;
-use crate::reply::{done_text, numbered_text};
 use crate::server::{Served, Server};
 use cov_base::{Kind, LineNo, LineRef, Memory, MemoryOr, Name, NodeNo, NodeRef, Path, Text};
 use cov_edit::{Command, Edit};
-use cov_script::LineField;
+use cov_script::{Code, LineField, reply_commit, reply_new_line, reply_plain};
 
 impl Server {
     // Whether the session that is open has the name.
@@ -41,29 +43,37 @@ impl Server {
     pub(crate) fn make_file(self, name: Name, path: Path) -> Served
         ensures { IfOk result (λ next. Gives (with_file self path (λ file. file_made self name file)) next.0 next.1) }
     {
-        match path.as_slice() {
-            [file] => match file.copy() {
-                Ok(file) => self.make_named(name, file),
-                Err(Memory) => Err(Memory),
-            },
-            _ => self.refuse(Code::NotBuilt),
+        if path.len() != 1 {
+            return self.refuse(Code::NotBuilt);
+        }
+        match path.get(0) {
+            Some(file) => self.make_named(&name, file),
+            None => unreachable!(),
         }
     }
 
-    fn make_named(self, name: Name, file: Name) -> Served
-        ensures { IfOk result (λ next. Gives (file_made self name file) next.0 next.1) }
+    fn make_named(self, name: &Name, file: &Name) -> Served
+        ensures { IfOk result (λ next. Gives (file_made self name.now file.now) next.0 next.1) }
     {
-        if self.is_used(&file) {
+        if self.is_used(file) {
             return self.refuse(Code::NotBuilt);
         }
-        if !self.has_session(&name) {
+        if !self.has_session(name) {
             return self.refuse(Code::NoSession);
         }
-        let text = done_text(self.alloc)?;
+        self.make_new(file)
+    }
+
+    // Makes a file of a name that wasn't used.
+    fn make_new(self, file: &Name) -> Served
+        ensures { IfOk result (λ next. Gives (added self self.session (edits.New File (Old 0) file.now) plain_reply) next.0 next.1) }
+    {
+        let name = file.copy()?;
+        let text = reply_plain(self.alloc)?;
         let edit = Edit::New {
             kind: Kind::File,
             parent: NodeRef::Old(NodeNo::new(0)),
-            name: file,
+            name,
         };
         self.edit(edit, text)
     }
@@ -92,7 +102,7 @@ impl Server {
         let Some(file) = session.view.resolve(&path) else {
             return self.refuse(Code::NoSuchPath);
         };
-        let reply = numbered_text(self.alloc, b"ok +", session.view.lines_made())?;
+        let reply = reply_new_line(self.alloc, session.view.lines_made())?;
         let after = line_ref(line);
         self.edit(Edit::Insert { file, after, text }, reply)
     }
@@ -169,7 +179,7 @@ impl Server {
                     used,
                     session: None,
                 };
-                let text = numbered_text(alloc, b"ok commit ", receipt.position.number())?;
+                let text = reply_commit(alloc, receipt.position)?;
                 Ok(server.accept(text))
             }
             Err((engine, refusal)) => {
@@ -200,7 +210,7 @@ impl Server {
         if self.session.is_none() {
             return self.refuse(Code::NoSession);
         }
-        let text = done_text(self.alloc)?;
+        let text = reply_plain(self.alloc)?;
         let Server {
             alloc,
             engine,

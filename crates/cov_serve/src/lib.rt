@@ -2,7 +2,6 @@
 #![tactic(auto)]
 
 mod answer;
-mod code;
 mod editing;
 mod line;
 mod names;

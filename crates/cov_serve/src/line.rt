@@ -2,16 +2,16 @@
 ghost use Rattle.std.specs.Prelude.{◌≡◌, ◌≤◌, IfOk, OnOk, OnErr, IfErr};
 ghost use Rattle.cov_base.specs.Causes.{HasCause};
 ghost use Rattle.cov_io.specs.Devices.{AppendsAll, AppendsSome};
-ghost use Rattle.cov_serve.specs.declared.code.Code.TheVariants.{Long};
+ghost use Rattle.cov_script.specs.declared.code.Code.TheVariants.{Long};
 ghost use Rattle.cov_serve.specs.Step.{step, refused};
 ghost use Rattle.cov_serve.specs.Turns.{IsServed, StopsLine};
 
 use crate::answer::{Answer, Reply};
-use crate::code::Code;
 use crate::server::Server;
 use crate::status::Status;
 use cov_base::{Failed, Memory};
 use cov_io::Sink;
+use cov_script::Code;
 
 /// Serves one line, and puts its reply in one call. At an `Err` the server is gone and the run ends.
 pub fn serve_line<K: Sink>(

@@ -6,14 +6,13 @@ ghost use Rattle.cov_edit.specs.History.{options_of, option_count, first_false_i
 ghost use Rattle.cov_serve.specs.Step.{opened, opened_for, opened_unless, opened_within, begun};
 ghost use Rattle.cov_serve.specs.Turns.{Gives};
 
-use crate::code::Code;
 use crate::names::Names;
-use crate::reply::open_text;
 use crate::server::{Served, Server};
 use crate::session::OpenSession;
 use cov_base::{Choice, Memory, Name};
 use cov_edit::Edits;
 use cov_expr::{Expr, NameFault, RawChoice, RawExpr};
+use cov_script::{Code, reply_open};
 
 impl Server {
     /// Opens a session while none is open.
@@ -47,7 +46,7 @@ impl Server {
     {
         match self.engine.valid(choice) {
             Ok(()) => self.open_within(name, choice, ambition),
-            Err(invalid) => self.refuse(Code::Invalid(invalid.rule)),
+            Err(invalid) => self.refuse(Code::Invalid { rule: invalid.rule }),
         }
     }
 
@@ -71,7 +70,7 @@ impl Server {
         ensures { IfOk result (λ next. Gives (begun self name choice ambition) next.0 next.1) }
     {
         let base = self.engine.position();
-        let text = open_text(self.alloc, base, self.engine.options(), choice)?;
+        let text = reply_open(self.alloc, base, self.engine.options(), choice)?;
         let view = self.engine.view(self.alloc, choice, base)?;
         let Server {
             alloc,

@@ -1,24 +1,26 @@
 // The state of a run.
-ghost use Rattle.std.specs.Prelude.{◌≡◌, ◌++◌, [], ◌∷◌, true, false, codes, Option as Maybe, IfOk};
-ghost use Rattle.std.specs.Fmt.{decimal};
+ghost use Rattle.std.specs.Prelude.{◌≡◌, ℕ, [], ◌∷◌, true, false, Option as Maybe, IfOk, IfSome};
+ghost use Rattle.cov_edit.specs.History.{option_count};
 ghost use Rattle.cov_engine.specs.Sessions.{MayCome, has_commit};
 ghost use Rattle.cov_engine.specs.States.{receipt_number};
 ghost use Rattle.cov_engine.specs.Verdict.{RefusedBy};
 ghost use Rattle.cov_engine.specs.declared.refusal.Refusal.{Refusal as AnyRefusal};
+ghost use Rattle.cov_script.specs.Replies.{IsCodeOf};
 ghost use Rattle.cov_serve.specs.Refusing.{IsRefusedBy, code_unless_wanting};
+ghost use Rattle.cov_serve.specs.Replies.{declared_reply};
 ghost use Rattle.cov_serve.specs.States.{at_start};
 ghost use Rattle.cov_serve.specs.Step.{accepted, appended, passed_over, refused};
 ghost use Rattle.cov_serve.specs.Texts.{is_said};
 ghost use Rattle.cov_serve.specs.Turns.{Gives};
 
 use crate::answer::{Answer, Reply};
-use crate::code::Code;
 use crate::names::Names;
-use crate::reply::{numbered_text, refused_text};
+use crate::reply::{Declared, reply_declared};
 use crate::session::OpenSession;
 use cov_base::{Memory, Text};
 use cov_edit::Command;
 use cov_engine::{Engine, Refusal};
+use cov_script::{Code, reply_refused};
 use std::alloc::Global;
 use std::marker::Model;
 
@@ -74,9 +76,10 @@ impl Server {
 
     /// The reply that refuses a line.
     pub fn refuse(self, code: Code) -> Served
+        requires { IsCodeOf (option_count self.history) code }
         ensures { IfOk result (λ next. Gives (refused self code) next.0 next.1) }
     {
-        let text = refused_text(self.alloc, code)?;
+        let text = reply_refused(self.alloc, self.engine.options(), &code)?;
         let answer = Answer::Refused;
         Ok((self, Reply { text, answer }))
     }
@@ -98,13 +101,12 @@ impl Server {
         }
     }
 
-    /// Appends a command that declares something, unless the history refuses it. The reply is these words and the
-    /// number of what is declared.
-    pub(crate) fn append(self, command: Command, words: &[u8]) -> Served
+    /// Appends a command that declares something, unless the history refuses it. The reply tells the number of what is
+    /// declared.
+    pub(crate) fn append(self, command: Command, declared: Declared) -> Served
         requires may { MayCome self.history command }
         requires declares { has_commit (command ∷ []) ≡ false }
-        requires said { is_said words.now ≡ true }
-        ensures { IfOk result (λ next. Gives (appended self command (words.now ++ (decimal (receipt_number self.history command) ++ codes "\n"))) next.0 next.1) }
+        ensures { IfOk result (λ next. Gives (appended self command (declared_reply declared (receipt_number self.history command))) next.0 next.1) }
     {
         let Server {
             alloc,
@@ -121,7 +123,8 @@ impl Server {
                     used,
                     session,
                 };
-                Ok(server.accept(numbered_text(alloc, words, receipt.number)?))
+                let text = reply_declared(alloc, declared, receipt.number)?;
+                Ok(server.accept(text))
             }
             Err((engine, refusal)) => {
                 let server = Server {
@@ -137,7 +140,8 @@ impl Server {
 }
 
 fn code_unless_wanting(refusal: Refusal) -> Option<Code>
-    ensures { result ≡ code_unless_wanting refusal }
+    ensures code { result ≡ code_unless_wanting refusal }
+    ensures named { (count : ℕ) → IfSome result (IsCodeOf count) }
 {
     match refusal {
         Refusal::Full => Some(Code::Full),
@@ -148,10 +152,10 @@ fn code_unless_wanting(refusal: Refusal) -> Option<Code>
         Refusal::TooManyLines => Some(Code::TooManyLines),
         Refusal::TooManyNodes => Some(Code::TooManyNodes),
         Refusal::TooManyBytes => Some(Code::TooManyBytes),
-        Refusal::Invalid { rule } => Some(Code::Invalid(rule)),
+        Refusal::Invalid { rule } => Some(Code::Invalid { rule }),
         Refusal::OutsideAmbition => Some(Code::OutsideAmbition),
         Refusal::Empty => Some(Code::Empty),
-        Refusal::BadRecord { edit } => Some(Code::BadRecord(edit)),
+        Refusal::BadRecord { edit } => Some(Code::BadRecord { edit }),
         Refusal::Memory => None,
     }
 }

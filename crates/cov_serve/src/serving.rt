@@ -5,17 +5,16 @@ ghost use Rattle.cov_expr.specs.Naming.{bound_expression};
 ghost use Rattle.cov_script.specs.Lines.{form_of};
 ghost use Rattle.cov_edit.specs.History.{options_of, option_count, first_false_in};
 ghost use Rattle.cov_serve.specs.Step.{step, refused, served_if, served, declared_in, bound_in, completed_in, judged};
-ghost use Rattle.cov_serve.specs.declared.code.Code.TheVariants.{NotBuilt};
+ghost use Rattle.cov_script.specs.declared.code.Code.TheVariants.{NotBuilt};
 ghost use Rattle.cov_serve.specs.Texts.{HasText};
 ghost use Rattle.cov_serve.specs.Turns.{Gives};
 
-use crate::code::Code;
-use crate::reply::choice_text;
+use crate::reply::Declared;
 use crate::server::{Served, Server};
-use cov_base::{BadName, Choice, Memory, MemoryOr, OptionName, Text};
+use cov_base::{BadName, Choice, Memory, MemoryOr, OptionId, OptionName, Text};
 use cov_edit::Command;
 use cov_expr::{NameFault, RawChoice, RawExpr};
-use cov_script::{Line, LineSyntax, lines_read_as_spelt, read_line};
+use cov_script::{Code, Line, LineSyntax, lines_read_as_spelt, read_line, reply_complete};
 
 /// The greatest number of bytes of a line.
 const MOST_BYTES: usize = 8192;
@@ -104,7 +103,10 @@ impl Server {
         ensures { IfOk result (λ next. Gives (declared_in self token) next.0 next.1) }
     {
         match OptionName::read(self.alloc, token.as_slice()) {
-            Ok(name) => self.append(Command::Option { name }, b"ok option "),
+            Ok(name) => {
+                let id = OptionId::new(self.engine.options().count());
+                self.append(Command::Option { name }, Declared::Option(id))
+            }
             Err(MemoryOr::Refused(BadName)) => self.refuse(Code::NotBuilt),
             Err(MemoryOr::Memory) => Err(Memory),
         }
@@ -114,7 +116,7 @@ impl Server {
         ensures { IfOk result (λ next. Gives (bound_in self (bound_expression (options_of self.history) expr)) next.0 next.1) }
     {
         match expr.bind(self.alloc, self.engine.options()) {
-            Ok(expr) => self.append(Command::Constraint { expr }, b"ok constraint "),
+            Ok(expr) => self.append(Command::Constraint { expr }, Declared::Constraint),
             Err(NameFault::UnknownOption { .. }) => self.refuse(Code::NotBuilt),
             Err(NameFault::Memory) => Err(Memory),
         }
@@ -135,10 +137,10 @@ impl Server {
     {
         match self.engine.valid(choice) {
             Ok(()) => {
-                let text = choice_text(self.alloc, self.engine.options(), choice)?;
+                let text = reply_complete(self.alloc, self.engine.options(), choice)?;
                 Ok(self.accept(text))
             }
-            Err(invalid) => self.refuse(Code::Invalid(invalid.rule)),
+            Err(invalid) => self.refuse(Code::Invalid { rule: invalid.rule }),
         }
     }
 }

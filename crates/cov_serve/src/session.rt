@@ -6,17 +6,17 @@ ghost use Rattle.cov_edit.specs.History.{text_bytes, edit_bytes};
 ghost use Rattle.cov_edit.specs.Limits.{most_edits, most_commit_bytes};
 ghost use Rattle.cov_edit.specs.declared.command.Command.{Command as AnyCommand};
 ghost use Rattle.cov_engine.specs.Sessions.{commit_of};
-ghost use Rattle.cov_serve.specs.Additions.{RefusedWith, HasNoted, edit_refusal};
+ghost use Rattle.cov_serve.specs.Additions.{RefusedWith, HasNoted, IsRefusalOf, edit_refusal};
 ghost use Rattle.cov_serve.specs.Editing.{addition_refusal, with_edit};
 ghost use Rattle.cov_serve.specs.Keeping.{as_session, IsCounted, IsOpen};
 ghost use Rattle.cov_serve.specs.States.{has_name, names_made};
 
-use crate::code::Code;
 use crate::names::Names;
 use cov_base::{Choice, Memory, MemoryOr, Name, Position};
 use cov_edit::{Command, Edit, Edits};
 use cov_engine::laws::holding_stands;
 use cov_expr::Expr;
+use cov_script::Code;
 use cov_view::{EditFault, View};
 use std::alloc::Global;
 
@@ -49,6 +49,7 @@ impl OpenSession {
         ensures open { OnOk result ((history : List AnyCommand) → IsOpen history self.old → IsOpen history self.new) }
         ensures grown { OnOk result (as_session self.new ≡ with_edit (as_session self.old) edit) }
         ensures refused { IfErr result (λ fault. (history : List AnyCommand) → IsOpen history self.old → RefusedWith fault (addition_refusal history (as_session self.old) edit)) }
+        ensures named { IfErr result (λ fault. (count : ℕ) → IsRefusalOf count fault) }
         ensures same { (code : Code) → result ≡ Err (with_code code) → self.new ≡ self.old }
     {
         if self.edits.len() >= MOST_EDITS {
@@ -71,6 +72,7 @@ impl OpenSession {
         ensures open { OnOk result ((history : List AnyCommand) → IsOpen history self.old → IsOpen history self.new) }
         ensures grown { OnOk result (as_session self.new ≡ with_edit (as_session self.old) edit) }
         ensures refused { IfErr result (λ fault. (history : List AnyCommand) → IsOpen history self.old → RefusedWith fault (addition_refusal history (as_session self.old) edit)) }
+        ensures named { IfErr result (λ fault. (count : ℕ) → IsRefusalOf count fault) }
         ensures same { (code : Code) → result ≡ Err (with_code code) → self.new ≡ self.old }
     {
         holding_stands();
@@ -130,7 +132,8 @@ fn bytes_of(edit: &Edit) -> usize
 }
 
 fn edit_refusal(fault: EditFault) -> MemoryOr<Code>
-    ensures { result ≡ edit_refusal fault }
+    ensures refusal { result ≡ edit_refusal fault }
+    ensures named { (count : ℕ) → IsRefusalOf count result }
 {
     match fault {
         EditFault::NoSuchNode => MemoryOr::Refused(Code::NoSuchPath),

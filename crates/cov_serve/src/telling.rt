@@ -10,11 +10,11 @@ ghost use Rattle.cov_view.specs.Paths.{path_node};
 ghost use Rattle.cov_serve.specs.Step.{with_file, told_in, told_unless, file_told};
 ghost use Rattle.cov_serve.specs.Turns.{Gives};
 
-use crate::code::Code;
 use crate::reply::file_text;
 use crate::server::{Served, Server};
 use cov_base::{Choice, Memory, Path};
 use cov_expr::RawChoice;
+use cov_script::Code;
 use cov_view::{ReadFaultOfView, View};
 
 impl Server {
@@ -37,7 +37,7 @@ impl Server {
     {
         match self.engine.valid(choice) {
             Ok(()) => self.tell_at(choice, path),
-            Err(invalid) => self.refuse(Code::Invalid(invalid.rule)),
+            Err(invalid) => self.refuse(Code::Invalid { rule: invalid.rule }),
         }
     }
 

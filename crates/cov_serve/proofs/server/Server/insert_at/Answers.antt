@@ -2,7 +2,7 @@ use Rattle.std.proofs.Common.{◌≡◌, ◌∙◌, Some, ap, sym, subst, option
 use Rattle.cov_edit.specs.Numbering.{node_number}
 use Rattle.cov_engine.specs.Sessions.{seen}
 use Rattle.cov_serve.specs.Keeping.{as_session, IsOpen, IsOpenIf, numbers_at_base, table_of}
-use Rattle.cov_serve.specs.Replies.{line_reply}
+use Rattle.cov_script.specs.Replies.{new_line_reply}
 use Rattle.cov_serve.specs.States.{State}
 use Rattle.cov_serve.proofs.Spoken.{insert-found}
 use Rattle.cov_serve.proofs.server.Server.insert_at.Goals as goal
@@ -21,5 +21,5 @@ returns c =
     (ap (option_map (node_number ns.nodes)) (sym c.in-Some-resolve.is) ∙ c.resolve.ensures.shown ns table v kept.shows)
     (c.in-Some-resolve.ensures.made ns table v kept.shows)
     c.line_ref-after.ensures
-    (c.in_ok-reply.ensures ∙ ap line_reply (c.lines_made.ensures ∙ kept.counted.lines))
+    (c.in_ok-reply.ensures ∙ ap new_line_reply (c.lines_made.ensures ∙ kept.counted.lines))
     c.edit.ensures

@@ -4,4 +4,4 @@ use Rattle.cov_serve.proofs.server.Server.refuse_for.Goals as goal
 
 pub returns-in-Some : goal.returns-in-Some
 returns-in-Some c =
-    refused-by-verdict c.args.self c.args.refusal c.in-Some.code c.refuse.result (sym c.code_unless_wanting.ensures ∙ c.in-Some.is) c.refuse.ensures
+    refused-by-verdict c.args.self c.args.refusal c.in-Some.code c.refuse.result (sym c.code_unless_wanting.ensures.code ∙ c.in-Some.is) c.refuse.ensures

@@ -22,5 +22,5 @@ returns-in-Ok-note-clause-grown c = c.in-Ok-note.ensures.session
 
 pub returns-in-Err-clause-refused : goal.returns-in-Err-clause-refused
 returns-in-Err-clause-refused c = λ history is_open.
-    rw c.edit_refusal.ensures
+    rw c.edit_refusal.ensures.refusal
     (refused-by history c.args.self.now c.args.edit c.requires.room c.requires.light is_open c.in-Err.fault (c.in-Err.ensures.refused _ _ _ is_open.shows))
