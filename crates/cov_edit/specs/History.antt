@@ -24,6 +24,18 @@ constraints_of [] = []
 constraints_of (commands.Constraint expr ∷ history) = expr ∷ constraints_of history
 constraints_of (_ ∷ history) = constraints_of history
 
+-- the preferences, in order
+abbrev pub preferences_of : List Command → List (Formula ℕ)
+preferences_of [] = []
+preferences_of (commands.Prefer expr ∷ history) = expr ∷ preferences_of history
+preferences_of (_ ∷ history) = preferences_of history
+
+-- the defaults, in order, each as its option and its value
+abbrev pub defaults_of : List Command → List (ℕ × Bool)
+defaults_of [] = []
+defaults_of (commands.Default option on ∷ history) = (option, on) ∷ defaults_of history
+defaults_of (_ ∷ history) = defaults_of history
+
 -- whether each constraint of the history is true on a choice
 abbrev pub is_valid_in : List Command → List Bool → Bool
 is_valid_in history c = is_valid (constraints_of history) c
@@ -45,6 +57,8 @@ text_bytes es = sum_by edit_bytes es
 abbrev pub command_bytes : Command → ℕ
 command_bytes (commands.Option name) = 0
 command_bytes (commands.Constraint expr) = 0
+command_bytes (commands.Prefer expr) = 0
+command_bytes (commands.Default option on) = 0
 command_bytes (commands.Commit base choice ambition es) = text_bytes es
 
 -- the bytes of text that a history inserts

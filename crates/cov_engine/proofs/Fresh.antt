@@ -55,6 +55,8 @@ history-nodes q ns held (commands.Commit base choice ambition es ∷ history) h 
     (edits-nodes (q + 1) ambition ns (numbers_after ns es).addresses ns.nodes (length ns.addresses) (numbers_after ns es).nodes held es refl h)
 history-nodes q ns held (commands.Option name ∷ history) h = history-nodes (q + 1) ns held history h
 history-nodes q ns held (commands.Constraint expr ∷ history) h = history-nodes (q + 1) ns held history h
+history-nodes q ns held (commands.Prefer expr ∷ history) h = history-nodes (q + 1) ns held history h
+history-nodes q ns held (commands.Default option on ∷ history) h = history-nodes (q + 1) ns held history h
 
 -- the shown rows are of the first so many nodes
 abbrev AreOfFirst : ℕ → List ViewRow → Type 0

@@ -92,6 +92,8 @@ more-options (suc n) (commands.Option name ∷ history) later =
     let right : option_count (take (suc n) ((commands.Option name ∷ history) ++ later)) ≡ suc (option_count (take n (history ++ later))) = refl in
     omega (arith, ih, left, right)
 more-options (suc n) (commands.Constraint expr ∷ history) later = more-options n history later
+more-options (suc n) (commands.Prefer expr ∷ history) later = more-options n history later
+more-options (suc n) (commands.Default option on ∷ history) later = more-options n history later
 more-options (suc n) (commands.Commit base choice ambition es ∷ history) later = more-options n history later
 
 pub in-reach : (count more at : ℕ) (commits : List Made) → AreInReach count at commits → count ≤ more → AreInReach more at commits
@@ -100,6 +102,8 @@ in-reach count more at commits within h = λ commit seen. let e = within commit 
 held-same : (history : List Command) (k : Command) → has_commit (k ∷ []) ≡ false → held_by (history ++ k ∷ []) ≡ held_by history
 held-same history (commands.Option name) h = holding-goes_on history (commands.Option name ∷ [])
 held-same history (commands.Constraint expr) h = holding-goes_on history (commands.Constraint expr ∷ [])
+held-same history (commands.Prefer expr) h = holding-goes_on history (commands.Prefer expr ∷ [])
+held-same history (commands.Default option on) h = holding-goes_on history (commands.Default option on ∷ [])
 held-same history (commands.Commit base choice ambition es) h = absurd (cc)
 
 -- a declaration leaves what is held as it is
@@ -118,3 +122,16 @@ held-declared history longer k commits ls entries held h e = rw e (record {
 pub if_ok : {A E : Type 0} (r : Result A E) (P Q : A → Type 0) → ((a : A) → P a → Q a) → IfOk r P → IfOk r Q
 if_ok (Ok a) P Q f h = f a h
 if_ok (Err e) P Q f h = tt
+
+-- before any command nothing is held
+pub held-none : (history : List Command) (commits : List Made) (ls : List KeptLine) (entries : List Entry) → history ≡ [] → commits ≡ [] → ls ≡ [] → entries ≡ [] → IsHeldBy history commits ls entries
+held-none history commits ls entries he ce le ee =
+    rw (he, ce, le, ee) (record {
+      rows = refl;
+      files = tt;
+      in_reach = λ at commit seen. omega arith;
+      lines = refl;
+      made_lines = tt;
+      made_entries = tt;
+      few = omega arith;
+    })

@@ -131,6 +131,8 @@ declared-less (suc base) (commands.Option name ∷ history) =
     let right : option_count (commands.Option name ∷ history) ≡ suc (option_count history) = refl in
     omega (arith, ih, left, right)
 declared-less (suc base) (commands.Constraint expr ∷ history) = declared-less base history
+declared-less (suc base) (commands.Prefer expr ∷ history) = declared-less base history
+declared-less (suc base) (commands.Default option on ∷ history) = declared-less base history
 declared-less (suc base) (commands.Commit b choice ambition es ∷ history) = declared-less base history
 
 in-reach-more : (history : List Command) (k : Command) (ambition : Formula ℕ) (commits : List Made) (made : Made) → made ≡ record { position = length history + 1; ambition = ambition } → reach ambition ≤ option_count history

@@ -1,5 +1,5 @@
 -- Worked verdicts.
-use Rattle.std.proofs.Common.{◌≡◌, true, false, List, [], ◌∷◌, Some, None, refl}
+use Rattle.std.proofs.Common.{◌≡◌, true, false, List, [], ◌∷◌, ◌++◌, Some, None, refl}
 use Rattle.std.specs.Prelude.{codes}
 use Rattle.std.specs.Str.{is_utf8, chars}
 use lib.Utf8.{encode}
@@ -11,7 +11,9 @@ use Rattle.cov_edit.specs.declared.edit.Edit.{Edit}
 use Rattle.cov_edit.specs.declared.edit.Edit.TheVariants as edits
 use Rattle.cov_edit.specs.declared.command.Command.{Command}
 use Rattle.cov_edit.specs.declared.command.Command.TheVariants as commands
+use Rattle.cov_rules.specs.Completion.{Complete, Invalid, Incomplete}
 use Rattle.cov_engine.specs.declared.refusal.Refusal.TheVariants as refusals
+use Rattle.cov_engine.specs.Ruling.{completed_in}
 use Rattle.cov_engine.specs.Verdict.{verdict, IsLegal}
 
 -- a file with a line, the options d and e, and a constraint that d is on
@@ -36,8 +38,35 @@ another_option = refl
 undeclared : verdict history (commands.Constraint (On 2)) ≡ Some refusals.BadOption
 undeclared = refl
 
-false_everywhere : verdict history (commands.Constraint False) ≡ None
+false_everywhere : verdict history (commands.Constraint False) ≡ Some refusals.NoVariantLeft
 false_everywhere = refl
+
+-- the new constraint can hold, but not beside the one that stands
+false_beside_others : verdict history (commands.Constraint (Not (On 0))) ≡ Some refusals.NoVariantLeft
+false_beside_others = refl
+
+true_beside_others : verdict history (commands.Constraint (Not (On 1))) ≡ None
+true_beside_others = refl
+
+-- preferences and defaults that can't hold change nothing, so they are accepted
+preferred_anyway : verdict history (commands.Prefer False) ≡ None
+preferred_anyway = refl
+
+undeclared_default : verdict history (commands.Default 2 true) ≡ Some refusals.BadOption
+undeclared_default = refl
+
+-- the default comes to nothing beside the constraint on d, and a preference comes before it
+abbrev wishing : List Command
+wishing = history ++ commands.Prefer (On 1) ∷ commands.Default 0 false ∷ commands.Default 1 false ∷ []
+
+all_completed : completed_in wishing [] ≡ Complete (true ∷ true ∷ [])
+all_completed = refl
+
+invalid_with : completed_in wishing ((0, false) ∷ []) ≡ Invalid 1
+invalid_with = refl
+
+left_open : completed_in history [] ≡ Incomplete (Some 1)
+left_open = refl
 
 abbrev insert_B : Edit
 insert_B = edits.Insert (nodes.Old 1) (lines.Old 1) (codes "B")

@@ -17,6 +17,7 @@ pub mod Reaching
 pub mod Readied
 pub mod Replays
 pub mod Rooms
+pub mod Ruling
 pub mod Seen
 pub mod Sessions
 pub mod Showing

@@ -73,6 +73,8 @@ files-one : (history : List Command) (k : Command) → verdict history k ≡ Non
     → AreInFiles (numbers_of (history ++ k ∷ [])).nodes (kept_of (history ++ k ∷ []))
 files-one history (commands.Option name) accepted h = as-before history (commands.Option name) refl h
 files-one history (commands.Constraint expr) accepted h = as-before history (commands.Constraint expr) refl h
+files-one history (commands.Prefer expr) accepted h = as-before history (commands.Prefer expr) refl h
+files-one history (commands.Default option on) accepted h = as-before history (commands.Default option on) refl h
 files-one history (commands.Commit base choice ambition es) accepted h =
     let ns : Numbers = numbers_of history in
     let more : (numbers_of (history ++ commands.Commit base choice ambition es ∷ [])).nodes ≡ ns.nodes + nodes_made es =

@@ -164,6 +164,8 @@ module _ (c : List Bool) where
       (nodes-edits c ambition ns (numbers_after ns es).addresses ns.nodes (length ns.addresses) (numbers_after ns es).nodes v es refl h))
   nodes-from ns v (commands.Option name ∷ history) h = nodes-from ns v history h
   nodes-from ns v (commands.Constraint expr ∷ history) h = nodes-from ns v history h
+  nodes-from ns v (commands.Prefer expr ∷ history) h = nodes-from ns v history h
+  nodes-from ns v (commands.Default option on ∷ history) h = nodes-from ns v history h
 
   pub nodes-replay : (history : List Command) → AreUpTo the_node (numbers_of history).nodes (replay c history).rows
   nodes-replay history = nodes-from no_numbers bare history tt
@@ -176,6 +178,8 @@ nodes-grow ns (commands.Commit base choice ambition es ∷ history) =
     less
 nodes-grow ns (commands.Option name ∷ history) = nodes-grow ns history
 nodes-grow ns (commands.Constraint expr ∷ history) = nodes-grow ns history
+nodes-grow ns (commands.Prefer expr ∷ history) = nodes-grow ns history
+nodes-grow ns (commands.Default option on ∷ history) = nodes-grow ns history
 
 pub base-nodes : (base : ℕ) (history : List Command) → (numbers_of (take base history)).nodes ≤ (numbers_of history).nodes
 base-nodes base history =
@@ -219,6 +223,12 @@ module _ (c : List Bool) where
   names-one history (commands.Constraint expr) accepted h =
       as-before (numbers_of (history ++ commands.Constraint expr ∷ [])) (numbers_of history) (replay c (history ++ commands.Constraint expr ∷ [])) (replay c history)
       (numbers_from-append no_numbers history (commands.Constraint expr ∷ [])) (replay-append c history (commands.Constraint expr ∷ [])) h
+  names-one history (commands.Prefer expr) accepted h =
+      as-before (numbers_of (history ++ commands.Prefer expr ∷ [])) (numbers_of history) (replay c (history ++ commands.Prefer expr ∷ [])) (replay c history)
+      (numbers_from-append no_numbers history (commands.Prefer expr ∷ [])) (replay-append c history (commands.Prefer expr ∷ [])) h
+  names-one history (commands.Default option on) accepted h =
+      as-before (numbers_of (history ++ commands.Default option on ∷ [])) (numbers_of history) (replay c (history ++ commands.Default option on ∷ [])) (replay c history)
+      (numbers_from-append no_numbers history (commands.Default option on ∷ [])) (replay-append c history (commands.Default option on ∷ [])) h
   names-one history (commands.Commit base choice ambition es) accepted h =
       let ns : Numbers = numbers_of history in
       let nb : Numbers = numbers_of (take base history) in

@@ -29,6 +29,8 @@ options-later (suc p) zero history h = absurd (omega (arith, h))
 options-later (suc p) (suc q) [] h = omega arith
 options-later (suc p) (suc q) (commands.Option name ∷ history) h = let rest = options-later p q history (omega (arith, h)) in omega (arith, rest)
 options-later (suc p) (suc q) (commands.Constraint expr ∷ history) h = options-later p q history (omega (arith, h))
+options-later (suc p) (suc q) (commands.Prefer expr ∷ history) h = options-later p q history (omega (arith, h))
+options-later (suc p) (suc q) (commands.Default option on ∷ history) h = options-later p q history (omega (arith, h))
 options-later (suc p) (suc q) (commands.Commit base choice ambition es ∷ history) h = options-later p q history (omega (arith, h))
 
 module _ (history : List Command) where
@@ -178,6 +180,14 @@ reached-from before q held ns (commands.Constraint expr ∷ history) e legal h =
     subst (λ l. IsHeldInReach l (held_from (q + 1) held ns history)) (append_assoc before (commands.Constraint expr ∷ []) history)
     (reached-from (before ++ commands.Constraint expr ∷ []) (q + 1) held ns history (omega (arith, e, length-append before (commands.Constraint expr ∷ []))) legal.2
     (held-longer before (commands.Constraint expr ∷ []) held h))
+reached-from before q held ns (commands.Prefer expr ∷ history) e legal h =
+    subst (λ l. IsHeldInReach l (held_from (q + 1) held ns history)) (append_assoc before (commands.Prefer expr ∷ []) history)
+    (reached-from (before ++ commands.Prefer expr ∷ []) (q + 1) held ns history (omega (arith, e, length-append before (commands.Prefer expr ∷ []))) legal.2
+    (held-longer before (commands.Prefer expr ∷ []) held h))
+reached-from before q held ns (commands.Default option on ∷ history) e legal h =
+    subst (λ l. IsHeldInReach l (held_from (q + 1) held ns history)) (append_assoc before (commands.Default option on ∷ []) history)
+    (reached-from (before ++ commands.Default option on ∷ []) (q + 1) held ns history (omega (arith, e, length-append before (commands.Default option on ∷ []))) legal.2
+    (held-longer before (commands.Default option on ∷ []) held h))
 
 pub legal-reached : (history : List Command) → IsLegal history → IsHeldInReach history (held_by history)
 legal-reached history legal = reached-from [] 0 nothing_held no_numbers history refl legal (record { of_rows = tt; of_lines = tt })

@@ -1,38 +1,40 @@
 -- What is ready for a command, drawn, installed or given up.
-use Rattle.std.proofs.Common.{◌≡◌, ℕ, zero, suc, ◌+◌, ◌-◌, ◌<◌, ◌≤◌, ◌^◌, Bool, true, false, nat_le, List, [], ◌∷◌, ◌++◌, length, map, take, None, Result, Ok, Err, OnErr, append-nil, refl, sym, ap, subst, ◌∙◌, arith}
+use Rattle.std.proofs.Common.{◌≡◌, ℕ, zero, suc, ◌+◌, ◌-◌, ◌<◌, ◌^◌, Bool, true, false, nat_le, List, [], ◌∷◌, ◌++◌, length, map, take, None, Result, Ok, Err, OnErr, append-nil, refl, sym, ap, subst, ◌∙◌, arith}
 use Rattle.std.specs.List.{AllByRecursion}
 use Rattle.std.proofs.lemmas.Bool.Decides.{nat_tests}
 use Rattle.cov_base.proofs.Tables.{length-with_lines}
+use Rattle.cov_dd.specs.declared.triple.Triple.{Triple}
 use Rattle.cov_expr.specs.Formula.{Formula}
 use Rattle.cov_edit.specs.declared.edit.Edit.{Edit}
 use Rattle.cov_edit.specs.declared.command.Command.{Command}
 use Rattle.cov_edit.specs.declared.command.Command.TheVariants as commands
 use Rattle.cov_edit.specs.Fits.{fits_command}
-use Rattle.cov_edit.specs.History.{options_of, option_count, constraints_of, text_bytes, command_bytes}
+use Rattle.cov_edit.specs.History.{options_of, option_count, text_bytes, command_bytes}
 use Rattle.cov_edit.specs.Limits.{most_commands}
 use Rattle.cov_edit.specs.Numbering.{Numbers, nodes_made, anchors_of, no_numbers, numbers_after, numbers_of, line_count}
 use Rattle.cov_edit.proofs.Replays.{numbers_from-append}
+use Rattle.cov_rules.specs.Installing.{Standing}
 use Rattle.cov_view.specs.Refusals.{when, first_of}
 use Rattle.cov_engine.specs.declared.counts.Counts.{Counts}
 use Rattle.cov_engine.specs.declared.entry.Entry.{Entry}
 use Rattle.cov_engine.specs.declared.kept.Made.{Made}
 use Rattle.cov_engine.specs.declared.kept.KeptLine.{KeptLine}
 use Rattle.cov_engine.specs.declared.sizes.Sizes.{Sizes}
-use Rattle.cov_engine.specs.declared.ready.Ready.TheVariants as ready
 use Rattle.cov_engine.specs.declared.refusal.Refusal.TheVariants as refusals
 use Rattle.cov_engine.specs.Kept.{kept_of}
 use Rattle.cov_engine.specs.Holdings.{IsFileOf, IsHeldBy}
 use Rattle.cov_engine.specs.Sessions.{IsGood, session_of}
-use Rattle.cov_engine.specs.States.{are_within, AreCountsOf, IsStateOf}
+use Rattle.cov_engine.specs.States.{AreCountsOf, IsStateOf}
 use Rattle.cov_engine.specs.Verdict.{verdict, refusals_of, size_refusals, has_no_edits}
 use Rattle.cov_engine.specs.Drawing.{Stored, stored, sizes_of, sizes_refusal, new_lines, new_entries, AreNumbered, AreNear, HasRoom, CanTakeAll, with_new_lines, IsDrawn}
-use Rattle.cov_engine.specs.Ready.{IsNext, IsInBounds, AreCountsWith, IsReady, edits_in}
+use Rattle.cov_engine.specs.Ready.{IsNext, IsInBounds, AreCountsWith, IsCommitReady, edits_in}
 use Rattle.cov_engine.proofs.Standing.{all-mapped}
 use Rattle.cov_engine.proofs.FileLines.{all-unmapped}
 use Rattle.cov_engine.proofs.Sessions.{good-passes}
-use Rattle.cov_engine.proofs.States.{legal-one, length-one, sum-one, options-append, constraints-append, below, first-none}
+use Rattle.cov_engine.proofs.States.{legal-one, length-one, sum-one, options-append, below, first-none}
 use Rattle.cov_engine.proofs.Committed.{stored_kept, kept-stored, new-lines-count}
 use Rattle.cov_engine.proofs.Rooms.{map-length}
+use Rattle.cov_engine.proofs.Ruling.{rules-same}
 use Rattle.cov_engine.proofs.Installed.{held-count, lines-few, nodes-few, edits-few, bytes-few, edits-near, drawn-numbered, drawn-takes, held-committed}
 
 -- the verdict on the commit of a good session is that of its sizes
@@ -138,23 +140,20 @@ module _ (history : List Command) (base : ℕ) (choice : List Bool) (ambition : 
   options-same : options_of (history ++ commit ∷ []) ≡ options_of history
   options-same = options-append history (commit ∷ []) ∙ append-nil (options_of history)
 
-  constraints-same : constraints_of (history ++ commit ∷ []) ≡ constraints_of history
-  constraints-same = constraints-append history (commit ∷ []) ∙ append-nil (constraints_of history)
-
   -- the state with a commit
-  pub state-with : (names : List (List ℕ)) (constraints : List (Formula ℕ)) (counts new : Counts) → fits_command commit ≡ true → verdict history commit ≡ None → AreCountsWith history es new
-      → IsStateOf history names constraints counts → IsStateOf (history ++ commit ∷ []) names constraints new
-  state-with names constraints counts new fits accepted with old = record {
+  pub state-with : (names : List (List ℕ)) (ts : List Triple) (standing : Standing) (counts new : Counts) → fits_command commit ≡ true → verdict history commit ≡ None → AreCountsWith history es new
+      → IsStateOf history names ts standing counts → IsStateOf (history ++ commit ∷ []) names ts standing new
+  state-with names ts standing counts new fits accepted with old = record {
     legal = legal-one [] history commit old.legal fits accepted;
     options = old.options ∙ sym options-same;
-    rules = old.rules ∙ sym constraints-same;
-    within = subst (λ ns. are_within (length ns) (constraints_of (history ++ commit ∷ [])) ≡ true) (sym options-same)
-        (subst (λ exprs. are_within (option_count history) exprs ≡ true) (sym constraints-same) old.within);
+    rules =
+        let same : option_count (history ++ commit ∷ []) ≡ option_count history = ap length options-same in
+        let few = old.rules.below.few in
+        rules-same history commit ts standing refl (omega (arith, same)) (omega (arith, same, few)) old.rules;
     most =
         let less : length history < most_commands = below most_commands (length history) (first-none _ refusals.Full (refusals_of history commit) accepted) in
         let more = length-one history commit in
         omega (arith, less, more);
-    few = subst (λ exprs. length exprs ≤ 256) (sym constraints-same) old.few;
     counted = counts-with new with;
   }
 
@@ -162,36 +161,44 @@ first-nodes : (history : List Command) (counts : Counts) → AreCountsOf history
 first-nodes history counts are = let nodes = are.nodes in omega (arith, nodes)
 
 -- a command for which a commit is ready
-module _ (history : List Command) (names : List (List ℕ)) (constraints : List (Formula ℕ)) (old new : Counts) (os rs ks : ℕ) (commits : List Made) (made : Made) (ls : List KeptLine) (entries : List Entry)
-    (state : IsStateOf history names constraints old) where
+module _ (history : List Command) (names : List (List ℕ)) (ts : List Triple) (standing : Standing) (old new : Counts) (ks : ℕ) (commits : List Made) (made : Made) (ls : List KeptLine) (entries : List Entry)
+    (state : IsStateOf history names ts standing old) where
   abbrev IsThat : Command → Type 0
-  IsThat command = IsReady history command os rs ks commits ls entries (ready.Commit made new)
+  IsThat command = IsCommitReady history command ks commits ls entries made new
 
   pub ready-numbered : (command : Command) (spare : ℕ) → IsNext history command spare → IsThat command → AreNumbered 0 entries
   ready-numbered (commands.Option name) spare next r = absurd r
   ready-numbered (commands.Constraint expr) spare next r = absurd r
+  ready-numbered (commands.Prefer expr) spare next r = absurd r
+  ready-numbered (commands.Default option on) spare next r = absurd r
   ready-numbered (commands.Commit base choice ambition es) spare next r =
-      drawn-numbered history base choice ambition es state.legal r.0.0 r.0.1 next.accepted commits made ls entries r.1.0
+      drawn-numbered history base choice ambition es state.legal r.0.0 r.0.1 next.accepted commits made ls entries r.1
 
   -- the counts before are those of the history
   pub ready-takes : (command : Command) (spare : ℕ) (edits : List Edit) → IsNext history command spare → IsThat command → edits ≡ edits_in command → CanTakeAll (old.nodes - 1) old.lines old.lines edits entries
   ready-takes (commands.Option name) spare edits next r e = absurd r
   ready-takes (commands.Constraint expr) spare edits next r e = absurd r
+  ready-takes (commands.Prefer expr) spare edits next r e = absurd r
+  ready-takes (commands.Default option on) spare edits next r e = absurd r
   ready-takes (commands.Commit base choice ambition es) spare edits next r e =
       subst (λ n. CanTakeAll n old.lines old.lines edits entries) (sym (first-nodes history old state.counted))
       (subst (λ m. CanTakeAll (numbers_of history).nodes m m edits entries) (sym state.counted.lines)
       (subst (λ some. CanTakeAll (numbers_of history).nodes (line_count history) (line_count history) some entries) (sym e)
-      (drawn-takes history base choice ambition es state.legal r.0.0 r.0.1 next.accepted commits made ls entries r.1.0)))
+      (drawn-takes history base choice ambition es state.legal r.0.0 r.0.1 next.accepted commits made ls entries r.1)))
 
-  pub ready-state : (command : Command) (spare : ℕ) → IsNext history command spare → IsThat command → IsStateOf (history ++ command ∷ []) names constraints new
+  pub ready-state : (command : Command) (spare : ℕ) → IsNext history command spare → IsThat command → IsStateOf (history ++ command ∷ []) names ts standing new
   ready-state (commands.Option name) spare next r = absurd r
   ready-state (commands.Constraint expr) spare next r = absurd r
-  ready-state (commands.Commit base choice ambition es) spare next r = state-with history base choice ambition es names constraints old new next.fits next.accepted r.1.1 state
+  ready-state (commands.Prefer expr) spare next r = absurd r
+  ready-state (commands.Default option on) spare next r = absurd r
+  ready-state (commands.Commit base choice ambition es) spare next r = state-with history base choice ambition es names ts standing old new next.fits next.accepted r.2 state
 
   pub ready-held : (command : Command) (spare : ℕ) (edits : List Edit) (commits' : List Made) (ls' : List KeptLine) (entries' : List Entry) → IsNext history command spare → IsThat command → edits ≡ edits_in command
       → commits' ≡ commits ++ made ∷ [] → ls' ≡ ls → entries' ≡ with_new_lines (old.nodes - 1) old.lines old.lines edits entries → IsHeldBy (history ++ command ∷ []) commits' ls' entries'
   ready-held (commands.Option name) spare edits commits' ls' entries' next r e ce le ee = absurd r
   ready-held (commands.Constraint expr) spare edits commits' ls' entries' next r e ce le ee = absurd r
+  ready-held (commands.Prefer expr) spare edits commits' ls' entries' next r e ce le ee = absurd r
+  ready-held (commands.Default option on) spare edits commits' ls' entries' next r e ce le ee = absurd r
   ready-held (commands.Commit base choice ambition es) spare edits commits' ls' entries' next r e ce le ee =
       subst (λ cs. IsHeldBy (history ++ commands.Commit base choice ambition es ∷ []) cs ls' entries') (sym ce)
       (subst (λ xs. IsHeldBy (history ++ commands.Commit base choice ambition es ∷ []) (commits ++ made ∷ []) xs entries') (sym le)
@@ -199,20 +206,16 @@ module _ (history : List Command) (names : List (List ℕ)) (constraints : List 
       (ap (λ n. with_new_lines n (line_count history) (line_count history) es entries) (sym (first-nodes history old state.counted))
       ∙ ap (λ m. with_new_lines (old.nodes - 1) m m es entries) (sym state.counted.lines)
       ∙ ap (λ some. with_new_lines (old.nodes - 1) old.lines old.lines some entries) (sym e) ∙ sym ee)
-      (held-committed history base choice ambition es state.legal r.0.0 r.0.1 next.accepted commits made ls entries r.1.0)))
+      (held-committed history base choice ambition es state.legal r.0.0 r.0.1 next.accepted commits made ls entries r.1)))
 
   -- given up, it leaves what is held
   pub ready-given-up : (command : Command) (commits' : List Made) (ls' : List KeptLine) (entries' : List Entry) → IsThat command
       → commits' ≡ commits → ls' ≡ take old.lines ls → map stored entries' ≡ map stored (take (old.nodes - 1) entries) → IsHeldBy history commits' ls' entries'
   ready-given-up (commands.Option name) commits' ls' entries' r ce le ee = absurd r
   ready-given-up (commands.Constraint expr) commits' ls' entries' r ce le ee = absurd r
-  ready-given-up (commands.Commit base choice ambition es) commits' ls' entries' r ce le ee = given-up history ambition es old commits made ls entries commits' ls' entries' state.counted r.1.0 ce le ee
-
-pub declaration-held : (history : List Command) (command copy : Command) (os rs ks : ℕ) (commits : List Made) (ls : List KeptLine) (entries : List Entry)
-    → IsReady history command os rs ks commits ls entries (ready.Declaration copy) → IsHeldBy history commits ls entries
-declaration-held history (commands.Option name) copy os rs ks commits ls entries r = r.held
-declaration-held history (commands.Constraint expr) copy os rs ks commits ls entries r = r.held
-declaration-held history (commands.Commit base choice ambition es) copy os rs ks commits ls entries r = absurd r.1
+  ready-given-up (commands.Prefer expr) commits' ls' entries' r ce le ee = absurd r
+  ready-given-up (commands.Default option on) commits' ls' entries' r ce le ee = absurd r
+  ready-given-up (commands.Commit base choice ambition es) commits' ls' entries' r ce le ee = given-up history ambition es old commits made ls entries commits' ls' entries' state.counted r.1 ce le ee
 
 -- the edits of an accepted command name near nodes
 pub next-near : (history : List Command) (command : Command) (counts : Counts) (edits : List Edit) → AreCountsOf history counts → verdict history command ≡ None → edits ≡ edits_in command → AreNear (counts.nodes - 1) edits
@@ -221,6 +224,8 @@ next-near history command counts edits are accepted e = subst (AreNear (counts.n
     by : (command : Command) → verdict history command ≡ None → AreNear (counts.nodes - 1) (edits_in command)
     by (commands.Option name) accepted = tt
     by (commands.Constraint expr) accepted = tt
+    by (commands.Prefer expr) accepted = tt
+    by (commands.Default option on) accepted = tt
     by (commands.Commit base choice ambition es) accepted =
         subst (λ n. AreNear n es) (sym (first-nodes history counts are)) (edits-near history base choice ambition es accepted)
 

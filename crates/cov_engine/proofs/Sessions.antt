@@ -128,12 +128,16 @@ numbers-same ns [] h = refl
 numbers-same ns (commands.Commit base choice ambition es ∷ history) h = absurd (cc)
 numbers-same ns (commands.Option name ∷ history) h = numbers-same ns history h
 numbers-same ns (commands.Constraint expr ∷ history) h = numbers-same ns history h
+numbers-same ns (commands.Prefer expr ∷ history) h = numbers-same ns history h
+numbers-same ns (commands.Default option on ∷ history) h = numbers-same ns history h
 
 no-changes : (ns : Numbers) (history : List Command) → has_commit history ≡ false → changes_from ns history ≡ []
 no-changes ns [] h = refl
 no-changes ns (commands.Commit base choice ambition es ∷ history) h = absurd (cc)
 no-changes ns (commands.Option name ∷ history) h = no-changes ns history h
 no-changes ns (commands.Constraint expr ∷ history) h = no-changes ns history h
+no-changes ns (commands.Prefer expr ∷ history) h = no-changes ns history h
+no-changes ns (commands.Default option on ∷ history) h = no-changes ns history h
 
 numbers-since : (base : ℕ) (history : List Command) → has_commit (drop base history) ≡ false → numbers_of history ≡ numbers_of (take base history)
 numbers-since base history h =

@@ -1,53 +1,41 @@
 -- A history with one declaration more.
-use Rattle.std.proofs.Common.{◌≡◌, refl, subst, suc, append-nil, ap, sym, ◌∙◌, ℕ, ◌+◌, ◌<◌, ◌≤◌, Bool, true, false, ◌&&◌, nat_le, nat_lt, List, [], ◌∷◌, ◌++◌, length, Option, None, arith, append_assoc}
+use Rattle.std.proofs.Common.{◌≡◌, refl, suc, append-nil, ap, sym, ◌∙◌, ℕ, ◌+◌, ◌<◌, ◌≤◌, Bool, true, false, nat_le, nat_lt, List, [], ◌∷◌, ◌++◌, length, Option, Some, None, subst, arith, append_assoc}
 use Rattle.std.specs.List.{sum_by}
-use Rattle.std.proofs.lemmas.Bool.{leb-true, le-leb}
 use Rattle.std.proofs.lemmas.Bool.Decides.{nat_tests}
-use Rattle.cov_expr.specs.Formula.{Formula, reach}
+use Rattle.cov_dd.specs.declared.triple.Triple.{Triple}
+use Rattle.cov_dd.specs.Diagrams.{Extends}
+use Rattle.cov_expr.specs.Formula.{reach}
 use Rattle.cov_edit.specs.declared.command.Command.{Command}
 use Rattle.cov_edit.specs.declared.command.Command.TheVariants as commands
 use Rattle.cov_edit.specs.Fits.{fits_command}
-use Rattle.cov_edit.specs.History.{options_of, option_count, constraints_of, command_bytes, byte_count}
+use Rattle.cov_edit.specs.History.{options_of, option_count, command_bytes, byte_count}
 use Rattle.cov_edit.specs.Limits.{most_commands}
 use Rattle.cov_edit.specs.Numbering.{no_numbers, numbers_of}
 use Rattle.cov_edit.proofs.Replays.{fold-append, numbers_from-append}
+use Rattle.cov_rules.specs.Completion.{AreBelow}
+use Rattle.cov_rules.specs.Growth.{Follows}
+use Rattle.cov_rules.specs.Installing.{Standing, Holds, Plans}
+use Rattle.cov_rules.specs.Refusals.{reach_of_rule}
+use Rattle.cov_rules.specs.declared.rules.Rule.{Rule}
+use Rattle.cov_rules.specs.declared.rules.Rule.TheVariants as rules
+use Rattle.cov_rules.specs.declared.rules.RulePlan.{RulePlan}
 use Rattle.cov_view.specs.Refusals.{when, first_of}
 use Rattle.cov_engine.specs.declared.counts.Counts.{Counts}
 use Rattle.cov_engine.specs.declared.refusal.Refusal.{Refusal}
 use Rattle.cov_engine.specs.declared.refusal.Refusal.TheVariants as refusals
+use Rattle.cov_engine.specs.Ruling.{AreRulesOf, rule_in}
 use Rattle.cov_engine.specs.Sessions.{has_commit}
-use Rattle.cov_engine.specs.States.{are_within, AreCountsOf, IsStateOf}
+use Rattle.cov_engine.specs.States.{AreCountsOf, IsStateOf}
 use Rattle.cov_engine.specs.Verdict.{IsLegalFrom, verdict, refusals_of}
+use Rattle.cov_engine.proofs.Ruling.{rules-grown, rules-same, rules-with}
 
 pub options-append : (history later : List Command) → options_of (history ++ later) ≡ options_of history ++ options_of later
 options-append [] later = refl
 options-append (commands.Option name ∷ history) later = ap (λ names. name ∷ names) (options-append history later)
 options-append (commands.Constraint expr ∷ history) later = options-append history later
+options-append (commands.Prefer expr ∷ history) later = options-append history later
+options-append (commands.Default option on ∷ history) later = options-append history later
 options-append (commands.Commit base choice ambition es ∷ history) later = options-append history later
-
-pub constraints-append : (history later : List Command) → constraints_of (history ++ later) ≡ constraints_of history ++ constraints_of later
-constraints-append [] later = refl
-constraints-append (commands.Option name ∷ history) later = constraints-append history later
-constraints-append (commands.Constraint expr ∷ history) later = ap (λ exprs. expr ∷ exprs) (constraints-append history later)
-constraints-append (commands.Commit base choice ambition es ∷ history) later = constraints-append history later
-
-both : (a b c d : Bool) → (a ≡ true → c ≡ true) → (b ≡ true → d ≡ true) → (a && b) ≡ true → (c && d) ≡ true
-both true true c d f g h = rw (f refl, g refl) refl
-both true false c d f g h = absurd (cc)
-both false b c d f g h = absurd (cc)
-
--- of more options too
-within-more : (n m : ℕ) (exprs : List (Formula ℕ)) → n ≤ m → are_within n exprs ≡ true → are_within m exprs ≡ true
-within-more n m [] le within = refl
-within-more n m (e ∷ es) le within =
-    both (nat_le (reach e) n) (are_within n es) (nat_le (reach e) m) (are_within m es)
-    (λ h. le-leb (reach e) m (omega (arith, leb-true (reach e) n h, le)))
-    (within-more n m es le) within
-
-within-one : (n : ℕ) (exprs : List (Formula ℕ)) (e : Formula ℕ) → reach e ≤ n → are_within n exprs ≡ true → are_within n (exprs ++ e ∷ []) ≡ true
-within-one n [] e le within = rw (le-leb (reach e) n le) refl
-within-one n (d ∷ ds) e le within =
-    both (nat_le (reach d) n) (are_within n ds) (nat_le (reach d) n) (are_within n (ds ++ e ∷ [])) (λ h. h) (within-one n ds e le) within
 
 pub legal-one : (before history : List Command) (k : Command) → IsLegalFrom before history → fits_command k ≡ true → verdict (before ++ history) k ≡ None → IsLegalFrom before (history ++ k ∷ [])
 legal-one before [] k legal fits accepted = (fits, ap (λ h. verdict h k) (sym (append-nil before)) ∙ accepted, tt)
@@ -82,11 +70,15 @@ not-below n m h = grind (arith, nat_tests, h)
 pub numbers-kept : (history : List Command) (k : Command) → has_commit (k ∷ []) ≡ false → numbers_of (history ++ k ∷ []) ≡ numbers_of history
 numbers-kept history (commands.Option name) h = numbers_from-append no_numbers history (commands.Option name ∷ [])
 numbers-kept history (commands.Constraint expr) h = numbers_from-append no_numbers history (commands.Constraint expr ∷ [])
+numbers-kept history (commands.Prefer expr) h = numbers_from-append no_numbers history (commands.Prefer expr ∷ [])
+numbers-kept history (commands.Default option on) h = numbers_from-append no_numbers history (commands.Default option on ∷ [])
 numbers-kept history (commands.Commit base choice ambition es) h = absurd (cc)
 
 no-bytes : (k : Command) → has_commit (k ∷ []) ≡ false → command_bytes k ≡ 0
 no-bytes (commands.Option name) h = refl
 no-bytes (commands.Constraint expr) h = refl
+no-bytes (commands.Prefer expr) h = refl
+no-bytes (commands.Default option on) h = refl
 no-bytes (commands.Commit base choice ambition es) h = absurd (cc)
 
 counts-kept : (history : List Command) (k : Command) (counts : Counts) → has_commit (k ∷ []) ≡ false → AreCountsOf history counts → AreCountsOf (history ++ k ∷ []) counts
@@ -100,62 +92,95 @@ counts-kept history k counts h old =
       bytes = let b : counts.bytes ≡ byte_count history = old.bytes in omega (arith, more, none, b);
     }
 
-within-declared : (history : List Command) (k : Command) → has_commit (k ∷ []) ≡ false → verdict history k ≡ None
-    → are_within (option_count history) (constraints_of history) ≡ true
-    → are_within (option_count (history ++ k ∷ [])) (constraints_of (history ++ k ∷ [])) ≡ true
-within-declared history (commands.Option name) h accepted within =
-    let more : option_count (history ++ commands.Option name ∷ []) ≡ option_count history + 1 = ap (λ names. length names) (options-append history (commands.Option name ∷ [])) ∙ length-one (options_of history) name in
-    subst (λ exprs. are_within (option_count (history ++ commands.Option name ∷ [])) exprs ≡ true)
-    (sym (constraints-append history (commands.Option name ∷ []) ∙ append-nil (constraints_of history)))
-    (within-more (option_count history) (option_count (history ++ commands.Option name ∷ [])) (constraints_of history) (omega (arith, more)) within)
-within-declared history (commands.Constraint expr) h accepted within =
-    let le : reach expr ≤ option_count history = not-below (option_count history) (reach expr)
-    (first-none _ _ _ (later-none (nat_le most_commands (length history)) refusals.Full (refusals_of history (commands.Constraint expr)) accepted)) in
-    subst (λ names. are_within (length names) (constraints_of (history ++ commands.Constraint expr ∷ [])) ≡ true)
-    (sym (options-append history (commands.Constraint expr ∷ []) ∙ append-nil (options_of history)))
-    (subst (λ exprs. are_within (option_count history) exprs ≡ true) (sym (constraints-append history (commands.Constraint expr ∷ [])))
-    (within-one (option_count history) (constraints_of history) expr le within))
-within-declared history (commands.Commit base choice ambition es) h accepted within = absurd (cc)
+-- the state before any command
+pub state-none : (history : List Command) (names : List (List ℕ)) (ts : List Triple) (standing : Standing) → history ≡ [] → names ≡ [] → AreRulesOf [] ts standing → IsStateOf history names ts standing (record { lines = 0; nodes = 1; bytes = 0 })
+state-none history names ts standing he ne rules =
+    rw (he, ne) (record {
+      legal = tt;
+      options = refl;
+      rules = rules;
+      most = omega arith;
+      counted = record { lines = refl; nodes = refl; bytes = refl };
+    })
 
-few-declared : (history : List Command) (k : Command) → has_commit (k ∷ []) ≡ false → verdict history k ≡ None
-    → length (constraints_of history) ≤ 256 → length (constraints_of (history ++ k ∷ [])) ≤ 256
-few-declared history (commands.Option name) h accepted few =
-    subst (λ exprs. length exprs ≤ 256) (sym (constraints-append history (commands.Option name ∷ []) ∙ append-nil (constraints_of history))) few
-few-declared history (commands.Constraint expr) h accepted few =
-    let less : length (constraints_of history) < 256 = below 256 (length (constraints_of history))
-    (first-none _ refusals.Full [] (later-none (nat_lt (option_count history) (reach expr)) refusals.BadOption _ (later-none (nat_le most_commands (length history)) refusals.Full _ accepted))) in
-    let more : length (constraints_of (history ++ commands.Constraint expr ∷ [])) ≡ length (constraints_of history) + 1 =
-    ap (λ exprs. length exprs) (constraints-append history (commands.Constraint expr ∷ [])) ∙ length-one (constraints_of history) expr in
-    omega (arith, less, more)
-few-declared history (commands.Commit base choice ambition es) h accepted few = absurd (cc)
-
-state-declared : (history : List Command) (k : Command) (names : List (List ℕ)) (constraints : List (Formula ℕ)) (counts : Counts)
-    → has_commit (k ∷ []) ≡ false → fits_command k ≡ true → verdict history k ≡ None → IsStateOf history names constraints counts
-    → IsStateOf (history ++ k ∷ []) (names ++ options_of (k ∷ [])) (constraints ++ constraints_of (k ∷ [])) counts
-state-declared history k names constraints counts h fits accepted old = record {
+-- the state of a history with a declaration more
+pub state-declared : (history : List Command) (k : Command) (names names' : List (List ℕ)) (ts : List Triple) (standing standing' : Standing) (counts : Counts)
+    → has_commit (k ∷ []) ≡ false → fits_command k ≡ true → verdict history k ≡ None → IsStateOf history names ts standing counts
+    → names' ≡ options_of (history ++ k ∷ []) → AreRulesOf (history ++ k ∷ []) ts standing' → IsStateOf (history ++ k ∷ []) names' ts standing' counts
+state-declared history k names names' ts standing standing' counts h fits accepted old ne rules = record {
   legal = legal-one [] history k old.legal fits accepted;
-  options = ap (λ ns. ns ++ options_of (k ∷ [])) old.options ∙ sym (options-append history (k ∷ []));
-  rules = ap (λ es. es ++ constraints_of (k ∷ [])) old.rules ∙ sym (constraints-append history (k ∷ []));
-  within = within-declared history k h accepted old.within;
+  options = ne;
+  rules = rules;
   most =
       let less : length history < most_commands = below most_commands (length history) (first-none _ refusals.Full (refusals_of history k) accepted) in
       let more : length (history ++ k ∷ []) ≡ length history + 1 = length-one history k in
       omega (arith, less, more);
-  few = few-declared history k h accepted old.few;
   counted = counts-kept history k counts h old.counted;
 }
 
--- what is kept after a declaration is what the longer history declares
-pub state-installed : (history : List Command) (k copy : Command) (names : List (List ℕ)) (constraints : List (Formula ℕ)) (counts : Counts)
-    (history' : List Command) (names' : List (List ℕ)) (constraints' : List (Formula ℕ))
-    → IsStateOf history names constraints counts → has_commit (k ∷ []) ≡ false → fits_command k ≡ true → verdict history k ≡ None → copy ≡ k
-    → history' ≡ history ++ k ∷ [] → names' ≡ names ++ options_of (copy ∷ []) → constraints' ≡ constraints ++ constraints_of (copy ∷ [])
-    → IsStateOf history' names' constraints' counts
-state-installed history k copy names constraints counts history' names' constraints' old h fits accepted copied he ne ce =
-    rw (he, ne, ce, copied) (state-declared history k names constraints counts h fits accepted old)
+-- so of an option
+pub option-installed : (history : List Command) (k : Command) (name : List ℕ) (names names' : List (List ℕ)) (ts : List Triple) (standing : Standing) (counts : Counts)
+    → k ≡ commands.Option name → fits_command k ≡ true → verdict history k ≡ None → IsStateOf history names ts standing counts → names' ≡ names ++ name ∷ [] → IsStateOf (history ++ k ∷ []) names' ts standing counts
+option-installed history k name names names' ts standing counts is fits accepted old ne =
+    let one : option_count (history ++ k ∷ []) ≡ option_count history + 1 =
+    ap (λ j. option_count (history ++ j ∷ [])) is ∙ ap (λ ns. length ns) (options-append history (commands.Option name ∷ [])) ∙ length-one (options_of history) name in
+    let few : option_count history < 64 = below 64 (option_count history)
+    (first-none _ refusals.Full _ (later-none (nat_le most_commands (length history)) refusals.Full (refusals_of history (commands.Option name)) (ap (verdict history) (sym is) ∙ accepted))) in
+    state-declared history k names names' ts standing standing counts (ap (λ j. has_commit (j ∷ [])) is) fits accepted old
+    (ne ∙ ap (λ ns. ns ++ name ∷ []) old.options ∙ sym (options-append history (commands.Option name ∷ [])) ∙ ap (λ j. options_of (history ++ j ∷ [])) (sym is))
+    (rules-same history k ts standing (ap rule_in is) (omega (arith, one)) (omega (arith, one, few)) old.rules)
 
--- the constraints speak of the options of a choice that has all
-pub rules-within : (history value : List Command) (names : List (List ℕ)) (constraints now : List (Formula ℕ)) (counts : Counts) (count : ℕ)
-    → IsStateOf history names constraints counts → history ≡ value → now ≡ constraints → option_count value ≤ count → are_within count now ≡ true
-rules-within history value names constraints now counts count old he ne le =
-    rw (ne, old.rules) (within-more (option_count history) count (constraints_of history) (subst (λ h. option_count h ≤ count) (sym he) le) old.within)
+-- a rule is no commit, declares no option and speaks of declared ones
+pub rule-alone : (k : Command) (rule : Rule) → rule_in k ≡ Some rule → has_commit (k ∷ []) ≡ false
+rule-alone (commands.Option name) rule is = absurd (cc)
+rule-alone (commands.Constraint expr) rule is = refl
+rule-alone (commands.Prefer expr) rule is = refl
+rule-alone (commands.Default option on) rule is = refl
+rule-alone (commands.Commit base choice ambition es) rule is = absurd (cc)
+
+rule-options : (k : Command) (rule : Rule) → rule_in k ≡ Some rule → options_of (k ∷ []) ≡ []
+rule-options (commands.Option name) rule is = absurd (cc)
+rule-options (commands.Constraint expr) rule is = refl
+rule-options (commands.Prefer expr) rule is = refl
+rule-options (commands.Default option on) rule is = refl
+rule-options (commands.Commit base choice ambition es) rule is = absurd (cc)
+
+rule-reach : (history : List Command) (k : Command) (rule : Rule) → rule_in k ≡ Some rule → verdict history k ≡ None → reach_of_rule rule ≤ option_count history
+rule-reach history k rule is accepted = by k is (later-none (nat_le most_commands (length history)) refusals.Full (refusals_of history k) accepted)
+  where
+    by : (j : Command) → rule_in j ≡ Some rule → first_of (refusals_of history j) ≡ None → reach_of_rule rule ≤ option_count history
+    by (commands.Option name) is h = absurd (cc)
+    by (commands.Constraint expr) is h =
+        let same : rules.Constraint expr ≡ rule = cc in
+        subst (λ q. reach_of_rule q ≤ option_count history) same (not-below (option_count history) (reach expr) (first-none _ refusals.BadOption _ h))
+    by (commands.Prefer expr) is h =
+        let same : rules.Prefer expr ≡ rule = cc in
+        subst (λ q. reach_of_rule q ≤ option_count history) same (not-below (option_count history) (reach expr) (first-none _ refusals.BadOption _ h))
+    by (commands.Default option on) is h =
+        let same : rules.Default option on ≡ rule = cc in
+        subst (λ q. reach_of_rule q ≤ option_count history) same (not-below (option_count history) (option + 1) (first-none _ refusals.BadOption _ h))
+    by (commands.Commit base choice ambition es) is h = absurd (cc)
+
+-- the state of a history with a rule more
+pub rule-installed : (history : List Command) (k : Command) (rule : Rule) (plan : RulePlan) (at : ℕ) (names : List (List ℕ)) (ts : List Triple) (standing standing' : Standing) (counts : Counts)
+    → rule_in k ≡ Some rule → fits_command k ≡ true → verdict history k ≡ None → at ≡ length history + 1 → IsStateOf history names ts standing counts
+    → Plans ts standing rule plan → Follows rule at standing standing'
+    → ((us : List Triple) → Holds us standing → Plans us standing rule plan → Holds us standing')
+    → ((count : ℕ) → AreBelow count standing → reach_of_rule rule ≤ count → AreBelow count standing') → IsStateOf (history ++ k ∷ []) names ts standing' counts
+rule-installed history k rule plan at names ts standing standing' counts is fits accepted here old plans follows holds below =
+    let same : options_of (history ++ k ∷ []) ≡ options_of history = options-append history (k ∷ []) ∙ ap (λ ns. options_of history ++ ns) (rule-options k rule is) ∙ append-nil (options_of history) in
+    state-declared history k names names ts standing standing' counts (rule-alone k rule is) fits accepted old (old.options ∙ sym same)
+    (rules-with history k rule ts standing standing' is (subst (λ p. Follows rule p standing standing') here follows) (holds ts old.rules.holds plans)
+    (subst (λ ns. AreBelow (length ns) standing') (sym same) (below (option_count history) old.rules.below (rule-reach history k rule is accepted))) old.rules)
+
+-- the state of a history whose table has grown
+pub state-grown : (history history' : List Command) (names names' : List (List ℕ)) (ts ts' : List Triple) (standing standing' : Standing) (counts : Counts)
+    → IsStateOf history names ts standing counts → history' ≡ history → names' ≡ names → Extends ts ts' → standing' ≡ standing → IsStateOf history' names' ts' standing' counts
+state-grown history history' names names' ts ts' standing standing' counts old he ne x se =
+    rw (he, ne, se) (record {
+      legal = old.legal;
+      options = old.options;
+      rules = rules-grown history ts ts' standing x old.rules;
+      most = old.most;
+      counted = old.counted;
+    })

@@ -7,6 +7,7 @@ pub mod Laws
 pub mod Naming
 pub mod Reach
 pub mod Ready
+pub mod Ruling
 pub mod Sessions
 pub mod Showing
 pub mod States

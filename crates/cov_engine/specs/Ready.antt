@@ -1,5 +1,6 @@
 -- What is ready for a command.
-use Rattle.std.specs.Prelude.{◌≡◌, ℕ, ◌+◌, ◌^◌, ◌<◌, ◌≤◌, true, false, List, [], ◌∷◌, length, None}
+use Rattle.std.specs.Prelude.{◌≡◌, ℕ, ◌+◌, ◌^◌, ◌<◌, ◌≤◌, true, List, [], length, Some, None}
+use Rattle.cov_dd.specs.declared.triple.Triple.{Triple}
 use Rattle.cov_expr.specs.Formula.{Formula}
 use Rattle.cov_edit.specs.declared.edit.Edit.{Edit}
 use Rattle.cov_edit.specs.declared.command.Command.{Command}
@@ -7,9 +8,11 @@ use Rattle.cov_edit.specs.declared.command.Command.TheVariants as commands
 use Rattle.cov_edit.specs.Fits.{fits_command}
 use Rattle.cov_edit.specs.History.{text_bytes, byte_count}
 use Rattle.cov_edit.specs.Numbering.{nodes_made, anchors_of, numbers_of, line_count, node_count}
+use Rattle.cov_rules.specs.Installing.{RulesValue, IsPlan}
 use Rattle.cov_engine.specs.Drawing.{AreNear, IsDrawn}
 use Rattle.cov_engine.specs.Holdings.{IsHeldBy}
-use Rattle.cov_engine.specs.Sessions.{has_commit, MayCome}
+use Rattle.cov_engine.specs.Ruling.{rule_in}
+use Rattle.cov_engine.specs.Sessions.{MayCome}
 use Rattle.cov_engine.specs.Verdict.{verdict}
 use Rattle.cov_engine.specs.declared.counts.Counts.{Counts}
 use Rattle.cov_engine.specs.declared.entry.Entry.{Entry}
@@ -38,26 +41,26 @@ pub record AreCountsWith (history : List Command) (es : List Edit) (counts : Cou
   pub nodes : counts.nodes ≡ node_count history + nodes_made es
   pub bytes : counts.bytes ≡ byte_count history + text_bytes es
 
--- there is a copy of a declaration, and room for an option and a constraint
-pub record IsDeclarationReady (history : List Command) (command copy : Command) (options_spare rules_spare : ℕ) (commits : List Made) (ls : List KeptLine) (entries : List Entry) : Type 0 where
-  pub declares : has_commit (command ∷ []) ≡ false
-  pub copied : copy ≡ command
-  pub option_room : 0 < options_spare
-  pub rule_room : 0 < rules_spare
-  pub held : IsHeldBy history commits ls entries
+-- what is drawn for edits and an ambition is ready, and there is room for their commit
+abbrev pub IsDrawnReady : List Command → Formula ℕ → List Edit → ℕ → List Made → List KeptLine → List Entry → Ready → Type 0
+IsDrawnReady history ambition es spare commits ls entries (ready.Option name) = ⊥
+IsDrawnReady history ambition es spare commits ls entries (ready.Rule rule plan) = ⊥
+IsDrawnReady history ambition es spare commits ls entries (ready.Commit made counts) = IsDrawn history ambition es commits made ls entries × AreCountsWith history es counts × (0 < spare)
 
 -- a commit is drawn, and there is room for it
-abbrev pub IsCommitReady : List Command → Formula ℕ → List Edit → ℕ → List Made → List KeptLine → List Entry → Ready → Type 0
-IsCommitReady history ambition es spare commits ls entries (ready.Declaration copy) = ⊥
-IsCommitReady history ambition es spare commits ls entries (ready.Commit made counts) = IsDrawn history ambition es commits made ls entries × AreCountsWith history es counts × (0 < spare)
+abbrev pub IsCommitReady : List Command → Command → ℕ → List Made → List KeptLine → List Entry → Made → Counts → Type 0
+IsCommitReady history (commands.Commit base choice ambition es) spare commits ls entries made counts =
+    MayCome history (commands.Commit base choice ambition es) × IsDrawn history ambition es commits made ls entries × AreCountsWith history es counts × (0 < spare)
+IsCommitReady history command spare commits ls entries made counts = ⊥
 
--- what a command wants is ready
-abbrev pub IsReady : List Command → Command → ℕ → ℕ → ℕ → List Made → List KeptLine → List Entry → Ready → Type 0
-IsReady history (commands.Commit base choice ambition es) options_spare rules_spare commits_spare commits ls entries r =
-    MayCome history (commands.Commit base choice ambition es) × IsCommitReady history ambition es commits_spare commits ls entries r
-IsReady history command options_spare rules_spare commits_spare commits ls entries (ready.Declaration copy) =
-    IsDeclarationReady history command copy options_spare rules_spare commits ls entries
-IsReady history command options_spare rules_spare commits_spare commits ls entries (ready.Commit made counts) = ⊥
+-- what a command wants is ready: a name and room for it, a rule with its plan, or what a commit draws
+abbrev pub IsReady : List Command → Command → ℕ → List Triple → RulesValue → ℕ → List Made → List KeptLine → List Entry → Ready → Type 0
+IsReady history command options_spare ts rules commits_spare commits ls entries (ready.Option name) =
+    (command ≡ commands.Option name) × (0 < options_spare) × IsHeldBy history commits ls entries
+IsReady history command options_spare ts rules commits_spare commits ls entries (ready.Rule rule plan) =
+    (rule_in command ≡ Some rule) × IsPlan ts rules rule plan × IsHeldBy history commits ls entries
+IsReady history command options_spare ts rules commits_spare commits ls entries (ready.Commit made counts) =
+    IsCommitReady history command commits_spare commits ls entries made counts
 
 -- the edits of a commit
 abbrev pub edits_in : Command → List Edit

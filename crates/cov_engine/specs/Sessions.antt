@@ -1,5 +1,5 @@
 -- Sessions: what they see, and when they fit a history.
-use Rattle.std.specs.Prelude.{◌≡◌, ℕ, ◌≤◌, Bool, true, false, List, [], ◌∷◌, length, take, drop, None}
+use Rattle.std.specs.Prelude.{◌≡◌, ℕ, ◌<◌, ◌≤◌, Bool, true, false, List, [], ◌∷◌, length, take, drop, None}
 use Rattle.std.specs.List.{fold}
 use Rattle.cov_expr.specs.Formula.{Formula, value, reach}
 use Rattle.cov_edit.specs.declared.edit.Edit.{Edit}
@@ -51,4 +51,6 @@ session_of base choice ambition es = record { name = []; base = base; choice = c
 abbrev pub MayCome : List Command → Command → Type 0
 MayCome history (commands.Option name) = Unit {0}
 MayCome history (commands.Constraint expr) = reach expr ≤ option_count history
+MayCome history (commands.Prefer expr) = reach expr ≤ option_count history
+MayCome history (commands.Default option on) = option < option_count history
 MayCome history (commands.Commit base choice ambition es) = IsGood history (session_of base choice ambition es) × (has_commit (drop base history) ≡ false)

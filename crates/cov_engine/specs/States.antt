@@ -1,19 +1,19 @@
 -- What an engine keeps of its history.
-use Rattle.std.specs.Prelude.{◌≡◌, ℕ, ◌+◌, ◌<◌, ◌≤◌, Bool, true, false, nat_le, List, length}
-use Rattle.std.specs.List.{list_all}
-use Rattle.cov_expr.specs.Formula.{Formula, reach}
+use Rattle.std.specs.Prelude.{◌≡◌, ℕ, ◌+◌, ◌≤◌, nat_le, List, [], ◌∷◌, length, Option}
+use Rattle.cov_dd.specs.declared.triple.Triple.{Triple}
 use Rattle.cov_expr.specs.Options.{is_declared}
 use Rattle.cov_edit.specs.declared.command.Command.{Command}
 use Rattle.cov_edit.specs.declared.command.Command.TheVariants as commands
-use Rattle.cov_edit.specs.History.{options_of, option_count, constraints_of, byte_count}
+use Rattle.cov_edit.specs.History.{options_of, constraints_of, preferences_of, defaults_of, byte_count}
 use Rattle.cov_edit.specs.Limits.{most_commands}
 use Rattle.cov_edit.specs.Numbering.{line_count, node_count}
+use Rattle.cov_rules.specs.Installing.{Standing}
+use Rattle.cov_view.specs.Refusals.{when, first_of}
+use Rattle.cov_engine.specs.Ruling.{AreRulesOf}
 use Rattle.cov_engine.specs.Verdict.{IsLegal}
 use Rattle.cov_engine.specs.declared.counts.Counts.{Counts}
-
--- whether expressions speak of the first so many options alone
-abbrev pub are_within : ℕ → List (Formula ℕ) → Bool
-are_within count exprs = list_all (λ e. nat_le (reach e) count) exprs
+use Rattle.cov_engine.specs.declared.refusal.Refusal.{Refusal}
+use Rattle.cov_engine.specs.declared.refusal.Refusal.TheVariants as refusals
 
 -- the counts are those of a history
 pub record AreCountsOf (history : List Command) (counts : Counts) : Type 0 where
@@ -21,27 +21,22 @@ pub record AreCountsOf (history : List Command) (counts : Counts) : Type 0 where
   pub nodes : counts.nodes ≡ node_count history
   pub bytes : counts.bytes ≡ byte_count history
 
--- the names of options, the constraints and the counts are those of a legal history
-pub record IsStateOf (history : List Command) (names : List (List ℕ)) (constraints : List (Formula ℕ)) (counts : Counts) : Type 0 where
+-- the names of options, the rules that stand with their table, and the counts are those of a legal history
+pub record IsStateOf (history : List Command) (names : List (List ℕ)) (ts : List Triple) (standing : Standing) (counts : Counts) : Type 0 where
   pub legal : IsLegal history
   pub options : names ≡ options_of history
-  pub rules : constraints ≡ constraints_of history
-  pub within : are_within (option_count history) (constraints_of history) ≡ true
+  pub rules : AreRulesOf history ts standing
   pub most : length history ≤ most_commands
-  pub few : length (constraints_of history) ≤ 256
   pub counted : AreCountsOf history counts
 
--- the number of what a command declares, these options and constraints being declared; 0 for a commit
-abbrev pub declared_number : List (List ℕ) → List (Formula ℕ) → Command → ℕ
-declared_number names constraints (commands.Option name) = length names
-declared_number names constraints (commands.Constraint expr) = length constraints + 1
-declared_number names constraints (commands.Commit base choice ambition es) = 0
+-- the refusal of an option by its name, these being declared
+abbrev pub name_refusal : List (List ℕ) → List ℕ → Option Refusal
+name_refusal names name = first_of (when (nat_le 64 (length names)) refusals.Full ∷ when (is_declared names name) refusals.Exists ∷ [])
 
--- the option that a command declares, if it does, isn't declared, and there are fewer than 64
-abbrev pub MayDeclare : List (List ℕ) → Command → Type 0
-MayDeclare names (commands.Option name) = (length names < 64) × (is_declared names name ≡ false)
-MayDeclare names _ = Unit {0}
-
--- the number on the receipt of a command
+-- the number on the receipt of a command: that of the option, that of the rule within its kind, or 0 for a commit
 abbrev pub receipt_number : List Command → Command → ℕ
-receipt_number history command = declared_number (options_of history) (constraints_of history) command
+receipt_number history (commands.Option name) = length (options_of history)
+receipt_number history (commands.Constraint expr) = length (constraints_of history) + 1
+receipt_number history (commands.Prefer expr) = length (preferences_of history) + 1
+receipt_number history (commands.Default option on) = length (defaults_of history) + 1
+receipt_number history (commands.Commit base choice ambition es) = 0

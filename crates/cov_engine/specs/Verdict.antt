@@ -1,13 +1,14 @@
 -- Which commands a history accepts.
-use Rattle.std.specs.Prelude.{◌≡◌, ℕ, ◌+◌, Bool, true, false, ◌||◌, not, nat_eq, nat_lt, nat_le, List, [], ◌∷◌, ◌++◌, length, take, Option, Some, None}
+use Rattle.std.specs.Prelude.{◌≡◌, ℕ, ◌+◌, Bool, true, false, ◌&&◌, ◌||◌, not, nat_eq, nat_lt, nat_le, List, [], ◌∷◌, ◌++◌, length, take, Option, Some, None}
 use Rattle.std.specs.Str.{bytes_eq}
 use Rattle.std.specs.List.{list_any}
-use Rattle.cov_expr.specs.Formula.{value, reach}
+use Rattle.cov_base.specs.Choices.{all_choices}
+use Rattle.cov_expr.specs.Formula.{Formula, value, reach}
 use Rattle.cov_edit.specs.declared.edit.Edit.{Edit}
 use Rattle.cov_edit.specs.declared.command.Command.{Command}
 use Rattle.cov_edit.specs.declared.command.Command.TheVariants as commands
 use Rattle.cov_edit.specs.Fits.{fits_command}
-use Rattle.cov_edit.specs.History.{options_of, option_count, constraints_of, first_false_in, text_bytes, byte_count}
+use Rattle.cov_edit.specs.History.{options_of, option_count, constraints_of, preferences_of, defaults_of, is_valid_in, first_false_in, text_bytes, byte_count}
 use Rattle.cov_edit.specs.Limits.{limits_of, most_commands, most_edits, most_commit_bytes, most_bytes}
 use Rattle.cov_edit.specs.Numbering.{numbers_of, nodes_made, anchors_of, line_count, node_count}
 use Rattle.cov_edit.specs.Replay.{replay}
@@ -38,6 +39,10 @@ rule_refusals history count standing =
     ∷ when (nat_le (limits_of history).rules standing) refusals.Full
     ∷ []
 
+-- whether an expression is true on some valid choice of the declared options
+abbrev pub leaves_variant : List Command → Formula ℕ → Bool
+leaves_variant history expr = list_any (λ c. is_valid_in history c && value expr c) (all_choices (option_count history))
+
 -- the refusals of edits that are too many, make too many lines or nodes, or have too much text
 abbrev pub size_refusals : List Command → List Edit → List (Option Refusal)
 size_refusals history es =
@@ -53,7 +58,10 @@ refusals_of history (commands.Option name) =
     when (nat_le (limits_of history).options (option_count history)) refusals.Full
     ∷ when (list_any (bytes_eq name) (options_of history)) refusals.Exists
     ∷ []
-refusals_of history (commands.Constraint expr) = rule_refusals history (reach expr) (length (constraints_of history))
+refusals_of history (commands.Constraint expr) =
+    rule_refusals history (reach expr) (length (constraints_of history)) ++ when (not (leaves_variant history expr)) refusals.NoVariantLeft ∷ []
+refusals_of history (commands.Prefer expr) = rule_refusals history (reach expr) (length (preferences_of history))
+refusals_of history (commands.Default option on) = rule_refusals history (option + 1) (length (defaults_of history))
 refusals_of history (commands.Commit base choice ambition es) =
     when (nat_lt (length history) base) refusals.BadBase
     ∷ when (not (nat_eq (length choice) (option_count (take base history))) || nat_lt (option_count (take base history)) (reach ambition)) refusals.BadOption

@@ -1,36 +1,28 @@
 // A history in use.
-ghost use Rattle.std.specs.Prelude.{◌≡◌, ◌≤◌, [], ◌∷◌, false, length, take, nat_le, None, Some, IfOk, IfErr, OnOk};
-ghost use Rattle.cov_edit.specs.History.{options_of, option_count, first_false_in};
-ghost use Rattle.cov_expr.specs.Options.{is_declared};
-ghost use Rattle.cov_view.specs.Refusals.{when, first_of};
+ghost use Rattle.std.specs.Prelude.{◌≡◌, ◌≤◌, [], true, nat_lt, length, take, None, Some, IfOk, IfErr, OnOk};
+ghost use Rattle.std.specs.List.{list_all};
+ghost use Rattle.cov_edit.specs.History.{options_of, option_count, constraints_of, first_false_in};
 ghost use Rattle.cov_edit.specs.Numbering.{numbers_of};
 ghost use Rattle.cov_edit.specs.Replay.{replay};
+ghost use Rattle.cov_rules.specs.Completion.{Complete, IsAnswer, IsRefusalBy};
 ghost use Rattle.cov_view.specs.Views.{Shows};
 ghost use Rattle.cov_engine.specs.Holdings.{IsHeldBy};
+ghost use Rattle.cov_engine.specs.Ruling.{completed_in};
 ghost use Rattle.cov_engine.specs.Sessions.{MayCome};
 ghost use Rattle.cov_engine.specs.States.{AreCountsOf, IsStateOf};
 ghost use Rattle.cov_engine.specs.Verdict.{verdict, RefusedBy};
-ghost use Rattle.cov_engine.specs.declared.refusal.Refusal.TheVariants as refusals;
 
-use crate::invalid::check;
 use crate::kept::{Kept, show};
 use crate::state::{State, make_ready};
-use crate::{Counts, Invalid, Prepared, Refusal, sizes};
+use crate::{Counts, Prepared, Refusal};
 use cov_base::{Choice, Memory, Position};
+use cov_dd::Table;
 use cov_edit::{Command, Commands};
-use cov_expr::Options;
+use cov_expr::{Options, Partial};
+use cov_rules::{CompleteFault, Invalid, Rules};
 use cov_view::View;
 use std::alloc::Global;
 use std::marker::Model;
-
-/// The greatest number of commands.
-const MOST_COMMANDS: usize = 1 << 20;
-
-/// The greatest number of options.
-const MOST_OPTIONS: u8 = 64;
-
-/// The greatest number of constraints.
-const MOST_CONSTRAINTS: usize = 256;
 
 /// A history. Contracts see it as the list of its commands.
 #[derive(Drop)]
@@ -52,7 +44,7 @@ impl Model for Engine {
 
     ghost view = { λ e. e.state.commands.commands };
 
-    ghost invariant = { λ e. IsStateOf e.state.commands.commands e.state.options.names e.state.constraints.items e.state.counts × IsHeldBy e.state.commands.commands e.state.kept.commits.items e.state.kept.lines.items e.state.kept.entries.items };
+    ghost invariant = { λ e. IsStateOf e.state.commands.commands e.state.options.names e.state.table e.state.rules.standing e.state.counts × IsHeldBy e.state.commands.commands e.state.kept.commits.items e.state.kept.lines.items e.state.kept.entries.items };
 }
 
 impl Engine {
@@ -64,7 +56,8 @@ impl Engine {
             state: State {
                 commands: Commands::new(alloc),
                 options: Options::new(alloc),
-                constraints: Vec::new(alloc),
+                table: Table::new(alloc)?,
+                rules: Rules::new(alloc),
                 counts: Counts {
                     lines: 0,
                     nodes: 1,
@@ -112,7 +105,22 @@ impl Engine {
         ensures ok { OnOk result (first_false_in self.now choice ≡ None) }
         ensures err { IfErr result (λ invalid. first_false_in self.now choice ≡ Some invalid.rule) }
     {
-        check(self.state.constraints.as_slice(), choice)
+        self.state.rules.valid(choice, self.position())
+    }
+
+    /// Completes a partial choice by the rules: of the valid choices that agree with it each preference in order keeps
+    /// those on which it is true, if there are any, then each default. The one choice left is the answer.
+    pub fn complete(&mut self, partial: &Partial) -> Result<Choice, CompleteFault>
+        requires { list_all (λ b. nat_lt b.0 (option_count self.old)) partial.now ≡ true }
+        ensures same { self.new ≡ self.old }
+        ensures complete { IfOk result (λ choice. completed_in self.old partial.now ≡ Complete choice) }
+        ensures answer { IfOk result (IsAnswer (option_count self.old) (constraints_of self.old) partial.now) }
+        ensures refused { IfErr result (IsRefusalBy (completed_in self.old partial.now)) }
+    {
+        let count = self.state.options.count();
+        self.state
+            .rules
+            .complete(&mut self.state.table, partial, count)
     }
 
     /// The variant of a choice at a position; nothing in it is new. It takes time in the rows and lines that are kept.
@@ -135,70 +143,19 @@ impl Engine {
         ensures back { IfErr result (λ refused. refused.0 ≡ self) }
         ensures refused { IfErr result (λ refused. RefusedBy refused.1 (verdict self command)) }
     {
-        match self.refusal(&command) {
-            Some(refusal) => Err((self, refusal)),
-            None => self.make_ready(command),
-        }
-    }
-
-    fn refusal(&self, command: &Command) -> Option<Refusal>
-        requires { MayCome self.now command.now }
-        ensures { result ≡ verdict self.now command.now }
-    {
-        if self.state.commands.len() >= MOST_COMMANDS {
-            return Some(Refusal::Full);
-        }
-        match command {
-            Command::Option { name } => option_refusal(&self.state.options, name.as_slice()),
-            Command::Constraint { .. } => constraint_refusal(self.state.constraints.len()),
-            Command::Commit { edits, .. } => sizes::refusal(self.state.counts, edits),
-        }
-    }
-
-    fn make_ready(self, command: Command) -> Result<Prepared, (Engine, Refusal)>
-        requires may_come { MayCome self command }
-        requires accepted { verdict self command ≡ None }
-        ensures prepared { IfOk result (λ prepared. (prepared.history ≡ self) × (prepared.command ≡ command)) }
-        ensures refused { IfErr result (λ refused. (refused.0 ≡ self) × (refused.1 ≡ refusals.Memory)) }
-    {
         let Engine { mut state } = self;
         command.bounds_are_kept();
-        let _most = state.options.count();
         match make_ready(&mut state, &command) {
             Ok(ready) => Ok(Prepared::new(state, command, ready)),
-            Err(Memory) => Err((Engine { state }, Refusal::Memory)),
+            Err(refusal) => Err((Engine { state }, refusal)),
         }
     }
 
     pub(crate) fn of_state(state: State) -> Engine
-        requires state { IsStateOf state.commands.commands state.options.names state.constraints.items state.counts }
+        requires state { IsStateOf state.commands.commands state.options.names state.table state.rules.standing state.counts }
         requires held { IsHeldBy state.commands.commands state.kept.commits.items state.kept.lines.items state.kept.entries.items }
         ensures { result ≡ state.commands.commands }
     {
         Engine { state }
-    }
-}
-
-// The refusal of an option by its name, where there is room for a command.
-fn option_refusal(options: &Options, name: &[u8]) -> Option<Refusal>
-    ensures { result ≡ first_of (when (nat_le 64 (length options.now.names)) refusals.Full ∷ when (is_declared options.now.names name.now) refusals.Exists ∷ []) }
-{
-    if options.count() >= MOST_OPTIONS {
-        return Some(Refusal::Full);
-    }
-    match options.find(name) {
-        Some(_) => Some(Refusal::Exists),
-        None => None,
-    }
-}
-
-// The refusal of a constraint of declared options, so many constraints standing.
-fn constraint_refusal(standing: usize) -> Option<Refusal>
-    ensures { result ≡ first_of (when (nat_le 256 standing) refusals.Full ∷ []) }
-{
-    if standing >= MOST_CONSTRAINTS {
-        Some(Refusal::Full)
-    } else {
-        None
     }
 }

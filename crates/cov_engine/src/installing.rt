@@ -1,7 +1,7 @@
 // Commands that are installed, or given up.
 ghost use Rattle.std.specs.Prelude.{◌≡◌, ◌-◌, ◌++◌, [], ◌∷◌, vec_len, vec_capacity};
 ghost use Rattle.cov_engine.specs.Holdings.{IsHeldBy};
-ghost use Rattle.cov_engine.specs.Ready.{IsNext, IsReady, IsDeclarationReady, edits_in};
+ghost use Rattle.cov_engine.specs.Ready.{IsNext, IsReady, edits_in};
 ghost use Rattle.cov_engine.specs.States.{IsStateOf, receipt_number};
 ghost use Rattle.cov_engine.specs.declared.ready.Ready.TheVariants as ready;
 
@@ -9,46 +9,63 @@ use crate::Counts;
 use crate::drawing::{install, undraw};
 use crate::kept::Made;
 use crate::ready::Ready;
-use crate::state::{State, declare};
+use crate::state::State;
+use cov_base::{OptionName, Position};
 use cov_edit::{Command, Edit};
+use cov_rules::{Rule, RulePlan};
 
 /// Adds all of a command that is ready but the command itself, and answers the number on its receipt.
 pub(crate) fn add_ready(state: &mut State, command: &Command, ready: Ready) -> u32
-    requires state { IsStateOf state.old.commands.commands state.old.options.names state.old.constraints.items state.old.counts }
+    requires state { IsStateOf state.old.commands.commands state.old.options.names state.old.table state.old.rules.standing state.old.counts }
     requires next { IsNext state.old.commands.commands command.now state.old.commands.spare }
-    requires ready { IsReady state.old.commands.commands command.now state.old.options.spare (vec_capacity state.old.constraints - vec_len state.old.constraints)
+    requires ready { IsReady state.old.commands.commands command.now state.old.options.spare state.old.table state.old.rules
         (vec_capacity state.old.kept.commits - vec_len state.old.kept.commits) state.old.kept.commits.items state.old.kept.lines.items state.old.kept.entries.items ready }
     ensures commands { state.new.commands ≡ state.old.commands }
-    ensures state { IsStateOf (state.old.commands.commands ++ command.now ∷ []) state.new.options.names state.new.constraints.items state.new.counts }
+    ensures state { IsStateOf (state.old.commands.commands ++ command.now ∷ []) state.new.options.names state.new.table state.new.rules.standing state.new.counts }
     ensures held { IsHeldBy (state.old.commands.commands ++ command.now ∷ []) state.new.kept.commits.items state.new.kept.lines.items state.new.kept.entries.items }
     ensures number { result ≡ receipt_number state.old.commands.commands command.now }
 {
     match ready {
-        Ready::Declaration { copy } => add_declaration(state, command, copy),
+        Ready::Option { name } => add_option(state, command, name),
+        Ready::Rule { rule, plan } => add_rule(state, command, rule, plan),
         Ready::Commit { made, counts } => add_commit(state, command, made, counts),
     }
 }
 
-fn add_declaration(state: &mut State, command: &Command, copy: Command) -> u32
-    requires state { IsStateOf state.old.commands.commands state.old.options.names state.old.constraints.items state.old.counts }
+fn add_option(state: &mut State, command: &Command, name: OptionName) -> u32
+    requires state { IsStateOf state.old.commands.commands state.old.options.names state.old.table state.old.rules.standing state.old.counts }
     requires next { IsNext state.old.commands.commands command.now state.old.commands.spare }
-    requires ready { IsDeclarationReady state.old.commands.commands command.now copy state.old.options.spare (vec_capacity state.old.constraints - vec_len state.old.constraints)
-        state.old.kept.commits.items state.old.kept.lines.items state.old.kept.entries.items }
+    requires ready { IsReady state.old.commands.commands command.now state.old.options.spare state.old.table state.old.rules
+        (vec_capacity state.old.kept.commits - vec_len state.old.kept.commits) state.old.kept.commits.items state.old.kept.lines.items state.old.kept.entries.items (ready.Option name) }
     ensures commands { state.new.commands ≡ state.old.commands }
-    ensures state { IsStateOf (state.old.commands.commands ++ command.now ∷ []) state.new.options.names state.new.constraints.items state.new.counts }
+    ensures state { IsStateOf (state.old.commands.commands ++ command.now ∷ []) state.new.options.names state.new.table state.new.rules.standing state.new.counts }
     ensures held { IsHeldBy (state.old.commands.commands ++ command.now ∷ []) state.new.kept.commits.items state.new.kept.lines.items state.new.kept.entries.items }
     ensures number { result ≡ receipt_number state.old.commands.commands command.now }
 {
-    declare(&mut state.options, &mut state.constraints, copy)
+    u32::from(state.options.declare(name).number())
+}
+
+fn add_rule(state: &mut State, command: &Command, rule: Rule, plan: RulePlan) -> u32
+    requires state { IsStateOf state.old.commands.commands state.old.options.names state.old.table state.old.rules.standing state.old.counts }
+    requires next { IsNext state.old.commands.commands command.now state.old.commands.spare }
+    requires ready { IsReady state.old.commands.commands command.now state.old.options.spare state.old.table state.old.rules
+        (vec_capacity state.old.kept.commits - vec_len state.old.kept.commits) state.old.kept.commits.items state.old.kept.lines.items state.old.kept.entries.items (ready.Rule rule plan) }
+    ensures commands { state.new.commands ≡ state.old.commands }
+    ensures state { IsStateOf (state.old.commands.commands ++ command.now ∷ []) state.new.options.names state.new.table state.new.rules.standing state.new.counts }
+    ensures held { IsHeldBy (state.old.commands.commands ++ command.now ∷ []) state.new.kept.commits.items state.new.kept.lines.items state.new.kept.entries.items }
+    ensures number { result ≡ receipt_number state.old.commands.commands command.now }
+{
+    let at = Position::new(state.commands.len() as u32 + 1);
+    state.rules.install(plan, rule, at)
 }
 
 fn add_commit(state: &mut State, command: &Command, made: Made, counts: Counts) -> u32
-    requires state { IsStateOf state.old.commands.commands state.old.options.names state.old.constraints.items state.old.counts }
+    requires state { IsStateOf state.old.commands.commands state.old.options.names state.old.table state.old.rules.standing state.old.counts }
     requires next { IsNext state.old.commands.commands command.now state.old.commands.spare }
-    requires ready { IsReady state.old.commands.commands command.now state.old.options.spare (vec_capacity state.old.constraints - vec_len state.old.constraints)
+    requires ready { IsReady state.old.commands.commands command.now state.old.options.spare state.old.table state.old.rules
         (vec_capacity state.old.kept.commits - vec_len state.old.kept.commits) state.old.kept.commits.items state.old.kept.lines.items state.old.kept.entries.items (ready.Commit made counts) }
     ensures commands { state.new.commands ≡ state.old.commands }
-    ensures state { IsStateOf (state.old.commands.commands ++ command.now ∷ []) state.new.options.names state.new.constraints.items state.new.counts }
+    ensures state { IsStateOf (state.old.commands.commands ++ command.now ∷ []) state.new.options.names state.new.table state.new.rules.standing state.new.counts }
     ensures held { IsHeldBy (state.old.commands.commands ++ command.now ∷ []) state.new.kept.commits.items state.new.kept.lines.items state.new.kept.entries.items }
     ensures number { result ≡ receipt_number state.old.commands.commands command.now }
 {
@@ -65,18 +82,16 @@ fn add_commit(state: &mut State, command: &Command, made: Made, counts: Counts) 
 
 /// Gives up what is ready for a command.
 pub(crate) fn give_up(state: &mut State, command: &Command, ready: &Ready)
-    requires state { IsStateOf state.old.commands.commands state.old.options.names state.old.constraints.items state.old.counts }
+    requires state { IsStateOf state.old.commands.commands state.old.options.names state.old.table state.old.rules.standing state.old.counts }
     requires next { IsNext state.old.commands.commands command.now state.old.commands.spare }
-    requires ready { IsReady state.old.commands.commands command.now state.old.options.spare (vec_capacity state.old.constraints - vec_len state.old.constraints)
+    requires ready { IsReady state.old.commands.commands command.now state.old.options.spare state.old.table state.old.rules
         (vec_capacity state.old.kept.commits - vec_len state.old.kept.commits) state.old.kept.commits.items state.old.kept.lines.items state.old.kept.entries.items ready.now }
     ensures commands { state.new.commands ≡ state.old.commands }
-    ensures options { state.new.options ≡ state.old.options }
-    ensures constraints { state.new.constraints ≡ state.old.constraints }
-    ensures counts { state.new.counts ≡ state.old.counts }
-    ensures held { IsHeldBy state.old.commands.commands state.new.kept.commits.items state.new.kept.lines.items state.new.kept.entries.items }
+    ensures state { IsStateOf state.new.commands.commands state.new.options.names state.new.table state.new.rules.standing state.new.counts }
+    ensures held { IsHeldBy state.new.commands.commands state.new.kept.commits.items state.new.kept.lines.items state.new.kept.entries.items }
 {
     match ready {
-        Ready::Declaration { .. } => (),
+        Ready::Option { .. } | Ready::Rule { .. } => (),
         Ready::Commit { .. } => undraw(
             &mut state.kept,
             state.counts.nodes - 1,

@@ -6,19 +6,18 @@ mod drawing;
 mod engine;
 mod entry;
 mod installing;
-mod invalid;
 mod kept;
 pub mod laws;
 mod number;
 mod prepared;
 mod ready;
 mod refusal;
+mod rule;
 mod sizes;
 mod state;
 
 pub use counts::Counts;
 pub use engine::Engine;
-pub use invalid::Invalid;
 pub use prepared::{Prepared, Receipt};
 pub use refusal::Refusal;
 

@@ -33,13 +33,13 @@ impl Model for Prepared {
 
     ghost view = { λ p. record { history = p.state.commands.commands; command = p.command } };
 
-    ghost invariant = { λ p. IsStateOf p.state.commands.commands p.state.options.names p.state.constraints.items p.state.counts
+    ghost invariant = { λ p. IsStateOf p.state.commands.commands p.state.options.names p.state.table p.state.rules.standing p.state.counts
         × IsNext p.state.commands.commands p.command p.state.commands.spare
-        × IsReady p.state.commands.commands p.command p.state.options.spare (vec_capacity p.state.constraints - vec_len p.state.constraints)
+        × IsReady p.state.commands.commands p.command p.state.options.spare p.state.table p.state.rules
         (vec_capacity p.state.kept.commits - vec_len p.state.kept.commits) p.state.kept.commits.items p.state.kept.lines.items p.state.kept.entries.items p.ready };
 }
 
-/// What a command made: the position after it, and the option's or the constraint's number, or 0 for a commit.
+/// What a command made: the position after it, and the option's number, the rule's within its kind, or 0 for a commit.
 #[derive(Clone, Copy, Debug, PartialEq, Eq)]
 pub struct Receipt {
     pub position: Position,
@@ -48,9 +48,9 @@ pub struct Receipt {
 
 impl Prepared {
     pub(crate) fn new(state: State, command: Command, ready: Ready) -> Prepared
-        requires state { IsStateOf state.commands.commands state.options.names state.constraints.items state.counts }
+        requires state { IsStateOf state.commands.commands state.options.names state.table state.rules.standing state.counts }
         requires next { IsNext state.commands.commands command state.commands.spare }
-        requires ready { IsReady state.commands.commands command state.options.spare (vec_capacity state.constraints - vec_len state.constraints)
+        requires ready { IsReady state.commands.commands command state.options.spare state.table state.rules
             (vec_capacity state.kept.commits - vec_len state.kept.commits) state.kept.commits.items state.kept.lines.items state.kept.entries.items ready }
         ensures { result ≡ record { history = state.commands.commands; command = command } }
     {

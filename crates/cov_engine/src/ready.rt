@@ -7,14 +7,17 @@ ghost use Rattle.cov_engine.specs.Drawing.{stored, new_lines, new_entries, AreNu
 use crate::Counts;
 use crate::drawing::{draw, undraw};
 use crate::kept::{Kept, Made};
-use cov_base::Memory;
-use cov_edit::{Command, Edit};
+use cov_base::{Memory, OptionName};
+use cov_edit::Edit;
+use cov_rules::{Rule, RulePlan};
 
 /// What is ready for a command that is accepted.
 #[derive(Drop)]
 pub(crate) enum Ready {
-    /// A copy of the declaration.
-    Declaration { copy: Command },
+    /// The name of the option, for which there is room.
+    Option { name: OptionName },
+    /// The rule, for which there is room.
+    Rule { rule: Rule, plan: RulePlan },
     /// The position and ambition of the commit, and the counts with it. Its lines and rows are drawn.
     Commit { made: Made, counts: Counts },
 }

@@ -7,6 +7,8 @@ pub enum Refusal {
     Full,
     /// An option of that name is declared.
     Exists,
+    /// No choice would meet all constraints.
+    NoVariantLeft,
     /// The base is beyond the history.
     BadBase,
     /// An option isn't declared, or the choice isn't one of all options of the base.

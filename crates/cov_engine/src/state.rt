@@ -1,116 +1,150 @@
 // What an engine keeps.
-ghost use Rattle.std.specs.Prelude.{◌≡◌, ◌<◌, ◌≤◌, ◌+◌, ◌-◌, ◌++◌, [], ◌∷◌, false, length, None, IfOk, OnOk, OnErr, vec_len, vec_capacity};
-ghost use Rattle.cov_edit.specs.History.{options_of, constraints_of};
-ghost use Rattle.cov_expr.specs.Options.{is_declared};
+ghost use Rattle.std.specs.Prelude.{◌≡◌, ◌<◌, ◌^◌, ◌-◌, length, None, IfOk, IfErr, OnOk, OnErr, vec_len, vec_capacity};
 ghost use Rattle.cov_engine.specs.Holdings.{IsHeldBy};
-ghost use Rattle.cov_engine.specs.Sessions.{has_commit, MayCome};
-ghost use Rattle.cov_engine.specs.States.{IsStateOf, MayDeclare, declared_number};
-ghost use Rattle.cov_engine.specs.Ready.{IsReady, IsCommitReady, IsInBounds};
-ghost use Rattle.cov_engine.specs.Verdict.{verdict};
+ghost use Rattle.cov_engine.specs.Sessions.{MayCome};
+ghost use Rattle.cov_engine.specs.States.{IsStateOf, name_refusal};
+ghost use Rattle.cov_engine.specs.Ready.{IsReady, IsInBounds, IsDrawnReady};
+ghost use Rattle.cov_engine.specs.Verdict.{verdict, RefusedBy};
+ghost use Rattle.cov_engine.specs.declared.ready.Ready.TheVariants as ready;
 
-use crate::Counts;
 use crate::kept::{Kept, Made};
 use crate::ready::{Ready, draw_commit};
+use crate::rule::rule_ready;
 use crate::sizes::{measure, with_sizes};
-use cov_base::{Memory, Position};
+use crate::{Counts, Refusal, sizes};
+use cov_base::{Memory, OptionName, Position};
+use cov_dd::Table;
 use cov_edit::{Command, Commands, Edits};
 use cov_expr::{Expr, Options};
+use cov_rules::Rules;
 
-/// The history with what it declares.
+/// The greatest number of commands.
+const MOST_COMMANDS: usize = 1 << 20;
+
+/// The greatest number of options.
+const MOST_OPTIONS: u8 = 64;
+
+/// The history with what it declares. The table has the nodes of the rules.
 #[derive(Drop)]
 pub(crate) struct State {
     pub(crate) commands: Commands,
     pub(crate) options: Options,
-    pub(crate) constraints: Vec<Expr>,
+    pub(crate) table: Table,
+    pub(crate) rules: Rules,
     pub(crate) counts: Counts,
     pub(crate) kept: Kept,
 }
 
-/// Makes everything ready for a command that is accepted.
-pub(crate) fn make_ready(state: &mut State, command: &Command) -> Result<Ready, Memory>
-    requires state { IsStateOf state.old.commands.commands state.old.options.names state.old.constraints.items state.old.counts }
+/// Makes everything ready for a command, unless the history refuses it.
+pub(crate) fn make_ready(state: &mut State, command: &Command) -> Result<Ready, Refusal>
+    requires state { IsStateOf state.old.commands.commands state.old.options.names state.old.table state.old.rules.standing state.old.counts }
     requires held { IsHeldBy state.old.commands.commands state.old.kept.commits.items state.old.kept.lines.items state.old.kept.entries.items }
     requires may_come { MayCome state.old.commands.commands command.now }
-    requires accepted { verdict state.old.commands.commands command.now ≡ None }
     ensures history { state.new.commands.commands ≡ state.old.commands.commands }
-    ensures options { state.new.options.names ≡ state.old.options.names }
-    ensures constraints { state.new.constraints.items ≡ state.old.constraints.items }
-    ensures counts { state.new.counts ≡ state.old.counts }
+    ensures state { IsStateOf state.new.commands.commands state.new.options.names state.new.table state.new.rules.standing state.new.counts }
     ensures room { OnOk result (0 < state.new.commands.spare) }
-    ensures ready { IfOk result (IsReady state.new.commands.commands command.now state.new.options.spare (vec_capacity state.new.constraints - vec_len state.new.constraints)
+    ensures accepted { OnOk result (verdict state.old.commands.commands command.now ≡ None) }
+    ensures ready { IfOk result (IsReady state.new.commands.commands command.now state.new.options.spare state.new.table state.new.rules
         (vec_capacity state.new.kept.commits - vec_len state.new.kept.commits) state.new.kept.commits.items state.new.kept.lines.items state.new.kept.entries.items) }
+    ensures refused { IfErr result (λ refusal. RefusedBy refusal (verdict state.old.commands.commands command.now)) }
     ensures held { OnErr result (IsHeldBy state.new.commands.commands state.new.kept.commits.items state.new.kept.lines.items state.new.kept.entries.items) }
 {
-    state.commands.reserve()?;
+    if state.commands.len() >= MOST_COMMANDS {
+        return Err(Refusal::Full);
+    }
+    match state.commands.reserve() {
+        Ok(()) => ready_for(state, command),
+        Err(_) => Err(Refusal::Memory),
+    }
+}
+
+// Makes ready what a command adds, where there is room for one more.
+fn ready_for(state: &mut State, command: &Command) -> Result<Ready, Refusal>
+    requires state { IsStateOf state.old.commands.commands state.old.options.names state.old.table state.old.rules.standing state.old.counts }
+    requires held { IsHeldBy state.old.commands.commands state.old.kept.commits.items state.old.kept.lines.items state.old.kept.entries.items }
+    requires may_come { MayCome state.old.commands.commands command.now }
+    requires few { length state.old.commands.commands < 2 ^ 20 }
+    ensures commands { state.new.commands ≡ state.old.commands }
+    ensures state { IsStateOf state.new.commands.commands state.new.options.names state.new.table state.new.rules.standing state.new.counts }
+    ensures accepted { OnOk result (verdict state.old.commands.commands command.now ≡ None) }
+    ensures ready { IfOk result (IsReady state.new.commands.commands command.now state.new.options.spare state.new.table state.new.rules
+        (vec_capacity state.new.kept.commits - vec_len state.new.kept.commits) state.new.kept.commits.items state.new.kept.lines.items state.new.kept.entries.items) }
+    ensures refused { IfErr result (λ refusal. RefusedBy refusal (verdict state.old.commands.commands command.now)) }
+    ensures held { OnErr result (IsHeldBy state.new.commands.commands state.new.kept.commits.items state.new.kept.lines.items state.new.kept.entries.items) }
+{
+    let alloc = *state.kept.commits.allocator();
     match command {
+        Command::Option { name } => option_ready(&mut state.options, name),
         Command::Commit {
             ambition,
             edits,
             ..
-        } => commit_ready(state, ambition, edits),
-        _ => declaration_ready(state, command),
+        } => match sizes::refusal(state.counts, edits) {
+            Some(refusal) => Err(refusal),
+            None => match commit_ready(state, ambition, edits) {
+                Ok(ready) => Ok(ready),
+                Err(Memory) => Err(Refusal::Memory),
+            },
+        },
+        _ => rule_ready(alloc, &mut state.rules, &mut state.table, command),
     }
 }
 
-// Makes room for a declaration, and a copy of it.
-fn declaration_ready(state: &mut State, command: &Command) -> Result<Ready, Memory>
-    requires held { IsHeldBy state.old.commands.commands state.old.kept.commits.items state.old.kept.lines.items state.old.kept.entries.items }
-    requires declaration { has_commit (command.now ∷ []) ≡ false }
-    ensures commands { state.new.commands ≡ state.old.commands }
-    ensures options { state.new.options.names ≡ state.old.options.names }
-    ensures constraints { state.new.constraints.items ≡ state.old.constraints.items }
-    ensures counts { state.new.counts ≡ state.old.counts }
-    ensures ready { IfOk result (IsReady state.new.commands.commands command.now state.new.options.spare (vec_capacity state.new.constraints - vec_len state.new.constraints)
-        (vec_capacity state.new.kept.commits - vec_len state.new.kept.commits) state.new.kept.commits.items state.new.kept.lines.items state.new.kept.entries.items) }
-    ensures held { OnErr result (IsHeldBy state.new.commands.commands state.new.kept.commits.items state.new.kept.lines.items state.new.kept.entries.items) }
+// Makes room for an option, and a copy of its name.
+fn option_ready(options: &mut Options, name: &OptionName) -> Result<Ready, Refusal>
+    ensures names { options.new.names ≡ options.old.names }
+    ensures room { OnOk result (0 < options.new.spare) }
+    ensures accepted { OnOk result (name_refusal options.old.names name.now ≡ None) }
+    ensures ready { IfOk result (λ r. r ≡ ready.Option name.now) }
+    ensures refused { IfErr result (λ refusal. RefusedBy refusal (name_refusal options.old.names name.now)) }
 {
-    state.options.reserve()?;
-    state.constraints.reserve(1)?;
-    let copy = command.copy(*state.constraints.allocator())?;
-    Ok(Ready::Declaration { copy })
+    match name_refusal(options, name.as_slice()) {
+        Some(refusal) => Err(refusal),
+        None => match copied_name(options, name) {
+            Ok(name) => Ok(Ready::Option { name }),
+            Err(Memory) => Err(Refusal::Memory),
+        },
+    }
+}
+
+fn copied_name(options: &mut Options, name: &OptionName) -> Result<OptionName, Memory>
+    ensures names { options.new.names ≡ options.old.names }
+    ensures room { OnOk result (0 < options.new.spare) }
+    ensures copied { IfOk result (λ copy. copy ≡ name.now) }
+{
+    options.reserve()?;
+    name.copy()
+}
+
+// The refusal of an option by its name, where there is room for a command.
+fn name_refusal(options: &Options, name: &[u8]) -> Option<Refusal>
+    ensures { result ≡ name_refusal options.now.names name.now }
+{
+    if options.count() >= MOST_OPTIONS {
+        return Some(Refusal::Full);
+    }
+    match options.find(name) {
+        Some(_) => Some(Refusal::Exists),
+        None => None,
+    }
 }
 
 // Draws a commit.
 fn commit_ready(state: &mut State, ambition: &Expr, edits: &Edits) -> Result<Ready, Memory>
-    requires state { IsStateOf state.old.commands.commands state.old.options.names state.old.constraints.items state.old.counts }
+    requires state { IsStateOf state.old.commands.commands state.old.options.names state.old.table state.old.rules.standing state.old.counts }
     requires held { IsHeldBy state.old.commands.commands state.old.kept.commits.items state.old.kept.lines.items state.old.kept.entries.items }
     requires fits { IsInBounds state.old.commands.commands edits.now }
     ensures commands { state.new.commands ≡ state.old.commands }
-    ensures options { state.new.options.names ≡ state.old.options.names }
-    ensures constraints { state.new.constraints.items ≡ state.old.constraints.items }
-    ensures counts { state.new.counts ≡ state.old.counts }
-    ensures ready { IfOk result (IsCommitReady state.new.commands.commands ambition.now edits.now (vec_capacity state.new.kept.commits - vec_len state.new.kept.commits)
+    ensures state { IsStateOf state.new.commands.commands state.new.options.names state.new.table state.new.rules.standing state.new.counts }
+    ensures ready { IfOk result (IsDrawnReady state.new.commands.commands ambition.now edits.now (vec_capacity state.new.kept.commits - vec_len state.new.kept.commits)
         state.new.kept.commits.items state.new.kept.lines.items state.new.kept.entries.items) }
     ensures held { OnErr result (IsHeldBy state.new.commands.commands state.new.kept.commits.items state.new.kept.lines.items state.new.kept.entries.items) }
 {
     let made = Made {
         position: Position::new(state.commands.len() as u32 + 1),
-        ambition: ambition.copy(*state.constraints.allocator())?,
+        ambition: ambition.copy(*state.kept.commits.allocator())?,
     };
     let counts = with_sizes(state.counts, measure(edits.as_slice()));
     draw_commit(&mut state.kept, state.counts, edits.as_slice())?;
     Ok(Ready::Commit { made, counts })
-}
-
-/// Adds what a command declares, and answers its number.
-pub(crate) fn declare(options: &mut Options, constraints: &mut Vec<Expr>, command: Command) -> u32
-    requires declares { MayDeclare options.old.names command }
-    requires option_room { 0 < options.old.spare }
-    requires rule_room { 0 < vec_capacity constraints.old - vec_len constraints.old }
-    requires few { length constraints.old.items ≤ 256 }
-    ensures options { options.new.names ≡ options.old.names ++ options_of (command ∷ []) }
-    ensures constraints { constraints.new.items ≡ constraints.old.items ++ constraints_of (command ∷ []) }
-    ensures number { result ≡ declared_number options.old.names constraints.old.items command }
-{
-    match command {
-        Command::Option { name } => u32::from(options.declare(name).number()),
-        Command::Constraint { expr } => {
-            match constraints.push(expr) {
-                Ok(()) => (),
-                Err(_) => unreachable!(),
-            }
-            constraints.len() as u32
-        }
-        Command::Commit { .. } => 0,
-    }
 }

@@ -22,14 +22,14 @@ pub keep_all_any : (cs : List (List Bool)) (es : List (Formula ℕ)) → has_any
 keep_all_any cs [] h = h
 keep_all_any cs (e ∷ es) h = keep_all_any (keep cs e) es (or_else_any (filter (value e) cs) cs h)
 
-completed_none : (n : ℕ) (s : Standing) (agree valid : List (List Bool)) → has_any valid ≡ false → completed_from n s agree valid ≡ Invalid (least_unmet (expressions s.constraints) agree)
-completed_none n s agree [] h = refl
-completed_none n s agree (c ∷ cs) h = absurd (cc)
+module _ (n : ℕ) (constraints preferences defaults : List (Formula ℕ)) (agree : List (List Bool)) where
+  completed_none : (valid : List (List Bool)) → has_any valid ≡ false → completed_from n constraints preferences defaults agree valid ≡ Invalid (least_unmet constraints agree)
+  completed_none [] h = refl
+  completed_none (c ∷ cs) h = absurd (cc)
 
-completed_some : (n : ℕ) (s : Standing) (agree valid : List (List Bool)) → has_any valid ≡ true
-    → completed_from n s agree valid ≡ answer_of n (keep_all (keep_all valid (expressions s.preferences)) (fallbacks s.defaults))
-completed_some n s agree [] h = absurd (cc)
-completed_some n s agree (c ∷ cs) h = refl
+  completed_some : (valid : List (List Bool)) → has_any valid ≡ true → completed_from n constraints preferences defaults agree valid ≡ answer_of n (keep_all (keep_all valid preferences) defaults)
+  completed_some [] h = absurd (cc)
+  completed_some (c ∷ cs) h = refl
 
 -- the valid choices that agree with a partial one, and those that wishes leave of them
 abbrev pub valid : ℕ → Standing → List (ℕ × Bool) → List (List Bool)
@@ -40,10 +40,10 @@ left n s partial = keep_all (keep_all (valid n s partial) (expressions s.prefere
 
 module _ (n : ℕ) (s : Standing) (partial : List (ℕ × Bool)) where
   pub invalid : has_any (valid n s partial) ≡ false → completed n s partial ≡ Invalid (least_unmet (expressions s.constraints) (agreeing n partial))
-  invalid h = completed_none n s (agreeing n partial) (valid n s partial) h
+  invalid h = completed_none n (expressions s.constraints) (expressions s.preferences) (fallbacks s.defaults) (agreeing n partial) (valid n s partial) h
 
   pub answered : has_any (valid n s partial) ≡ true → completed n s partial ≡ answer_of n (left n s partial)
-  answered h = completed_some n s (agreeing n partial) (valid n s partial) h
+  answered h = completed_some n (expressions s.constraints) (expressions s.preferences) (fallbacks s.defaults) (agreeing n partial) (valid n s partial) h
 
   pub left_any : has_any (valid n s partial) ≡ true → has_any (left n s partial) ≡ true
   left_any h = keep_all_any (keep_all (valid n s partial) (expressions s.preferences)) (fallbacks s.defaults) (keep_all_any (valid n s partial) (expressions s.preferences) h)

@@ -1,4 +1,5 @@
 pub mod Alone
+pub mod Answering
 pub mod CallerLemmas
 pub mod Completed
 pub mod Deciding

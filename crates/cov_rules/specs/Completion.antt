@@ -1,11 +1,11 @@
 -- How rules complete a partial choice.
-use Rattle.std.specs.Prelude.{ℕ, ◌+◌, ◌≡◌, ◌≤◌, ◌<◌, Bool, true, false, ◌&&◌, not, List, [], ◌∷◌, map, Option, Some, None}
+use Rattle.std.specs.Prelude.{ℕ, ◌+◌, ◌≡◌, ◌≤◌, ◌<◌, Bool, true, false, ◌&&◌, not, List, [], ◌∷◌, map, length, Option, Some, None}
 use Rattle.std.specs.List.{filter, find, list_any, range_with_len}
 use Rattle.cov_base.specs.Choices.{all_choices, is_on}
 use Rattle.cov_dd.specs.declared.triple.Triple.{Triple}
 use Rattle.cov_dd.specs.Diagrams.{node_count, span, value_in}
 use Rattle.cov_expr.specs.Formula.{Formula, value}
-use Rattle.cov_expr.specs.Validity.{is_valid}
+use Rattle.cov_expr.specs.Validity.{is_valid, first_false}
 use Rattle.cov_rules.specs.Installing.{Standing, expressions, literal, reach_of}
 use Rattle.cov_rules.specs.declared.completing.CompleteFault.{CompleteFault}
 use Rattle.cov_rules.specs.declared.completing.CompleteFault.TheVariants as faults
@@ -68,14 +68,30 @@ answer_of n (c ∷ d ∷ cs) = Incomplete (first_open n (c ∷ d ∷ cs))
 abbrev pub agreeing : ℕ → List (ℕ × Bool) → List (List Bool)
 agreeing n partial = filter (is_valid (literals partial)) (all_choices n)
 
--- the answer by the choices that agree and those of them that are valid
-abbrev pub completed_from : ℕ → Standing → List (List Bool) → List (List Bool) → Completion
-completed_from n s agree [] = Invalid (least_unmet (expressions s.constraints) agree)
-completed_from n s agree (c ∷ cs) = answer_of n (keep_all (keep_all (c ∷ cs) (expressions s.preferences)) (fallbacks s.defaults))
+-- the answer by constraints, preferences and defaults, for the choices that agree and those of them that are valid
+abbrev pub completed_from : ℕ → List (Formula ℕ) → List (Formula ℕ) → List (Formula ℕ) → List (List Bool) → List (List Bool) → Completion
+completed_from n constraints preferences defaults agree [] = Invalid (least_unmet constraints agree)
+completed_from n constraints preferences defaults agree (c ∷ cs) = answer_of n (keep_all (keep_all (c ∷ cs) preferences) defaults)
 
--- the completion of a partial choice of n options
+-- the completion of a partial choice of n options by constraints, preferences and defaults
+abbrev pub completed_by : ℕ → List (Formula ℕ) → List (Formula ℕ) → List (Formula ℕ) → List (ℕ × Bool) → Completion
+completed_by n constraints preferences defaults partial =
+    completed_from n constraints preferences defaults (agreeing n partial) (filter (is_valid constraints) (agreeing n partial))
+
+-- the completion of a partial choice of n options by the rules that stand
 abbrev pub completed : ℕ → Standing → List (ℕ × Bool) → Completion
-completed n s partial = completed_from n s (agreeing n partial) (filter (is_valid (expressions s.constraints)) (agreeing n partial))
+completed n s partial = completed_by n (expressions s.constraints) (expressions s.preferences) (fallbacks s.defaults) partial
+
+-- a choice has n options, meets the constraints and agrees with a partial choice
+pub record IsAnswer (n : ℕ) (constraints : List (Formula ℕ)) (partial : List (ℕ × Bool)) (choice : List Bool) : Type 0 where
+  pub whole : length choice ≡ n
+  pub valid : first_false constraints choice ≡ None
+  pub agrees : is_valid (literals partial) choice ≡ true
+
+-- the choice that completes a partial one has all options, meets the constraints and agrees with it
+abbrev pub CompletedIsValid : Type 0
+CompletedIsValid = (n : ℕ) (constraints preferences defaults : List (Formula ℕ)) (partial : List (ℕ × Bool)) (choice : List Bool)
+    → completed_by n constraints preferences defaults partial ≡ Complete choice → IsAnswer n constraints partial choice
 
 -- a fault is want of memory, or the refusal that completion gives
 abbrev pub IsRefusalBy : Completion → CompleteFault → Type 0

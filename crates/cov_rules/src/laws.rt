@@ -1,4 +1,5 @@
-//! Laws of rules whose table or options grow. Each function does nothing; what it ensures is the law.
+//! Laws of rules. Each function does nothing; what it ensures is the law.
+ghost use Rattle.cov_rules.specs.Completion.{CompletedIsValid};
 ghost use Rattle.cov_rules.specs.Growth.{HoldInGrownTable, StayBelow, ValueByFirstOptions, ValidByFirstOptions};
 
 /// Rules hold in each table that theirs grows to.
@@ -15,4 +16,9 @@ pub fn rules_stay_below()
 pub fn first_options_decide()
     ensures value { ValueByFirstOptions }
     ensures valid { ValidByFirstOptions }
+{}
+
+/// The choice that completes a partial one has all options, meets the constraints and agrees with it.
+pub fn completed_is_valid()
+    ensures { CompletedIsValid }
 {}

@@ -1,7 +1,17 @@
-use Rattle.cov_engine.proofs.States.{rules-within}
+use Rattle.std.proofs.Common.{sym, ap, subst, ◌∙◌}
+use Rattle.cov_expr.specs.Validity.{first_false}
+use Rattle.cov_rules.specs.Installing.{expressions_at}
+use Rattle.cov_rules.proofs.Answering.{allowed}
+use Rattle.cov_engine.specs.Ruling.{AreRulesOf}
+use Rattle.cov_engine.proofs.Ruling.{constraints-now, on_ok_also}
 use Rattle.cov_engine.proofs.engine.Engine.valid.Goals as goal
 
-pub check-requires-clause-within : goal.check-requires-clause-within
-check-requires-clause-within c =
-    rules-within c.self.inside.state.commands.commands c.args.self.now c.self.inside.state.options.names c.self.inside.state.constraints.items c.as_slice.result.now c.self.inside.state.counts _
-    c.self.invariant.0 c.self.view_is c.as_slice.ensures.value c.requires
+pub returns-clause-ok : goal.returns-clause-ok
+returns-clause-ok c =
+    let history = c.args.self.now in
+    let ts = c.self.inside.state.table in
+    let s = c.self.inside.state.rules.standing in
+    let are : AreRulesOf history ts s = subst (λ h. AreRulesOf h ts s) c.self.view_is c.self.invariant.0.rules in
+    on_ok_also c.valid.result _ _
+    (λ valid. ap (λ es. first_false es c.args.choice) (sym (constraints-now history ts s c.position.result are c.position.ensures)) ∙ allowed c.args.choice (expressions_at c.position.result s.constraints) valid)
+    c.valid.ensures.ok
