@@ -2,10 +2,7 @@
 use Rattle.std.proofs.Common.{◌≡◌, ◌∙◌, refl, sym, ap, ℕ, Bool, true, false, ◌||◌, List, [], ◌∷◌, ◌++◌, append_assoc, Option, Some, None, Result, Ok, Err, nat_lt}
 use Rattle.std.specs.Prelude.{if◌then◌else◌, length, is_some}
 use Rattle.cov_base.specs.Lines.{lines_of}
-use Rattle.cov_expr.specs.Binding.{full_choice}
 use Rattle.cov_expr.specs.Formula.{Formula, value}
-use Rattle.cov_expr.specs.Naming.{bound_expression}
-use Rattle.cov_expr.specs.declared.naming.NameFault.{NameFault}
 use Rattle.cov_base.specs.Spelling.{is_option_name}
 use Rattle.cov_base.specs.declared.number.Kind.TheVariants as kinds
 use Rattle.cov_base.specs.declared.number.NodeRef.TheVariants as nodes
@@ -18,7 +15,6 @@ use Rattle.cov_edit.specs.declared.edit.Edit.{Edit}
 use Rattle.cov_edit.specs.declared.edit.Edit.TheVariants as edits
 use Rattle.cov_edit.specs.declared.command.Command.{Command}
 use Rattle.cov_edit.specs.declared.command.Command.TheVariants as commands
-use Rattle.cov_edit.specs.History.{options_of, first_false_in}
 use Rattle.cov_edit.specs.Replay.{replay}
 use Rattle.cov_edit.specs.Variant.{Variant}
 use Rattle.cov_view.specs.Refusals.{is_dir}
@@ -28,9 +24,10 @@ use Rattle.cov_engine.specs.declared.refusal.Refusal.{Refusal}
 use Rattle.cov_io.specs.Progress.{Progress}
 use Rattle.cov_serve.specs.Outcome.{Outcome, answers}
 use Rattle.cov_serve.specs.Editing.{addition_refusal, ref_in, line_ref}
+use Rattle.cov_serve.specs.Finding.{Found, found_option, found_expression, found_partial, found_choice, completed_choice}
 use Rattle.cov_view.specs.Paths.{path_node}
 use Rattle.cov_serve.specs.States.{State, named, is_used}
-use Rattle.cov_serve.specs.Step.{appended_if, bound_in, judged, completed_in, opened_unless, opened_for, opened_on, added_unless, added, file_made, inserted_at, inserted_in, committed_if, committed_in, dropped_in, file_told, told_unless, told_in, with_file, served, served_if, step}
+use Rattle.cov_serve.specs.Step.{appended_if, with_found, constrained, preferred, defaulted, told_choice, opened_within, opened_for, opened_on, added_unless, added, file_made, inserted_at, inserted_in, committed_if, committed_in, dropped_in, file_told, told, told_for, with_file, served, served_if, step}
 use Rattle.cov_serve.specs.Turns.{EndsWith, GoesOn, IsWhole, ServesFirst, WritesFront, ahead_of, answer_of, is_refusal, status_at_end}
 use Rattle.cov_serve.specs.declared.answer.Answer.{Answer}
 use Rattle.cov_script.specs.declared.code.Code.{Code}
@@ -47,29 +44,13 @@ appended_says : (st : State) (command : Command) (n : ℕ) (ns : List ℕ) (refu
 appended_says st command n ns (Some r) = refl
 appended_says st command n ns None = refl
 
-bound_says : (st : State) (bound : Result (Formula ℕ) NameFault) → SaysRefusal (bound_in st bound)
-bound_says st (Ok expr) = appended_says st (commands.Constraint expr) _ _ (verdict st.history (commands.Constraint expr))
-bound_says st (Err fault) = refl
+found_says : {X : Type 0} (st : State) (found : Found X) (go : X → Outcome State) → ((x : X) → SaysRefusal (go x)) → SaysRefusal (with_found st found go)
+found_says st (Ok x) go h = h x
+found_says st (Err code) go h = refl
 
-judged_says : (st : State) (c : List Bool) (broken : Option ℕ) → SaysRefusal (judged st c broken)
-judged_says st c (Some rule) = refl
-judged_says st c None = refl
-
-completed_says : (st : State) (c : Option (List Bool)) → SaysRefusal (completed_in st c)
-completed_says st None = refl
-completed_says st (Some c) = judged_says st c (first_false_in st.history c)
-
-opened_says : (st : State) (name : List ℕ) (c : List Bool) (ambition : Formula ℕ) (broken : Option ℕ) → SaysRefusal (opened_unless st name c ambition broken)
-opened_says st name c ambition (Some rule) = refl
-opened_says st name c ambition None = either_says (value ambition c) _ _ refl refl
-
-opened_for_says : (st : State) (name : List ℕ) (c : List Bool) (bound : Result (Formula ℕ) NameFault) → SaysRefusal (opened_for st name c bound)
-opened_for_says st name c (Ok ambition) = opened_says st name c ambition (first_false_in st.history c)
-opened_for_says st name c (Err fault) = refl
-
-opened_on_says : (st : State) (name : List ℕ) (c : Option (List Bool)) (ambition : Formula (List ℕ)) → SaysRefusal (opened_on st name c ambition)
-opened_on_says st name None ambition = refl
-opened_on_says st name (Some c) ambition = opened_for_says st name c (bound_expression (options_of st.history) ambition)
+opened_says : (st : State) (name : List ℕ) (partial : List (ℕ × Bool)) (ambition : Formula ℕ) → SaysRefusal (opened_for st name partial ambition)
+opened_says st name partial ambition =
+    found_says st (completed_choice st.history partial) (opened_within st name ambition) (λ c. either_says (value ambition c) _ _ refl refl)
 
 added_unless_says : (st : State) (s : Session) (e : Edit) (n : ℕ) (ns : List ℕ) (refusal : Option Code) → SaysRefusal (added_unless st s e (n ∷ ns) refusal)
 added_unless_says st s e n ns (Some code) = refl
@@ -103,13 +84,9 @@ file_says : (st : State) (v : Variant) (node : Option ℕ) → SaysRefusal (file
 file_says st v None = refl
 file_says st v (Some node) = either_says (is_dir v.rows node) _ _ refl refl
 
-told_unless_says : (st : State) (c : List Bool) (path : List (List ℕ)) (broken : Option ℕ) → SaysRefusal (told_unless st c path broken)
-told_unless_says st c path (Some rule) = refl
-told_unless_says st c path None = file_says st (replay c st.history) (path_node (replay c st.history).rows 0 path)
-
-told_says : (st : State) (c : Option (List Bool)) (path : List (List ℕ)) → SaysRefusal (told_in st c path)
-told_says st None path = refl
-told_says st (Some c) path = told_unless_says st c path (first_false_in st.history c)
+told_says : (st : State) (path : List (List ℕ)) (bindings : List (List ℕ × Bool)) → SaysRefusal (told_for st path bindings)
+told_says st path bindings =
+    found_says st (found_choice st.history bindings) (told st path) (λ c. file_says st (replay c st.history) (path_node (replay c st.history).rows 0 path))
 
 with_file_says : (st : State) (path : List (List ℕ)) (go : List ℕ → Outcome State) → ((file : List ℕ) → SaysRefusal (go file)) → SaysRefusal (with_file st path go)
 with_file_says st [] go h = refl
@@ -120,10 +97,17 @@ form_says : (st : State) (line : Line) → SaysRefusal (served st line)
 form_says st lines.Nothing = refl
 form_says st (lines.Option token) =
     either_says (is_option_name token) _ _ (appended_says st (commands.Option token) _ _ (verdict st.history (commands.Option token))) refl
-form_says st (lines.Constraint expr) = bound_says st (bound_expression (options_of st.history) expr)
-form_says st (lines.Complete bindings) = completed_says st (full_choice (options_of st.history) bindings)
+form_says st (lines.Constraint expr) =
+    found_says st (found_expression st.history expr) (constrained st) (λ e. appended_says st (commands.Constraint e) _ _ (verdict st.history (commands.Constraint e)))
+form_says st (lines.Prefer expr) =
+    found_says st (found_expression st.history expr) (preferred st) (λ e. appended_says st (commands.Prefer e) _ _ (verdict st.history (commands.Prefer e)))
+form_says st (lines.Default token on) =
+    found_says st (found_option st.history token) (defaulted st on) (λ o. appended_says st (commands.Default o on) _ _ (verdict st.history (commands.Default o on)))
+form_says st (lines.Complete bindings) = found_says st (found_choice st.history bindings) (told_choice st) (λ c. refl)
 form_says st (lines.OpenSession name bindings ambition) =
-    either_says (is_some st.session) _ _ refl (opened_on_says st name (full_choice (options_of st.history) bindings) ambition)
+    either_says (is_some st.session) _ _ refl
+    (found_says st (found_partial st.history bindings) (opened_on st name ambition)
+    (λ partial. found_says st (found_expression st.history ambition) (opened_for st name partial) (λ e. opened_says st name partial e)))
 form_says st (lines.MakeFile name path) =
     with_file_says st path (λ file. file_made st name file)
     (λ file. either_says (is_used st file) _ _ refl (added_says st (named st.session name) (edits.New kinds.File (nodes.Old 0) file) _ _))
@@ -131,11 +115,7 @@ form_says st (lines.Insert name path line text) =
     with_file_says st path (λ file. inserted_in st path line text (named st.session name)) (λ file. inserted_says st path line text (named st.session name))
 form_says st (lines.Commit name) = committed_says st (named st.session name)
 form_says st (lines.Discard name) = dropped_says st (named st.session name)
-form_says st (lines.Cat bindings path) =
-    with_file_says st path (λ file. told_in st (full_choice (options_of st.history) bindings) path)
-    (λ file. told_says st (full_choice (options_of st.history) bindings) path)
-form_says st (lines.Prefer expr) = refl
-form_says st (lines.Default token on) = refl
+form_says st (lines.Cat bindings path) = with_file_says st path (λ file. told_for st path bindings) (λ file. told_says st path bindings)
 form_says st (lines.MakeDir name path) = refl
 form_says st (lines.Rename name path to) = refl
 form_says st (lines.Move name path target) = refl

@@ -39,6 +39,8 @@ commit-append [] later h = refl
 commit-append (commands.Commit base choice ambition es ∷ history) later h = absurd (cc)
 commit-append (commands.Option name ∷ history) later h = commit-append history later h
 commit-append (commands.Constraint expr ∷ history) later h = commit-append history later h
+commit-append (commands.Prefer expr ∷ history) later h = commit-append history later h
+commit-append (commands.Default option on ∷ history) later h = commit-append history later h
 
 or_assoc : (a b c : Bool) → (a || (b || c)) ≡ ((a || b) || c)
 or_assoc true b c = refl
@@ -54,11 +56,15 @@ used-append (commands.Commit base choice ambition es ∷ history) later =
     ap (λ l. names_made es ++ l) (used-append history later) ∙ sym (append_assoc (names_made es) (used_names history) (used_names later))
 used-append (commands.Option name ∷ history) later = used-append history later
 used-append (commands.Constraint expr ∷ history) later = used-append history later
+used-append (commands.Prefer expr ∷ history) later = used-append history later
+used-append (commands.Default option on ∷ history) later = used-append history later
 
 declares-none : (k : Command) → has_commit (k ∷ []) ≡ false → used_names (k ∷ []) ≡ []
 declares-none (commands.Commit base choice ambition es) h = absurd (cc)
 declares-none (commands.Option name) h = refl
 declares-none (commands.Constraint expr) h = refl
+declares-none (commands.Prefer expr) h = refl
+declares-none (commands.Default option on) h = refl
 
 -- an open session stays open after a declaration
 open-stays : (history later : List Command) (s : OpenSession) → has_commit later ≡ false → IsOpen history s → IsOpen (history ++ later) s

@@ -1,6 +1,8 @@
 pub mod Adding
 pub mod Counting
+pub mod Declared
 pub mod Examples
+pub mod Named
 pub mod Going
 pub mod Growing
 pub mod Naming

@@ -21,6 +21,7 @@ module _ (st next : State) (reply : Reply) (code : Code) (gives : Gives (refused
   by-verdict : (r : Refusal) → code_unless_wanting r ≡ Some code → (wanted : Option Refusal) → RefusedBy r wanted → IsRefusedBy st wanted next reply
   by-verdict refusals.Full e wanted w = at refusals.Full e wanted w
   by-verdict refusals.Exists e wanted w = at refusals.Exists e wanted w
+  by-verdict refusals.NoVariantLeft e wanted w = at refusals.NoVariantLeft e wanted w
   by-verdict refusals.BadBase e wanted w = at refusals.BadBase e wanted w
   by-verdict refusals.BadOption e wanted w = at refusals.BadOption e wanted w
   by-verdict refusals.TooManyEdits e wanted w = at refusals.TooManyEdits e wanted w

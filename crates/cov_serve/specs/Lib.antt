@@ -1,6 +1,7 @@
 pub mod Additions
 pub mod Codes
 pub mod Editing
+pub mod Finding
 pub mod Keeping
 pub mod Listing
 pub mod Outcome

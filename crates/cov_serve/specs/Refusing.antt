@@ -13,6 +13,7 @@ use Rattle.cov_script.specs.declared.code.Code.{Code}
 abbrev pub code_unless_wanting : Refusal → Option Code
 code_unless_wanting refusals.Full = Some (refusal_code refusals.Full)
 code_unless_wanting refusals.Exists = Some (refusal_code refusals.Exists)
+code_unless_wanting refusals.NoVariantLeft = Some (refusal_code refusals.NoVariantLeft)
 code_unless_wanting refusals.BadBase = Some (refusal_code refusals.BadBase)
 code_unless_wanting refusals.BadOption = Some (refusal_code refusals.BadOption)
 code_unless_wanting refusals.TooManyEdits = Some (refusal_code refusals.TooManyEdits)

@@ -1,7 +1,7 @@
 -- The texts of replies that aren't one line of a form alone.
 use Rattle.std.specs.Prelude.{ℕ, List, ◌++◌, length, map}
 use Rattle.std.specs.List.{concat}
-use Rattle.cov_script.specs.Replies.{option_reply, constraint_reply, count_reply, cat_line}
+use Rattle.cov_script.specs.Replies.{option_reply, constraint_reply, prefer_reply, default_reply, count_reply, cat_line}
 use Rattle.cov_serve.specs.declared.reply.Declared.{Declared}
 use Rattle.cov_serve.specs.declared.reply.Declared.TheVariants as declared
 
@@ -9,6 +9,8 @@ use Rattle.cov_serve.specs.declared.reply.Declared.TheVariants as declared
 abbrev pub declared_reply : Declared → ℕ → List ℕ
 declared_reply (declared.Option id) number = option_reply id
 declared_reply declared.Constraint number = constraint_reply number
+declared_reply declared.Preference number = prefer_reply number
+declared_reply declared.Default number = default_reply number
 
 -- a line by its number, with its text
 abbrev pub numbered_line : ℕ × List ℕ → List ℕ

@@ -4,21 +4,18 @@ use Rattle.cov_base.specs.Lines.{lines_of as script_lines}
 use Rattle.cov_base.specs.Spelling.{is_option_name}
 use Rattle.cov_base.specs.declared.number.Kind.TheVariants as kinds
 use Rattle.cov_base.specs.declared.number.NodeRef.TheVariants as nodes
-use Rattle.cov_expr.specs.Binding.{full_choice}
 use Rattle.cov_expr.specs.Formula.{Formula, value}
-use Rattle.cov_expr.specs.Naming.{bound_expression}
-use Rattle.cov_expr.specs.declared.naming.NameFault.{NameFault}
 use Rattle.cov_script.specs.Lines.{form_of}
 use Rattle.cov_script.specs.declared.line.Line.{Line}
 use Rattle.cov_script.specs.declared.line.Line.TheVariants as lines
 use Rattle.cov_script.specs.declared.line.LineField.{LineField}
 use Rattle.cov_script.specs.declared.line.LineSyntax.{LineSyntax}
-use Rattle.cov_script.specs.Replies.{refused_reply, option_reply, constraint_reply, complete_reply, open_reply, plain_reply, new_line_reply, commit_reply}
+use Rattle.cov_script.specs.Replies.{refused_reply, option_reply, constraint_reply, prefer_reply, default_reply, complete_reply, open_reply, plain_reply, new_line_reply, commit_reply}
 use Rattle.cov_edit.specs.declared.edit.Edit.{Edit}
 use Rattle.cov_edit.specs.declared.edit.Edit.TheVariants as edits
 use Rattle.cov_edit.specs.declared.command.Command.{Command}
 use Rattle.cov_edit.specs.declared.command.Command.TheVariants as commands
-use Rattle.cov_edit.specs.History.{options_of, option_count, constraints_of, first_false_in}
+use Rattle.cov_edit.specs.History.{options_of, option_count, constraints_of, preferences_of, defaults_of}
 use Rattle.cov_edit.specs.Replay.{replay}
 use Rattle.cov_edit.specs.Variant.{Variant, lines_of}
 use Rattle.cov_view.specs.Refusals.{is_dir}
@@ -26,14 +23,15 @@ use Rattle.cov_view.specs.Views.{by_number}
 use Rattle.cov_engine.specs.Sessions.{Session, seen, commit_of}
 use Rattle.cov_engine.specs.Verdict.{verdict}
 use Rattle.cov_engine.specs.declared.refusal.Refusal.{Refusal}
-use Rattle.cov_serve.specs.Codes.{refusal_code}
+use Rattle.cov_serve.specs.Codes.{syntax_code, refusal_code}
 use Rattle.cov_serve.specs.Editing.{with_edit, addition_refusal, ref_in, line_ref, own_lines}
+use Rattle.cov_serve.specs.Finding.{Found, found_option, found_expression, found_partial, found_choice, completed_choice}
 use Rattle.cov_serve.specs.Outcome.{Outcome, answers}
 use Rattle.cov_view.specs.Paths.{path_node}
 use Rattle.cov_serve.specs.Replies.{file_reply}
 use Rattle.cov_serve.specs.States.{State, at_start, with_command, with_session, named, is_used}
 use Rattle.cov_script.specs.declared.code.Code.{Code}
-use Rattle.cov_script.specs.declared.code.Code.TheVariants.{Long, Invalid, NotBuilt, NoSession, OutsideAmbition, NoSuchPath, NotFile}
+use Rattle.cov_script.specs.declared.code.Code.TheVariants.{Long, BadName, NotBuilt, NoSession, OutsideAmbition, NoSuchPath, NotFile}
 
 -- a line that is accepted, with the state after it
 abbrev pub accepted : State → List ℕ → Outcome State
@@ -56,25 +54,31 @@ appended_if st command reply None = accepted (with_command st command) reply
 abbrev pub appended : State → Command → List ℕ → Outcome State
 appended st command reply = appended_if st command reply (verdict st.history command)
 
--- an option is declared; what is no option's name is no form
+-- what a line does with what it names, unless it is refused for that
+abbrev pub with_found : {X : Type 0} → State → Found X → (X → Outcome State) → Outcome State
+with_found st (Ok x) go = go x
+with_found st (Err code) go = refused st code
+
+-- an option is declared
 abbrev pub declared_in : State → List ℕ → Outcome State
 declared_in st token =
-    if is_option_name token then appended st (commands.Option token) (option_reply (option_count st.history)) else refused st NotBuilt
+    if is_option_name token then appended st (commands.Option token) (option_reply (option_count st.history)) else refused st BadName
 
--- a constraint is added; one with a name that no option has is no form
-abbrev pub bound_in : State → Result (Formula ℕ) NameFault → Outcome State
-bound_in st (Ok expr) = appended st (commands.Constraint expr) (constraint_reply (length (constraints_of st.history) + 1))
-bound_in st (Err fault) = refused st NotBuilt
+-- a constraint is added
+abbrev pub constrained : State → Formula ℕ → Outcome State
+constrained st expr = appended st (commands.Constraint expr) (constraint_reply (length (constraints_of st.history) + 1))
 
--- a choice is told, or the first constraint that is false on it
-abbrev pub judged : State → List Bool → Option ℕ → Outcome State
-judged st c (Some rule) = refused st (Invalid rule)
-judged st c None = accepted st (complete_reply (options_of st.history) c)
+-- a preference is added
+abbrev pub preferred : State → Formula ℕ → Outcome State
+preferred st expr = appended st (commands.Prefer expr) (prefer_reply (length (preferences_of st.history) + 1))
 
--- a choice that doesn't bind each option once, in order of declaration, is no form
-abbrev pub completed_in : State → Option (List Bool) → Outcome State
-completed_in st None = refused st NotBuilt
-completed_in st (Some c) = judged st c (first_false_in st.history c)
+-- a default is added
+abbrev pub defaulted : State → Bool → ℕ → Outcome State
+defaulted st on option = appended st (commands.Default option on) (default_reply (length (defaults_of st.history) + 1))
+
+-- a choice is told
+abbrev pub told_choice : State → List Bool → Outcome State
+told_choice st c = accepted st (complete_reply (options_of st.history) c)
 
 -- a session is open that has no edits yet
 abbrev pub begun : State → List ℕ → List Bool → Formula ℕ → Outcome State
@@ -83,29 +87,21 @@ begun st name c ambition =
     (open_reply (length st.history) (options_of st.history) c)
 
 -- a session is opened on a choice within its ambition
-abbrev pub opened_within : State → List ℕ → List Bool → Formula ℕ → Outcome State
-opened_within st name c ambition = if value ambition c then begun st name c ambition else refused st OutsideAmbition
+abbrev pub opened_within : State → List ℕ → Formula ℕ → List Bool → Outcome State
+opened_within st name ambition c = if value ambition c then begun st name c ambition else refused st OutsideAmbition
 
--- a session is opened on a choice that breaks no constraint
-abbrev pub opened_unless : State → List ℕ → List Bool → Formula ℕ → Option ℕ → Outcome State
-opened_unless st name c ambition (Some rule) = refused st (Invalid rule)
-opened_unless st name c ambition None = opened_within st name c ambition
+-- a session is opened on the completion of a partial choice
+abbrev pub opened_for : State → List ℕ → List (ℕ × Bool) → Formula ℕ → Outcome State
+opened_for st name partial ambition = with_found st (completed_choice st.history partial) (opened_within st name ambition)
 
--- a session is opened; an ambition with a name that no option has is no form
-abbrev pub opened_for : State → List ℕ → List Bool → Result (Formula ℕ) NameFault → Outcome State
-opened_for st name c (Ok ambition) = opened_unless st name c ambition (first_false_in st.history c)
-opened_for st name c (Err fault) = refused st NotBuilt
-
--- a session is opened; a choice that doesn't bind each option once, in order of declaration, is no form
-abbrev pub opened_on : State → List ℕ → Option (List Bool) → Formula (List ℕ) → Outcome State
-opened_on st name None ambition = refused st NotBuilt
-opened_on st name (Some c) ambition = opened_for st name c (bound_expression (options_of st.history) ambition)
+-- a session is opened within an ambition over names
+abbrev pub opened_on : State → List ℕ → Formula (List ℕ) → List (ℕ × Bool) → Outcome State
+opened_on st name ambition partial = with_found st (found_expression st.history ambition) (opened_for st name partial)
 
 -- a session is opened while none is
 abbrev pub opened : State → List ℕ → List (List ℕ × Bool) → Formula (List ℕ) → Outcome State
 opened st name bindings ambition =
-    if is_some st.session then refused st NotBuilt
-    else opened_on st name (full_choice (options_of st.history) bindings) ambition
+    if is_some st.session then refused st NotBuilt else with_found st (found_partial st.history bindings) (opened_on st name ambition)
 
 -- an edit is added to a session unless this refuses it
 abbrev pub added_unless : State → Session → Edit → List ℕ → Option Code → Outcome State
@@ -117,7 +113,7 @@ abbrev pub added : State → Option Session → Edit → List ℕ → Outcome St
 added st None e reply = refused st NoSession
 added st (Some s) e reply = added_unless st s e reply (addition_refusal st.history s e)
 
--- a file is made in the root; a name that was used is no form
+-- a file is made in the root; a name that was used isn't served
 abbrev pub file_made : State → List ℕ → List ℕ → Outcome State
 file_made st name file =
     if is_used st file then refused st NotBuilt
@@ -153,39 +149,39 @@ abbrev pub file_told : State → Variant → Option ℕ → Outcome State
 file_told st v None = refused st NoSuchPath
 file_told st v (Some node) = if is_dir v.rows node then refused st NotFile else accepted st (file_reply (map by_number (lines_of v node)))
 
--- a file is told in the variant of a choice that breaks no constraint
-abbrev pub told_unless : State → List Bool → List (List ℕ) → Option ℕ → Outcome State
-told_unless st c path (Some rule) = refused st (Invalid rule)
-told_unless st c path None = file_told st (replay c st.history) (path_node (replay c st.history).rows 0 path)
+-- a file is told in the variant of a choice
+abbrev pub told : State → List (List ℕ) → List Bool → Outcome State
+told st path c = file_told st (replay c st.history) (path_node (replay c st.history).rows 0 path)
 
--- a file is told; a choice that doesn't bind each option once, in order of declaration, is no form
-abbrev pub told_in : State → Option (List Bool) → List (List ℕ) → Outcome State
-told_in st None path = refused st NotBuilt
-told_in st (Some c) path = told_unless st c path (first_false_in st.history c)
+-- a file is told in the variant of the choice to which bindings are completed
+abbrev pub told_for : State → List (List ℕ) → List (List ℕ × Bool) → Outcome State
+told_for st path bindings = with_found st (found_choice st.history bindings) (told st path)
 
--- a line whose path doesn't have exactly one name is no form
+-- a path of other than exactly one name isn't served
 abbrev pub with_file : State → List (List ℕ) → (List ℕ → Outcome State) → Outcome State
 with_file st (file ∷ []) go = go file
 with_file st _ go = refused st NotBuilt
 
--- what a line of a form does
+-- what a line of a form does; other forms aren't served
 abbrev pub served : State → Line → Outcome State
 served st lines.Nothing = passed_over st
 served st (lines.Option token) = declared_in st token
-served st (lines.Constraint expr) = bound_in st (bound_expression (options_of st.history) expr)
-served st (lines.Complete bindings) = completed_in st (full_choice (options_of st.history) bindings)
+served st (lines.Constraint expr) = with_found st (found_expression st.history expr) (constrained st)
+served st (lines.Prefer expr) = with_found st (found_expression st.history expr) (preferred st)
+served st (lines.Default token on) = with_found st (found_option st.history token) (defaulted st on)
+served st (lines.Complete bindings) = with_found st (found_choice st.history bindings) (told_choice st)
 served st (lines.OpenSession name bindings ambition) = opened st name bindings ambition
 served st (lines.MakeFile name path) = with_file st path (λ file. file_made st name file)
 served st (lines.Insert name path line text) = with_file st path (λ file. inserted_in st path line text (named st.session name))
 served st (lines.Commit name) = committed_in st (named st.session name)
 served st (lines.Discard name) = dropped_in st (named st.session name)
-served st (lines.Cat bindings path) = with_file st path (λ file. told_in st (full_choice (options_of st.history) bindings) path)
+served st (lines.Cat bindings path) = with_file st path (λ file. told_for st path bindings)
 served st _ = refused st NotBuilt
 
 -- what a line does, if it has a form
 abbrev pub served_if : State → Result Line LineSyntax → Outcome State
 served_if st (Ok line) = served st line
-served_if st (Err fault) = refused st NotBuilt
+served_if st (Err fault) = refused st (syntax_code fault)
 
 -- what a line does
 abbrev pub step : State → List ℕ → Outcome State

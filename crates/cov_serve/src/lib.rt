@@ -2,7 +2,9 @@
 #![tactic(auto)]
 
 mod answer;
+mod declaring;
 mod editing;
+mod finding;
 mod line;
 mod names;
 mod opening;

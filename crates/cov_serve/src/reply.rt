@@ -4,7 +4,9 @@ ghost use Rattle.cov_serve.specs.Listing.{number_within, numbered_within};
 ghost use Rattle.cov_serve.specs.Replies.{declared_reply, file_reply};
 
 use cov_base::{LineNo, LineRef, Memory, OptionId, Text, Texts};
-use cov_script::{cat_line, reply_constraint, reply_count, reply_option, whole};
+use cov_script::{
+    cat_line, reply_constraint, reply_count, reply_default, reply_option, reply_prefer, whole,
+};
 use cov_view::ViewLines;
 use std::alloc::Global;
 
@@ -13,6 +15,8 @@ use std::alloc::Global;
 pub enum Declared {
     Option(OptionId),
     Constraint,
+    Preference,
+    Default,
 }
 
 /// The reply to what is declared, with its number among those of its kind.
@@ -22,6 +26,8 @@ pub fn reply_declared(alloc: Global, declared: Declared, number: u32) -> Result<
     match declared {
         Declared::Option(id) => reply_option(alloc, id),
         Declared::Constraint => reply_constraint(alloc, number),
+        Declared::Preference => reply_prefer(alloc, number),
+        Declared::Default => reply_default(alloc, number),
     }
 }
 

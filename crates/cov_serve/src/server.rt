@@ -1,24 +1,19 @@
 // The state of a run.
-ghost use Rattle.std.specs.Prelude.{◌≡◌, ℕ, [], ◌∷◌, true, false, Option as Maybe, IfOk, IfSome};
+ghost use Rattle.std.specs.Prelude.{◌≡◌, ℕ, true, Option as Maybe, IfOk, IfSome};
 ghost use Rattle.cov_edit.specs.History.{option_count};
-ghost use Rattle.cov_engine.specs.Sessions.{MayCome, has_commit};
-ghost use Rattle.cov_engine.specs.States.{receipt_number};
 ghost use Rattle.cov_engine.specs.Verdict.{RefusedBy};
 ghost use Rattle.cov_engine.specs.declared.refusal.Refusal.{Refusal as AnyRefusal};
 ghost use Rattle.cov_script.specs.Replies.{IsCodeOf};
 ghost use Rattle.cov_serve.specs.Refusing.{IsRefusedBy, code_unless_wanting};
-ghost use Rattle.cov_serve.specs.Replies.{declared_reply};
 ghost use Rattle.cov_serve.specs.States.{at_start};
-ghost use Rattle.cov_serve.specs.Step.{accepted, appended, passed_over, refused};
+ghost use Rattle.cov_serve.specs.Step.{accepted, passed_over, refused};
 ghost use Rattle.cov_serve.specs.Texts.{is_said};
 ghost use Rattle.cov_serve.specs.Turns.{Gives};
 
 use crate::answer::{Answer, Reply};
 use crate::names::Names;
-use crate::reply::{Declared, reply_declared};
 use crate::session::OpenSession;
 use cov_base::{Memory, Text};
-use cov_edit::Command;
 use cov_engine::{Engine, Refusal};
 use cov_script::{Code, reply_refused};
 use std::alloc::Global;
@@ -100,43 +95,6 @@ impl Server {
             None => Err(Memory),
         }
     }
-
-    /// Appends a command that declares something, unless the history refuses it. The reply tells the number of what is
-    /// declared.
-    pub(crate) fn append(self, command: Command, declared: Declared) -> Served
-        requires may { MayCome self.history command }
-        requires declares { has_commit (command ∷ []) ≡ false }
-        ensures { IfOk result (λ next. Gives (appended self command (declared_reply declared (receipt_number self.history command))) next.0 next.1) }
-    {
-        let Server {
-            alloc,
-            engine,
-            used,
-            session,
-        } = self;
-        match engine.prepare(command) {
-            Ok(prepared) => {
-                let (engine, receipt) = prepared.install();
-                let server = Server {
-                    alloc,
-                    engine,
-                    used,
-                    session,
-                };
-                let text = reply_declared(alloc, declared, receipt.number)?;
-                Ok(server.accept(text))
-            }
-            Err((engine, refusal)) => {
-                let server = Server {
-                    alloc,
-                    engine,
-                    used,
-                    session,
-                };
-                server.refuse_for(refusal)
-            }
-        }
-    }
 }
 
 fn code_unless_wanting(refusal: Refusal) -> Option<Code>
@@ -146,6 +104,7 @@ fn code_unless_wanting(refusal: Refusal) -> Option<Code>
     match refusal {
         Refusal::Full => Some(Code::Full),
         Refusal::Exists => Some(Code::Exists),
+        Refusal::NoVariantLeft => Some(Code::NoVariantLeft),
         Refusal::BadBase => Some(Code::BadBase),
         Refusal::BadOption => Some(Code::BadOption),
         Refusal::TooManyEdits => Some(Code::TooManyEdits),

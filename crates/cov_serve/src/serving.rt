@@ -1,19 +1,16 @@
 // What a line does, by its form.
 ghost use Rattle.std.specs.Prelude.{◌≡◌, ◌≤◌, IfOk, length};
-ghost use Rattle.cov_expr.specs.Binding.{full_choice};
-ghost use Rattle.cov_expr.specs.Naming.{bound_expression};
 ghost use Rattle.cov_script.specs.Lines.{form_of};
-ghost use Rattle.cov_edit.specs.History.{options_of, option_count, first_false_in};
-ghost use Rattle.cov_serve.specs.Step.{step, refused, served_if, served, declared_in, bound_in, completed_in, judged};
 ghost use Rattle.cov_script.specs.declared.code.Code.TheVariants.{NotBuilt};
+ghost use Rattle.cov_serve.specs.Finding.{found_choice};
+ghost use Rattle.cov_serve.specs.Step.{step, refused, served_if, served, with_found, told_choice};
 ghost use Rattle.cov_serve.specs.Texts.{HasText};
 ghost use Rattle.cov_serve.specs.Turns.{Gives};
 
-use crate::reply::Declared;
+use crate::finding::find_choice;
 use crate::server::{Served, Server};
-use cov_base::{BadName, Choice, Memory, MemoryOr, OptionId, OptionName, Text};
-use cov_edit::Command;
-use cov_expr::{NameFault, RawChoice, RawExpr};
+use cov_base::Memory;
+use cov_expr::RawChoice;
 use cov_script::{Code, Line, LineSyntax, lines_read_as_spelt, read_line, reply_complete};
 
 /// The greatest number of bytes of a line.
@@ -37,7 +34,8 @@ impl Server {
         lines_read_as_spelt();
         match read_line(self.alloc, line) {
             Ok(form) => self.serve(form),
-            Err(LineSyntax::Syntax { .. } | LineSyntax::TooLong) => self.refuse(Code::NotBuilt),
+            Err(LineSyntax::Syntax { at }) => self.refuse(Code::Syntax { at }),
+            Err(LineSyntax::TooLong) => self.refuse(Code::TooLong),
             Err(LineSyntax::Memory) => Err(Memory),
         }
     }
@@ -57,6 +55,8 @@ impl Server {
             Line::Nothing => Ok(self.pass_over()),
             Line::Option { token } => self.declare(token),
             Line::Constraint { expr } => self.constrain(expr),
+            Line::Prefer { expr } => self.prefer(expr),
+            Line::Default { token, on } => self.fall_back(token, on),
             Line::Complete { choice } => self.complete(choice),
             Line::OpenSession {
                 name,
@@ -73,8 +73,6 @@ impl Server {
             Line::Commit { name } => self.commit(name),
             Line::Discard { name } => self.discard(name),
             Line::Cat { choice, path } => self.tell(choice, path),
-            Line::Prefer { expr } => self.leave(expr),
-            Line::Default { token, .. } => self.leave(token),
             Line::MakeDir { name, path } => self.leave((name, path)),
             Line::Rename { name, path, to } => self.leave((name, path, to)),
             Line::Move { name, path, target } => self.leave((name, path, target)),
@@ -99,48 +97,16 @@ impl Server {
         }
     }
 
-    fn declare(self, token: Text) -> Served
-        ensures { IfOk result (λ next. Gives (declared_in self token) next.0 next.1) }
+    /// Tells the choice to which the rules complete bindings.
+    fn complete(mut self, choice: RawChoice) -> Served
+        ensures { IfOk result (λ next. Gives (with_found self (found_choice self.history choice) (told_choice self)) next.0 next.1) }
     {
-        match OptionName::read(self.alloc, token.as_slice()) {
-            Ok(name) => {
-                let id = OptionId::new(self.engine.options().count());
-                self.append(Command::Option { name }, Declared::Option(id))
-            }
-            Err(MemoryOr::Refused(BadName)) => self.refuse(Code::NotBuilt),
-            Err(MemoryOr::Memory) => Err(Memory),
-        }
-    }
-
-    fn constrain(self, expr: RawExpr) -> Served
-        ensures { IfOk result (λ next. Gives (bound_in self (bound_expression (options_of self.history) expr)) next.0 next.1) }
-    {
-        match expr.bind(self.alloc, self.engine.options()) {
-            Ok(expr) => self.append(Command::Constraint { expr }, Declared::Constraint),
-            Err(NameFault::UnknownOption { .. }) => self.refuse(Code::NotBuilt),
-            Err(NameFault::Memory) => Err(Memory),
-        }
-    }
-
-    fn complete(self, choice: RawChoice) -> Served
-        ensures { IfOk result (λ next. Gives (completed_in self (full_choice (options_of self.history) choice)) next.0 next.1) }
-    {
-        match choice.bind_full(self.engine.options()) {
-            Some(choice) => self.judge(choice),
-            None => self.refuse(Code::NotBuilt),
-        }
-    }
-
-    fn judge(self, choice: Choice) -> Served
-        requires { length choice ≡ option_count self.history }
-        ensures { IfOk result (λ next. Gives (judged self choice (first_false_in self.history choice)) next.0 next.1) }
-    {
-        match self.engine.valid(choice) {
-            Ok(()) => {
+        match find_choice(self.alloc, &mut self.engine, &choice)? {
+            Ok(choice) => {
                 let text = reply_complete(self.alloc, self.engine.options(), choice)?;
                 Ok(self.accept(text))
             }
-            Err(invalid) => self.refuse(Code::Invalid { rule: invalid.rule }),
+            Err(code) => self.refuse(code),
         }
     }
 }

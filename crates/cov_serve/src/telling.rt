@@ -1,15 +1,14 @@
 // How a file of a variant is told.
-ghost use Rattle.std.specs.Prelude.{◌≡◌, None, Some, List, ℕ, IfOk, length};
-ghost use Rattle.cov_expr.specs.Binding.{full_choice};
-ghost use Rattle.cov_edit.specs.History.{options_of, option_count, first_false_in};
-ghost use Rattle.cov_edit.specs.Numbering.{Numbers, node_number};
-ghost use Rattle.cov_edit.specs.Replay.{replay};
+ghost use Rattle.std.specs.Prelude.{◌≡◌, List, ℕ, IfOk, length};
+ghost use Rattle.cov_edit.specs.History.{option_count};
+ghost use Rattle.cov_edit.specs.Numbering.{Numbers};
 ghost use Rattle.cov_edit.specs.Variant.{Variant};
 ghost use Rattle.cov_view.specs.Views.{Shows};
 ghost use Rattle.cov_view.specs.Paths.{path_node};
-ghost use Rattle.cov_serve.specs.Step.{with_file, told_in, told_unless, file_told};
+ghost use Rattle.cov_serve.specs.Step.{with_file, told_for, told, file_told};
 ghost use Rattle.cov_serve.specs.Turns.{Gives};
 
+use crate::finding::find_choice;
 use crate::reply::file_text;
 use crate::server::{Served, Server};
 use cov_base::{Choice, Memory, Path};
@@ -20,35 +19,31 @@ use cov_view::{ReadFaultOfView, View};
 impl Server {
     /// Tells the lines of a file in the root of the variant of a choice.
     pub(crate) fn tell(self, choice: RawChoice, path: Path) -> Served
-        ensures { IfOk result (λ next. Gives (with_file self path (λ file. told_in self (full_choice (options_of self.history) choice) path)) next.0 next.1) }
+        ensures { IfOk result (λ next. Gives (with_file self path (λ file. told_for self path choice)) next.0 next.1) }
     {
         if path.len() != 1 {
             return self.refuse(Code::NotBuilt);
         }
-        match choice.bind_full(self.engine.options()) {
-            Some(choice) => self.tell_on(choice, path),
-            None => self.refuse(Code::NotBuilt),
-        }
+        self.tell_for(&choice, &path)
     }
 
-    fn tell_on(self, choice: Choice, path: Path) -> Served
-        requires { length choice ≡ option_count self.history }
-        ensures { IfOk result (λ next. Gives (told_unless self choice path (first_false_in self.history choice)) next.0 next.1) }
+    fn tell_for(mut self, choice: &RawChoice, path: &Path) -> Served
+        ensures { IfOk result (λ next. Gives (told_for self path.now choice.now) next.0 next.1) }
     {
-        match self.engine.valid(choice) {
-            Ok(()) => self.tell_at(choice, path),
-            Err(invalid) => self.refuse(Code::Invalid { rule: invalid.rule }),
+        match find_choice(self.alloc, &mut self.engine, choice)? {
+            Ok(choice) => self.tell_at(choice, path),
+            Err(code) => self.refuse(code),
         }
     }
 
-    fn tell_at(self, choice: Choice, path: Path) -> Served
+    fn tell_at(self, choice: Choice, path: &Path) -> Served
         requires { length choice ≡ option_count self.history }
-        ensures { IfOk result (λ next. Gives (file_told self (replay choice self.history) (path_node (replay choice self.history).rows 0 path)) next.0 next.1) }
+        ensures { IfOk result (λ next. Gives (told self path.now choice) next.0 next.1) }
     {
         let view = self
             .engine
             .view(self.alloc, choice, self.engine.position())?;
-        self.tell_file(&view, &path)
+        self.tell_file(&view, path)
     }
 
     fn tell_file(self, view: &View, path: &Path) -> Served

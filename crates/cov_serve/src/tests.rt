@@ -54,7 +54,7 @@ const CASES: [Case; 7] = [
     ),
     (
         b"option a\ncomplete -",
-        b"ok option 0\nrefused not-built\n",
+        b"ok option 0\nrefused incomplete a\n",
         Status::SomeRefused,
     ),
     (b"", b"", Status::Done),
@@ -70,12 +70,12 @@ const CASES: [Case; 7] = [
     ),
     (
         b"complete -\noption a\noption b\nconstraint a | b\nconstraint a & !b\ncomplete a=off,b=off\ncomplete b=on,a=on\ncomplete a=on\ncomplete a=on,b=off,a=on\ncomplete a=on,c=off\nconstraint c\nconstraint  a&(b|a )\nconstraint a &\ncomplete a=on,b=off",
-        b"ok -\nok option 0\nok option 1\nok constraint 1\nok constraint 2\nrefused invalid 1\nrefused not-built\nrefused not-built\nrefused not-built\nrefused not-built\nrefused not-built\nok constraint 3\nrefused not-built\nok a=on,b=off\n",
+        b"ok -\nok option 0\nok option 1\nok constraint 1\nok constraint 2\nrefused invalid 1\nrefused invalid 2\nok a=on,b=off\nrefused repeated a\nrefused unknown-option c\nrefused unknown-option c\nok constraint 3\nrefused syntax 14\nok a=on,b=off\n",
         Status::SomeRefused,
     ),
     (
         b"\n# note\noptoin a\noption\noption a b\noption 9x\noption a\noption a\r\noption for\n\xff\xfe",
-        b"refused not-built\nrefused not-built\nrefused not-built\nrefused not-built\nok option 0\nrefused not-built\nrefused not-built\nrefused not-built\n",
+        b"refused syntax 0\nrefused syntax 6\nrefused syntax 8\nrefused bad-name\nok option 0\nrefused bad-name\nrefused bad-name\nrefused syntax 0\n",
         Status::SomeRefused,
     ),
 ];
@@ -87,6 +87,47 @@ fn scripts_are_served(rt: HostRuntime) -> Result<(), Fail> {
     for case in &CASES {
         expect(&rt, rt.alloc(), SERVED, *case)?;
         expect(&rt, rt.alloc(), (&["run"], 1, &[], &[]), *case)?;
+    }
+    Ok(())
+}
+
+const RULES: [Case; 6] = [
+    (
+        b"option a\nconstraint a\nconstraint !a\ncomplete -\n",
+        b"ok option 0\nok constraint 1\nrefused no-variant-left\nok a=on\n",
+        Status::SomeRefused,
+    ),
+    (
+        b"option a\nprefer a\ndefault a off\ncomplete -\n",
+        b"ok option 0\nok prefer 1\nok default 1\nok a=on\n",
+        Status::Done,
+    ),
+    (
+        b"option a\noption b\nconstraint !a | b\nconstraint !a | !b\ncomplete a=on\n",
+        b"ok option 0\nok option 1\nok constraint 1\nok constraint 2\nrefused invalid 2\n",
+        Status::SomeRefused,
+    ),
+    (
+        b"option a\n\n# note\noptoin a\noption\noption a b\noption 9x\noption a\nconstraint a &\nconstraint a $\nconstraint b\ncomplete a=yes\ncomplete a=on,a=off\nmkfile s m\nmkfile s /m\ninsert s /m 4294967296 one\nwhere 1\n",
+        b"ok option 0\nrefused syntax 0\nrefused syntax 6\nrefused syntax 8\nrefused bad-name\nrefused exists\nrefused syntax 14\nrefused syntax 13\nrefused unknown-option b\nrefused syntax 9\nrefused repeated a\nrefused syntax 9\nrefused no-session\nrefused syntax 12\nrefused not-built\n",
+        Status::SomeRefused,
+    ),
+    (
+        b"option a\noption b\nopen s a=on,c=on,a=on for d\nopen s a=on,b=on,a=on for d\nopen s a=on for d\nopen s a=on for true\nconstraint !a | !b\nopen s a=on,b=on for false\nopen s a=on,b=off for false\ndefault c on\ndefault 9x on\ndefault on off\ndefault b off\nprefer c & on\nopen s a=on for !b\nopen t a=on,c=on for d\ncat c=on /n/x\ncat c=on /m\ncat b=on,b=off /m\ncat a=on,b=on /m\ncat - /m\ncat a=off /m\nmkfile t /m\nmkfile s /m\nmkfile t /m\ninsert t /m/n 0 x\nmkfile t /n/m\n",
+        b"ok option 0\nok option 1\nrefused unknown-option c\nrefused repeated a\nrefused unknown-option d\nrefused incomplete b\nok constraint 1\nrefused invalid 1\nrefused outside-ambition\nrefused unknown-option c\nrefused unknown-option 9x\nrefused unknown-option on\nok default 1\nrefused unknown-option c\nok open 4 a=on,b=off\nrefused not-built\nrefused not-built\nrefused unknown-option c\nrefused repeated b\nrefused invalid 1\nrefused incomplete a\nrefused no-such-path\nrefused no-session\nok\nrefused not-built\nrefused not-built\nrefused not-built\n",
+        Status::SomeRefused,
+    ),
+    (
+        b"mkdir s /d\nrename s /m n\nmove s /m /\nremove s /m\ndelete s /m 1\nreplace s /m 1 x\nshow s /m\nlist s /\nrefresh s\ncheckout t -\nalt - a /m\nwhere 1\nmkdir s m\nwhere 01\nside s true\nupgrade\n",
+        b"refused not-built\nrefused not-built\nrefused not-built\nrefused not-built\nrefused not-built\nrefused not-built\nrefused not-built\nrefused not-built\nrefused not-built\nrefused not-built\nrefused not-built\nrefused not-built\nrefused syntax 8\nrefused syntax 6\nrefused syntax 0\nrefused syntax 0\n",
+        Status::SomeRefused,
+    ),
+];
+
+#[test]
+fn rules_are_served(rt: HostRuntime) -> Result<(), Fail> {
+    for case in &RULES {
+        expect(&rt, rt.alloc(), SERVED, *case)?;
     }
     Ok(())
 }
@@ -169,29 +210,42 @@ fn limits_are_kept(rt: HostRuntime) -> Result<(), Fail> {
     )
 }
 
+// The kinds of rules with a rule of each.
+const KINDS: [(&str, &str); 3] = [
+    ("constraint", "constraint a\n"),
+    ("prefer", "prefer a\n"),
+    ("default", "default a on\n"),
+];
+
 #[test]
-fn constraints_are_limited(rt: HostRuntime) -> Result<(), Fail> {
+fn rules_are_limited(rt: HostRuntime) -> Result<(), Fail> {
     let alloc = rt.alloc();
     let mut script = String::from_str(alloc, "option a\n")?;
     let mut written = String::from_str(alloc, "ok option 0\n")?;
-    for number in 1..257u32 {
-        script.push_str("constraint a\n")?;
-        writeln!(written, "ok constraint {number}")?;
+    for (kind, line) in &KINDS {
+        for number in 1..257u32 {
+            script.push_str(line)?;
+            writeln!(written, "ok {kind} {number}")?;
+        }
+        script.push_str(line)?;
+        written.push_str("refused full\n")?;
     }
-    script.push_str("constraint a\nconstraint b\nconstraint a a\ncomplete a=off\n")?;
-    written.push_str("refused full\nrefused not-built\nrefused not-built\nrefused invalid 1\n")?;
+    script.push_str("constraint b\nprefer a a\ndefault b on\ncomplete a=off\n")?;
+    written.push_str(
+        "refused unknown-option b\nrefused syntax 9\nrefused unknown-option b\nrefused invalid 1\n",
+    )?;
     let case = (script.as_bytes(), written.as_bytes(), Status::SomeRefused);
     expect(&rt, alloc, SERVED, case)
 }
 
 #[test]
-fn long_expressions_are_no_form(rt: HostRuntime) -> Result<(), Fail> {
+fn long_expressions_are_refused(rt: HostRuntime) -> Result<(), Fail> {
     let alloc = rt.alloc();
     let mut script = String::from_str(alloc, "option a\nconstraint ")?;
     for _ in 0..255u32 {
         script.push('!')?;
     }
-    script.push_str("a\nconstraint ")?;
+    script.push_str("a\nprefer ")?;
     for _ in 0..256u32 {
         script.push('!')?;
     }
@@ -199,7 +253,7 @@ fn long_expressions_are_no_form(rt: HostRuntime) -> Result<(), Fail> {
     for _ in 0..8000u32 {
         script.push('(')?;
     }
-    let written: &[u8] = b"ok option 0\nok constraint 1\nrefused not-built\nrefused not-built\n";
+    let written: &[u8] = b"ok option 0\nok constraint 1\nrefused too-long\nrefused too-long\n";
     expect(
         &rt,
         alloc,

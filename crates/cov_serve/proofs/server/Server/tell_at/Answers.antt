@@ -16,6 +16,6 @@ returns c =
     let whole : replay c.args.choice before ≡ replay c.args.choice c.args.self.history =
     ap (replay c.args.choice) (ap (λ n. take n engine) c.position.ensures ∙ take-length engine ∙ ap (λ (t : State). t.history) c.self.view_is) in
     if-ok c.tell_file.result _ _
-    (λ next f. subst (λ v. Gives (file_told c.args.self v (path_node v.rows 0 c.args.path)) next.0 next.1) whole
+    (λ next f. subst (λ v. Gives (file_told c.args.self v (path_node v.rows 0 c.args.path.now)) next.0 next.1) whole
     (f (numbers_of before) (numbers_of before).addresses (replay c.args.choice before) c.in_ok-view.ensures.shows))
     c.tell_file.ensures
