@@ -12,7 +12,7 @@ use Rattle.cov_edit.specs.declared.command.Command.{Command}
 use Rattle.cov_edit.specs.declared.command.Command.TheVariants as commands
 use Rattle.cov_edit.specs.History.{text_bytes, edit_bytes, option_count, is_valid_in}
 use Rattle.cov_edit.specs.Limits.{most_edits, most_commit_bytes}
-use Rattle.cov_edit.specs.Numbering.{Numbers, NumberedEdit, OnRows, Inserted, no_numbers, node_number, line_number, nodes_made, anchors_of, numbers_after, numbers_of, numbered_from, numbered}
+use Rattle.cov_edit.specs.Numbering.{Numbers, NumberedEdit, OnRows, Inserted, Deleted, no_numbers, node_number, line_number, nodes_made, anchors_of, numbers_after, numbers_of, numbered_from, numbered}
 use Rattle.cov_edit.specs.Variant.{Variant, edited}
 use Rattle.cov_edit.specs.Replay.{replay}
 use Rattle.cov_edit.proofs.Replays.{fold-append, numbers_from-append}
@@ -23,7 +23,7 @@ use Rattle.cov_view.specs.Views.{Shows, table_after, next_by_number, FaultBy}
 use Rattle.cov_view.specs.declared.fault.EditFault.{EditFault}
 use Rattle.cov_view.specs.declared.fault.EditFault.TheVariants as faults
 use Rattle.cov_engine.specs.Laws.{HoldingStands}
-use Rattle.cov_engine.specs.Sessions.{Session, seen, has_commit}
+use Rattle.cov_engine.specs.Sessions.{Session, seen, has_commit, has_delete}
 use Rattle.cov_serve.specs.Additions.{RefusedWith, HasNoted, edit_refusal}
 use Rattle.cov_serve.specs.Codes.{edit_code}
 use Rattle.cov_serve.specs.Editing.{with_edit, as_code, addition_refusal}
@@ -35,27 +35,32 @@ use Rattle.cov_serve.specs.declared.session.OpenSession.{OpenSession}
 anchors-append : (m : ℕ) (es fs : List Edit) → anchors_of m (es ++ fs) ≡ anchors_of m es ++ anchors_of m fs
 anchors-append m [] fs = refl
 anchors-append m (edits.New kind parent name ∷ es) fs = anchors-append m es fs
+anchors-append m (edits.Delete file line ∷ es) fs = anchors-append m es fs
 anchors-append m (edits.Insert file after text ∷ es) fs = ap (λ l. line_number m after ∷ l) (anchors-append m es fs)
 
 pub anchors-count : (m n : ℕ) (es : List Edit) → length (anchors_of m es) ≡ length (anchors_of n es)
 anchors-count m n [] = refl
 anchors-count m n (edits.New kind parent name ∷ es) = anchors-count m n es
+anchors-count m n (edits.Delete file line ∷ es) = anchors-count m n es
 anchors-count m n (edits.Insert file after text ∷ es) = ap suc (anchors-count m n es)
 
 pub nodes-append : (es fs : List Edit) → nodes_made (es ++ fs) ≡ nodes_made es + nodes_made fs
 nodes-append [] fs = omega arith
 nodes-append (edits.New kind parent name ∷ es) fs = let e = nodes-append es fs in omega (arith, e)
 nodes-append (edits.Insert file after text ∷ es) fs = nodes-append es fs
+nodes-append (edits.Delete file line ∷ es) fs = nodes-append es fs
 
 pub nodes-most : (es : List Edit) → nodes_made es ≤ length es
 nodes-most [] = omega arith
 nodes-most (edits.New kind parent name ∷ es) = let e = nodes-most es in omega (arith, e)
 nodes-most (edits.Insert file after text ∷ es) = let e = nodes-most es in omega (arith, e)
+nodes-most (edits.Delete file line ∷ es) = let e = nodes-most es in omega (arith, e)
 
 pub lines-most : (m : ℕ) (es : List Edit) → length (anchors_of m es) ≤ length es
 lines-most m [] = omega arith
 lines-most m (edits.New kind parent name ∷ es) = let e = lines-most m es in omega (arith, e)
 lines-most m (edits.Insert file after text ∷ es) = let e = lines-most m es in omega (arith, e)
+lines-most m (edits.Delete file line ∷ es) = let e = lines-most m es in omega (arith, e)
 
 -- a session with room for an edit has room in its view
 pub nodes-fit : (s : OpenSession) → IsCounted s → length s.edits < most_edits → s.view.nodes_made < 4294967295
@@ -79,16 +84,19 @@ numbered-append ns t node line k l m (edits.New kind parent name ∷ es) fs e f 
     ap (λ ds. OnRows (Created (node + 1) kind (node_number ns.nodes parent) name) ∷ ds) (numbered-append ns t (node + 1) line k l m es fs (omega (arith, e)) f)
 numbered-append ns t node line k l m (edits.Insert file after text ∷ es) fs e f =
     ap (λ ds. Inserted (node_number ns.nodes file) (address_in t (line + 1)) text ∷ ds) (numbered-append ns t node (line + 1) k l m es fs e (omega (arith, f)))
+numbered-append ns t node line k l m (edits.Delete file which ∷ es) fs e f =
+    ap (λ ds. Deleted (node_number ns.nodes file) (address_in t (line_number (length ns.addresses) which)) ∷ ds) (numbered-append ns t node line k l m es fs e f)
 
 -- they are the same by another table in which their lines have the same addresses
 numbered-same : (ns : Numbers) (t u : List (List ℕ)) (node line m most : ℕ) (es : List Edit) → ((x : ℕ) → x ≤ most → address_in u x ≡ address_in t x)
-    → line + length (anchors_of m es) ≤ most → numbered_from ns u node line es ≡ numbered_from ns t node line es
-numbered-same ns t u node line m most [] same h = refl
-numbered-same ns t u node line m most (edits.New kind parent name ∷ es) same h =
-    ap (λ ds. OnRows (Created (node + 1) kind (node_number ns.nodes parent) name) ∷ ds) (numbered-same ns t u (node + 1) line m most es same h)
-numbered-same ns t u node line m most (edits.Insert file after text ∷ es) same h =
+    → line + length (anchors_of m es) ≤ most → has_delete es ≡ false → numbered_from ns u node line es ≡ numbered_from ns t node line es
+numbered-same ns t u node line m most [] same h none = refl
+numbered-same ns t u node line m most (edits.Delete file which ∷ es) same h none = absurd (cc)
+numbered-same ns t u node line m most (edits.New kind parent name ∷ es) same h none =
+    ap (λ ds. OnRows (Created (node + 1) kind (node_number ns.nodes parent) name) ∷ ds) (numbered-same ns t u (node + 1) line m most es same h none)
+numbered-same ns t u node line m most (edits.Insert file after text ∷ es) same h none =
     ap (λ a. Inserted (node_number ns.nodes file) a text ∷ numbered_from ns u node (line + 1) es) (same (line + 1) (omega (arith, h)))
-    ∙ ap (λ ds. Inserted (node_number ns.nodes file) (address_in t (line + 1)) text ∷ ds) (numbered-same ns t u node (line + 1) m most es same (omega (arith, h)))
+    ∙ ap (λ ds. Inserted (node_number ns.nodes file) (address_in t (line + 1)) text ∷ ds) (numbered-same ns t u node (line + 1) m most es same (omega (arith, h)) none)
 
 module _ (ns : Numbers) (es : List Edit) (e : Edit) where
   abbrev n : ℕ
@@ -103,6 +111,7 @@ module _ (ns : Numbers) (es : List Edit) (e : Edit) where
   one-anchor : (t : List (List ℕ)) (f : Edit) → with_lines t (anchors_of n (f ∷ [])) ≡ table_after ns t f
   one-anchor t (edits.New kind parent name) = refl
   one-anchor t (edits.Insert file after text) = refl
+  one-anchor t (edits.Delete file line) = refl
 
   longer-split : longer ≡ with_lines table (anchors_of n (e ∷ []))
   longer-split = ap (with_lines ns.addresses) (anchors-append n es (e ∷ [])) ∙ with_lines-append ns.addresses (anchors_of n es) (anchors_of n (e ∷ []))
@@ -114,14 +123,14 @@ module _ (ns : Numbers) (es : List Edit) (e : Edit) where
   table-length = length-with_lines ns.addresses (anchors_of n es)
 
   -- the edits with one more are those before and the next
-  pub numbered-next : (s : Seen) → s.nodes_made ≡ nodes_made es → numbered ns (es ++ e ∷ []) ≡ numbered ns es ++ next_by_number ns table s e
-  numbered-next s made =
+  pub numbered-next : (s : Seen) → s.nodes_made ≡ nodes_made es → has_delete es ≡ false → numbered ns (es ++ e ∷ []) ≡ numbered ns es ++ next_by_number ns table s e
+  numbered-next s made none =
       let k : ns.nodes + s.nodes_made ≡ ns.nodes + nodes_made es = omega (arith, made) in
       numbered-append ns longer ns.nodes n (ns.nodes + s.nodes_made) (length table) n es (e ∷ []) k table-length
       ∙ ap (λ ds. ds ++ numbered_from ns longer (ns.nodes + s.nodes_made) (length table) (e ∷ []))
       (numbered-same ns table longer ns.nodes n n (length table) es
       (λ x h. ap (λ t. address_in t x) longer-split ∙ address_in-with_lines table (anchors_of n (e ∷ [])) x h)
-      (omega (arith, table-length)))
+      (omega (arith, table-length)) none)
       ∙ ap (λ t. numbered ns es ++ numbered_from ns t (ns.nodes + s.nodes_made) (length table) (e ∷ [])) longer-is
 
 -- an accepted edit is accepted, and so are those after it
@@ -140,6 +149,7 @@ one-refused : (ns : Numbers) (v : Variant) (k : ℕ) (t : List (List ℕ)) (node
     → refused_from ns v k (e ∷ []) (numbered_from ns t node line (e ∷ [])) ≡ refused_at k (refusal ns v e) None
 one-refused ns v k t node line (edits.New kind parent name) = refl
 one-refused ns v k t node line (edits.Insert file after text) = refl
+one-refused ns v k t node line (edits.Delete file which) = refl
 
 -- after accepted edits, the first refused is the last, if it is refused
 refused-append : (ns : Numbers) (v : Variant) (k : ℕ) (t u : List (List ℕ)) (node line a b : ℕ) (es : List Edit) (e : Edit)
@@ -155,6 +165,16 @@ refused-append ns v k t u node line a b (edits.Insert file after text ∷ es) e 
     let d : NumberedEdit = Inserted (node_number ns.nodes file) (address_in t (line + 1)) text in
     let ih = refused-append ns (edited v d) (k + 1) t u node (line + 1) a b es e (rest-accepted k (refusal ns v (edits.Insert file after text)) _ h) in
     (ih.0, skip-accepted k (refusal ns v (edits.Insert file after text)) _ (edit-accepted k (refusal ns v (edits.Insert file after text)) _ h) ∙ ih.1)
+refused-append ns v k t u node line a b (edits.Delete file which ∷ es) e h =
+    let d : NumberedEdit = Deleted (node_number ns.nodes file) (address_in t (line_number (length ns.addresses) which)) in
+    let ih = refused-append ns (edited v d) (k + 1) t u node line a b es e (rest-accepted k (refusal ns v (edits.Delete file which)) _ h) in
+    (ih.0, skip-accepted k (refusal ns v (edits.Delete file which)) _ (edit-accepted k (refusal ns v (edits.Delete file which)) _ h) ∙ ih.1)
+
+keeping-append : (es : List Edit) (e : Edit) → has_delete es ≡ false → has_delete (e ∷ []) ≡ false → has_delete (es ++ e ∷ []) ≡ false
+keeping-append [] e none one = one
+keeping-append (edits.New kind parent name ∷ es) e none one = keeping-append es e none one
+keeping-append (edits.Insert file after text ∷ es) e none one = keeping-append es e none one
+keeping-append (edits.Delete file line ∷ es) e none one = absurd (cc)
 
 -- the first refused edit of a session with one more
 pub first-refused : (history : List Command) (s : OpenSession) (e : Edit) → IsOpen history s
@@ -165,7 +185,7 @@ first-refused history s e here =
     let v : Variant = replay s.choice (take s.base history) in
     let t : List (List ℕ) = (numbers_after ns s.edits).addresses in
     let found = refused-append ns v 0 t (table_after ns t e) ns.nodes (length ns.addresses) (ns.nodes + s.view.nodes_made) (length t) s.edits e here.good.accepted in
-    (found.0, ap (refused_from ns v 0 (s.edits ++ e ∷ [])) (numbered-next ns s.edits e s.view here.counted.nodes) ∙ found.1)
+    (found.0, ap (refused_from ns v 0 (s.edits ++ e ∷ [])) (numbered-next ns s.edits e s.view here.counted.nodes here.keeping) ∙ found.1)
 
 not_when : {F : Type 0} (b : Bool) (f : F) (os : List (Option F)) → b ≡ false → first_of (when b f ∷ os) ≡ first_of os
 not_when true f os h = absurd (cc)
@@ -254,6 +274,7 @@ module _ (history : List Command) (s : OpenSession) (e : Edit) (room : length s.
       assoc true b c = refl
       assoc false b c = refl
   names-append (edits.Insert file after text ∷ es) name = names-append es name
+  names-append (edits.Delete file line ∷ es) name = names-append es name
 
   abbrev AcceptsHere : Type 0
   AcceptsHere = (ns : Numbers) (table : List (List ℕ)) (v : Variant) → Shows ns table s.view v → refusal ns v e ≡ None
@@ -262,11 +283,11 @@ module _ (history : List Command) (s : OpenSession) (e : Edit) (room : length s.
   AppliesHere view = (ns : Numbers) (table : List (List ℕ)) (v : Variant) → IsTable table → Shows ns table s.view v → Shows ns (table_after ns table e) view (fold edited v (next_by_number ns table s.view e))
 
   -- a session that took an edit is here
-  pub open-after : (viewed new : OpenSession) → HoldingStands → AcceptsHere → AppliesHere viewed.view
+  pub open-after : (viewed new : OpenSession) → has_delete (e ∷ []) ≡ false → HoldingStands → AcceptsHere → AppliesHere viewed.view
       → viewed.view.nodes_made ≡ s.view.nodes_made + nodes_made (e ∷ [])
       → viewed.view.lines_made ≡ s.view.lines_made + length (anchors_of 0 (e ∷ []))
       → as_session viewed ≡ as_session s → viewed.names ≡ s.names → HasNoted viewed new e → IsOpen history new
-  open-after viewed new stands accepts applies nodes lines same names noted = record {
+  open-after viewed new keeps stands accepts applies nodes lines same names noted = record {
     good = record {
       within = subst (λ (r : Session). r.base ≤ length history) is here.good.within;
       of_all_options = subst (λ (r : Session). length r.choice ≡ option_count (take r.base history)) is here.good.of_all_options;
@@ -290,6 +311,7 @@ module _ (history : List Command) (s : OpenSession) (e : Edit) (room : length s.
       few = subst (λ (r : Session). length r.edits ≤ most_edits) is (let l = length-one s.edits e in omega (arith, l, room));
       light = subst (λ (r : Session). text_bytes r.edits ≤ most_commit_bytes) is light;
     };
+    keeping = subst (λ (r : Session). has_delete r.edits ≡ false) is (keeping-append s.edits e here.keeping keeps);
   }
     where
       longer : Session
@@ -313,6 +335,6 @@ module _ (history : List Command) (s : OpenSession) (e : Edit) (room : length s.
       shown =
           subst (λ t. Shows ns t viewed.view (seen longer history)) (sym (longer-is ns s.edits e))
           (subst (Shows ns (table_after ns (table_of history (as_session s)) e) viewed.view)
-          (sym (ap (fold edited (replay s.choice (take s.base history))) (numbered-next ns s.edits e s.view here.counted.nodes)
+          (sym (ap (fold edited (replay s.choice (take s.base history))) (numbered-next ns s.edits e s.view here.counted.nodes here.keeping)
           ∙ fold-append edited (replay s.choice (take s.base history)) (numbered ns s.edits) (next_by_number ns (table_of history (as_session s)) s.view e)))
           (applies ns (table_of history (as_session s)) (seen (as_session s) history) (is-table stands) here.shows))

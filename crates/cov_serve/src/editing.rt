@@ -1,11 +1,11 @@
 // How the session that is open is edited, committed and given up.
-ghost use Rattle.std.specs.Prelude.{◌≡◌, true, if◌then◌else◌, None, Some, Option as Maybe, option_map, IfOk, length};
+ghost use Rattle.std.specs.Prelude.{◌≡◌, true, if◌then◌else◌, None, Some, Option as Maybe, option_map, IfOk, length, [], ◌∷◌, false};
 ghost use Rattle.cov_base.specs.declared.number.Kind.TheVariants.{File};
 ghost use Rattle.cov_base.specs.declared.number.NodeRef.TheVariants.{Old};
 ghost use Rattle.cov_script.specs.Replies.{plain_reply};
 ghost use Rattle.cov_edit.specs.EditFits.{has_line_text, is_line_text};
 ghost use Rattle.cov_edit.specs.declared.edit.Edit.TheVariants as edits;
-ghost use Rattle.cov_engine.specs.Sessions.{commit_of};
+ghost use Rattle.cov_engine.specs.Sessions.{commit_of, has_delete};
 ghost use Rattle.cov_engine.specs.Verdict.{verdict};
 ghost use Rattle.cov_serve.specs.States.{is_used, named};
 ghost use Rattle.cov_serve.specs.Editing.{line_ref};
@@ -110,6 +110,7 @@ impl Server {
     // Adds an edit to the session.
     fn edit(self, edit: Edit, text: Text) -> Served
         requires text { has_line_text edit ≡ true }
+        requires keeping { has_delete (edit ∷ []) ≡ false }
         requires said { is_said text ≡ true }
         ensures { IfOk result (λ next. Gives (added self self.session edit text) next.0 next.1) }
     {

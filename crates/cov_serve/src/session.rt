@@ -1,11 +1,11 @@
 // The session that is open.
-ghost use Rattle.std.specs.Prelude.{◌≡◌, ◌<◌, ◌≤◌, ◌+◌, ◌||◌, List, ℕ, [], ◌∷◌, ◌++◌, None, Some, true, length, IfOk, IfErr, OnOk, OnErr, Err};
+ghost use Rattle.std.specs.Prelude.{◌≡◌, ◌<◌, ◌≤◌, ◌+◌, ◌||◌, List, ℕ, [], ◌∷◌, ◌++◌, None, Some, true, false, length, IfOk, IfErr, OnOk, OnErr, Err};
 ghost use Rattle.cov_base.specs.declared.error.MemoryOr.TheVariants.{Refused as with_code};
 ghost use Rattle.cov_edit.specs.EditFits.{has_line_text};
 ghost use Rattle.cov_edit.specs.History.{text_bytes, edit_bytes};
 ghost use Rattle.cov_edit.specs.Limits.{most_edits, most_commit_bytes};
 ghost use Rattle.cov_edit.specs.declared.command.Command.{Command as AnyCommand};
-ghost use Rattle.cov_engine.specs.Sessions.{commit_of};
+ghost use Rattle.cov_engine.specs.Sessions.{commit_of, has_delete};
 ghost use Rattle.cov_serve.specs.Additions.{RefusedWith, HasNoted, IsRefusalOf, edit_refusal};
 ghost use Rattle.cov_serve.specs.Editing.{addition_refusal, with_edit};
 ghost use Rattle.cov_serve.specs.Keeping.{as_session, IsCounted, IsOpen};
@@ -45,6 +45,7 @@ impl OpenSession {
     pub fn add(&mut self, alloc: Global, edit: Edit) -> Result<(), MemoryOr<Code>>
         requires counted { IsCounted self.old }
         requires text { has_line_text edit ≡ true }
+        requires keeping { has_delete (edit ∷ []) ≡ false }
         ensures accepted { OnOk result ((history : List AnyCommand) → IsOpen history self.old → addition_refusal history (as_session self.old) edit ≡ None) }
         ensures open { OnOk result ((history : List AnyCommand) → IsOpen history self.old → IsOpen history self.new) }
         ensures grown { OnOk result (as_session self.new ≡ with_edit (as_session self.old) edit) }
@@ -65,6 +66,7 @@ impl OpenSession {
     fn act(&mut self, alloc: Global, edit: Edit, bytes: usize) -> Result<(), MemoryOr<Code>>
         requires counted { IsCounted self.old }
         requires text { has_line_text edit ≡ true }
+        requires keeping { has_delete (edit ∷ []) ≡ false }
         requires room { length self.old.edits < most_edits }
         requires light { text_bytes (self.old.edits ++ edit ∷ []) ≤ most_commit_bytes }
         requires bytes { bytes ≡ text_bytes (self.old.edits ++ edit ∷ []) }
@@ -116,7 +118,7 @@ fn add_name(alloc: Global, names: &mut Names, edit: &Edit) -> Result<(), Memory>
 {
     match edit {
         Edit::New { name, .. } => names.add(alloc, name.as_slice()),
-        Edit::Insert { .. } => Ok(()),
+        Edit::Insert { .. } | Edit::Delete { .. } => Ok(()),
     }
 }
 
@@ -126,7 +128,7 @@ fn bytes_of(edit: &Edit) -> usize
     ensures most { has_line_text edit.now ≡ true → result ≤ 4096 }
 {
     match edit {
-        Edit::New { .. } => 0,
+        Edit::New { .. } | Edit::Delete { .. } => 0,
         Edit::Insert { text, .. } => text.len(),
     }
 }

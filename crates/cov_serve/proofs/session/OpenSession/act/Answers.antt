@@ -14,7 +14,7 @@ returns-in-Ok-note-clause-accepted c = λ history is_open.
 
 pub returns-in-Ok-note-clause-open : goal.returns-in-Ok-note-clause-open
 returns-in-Ok-note-clause-open c = λ history is_open.
-    open-after history c.args.self.now c.args.edit c.requires.room c.requires.light is_open _ c.note.new.self c.holding_stands.ensures
+    open-after history c.args.self.now c.args.edit c.requires.room c.requires.light is_open _ c.note.new.self c.requires.keeping c.holding_stands.ensures
     c.in-Ok.ensures.accepted c.in-Ok.ensures.applied c.in-Ok.ensures.nodes c.in-Ok.ensures.lines refl refl c.in-Ok-note.ensures
 
 pub returns-in-Ok-note-clause-grown : goal.returns-in-Ok-note-clause-grown
