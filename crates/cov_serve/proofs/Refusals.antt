@@ -1,5 +1,5 @@
 -- Lines that the history refuses.
-use Rattle.std.proofs.Common.{◌≡◌, sym, subst, Option, Some, None, Result, Ok, Err, IfOk}
+use Rattle.std.proofs.Common.{◌≡◌, ℕ, List, sym, subst, Option, Some, None, Result, Ok, Err, IfOk}
 use Rattle.cov_edit.specs.declared.command.Command.{Command}
 use Rattle.cov_engine.specs.Verdict.{RefusedBy}
 use Rattle.cov_engine.specs.declared.refusal.Refusal.{Refusal}
@@ -7,7 +7,7 @@ use Rattle.cov_engine.specs.declared.refusal.Refusal.TheVariants as refusals
 use Rattle.cov_serve.specs.Codes.{refusal_code}
 use Rattle.cov_serve.specs.Refusing.{code_unless_wanting, IsRefusedBy}
 use Rattle.cov_serve.specs.States.{State}
-use Rattle.cov_serve.specs.Step.{committed_if, refused}
+use Rattle.cov_serve.specs.Step.{appended_if, committed_if, refused}
 use Rattle.cov_serve.specs.Turns.{Gives}
 use Rattle.cov_serve.specs.declared.answer.Reply.{Reply}
 use Rattle.cov_script.specs.declared.code.Code.{Code}
@@ -51,3 +51,15 @@ pub commit-refused : {E : Type 0} (st server : State) (command : Command) (wante
 commit-refused st server command wanted r (Ok next) same by refused =
     gives-commit st next.0 next.1 command wanted (subst (λ s. IsRefusedBy s wanted next.0 next.1) same (refused wanted by))
 commit-refused st server command wanted r (Err fault) same by refused = tt
+
+gives-append : (st next : State) (reply : Reply) (command : Command) (words : List ℕ) (wanted : Option Refusal) → IsRefusedBy st wanted next reply → Gives (appended_if st command words wanted) next reply
+gives-append st next reply command words None refused = absurd refused
+gives-append st next reply command words (Some r) refused = refused
+
+-- a declaration that the history refuses
+pub append-refused : {E : Type 0} (st server : State) (command : Command) (words : List ℕ) (wanted : Option Refusal) (r : Refusal) (result : Result (State × Reply) E) → server ≡ st → RefusedBy r wanted
+    → IfOk result (λ next. (w : Option Refusal) → RefusedBy r w → IsRefusedBy server w next.0 next.1)
+    → IfOk result (λ next. Gives (appended_if st command words wanted) next.0 next.1)
+append-refused st server command words wanted r (Ok next) same by refused =
+    gives-append st next.0 next.1 command words wanted (subst (λ s. IsRefusedBy s wanted next.0 next.1) same (refused wanted by))
+append-refused st server command words wanted r (Err fault) same by refused = tt

@@ -1,5 +1,5 @@
 -- What lines say, and the nodes that they name.
-use Rattle.std.proofs.Common.{◌≡◌, ℕ, ◌+◌, ◌-◌, ◌<◌, true, false, cond, nat_le, List, [], ◌∷◌, length, Some, Result, Ok, IfOk, sym, ap, subst, ◌∙◌, arith}
+use Rattle.std.proofs.Common.{◌≡◌, ℕ, ◌+◌, ◌-◌, ◌<◌, true, false, cond, nat_le, List, [], ◌∷◌, length, Some, Result, Ok, IfOk, sym, ap, subst, ◌∙◌, arith, nat_eq, refl, None}
 use Rattle.std.proofs.lemmas.Bool.Decides.{nat_tests}
 use Rattle.std.specs.Prelude.{slice_get}
 use Rattle.cov_base.specs.declared.number.NodeRef.{NodeRef}
@@ -21,7 +21,8 @@ use Rattle.cov_serve.specs.Keeping.{as_session, numbers_at_base}
 use Rattle.cov_serve.specs.Outcome.{Outcome}
 use Rattle.cov_script.specs.Replies.{new_line_reply}
 use Rattle.cov_serve.specs.States.{State}
-use Rattle.cov_serve.specs.Step.{added, inserted_at, inserted_in, with_file}
+use Rattle.cov_script.specs.declared.code.Code.TheVariants.{NotBuilt}
+use Rattle.cov_serve.specs.Step.{added, inserted_at, inserted_in, refused, with_file}
 use Rattle.cov_serve.specs.Turns.{Gives}
 use Rattle.cov_serve.specs.declared.answer.Reply.{Reply}
 use Rattle.cov_serve.specs.declared.session.OpenSession.{OpenSession}
@@ -59,6 +60,22 @@ pub one-name : (st : State) (path : List (List ℕ)) (file : List ℕ) (go : Lis
 one-name st [] file go one there = absurd (omega (arith, one))
 one-name st (x ∷ []) file go one there = ap go (let same : x ≡ file = cc in same)
 one-name st (x ∷ y ∷ xs) file go one there = absurd (omega (arith, one))
+
+-- a path of one name, whatever it is
+pub one-any : (st : State) (path : List (List ℕ)) (o : Outcome State) → length path ≡ 1 → with_file st path (λ file. o) ≡ o
+one-any st [] o one = absurd (omega (arith, one))
+one-any st (x ∷ []) o one = refl
+one-any st (x ∷ y ∷ xs) o one = absurd (omega (arith, one))
+
+pub one-there : (path : List (List ℕ)) → length path ≡ 1 → slice_get path 0 ≡ None → ⊥
+one-there [] one none = absurd (omega (arith, one))
+one-there (x ∷ xs) one none = absurd (cc)
+
+-- a path of another number of names
+pub not-one : (st : State) (path : List (List ℕ)) (go : List ℕ → Outcome State) → nat_eq (length path) 1 ≡ false → with_file st path go ≡ refused st NotBuilt
+not-one st [] go h = refl
+not-one st (x ∷ []) go h = absurd (cc)
+not-one st (x ∷ y ∷ xs) go h = refl
 
 -- the number of a made node gives its reference again
 pub made-again : (n made : ℕ) (node : NodeRef) → is_made_node n made node ≡ true → node_ref n (node_number n node) ≡ node

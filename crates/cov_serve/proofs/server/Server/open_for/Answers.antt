@@ -1,4 +1,6 @@
-use Rattle.std.proofs.Common.{◌≡◌, ◌∙◌, sym, ap, subst, option_map, IfOk}
+use Rattle.std.proofs.Common.{◌≡◌, ◌∙◌, true, nat_lt, sym, ap, subst, option_map, IfOk}
+use Rattle.std.specs.List.{list_all}
+use Rattle.cov_edit.specs.History.{option_count}
 use Rattle.cov_serve.specs.Finding.{completed_choice}
 use Rattle.cov_serve.specs.Keeping.{as_session}
 use Rattle.cov_serve.specs.States.{State}
@@ -6,6 +8,11 @@ use Rattle.cov_serve.specs.Step.{opened_within}
 use Rattle.cov_serve.specs.Turns.{Gives}
 use Rattle.cov_serve.proofs.Named.{goes-on}
 use Rattle.cov_serve.proofs.server.Server.open_for.Goals as goal
+
+pub complete-requires : goal.complete-requires
+complete-requires c = record {
+  bound = subst (λ (st : State). list_all (λ b. nat_lt b.0 (option_count st.history)) c.args.partial.now ≡ true) (sym c.self.view_is) c.requires.bound;
+}
 
 pub returns-in-Ok : goal.returns-in-Ok
 returns-in-Ok c =
