@@ -1,5 +1,5 @@
 -- What is ready for a command.
-use Rattle.std.specs.Prelude.{◌≡◌, ℕ, ◌+◌, ◌^◌, ◌<◌, ◌≤◌, true, List, [], length, Some, None}
+use Rattle.std.specs.Prelude.{◌≡◌, ℕ, ◌+◌, ◌^◌, ◌<◌, ◌≤◌, true, false, List, [], length, drop, Some, None}
 use Rattle.cov_dd.specs.declared.triple.Triple.{Triple}
 use Rattle.cov_expr.specs.Formula.{Formula}
 use Rattle.cov_edit.specs.declared.edit.Edit.{Edit}
@@ -12,7 +12,7 @@ use Rattle.cov_rules.specs.Installing.{RulesValue, IsPlan}
 use Rattle.cov_engine.specs.Drawing.{AreNear, IsDrawn}
 use Rattle.cov_engine.specs.Holdings.{IsHeldBy}
 use Rattle.cov_engine.specs.Ruling.{rule_in}
-use Rattle.cov_engine.specs.Sessions.{MayCome}
+use Rattle.cov_engine.specs.Sessions.{IsGood, session_of, has_commit, has_delete}
 use Rattle.cov_engine.specs.Verdict.{verdict}
 use Rattle.cov_engine.specs.declared.counts.Counts.{Counts}
 use Rattle.cov_engine.specs.declared.entry.Entry.{Entry}
@@ -50,7 +50,7 @@ IsDrawnReady history ambition es spare commits ls entries (ready.Commit made cou
 -- a commit is drawn, and there is room for it
 abbrev pub IsCommitReady : List Command → Command → ℕ → List Made → List KeptLine → List Entry → Made → Counts → Type 0
 IsCommitReady history (commands.Commit base choice ambition es) spare commits ls entries made counts =
-    MayCome history (commands.Commit base choice ambition es) × IsDrawn history ambition es commits made ls entries × AreCountsWith history es counts × (0 < spare)
+    (IsGood history (session_of base choice ambition es) × (has_commit (drop base history) ≡ false) × (has_delete es ≡ false)) × IsDrawn history ambition es commits made ls entries × AreCountsWith history es counts × (0 < spare)
 IsCommitReady history command spare commits ls entries made counts = ⊥
 
 -- what a command wants is ready: a name and room for it, a rule with its plan, or what a commit draws

@@ -54,10 +54,10 @@ abbrev pub session_of : ℕ → List Bool → Formula ℕ → List Edit → Sess
 session_of base choice ambition es = record { name = []; base = base; choice = choice; ambition = ambition; edits = es }
 
 -- a command that may come after a history: its options are declared, and a commit is that of a good session after whose
--- base no commit stands, and takes no line out
+-- base no commit stands
 abbrev pub MayCome : List Command → Command → Type 0
 MayCome history (commands.Option name) = Unit {0}
 MayCome history (commands.Constraint expr) = reach expr ≤ option_count history
 MayCome history (commands.Prefer expr) = reach expr ≤ option_count history
 MayCome history (commands.Default option on) = option < option_count history
-MayCome history (commands.Commit base choice ambition es) = IsGood history (session_of base choice ambition es) × (has_commit (drop base history) ≡ false) × (has_delete es ≡ false)
+MayCome history (commands.Commit base choice ambition es) = IsGood history (session_of base choice ambition es) × (has_commit (drop base history) ≡ false)

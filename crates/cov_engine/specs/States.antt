@@ -15,6 +15,11 @@ use Rattle.cov_engine.specs.declared.counts.Counts.{Counts}
 use Rattle.cov_engine.specs.declared.refusal.Refusal.{Refusal}
 use Rattle.cov_engine.specs.declared.refusal.Refusal.TheVariants as refusals
 
+-- a history, and the table of the visibilities and rules that an engine keeps of it
+pub record EngineValue : Type 0 where
+  pub history : List Command
+  pub table : List Triple
+
 -- the counts are those of a history
 pub record AreCountsOf (history : List Command) (counts : Counts) : Type 0 where
   pub lines : counts.lines ≡ line_count history

@@ -1,6 +1,7 @@
 // A history in use.
 ghost use Rattle.std.specs.Prelude.{◌≡◌, ◌≤◌, [], true, nat_lt, length, take, None, Some, IfOk, IfErr, OnOk};
 ghost use Rattle.std.specs.List.{list_all};
+ghost use Rattle.cov_dd.specs.Diagrams.{Extends};
 ghost use Rattle.cov_edit.specs.History.{options_of, option_count, constraints_of, first_false_in};
 ghost use Rattle.cov_edit.specs.Numbering.{numbers_of};
 ghost use Rattle.cov_edit.specs.Replay.{replay};
@@ -31,18 +32,17 @@ pub struct Engine {
 }
 
 impl Model for Engine {
-    ghost use Rattle.std.specs.Prelude.{List};
     ghost use Rattle.std.specs.Coded.{codes};
-    ghost use Rattle.cov_edit.specs.declared.command.Command.{Command};
+    ghost use Rattle.cov_dd.specs.contracts.triple.Triple as triples;
     ghost use Rattle.cov_edit.specs.contracts.command.Command as row;
-    ghost use Rattle.cov_engine.specs.States.{IsStateOf};
+    ghost use Rattle.cov_engine.specs.States.{EngineValue, IsStateOf};
     ghost use Rattle.cov_engine.specs.Holdings.{IsHeldBy};
 
-    ghost Value = { List Command };
+    ghost Value = { EngineValue };
 
-    ghost coded = { Prim.hlevel (codes, row.the_row.coded) };
+    ghost coded = { Prim.hlevel (codes, row.the_row.coded, triples.the_row.coded) };
 
-    ghost view = { λ e. e.state.commands.commands };
+    ghost view = { λ e. record { history = e.state.commands.commands; table = e.state.table } };
 
     ghost invariant = { λ e. IsStateOf e.state.commands.commands e.state.options.names e.state.table e.state.rules.standing e.state.counts × IsHeldBy e.state.commands.commands e.state.kept.commits.items e.state.kept.lines.items e.state.kept.entries.items };
 }
@@ -50,7 +50,7 @@ impl Model for Engine {
 impl Engine {
     /// The empty history.
     pub fn new(alloc: Global) -> Result<Engine, Memory>
-        ensures { IfOk result (λ engine. engine ≡ []) }
+        ensures { IfOk result (λ engine. engine.history ≡ []) }
     {
         Ok(Engine {
             state: State {
@@ -74,36 +74,36 @@ impl Engine {
 
     /// How many commands there are.
     pub fn position(&self) -> Position
-        ensures { result ≡ length self.now }
+        ensures { result ≡ length self.now.history }
     {
         Position::new(self.state.commands.len() as u32)
     }
 
     pub fn options(&self) -> &Options
-        ensures { result.now.names ≡ options_of self.now }
+        ensures { result.now.names ≡ options_of self.now.history }
     {
         &self.state.options
     }
 
     /// The options, without the rest. Takes no memory.
     pub fn into_options(self) -> Options
-        ensures { result.names ≡ options_of self }
+        ensures { result.names ≡ options_of self.history }
     {
         let Engine { state } = self;
         state.options
     }
 
     pub fn counts(&self) -> Counts
-        ensures { AreCountsOf self.now result }
+        ensures { AreCountsOf self.now.history result }
     {
         self.state.counts
     }
 
     /// Whether each constraint is true on a choice. Takes no memory.
     pub fn valid(&self, choice: Choice) -> Result<(), Invalid>
-        requires { option_count self.now ≤ length choice }
-        ensures ok { OnOk result (first_false_in self.now choice ≡ None) }
-        ensures err { IfErr result (λ invalid. first_false_in self.now choice ≡ Some invalid.rule) }
+        requires { option_count self.now.history ≤ length choice }
+        ensures ok { OnOk result (first_false_in self.now.history choice ≡ None) }
+        ensures err { IfErr result (λ invalid. first_false_in self.now.history choice ≡ Some invalid.rule) }
     {
         self.state.rules.valid(choice, self.position())
     }
@@ -111,11 +111,12 @@ impl Engine {
     /// Completes a partial choice by the rules: of the valid choices that agree with it each preference in order keeps
     /// those on which it is true, if there are any, then each default. The one choice left is the answer.
     pub fn complete(&mut self, partial: &Partial) -> Result<Choice, CompleteFault>
-        requires { list_all (λ b. nat_lt b.0 (option_count self.old)) partial.now ≡ true }
-        ensures same { self.new ≡ self.old }
-        ensures complete { IfOk result (λ choice. completed_in self.old partial.now ≡ Complete choice) }
-        ensures answer { IfOk result (IsAnswer (option_count self.old) (constraints_of self.old) partial.now) }
-        ensures refused { IfErr result (IsRefusalBy (completed_in self.old partial.now)) }
+        requires { list_all (λ b. nat_lt b.0 (option_count self.old.history)) partial.now ≡ true }
+        ensures same { self.new.history ≡ self.old.history }
+        ensures extends { Extends self.old.table self.new.table }
+        ensures complete { IfOk result (λ choice. completed_in self.old.history partial.now ≡ Complete choice) }
+        ensures answer { IfOk result (IsAnswer (option_count self.old.history) (constraints_of self.old.history) partial.now) }
+        ensures refused { IfErr result (IsRefusalBy (completed_in self.old.history partial.now)) }
     {
         let count = self.state.options.count();
         self.state
@@ -125,9 +126,9 @@ impl Engine {
 
     /// The variant of a choice at a position; nothing in it is new. It takes time in the rows and lines that are kept.
     pub fn view(&self, alloc: Global, choice: Choice, at: Position) -> Result<View, Memory>
-        requires position { at ≤ length self.now }
-        requires choice { option_count (take at self.now) ≤ length choice }
-        ensures shows { IfOk result (λ view. Shows (numbers_of (take at self.now)) (numbers_of (take at self.now)).addresses view (replay choice (take at self.now))) }
+        requires position { at ≤ length self.now.history }
+        requires choice { option_count (take at self.now.history) ≤ length choice }
+        ensures shows { IfOk result (λ view. Shows (numbers_of (take at self.now.history)) (numbers_of (take at self.now.history)).addresses view (replay choice (take at self.now.history))) }
         ensures nodes { IfOk result (λ view. view.nodes_made ≡ 0) }
         ensures lines { IfOk result (λ view. view.lines_made ≡ 0) }
     {
@@ -137,11 +138,11 @@ impl Engine {
     /// Makes everything ready for a command, so that its installation can't fail. A refusal hands the engine back. A
     /// commit takes for each edit at most time in the lines of its file.
     pub fn prepare(self, command: Command) -> Result<Prepared, (Engine, Refusal)>
-        requires { MayCome self command }
-        ensures prepared { IfOk result (λ prepared. (prepared.history ≡ self) × (prepared.command ≡ command)) }
-        ensures accepted { OnOk result (verdict self command ≡ None) }
-        ensures back { IfErr result (λ refused. refused.0 ≡ self) }
-        ensures refused { IfErr result (λ refused. RefusedBy refused.1 (verdict self command)) }
+        requires { MayCome self.history command }
+        ensures prepared { IfOk result (λ prepared. (prepared.history ≡ self.history) × (prepared.command ≡ command)) }
+        ensures accepted { OnOk result (verdict self.history command ≡ None) }
+        ensures back { IfErr result (λ refused. refused.0.history ≡ self.history) }
+        ensures refused { IfErr result (λ refused. RefusedBy refused.1 (verdict self.history command)) }
     {
         let Engine { mut state } = self;
         command.bounds_are_kept();
@@ -154,7 +155,7 @@ impl Engine {
     pub(crate) fn of_state(state: State) -> Engine
         requires state { IsStateOf state.commands.commands state.options.names state.table state.rules.standing state.counts }
         requires held { IsHeldBy state.commands.commands state.kept.commits.items state.kept.lines.items state.kept.entries.items }
-        ensures { result ≡ state.commands.commands }
+        ensures { result ≡ record { history = state.commands.commands; table = state.table } }
     {
         Engine { state }
     }

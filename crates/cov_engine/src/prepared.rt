@@ -70,7 +70,7 @@ impl Prepared {
 
     /// The history without the command.
     pub fn cancel(self) -> Engine
-        ensures { result ≡ self.history }
+        ensures { result.history ≡ self.history }
     {
         let Prepared {
             mut state,
@@ -83,7 +83,7 @@ impl Prepared {
 
     /// The history with the command. Takes no memory.
     pub fn install(self) -> (Engine, Receipt)
-        ensures history { result.0 ≡ self.history ++ self.command ∷ [] }
+        ensures history { result.0.history ≡ self.history ++ self.command ∷ [] }
         ensures position { result.1.position ≡ length self.history + 1 }
         ensures number { result.1.number ≡ receipt_number self.history self.command }
     {

@@ -1,7 +1,7 @@
 // What an engine keeps.
-ghost use Rattle.std.specs.Prelude.{◌≡◌, ◌<◌, ◌^◌, ◌-◌, length, None, IfOk, IfErr, OnOk, OnErr, vec_len, vec_capacity};
+ghost use Rattle.std.specs.Prelude.{◌≡◌, ◌<◌, ◌^◌, ◌-◌, length, false, None, IfOk, IfErr, OnOk, OnErr, vec_len, vec_capacity};
 ghost use Rattle.cov_engine.specs.Holdings.{IsHeldBy};
-ghost use Rattle.cov_engine.specs.Sessions.{MayCome};
+ghost use Rattle.cov_engine.specs.Sessions.{MayCome, has_delete};
 ghost use Rattle.cov_engine.specs.States.{IsStateOf, name_refusal};
 ghost use Rattle.cov_engine.specs.Ready.{IsReady, IsInBounds, IsDrawnReady};
 ghost use Rattle.cov_engine.specs.Verdict.{verdict, RefusedBy};
@@ -14,7 +14,7 @@ use crate::sizes::{measure, with_sizes};
 use crate::{Counts, Refusal, sizes};
 use cov_base::{Memory, OptionName, Position};
 use cov_dd::Table;
-use cov_edit::{Command, Commands, Edits};
+use cov_edit::{Command, Commands, Edit, Edits};
 use cov_expr::{Expr, Options};
 use cov_rules::Rules;
 
@@ -90,6 +90,19 @@ fn ready_for(state: &mut State, command: &Command) -> Result<Ready, Refusal>
     }
 }
 
+fn has_delete(edits: &[Edit]) -> bool
+    ensures { result ≡ has_delete edits.now }
+{
+    let mut ahead = edits;
+    while let [edit, rest @ ..] = ahead {
+        if matches!(edit, Edit::Delete { .. }) {
+            return true;
+        }
+        ahead = rest;
+    }
+    false
+}
+
 // Makes room for an option, and a copy of its name.
 fn option_ready(options: &mut Options, name: &OptionName) -> Result<Ready, Refusal>
     ensures names { options.new.names ≡ options.old.names }
@@ -129,8 +142,26 @@ fn name_refusal(options: &Options, name: &[u8]) -> Option<Refusal>
     }
 }
 
-// Draws a commit.
+// Draws a commit that keeps all lines.
 fn commit_ready(state: &mut State, ambition: &Expr, edits: &Edits) -> Result<Ready, Memory>
+    requires state { IsStateOf state.old.commands.commands state.old.options.names state.old.table state.old.rules.standing state.old.counts }
+    requires held { IsHeldBy state.old.commands.commands state.old.kept.commits.items state.old.kept.lines.items state.old.kept.entries.items }
+    requires fits { IsInBounds state.old.commands.commands edits.now }
+    ensures commands { state.new.commands ≡ state.old.commands }
+    ensures state { IsStateOf state.new.commands.commands state.new.options.names state.new.table state.new.rules.standing state.new.counts }
+    ensures keeping { OnOk result (has_delete edits.now ≡ false) }
+    ensures ready { IfOk result (IsDrawnReady state.new.commands.commands ambition.now edits.now (vec_capacity state.new.kept.commits - vec_len state.new.kept.commits)
+        state.new.kept.commits.items state.new.kept.lines.items state.new.kept.entries.items) }
+    ensures held { OnErr result (IsHeldBy state.new.commands.commands state.new.kept.commits.items state.new.kept.lines.items state.new.kept.entries.items) }
+{
+    if has_delete(edits.as_slice()) {
+        return Err(Memory);
+    }
+    drawn_commit(state, ambition, edits)
+}
+
+// Draws a commit.
+fn drawn_commit(state: &mut State, ambition: &Expr, edits: &Edits) -> Result<Ready, Memory>
     requires state { IsStateOf state.old.commands.commands state.old.options.names state.old.table state.old.rules.standing state.old.counts }
     requires held { IsHeldBy state.old.commands.commands state.old.kept.commits.items state.old.kept.lines.items state.old.kept.entries.items }
     requires fits { IsInBounds state.old.commands.commands edits.now }

@@ -4,6 +4,7 @@ use Rattle.cov_rules.specs.Completion.{literals, IsRefusalBy}
 use Rattle.cov_rules.proofs.Answering.{completed_is_valid}
 use Rattle.cov_rules.proofs.Opening.{if_ok_also, if_err_also}
 use Rattle.cov_engine.specs.Ruling.{AreRulesOf}
+use Rattle.cov_engine.specs.States.{EngineValue}
 use Rattle.cov_engine.proofs.Ruling.{completed-same}
 use Rattle.cov_engine.proofs.States.{state-grown}
 use Rattle.cov_engine.proofs.engine.Engine.complete.Goals as goal
@@ -18,22 +19,22 @@ invariant_of-self c = (
 
 pub returns-clause-answer : goal.returns-clause-answer
 returns-clause-answer c =
-    let history = c.args.self.now in
+    let history = c.args.self.now.history in
     let ts = c.self.inside.state.table in
     let s = c.self.inside.state.rules.standing in
     let partial = c.args.partial.now in
-    let are : AreRulesOf history ts s = subst (λ h. AreRulesOf h ts s) c.self.view_is c.self.invariant.0.rules in
-    let same = c.count-count.ensures.count ∙ ap (λ names. length names) c.self.invariant.0.options ∙ ap option_count c.self.view_is in
+    let are : AreRulesOf history ts s = subst (λ (e : EngineValue). AreRulesOf e.history ts s) c.self.view_is c.self.invariant.0.rules in
+    let same = c.count-count.ensures.count ∙ ap (λ names. length names) c.self.invariant.0.options ∙ ap (λ (e : EngineValue). option_count e.history) c.self.view_is in
     if_ok_also c.complete.result _ _
     (λ choice e. completed_is_valid (option_count history) (constraints_of history) (preferences_of history) (literals (defaults_of history)) partial choice
     (sym (completed-same history ts s c.count-count.result partial are same) ∙ e)) c.complete.ensures.complete
 
 pub returns-clause-refused : goal.returns-clause-refused
 returns-clause-refused c =
-    let history = c.args.self.now in
+    let history = c.args.self.now.history in
     let ts = c.self.inside.state.table in
     let s = c.self.inside.state.rules.standing in
     let partial = c.args.partial.now in
-    let are : AreRulesOf history ts s = subst (λ h. AreRulesOf h ts s) c.self.view_is c.self.invariant.0.rules in
-    let same = c.count-count.ensures.count ∙ ap (λ names. length names) c.self.invariant.0.options ∙ ap option_count c.self.view_is in
+    let are : AreRulesOf history ts s = subst (λ (e : EngineValue). AreRulesOf e.history ts s) c.self.view_is c.self.invariant.0.rules in
+    let same = c.count-count.ensures.count ∙ ap (λ names. length names) c.self.invariant.0.options ∙ ap (λ (e : EngineValue). option_count e.history) c.self.view_is in
     if_err_also c.complete.result _ _ (λ fault refused. subst (λ a. IsRefusalBy a fault) (completed-same history ts s c.count-count.result partial are same) refused) c.complete.ensures.refused
