@@ -1,14 +1,17 @@
 pub mod Drawing
+pub mod Drawn
 pub mod Files
 pub mod Holdings
 pub mod Insertions
 pub mod Kept
 pub mod Laws
 pub mod Naming
+pub mod Nodes
 pub mod Reach
 pub mod Ready
 pub mod Ruling
 pub mod Sessions
 pub mod Showing
 pub mod States
+pub mod Stepping
 pub mod Verdict

@@ -3,7 +3,6 @@ use Rattle.std.specs.Prelude.{◌≡◌, ℕ, ◌<◌, ◌≤◌, Bool, true, fa
 use Rattle.std.specs.List.{fold}
 use Rattle.cov_expr.specs.Formula.{Formula, value, reach}
 use Rattle.cov_edit.specs.declared.edit.Edit.{Edit}
-use Rattle.cov_edit.specs.declared.edit.Edit.TheVariants as edits
 use Rattle.cov_edit.specs.declared.command.Command.{Command}
 use Rattle.cov_edit.specs.declared.command.Command.TheVariants as commands
 use Rattle.cov_edit.specs.History.{option_count, is_valid_in}
@@ -42,12 +41,6 @@ abbrev pub has_commit : List Command → Bool
 has_commit [] = false
 has_commit (commands.Commit base choice ambition es ∷ history) = true
 has_commit (_ ∷ history) = has_commit history
-
--- whether an edit among edits takes a line out
-abbrev pub has_delete : List Edit → Bool
-has_delete [] = false
-has_delete (edits.Delete file line ∷ es) = true
-has_delete (_ ∷ es) = has_delete es
 
 -- the session of which a commit is, but for its name
 abbrev pub session_of : ℕ → List Bool → Formula ℕ → List Edit → Session

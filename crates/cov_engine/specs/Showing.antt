@@ -1,17 +1,18 @@
 -- What is shown of the kept rows and lines.
-use Rattle.std.specs.Prelude.{◌≡◌, ℕ, ◌-◌, ◌≤◌, Bool, List, [], ◌∷◌, ◌++◌, Option, Some, None, slice_get, if◌then◌else◌}
+use Rattle.std.specs.Prelude.{◌≡◌, ℕ, ◌≤◌, Bool, List, [], ◌∷◌, ◌++◌, Option, Some, None, slice_get, if◌then◌else◌}
 use Rattle.std.specs.List.{fold}
 use Rattle.cov_base.specs.declared.number.Kind.{Kind}
 use Rattle.cov_base.specs.declared.number.Kind.TheVariants as kinds
 use Rattle.cov_base.specs.declared.number.NodeRef.TheVariants as nodes
 use Rattle.cov_base.specs.declared.number.LineRef.TheVariants as lines
+use Rattle.cov_dd.specs.declared.triple.Triple.{Triple}
 use Rattle.cov_expr.specs.Formula.{Formula, False, value, reach}
+use Rattle.cov_file.specs.declared.row.FileRow.{FileRow}
+use Rattle.cov_file.specs.Dated.{rows_at}
 use Rattle.cov_view.specs.declared.row.ViewRow.{ViewRow}
 use Rattle.cov_view.specs.Seen.{kind_in, at_row, with_lines_by}
 use Rattle.cov_engine.specs.Kept.{seen_at}
-use Rattle.cov_engine.specs.Files.{DatedLine, is_dated_seen}
 use Rattle.cov_engine.specs.declared.kept.Made.{Made}
-use Rattle.cov_engine.specs.declared.kept.KeptLine.{KeptLine}
 use Rattle.cov_engine.specs.declared.entry.Entry.{Entry}
 
 -- what a commit changes is seen from its position on, within its ambition; without a commit it never is
@@ -27,33 +28,21 @@ change_of commits commit = change_in (slice_get commits commit)
 abbrev pub AreInReach : ℕ → ℕ → List Made → Type 0
 AreInReach count at commits = (commit : ℕ) → (change_of commits commit).0 ≤ at → reach (change_of commits commit).1 ≤ count
 
--- a kept line by its number, if there is one
-abbrev pub dated_from : List Made → ℕ → Option KeptLine → DatedLine
-dated_from commits number None = record { line = number; text = []; changes = (0, False) ∷ [] }
-dated_from commits number (Some l) = record { line = number; text = l.text; changes = change_of commits l.commit ∷ [] }
+-- the rows with a line of a file more
+abbrev pub with_row : ℕ → List ViewRow → FileRow → List ViewRow
+with_row file rows r = at_row (nodes.Old file) (with_lines_by (λ shown. shown ++ record { line = lines.Old r.line; text = r.text } ∷ [])) rows
 
--- the line with a number, from 1
-abbrev pub dated_of : List Made → List KeptLine → ℕ → DatedLine
-dated_of commits ls number = dated_from commits number (slice_get ls (number - 1))
-
-module _ (c : List Bool) (at : ℕ) (commits : List Made) (ls : List KeptLine) where
-  -- the rows with a line of a file more, if it is seen
-  abbrev pub with_number : ℕ → List ViewRow → ℕ → List ViewRow
-  with_number file rows number =
-      if is_dated_seen c at (dated_of commits ls number)
-      then at_row (nodes.Old file) (with_lines_by (λ shown. shown ++ record { line = lines.Old number; text = (dated_of commits ls number).text } ∷ [])) rows
-      else rows
-
+module _ (ts : List Triple) (c : List Bool) (at : ℕ) (commits : List Made) where
   -- the rows with the lines of an entry that are seen, if it is a file's
-  abbrev pub with_numbers : Kind → Entry → List ViewRow → List ViewRow
-  with_numbers kinds.File e rows = fold (with_number e.node) rows e.order.lines
-  with_numbers kinds.Dir e rows = rows
+  abbrev pub with_lines : Kind → Entry → List ViewRow → List ViewRow
+  with_lines kinds.File e rows = fold (with_row e.node) rows (rows_at ts c at e.file.lines)
+  with_lines kinds.Dir e rows = rows
 
   -- the rows with that of an entry more, if it is seen
   abbrev pub with_entry : List ViewRow → Entry → List ViewRow
   with_entry rows e =
       if value (seen_at (change_of commits e.commit ∷ []) at) c
-      then with_numbers e.kind e (rows ++ record { node = nodes.Old e.node; kind = e.kind; parent = nodes.Old e.parent; name = e.name; lines = [] } ∷ [])
+      then with_lines e.kind e (rows ++ record { node = nodes.Old e.node; kind = e.kind; parent = nodes.Old e.parent; name = e.name; lines = [] } ∷ [])
       else rows
 
   -- each entry is of a node that has no row yet when it is its turn

@@ -1,43 +1,49 @@
-// What a commit adds to what is kept. It is added before the commit is installed, all but the places of the lines in
-// their files, for which there is room then; where the commit is given up, it is cut off again.
-ghost use Rattle.std.specs.Prelude.{◌≡◌, ◌<◌, ◌≤◌, ◌+◌, ◌-◌, ◌++◌, ◌^◌, ℕ, [], ◌∷◌, length, map, take, vec_len, vec_capacity, OnOk, OnErr};
+// What a commit adds to what is kept. It is added before the commit is installed, all but what it does to the lines of files,
+// for which there is room then; where the commit is given up, it is cut off again.
+ghost use Rattle.std.specs.Prelude.{◌≡◌, ◌<◌, ◌≤◌, ◌+◌, ◌-◌, ◌++◌, ◌^◌, ℕ, List, [], ◌∷◌, length, map, take, vec_len, vec_capacity, OnOk, OnErr};
 ghost use Rattle.std.specs.List.{AllByRecursion};
-ghost use Rattle.cov_edit.specs.Numbering.{nodes_made, anchors_of};
-ghost use Rattle.cov_engine.specs.Drawing.{stored, new_lines, new_entries, AreNumbered, AreNear, HasRoom, IsReadyFor, inserts_into, CanTakeAll, with_new_lines};
+ghost use Rattle.cov_edit.specs.Numbering.{nodes_made};
+ghost use Rattle.cov_edit.specs.declared.edit.Edit.{Edit as AnyEdit};
+ghost use Rattle.cov_engine.specs.Drawing.{stored, new_homes, new_entries, AreNumbered, AreNear, AreLow, HasRoom, IsReadyBut};
+ghost use Rattle.cov_engine.specs.Stepping.{CanStepAll, AreInstalled, ExpectsInsert, ExpectsDelete};
 
-use crate::entry::{Entry, add_room, forget_room, insert_line};
-use crate::kept::{Kept, KeptLine, Made};
+use crate::entry::{Coming, Entry, index_of, settle};
+use crate::kept::{Kept, Made};
 use crate::number::{line_number, node_number};
+use crate::step::{Step, take_steps};
 use cov_base::{LineNo, Memory, NodeNo};
 use cov_edit::Edit;
-use cov_order::Order;
+use cov_file::FileLines;
+use std::alloc::Global;
+use std::collections::VecDeque;
 
-/// Adds the lines that a commit's edits insert.
-pub(crate) fn draw_lines(
-    lines: &mut Vec<KeptLine>,
-    commit: u32,
+/// Adds the files of the lines that a commit's edits insert, `before` nodes having been made before.
+pub(crate) fn draw_homes(
+    homes: &mut Vec<NodeNo>,
+    before: u32,
     edits: &[Edit],
 ) -> Result<(), Memory>
-    ensures ok { OnOk result (lines.new.items ≡ lines.old.items ++ new_lines commit edits.now) }
-    ensures front { take (length lines.old.items) lines.new.items ≡ lines.old.items }
+    requires near { AreNear before edits.now }
+    ensures ok { OnOk result (homes.new.items ≡ homes.old.items ++ new_homes before edits.now) }
+    ensures front { take (length homes.old.items) homes.new.items ≡ homes.old.items }
 {
     let mut ahead = edits;
     while let [edit, rest @ ..] = ahead {
-        draw_line(lines, commit, edit)?;
+        draw_home(homes, before, edit)?;
         ahead = rest;
     }
     Ok(())
 }
 
-fn draw_line(lines: &mut Vec<KeptLine>, commit: u32, edit: &Edit) -> Result<(), Memory>
-    ensures ok { OnOk result (lines.new.items ≡ lines.old.items ++ new_lines commit (edit.now ∷ [])) }
-    ensures err { OnErr result (lines.new.items ≡ lines.old.items) }
+fn draw_home(homes: &mut Vec<NodeNo>, before: u32, edit: &Edit) -> Result<(), Memory>
+    requires near { AreNear before (edit.now ∷ []) }
+    ensures ok { OnOk result (homes.new.items ≡ homes.old.items ++ new_homes before (edit.now ∷ [])) }
+    ensures err { OnErr result (homes.new.items ≡ homes.old.items) }
 {
     match edit {
         Edit::New { .. } | Edit::Delete { .. } => Ok(()),
-        Edit::Insert { text, .. } => {
-            let text = text.copy()?;
-            lines.push(KeptLine { text, commit })?;
+        Edit::Insert { file, .. } => {
+            homes.push(node_number(before, file))?;
             Ok(())
         }
     }
@@ -78,8 +84,8 @@ fn draw_entry(entries: &mut Vec<Entry>, before: u32, commit: u32, edit: &Edit) -
                 parent: node_number(before, parent),
                 name: name.copy()?,
                 commit,
-                order: Order::new(*entries.allocator()),
-                room: 0,
+                file: FileLines::new(*entries.allocator()),
+                coming: Coming::none(*entries.allocator()),
             };
             entries.push(entry)?;
             Ok(())
@@ -88,151 +94,169 @@ fn draw_entry(entries: &mut Vec<Entry>, before: u32, commit: u32, edit: &Edit) -
     }
 }
 
-/// Makes room in each file for the lines that edits insert.
-pub(crate) fn add_rooms(entries: &mut [Entry], before: u32, edits: &[Edit]) -> Result<(), Memory>
+/// Makes room in each file for what edits do to it, so many nodes and lines having been made before.
+pub(crate) fn add_rooms(
+    entries: &mut [Entry],
+    nodes: u32,
+    lines: u32,
+    edits: &[Edit],
+) -> Result<(), Memory>
     requires numbered { AreNumbered 0 entries.old }
-    requires near { AreNear before edits.now }
+    requires near { AreNear nodes edits.now }
+    requires low { AreLow lines edits.now }
     requires few { length edits.now ≤ 16384 }
     ensures same { map stored entries.new ≡ map stored entries.old }
-    ensures room { OnOk result (AllByRecursion (HasRoom before edits.now) entries.new) }
+    ensures room { OnOk result (AllByRecursion (HasRoom nodes lines edits.now) entries.new) }
 {
     let mut ahead = edits;
     while let [edit, rest @ ..] = ahead {
-        add_room_for(entries, before, edit)?;
+        add_room_for(entries, nodes, lines, edit)?;
         ahead = rest;
     }
     Ok(())
 }
 
-fn add_room_for(entries: &mut [Entry], before: u32, edit: &Edit) -> Result<(), Memory>
+fn add_room_for(entries: &mut [Entry], nodes: u32, lines: u32, edit: &Edit) -> Result<(), Memory>
     requires numbered { AreNumbered 0 entries.old }
-    requires near { AreNear before (edit.now ∷ []) }
+    requires near { AreNear nodes (edit.now ∷ []) }
+    requires low { AreLow lines (edit.now ∷ []) }
     ensures same { map stored entries.new ≡ map stored entries.old }
-    ensures room { OnOk result ((count : ℕ → ℕ) → ((node : ℕ) → count node < 2 ^ 32 - 1) → AllByRecursion (IsReadyFor count) entries.old →
-        AllByRecursion (IsReadyFor (λ node. count node + inserts_into before node (edit.now ∷ []))) entries.new) }
+    ensures room { OnOk result ((es ahead : List AnyEdit) → length es ≤ 16384 → AllByRecursion (IsReadyBut nodes lines es (edit.now ∷ ahead)) entries.old →
+        AllByRecursion (IsReadyBut nodes lines es ahead) entries.new) }
 {
     match edit {
-        Edit::New { .. } | Edit::Delete { .. } => Ok(()),
-        Edit::Insert { file, .. } => add_room(entries, node_number(before, file)),
+        Edit::New { .. } => Ok(()),
+        Edit::Insert { file, .. } => expect_insert(entries, node_number(nodes, file)),
+        Edit::Delete { file, line } => expect_delete(
+            entries,
+            node_number(nodes, file),
+            line_number(lines, line),
+        ),
     }
 }
 
-/// Takes back the room that was made for edits.
-pub(crate) fn forget_rooms(entries: &mut [Entry], before: u32, edits: &[Edit])
+// Makes room for one line more of a file.
+fn expect_insert(entries: &mut [Entry], file: NodeNo) -> Result<(), Memory>
+    requires numbered { AreNumbered 0 entries.old }
+    ensures same { map stored entries.new ≡ map stored entries.old }
+    ensures room { OnOk result (ExpectsInsert file entries.old entries.new) }
+{
+    match index_of(entries, file) {
+        Some(at) => entries[at].expect_insert(),
+        None => Ok(()),
+    }
+}
+
+// Makes room for another visibility of a line of a file.
+fn expect_delete(entries: &mut [Entry], file: NodeNo, line: LineNo) -> Result<(), Memory>
+    requires numbered { AreNumbered 0 entries.old }
+    ensures same { map stored entries.new ≡ map stored entries.old }
+    ensures room { OnOk result (ExpectsDelete file line entries.old entries.new) }
+{
+    match index_of(entries, file) {
+        Some(at) => entries[at].expect_delete(line),
+        None => Ok(()),
+    }
+}
+
+/// Takes back what was expected of files for edits.
+pub(crate) fn settle_files(alloc: Global, entries: &mut [Entry], before: u32, edits: &[Edit])
     requires near { AreNear before edits.now }
     ensures { map stored entries.new ≡ map stored entries.old }
 {
     let mut ahead = edits;
     while let [edit, rest @ ..] = ahead {
-        forget_room_for(entries, before, edit);
+        settle_file_of(alloc, entries, before, edit);
         ahead = rest;
     }
 }
 
-fn forget_room_for(entries: &mut [Entry], before: u32, edit: &Edit)
+fn settle_file_of(alloc: Global, entries: &mut [Entry], before: u32, edit: &Edit)
     requires near { AreNear before (edit.now ∷ []) }
     ensures { map stored entries.new ≡ map stored entries.old }
 {
     match edit {
-        Edit::New { .. } | Edit::Delete { .. } => (),
-        Edit::Insert { file, .. } => forget_room(entries, node_number(before, file)),
-    }
-}
-
-/// Puts the lines that edits insert at their places, so many nodes and lines having been made before. It takes for each
-/// at most time in the lines of its file, and no memory.
-pub(crate) fn insert_lines(entries: &mut [Entry], nodes: u32, lines: u32, edits: &[Edit])
-    requires numbered { AreNumbered 0 entries.old }
-    requires takes { CanTakeAll nodes lines lines edits.now entries.old }
-    ensures { entries.new ≡ with_new_lines nodes lines lines edits.now entries.old }
-{
-    let mut made = lines;
-    let mut ahead = edits;
-    while let [edit, rest @ ..] = ahead {
-        made = insert_line_of(entries, nodes, lines, made, edit);
-        ahead = rest;
-    }
-}
-
-// Puts the line that an edit inserts, if it inserts one, at its place, and answers how many lines there are then.
-fn insert_line_of(entries: &mut [Entry], nodes: u32, lines: u32, made: u32, edit: &Edit) -> u32
-    requires numbered { AreNumbered 0 entries.old }
-    requires takes { CanTakeAll nodes lines made (edit.now ∷ []) entries.old }
-    ensures entries { entries.new ≡ with_new_lines nodes lines made (edit.now ∷ []) entries.old }
-    ensures made { result ≡ made + length (anchors_of 0 (edit.now ∷ [])) }
-{
-    match edit {
-        Edit::New { .. } | Edit::Delete { .. } => made,
-        Edit::Insert { file, after, .. } => {
-            let line = made + 1;
-            insert_line(
-                entries,
-                node_number(nodes, file),
-                line_number(lines, after),
-                LineNo::new(line),
-            );
-            line
+        Edit::New { .. } => (),
+        Edit::Insert { file, .. } | Edit::Delete { file, .. } => {
+            settle(alloc, entries, node_number(before, file));
         }
     }
 }
 
-/// Adds what a commit's edits make, and makes room for the lines in their files and for the commit. On `Err` some of it
-/// may be there.
-pub(crate) fn draw(kept: &mut Kept, edits: &[Edit]) -> Result<(), Memory>
+/// Adds what a commit's edits make, and makes room for what they do to files and for the commit. On `Err` some of it may be
+/// there.
+pub(crate) fn draw(kept: &mut Kept, lines: u32, edits: &[Edit]) -> Result<(), Memory>
     requires numbered { AreNumbered 0 kept.old.entries.items }
     requires near { AreNear (length kept.old.entries.items) edits.now }
+    requires low { AreLow lines edits.now }
     requires few_edits { length edits.now ≤ 16384 }
     requires few_nodes { length kept.old.entries.items + nodes_made edits.now < 2 ^ 32 - 1 }
     requires few_commits { length kept.old.commits.items < 2 ^ 32 }
     ensures commits { kept.new.commits.items ≡ kept.old.commits.items }
-    ensures lines { OnOk result (kept.new.lines.items ≡ kept.old.lines.items ++ new_lines (length kept.old.commits.items) edits.now) }
+    ensures homes { OnOk result (kept.new.homes.items ≡ kept.old.homes.items ++ new_homes (length kept.old.entries.items) edits.now) }
     ensures rows { OnOk result (map stored kept.new.entries.items ≡ map stored kept.old.entries.items ++
         new_entries (length kept.old.entries.items) (length kept.old.commits.items) (length kept.old.entries.items) edits.now) }
-    ensures room { OnOk result (AllByRecursion (HasRoom (length kept.old.entries.items) edits.now) kept.new.entries.items) }
+    ensures room { OnOk result (AllByRecursion (HasRoom (length kept.old.entries.items) lines edits.now) kept.new.entries.items) }
     ensures commit_room { OnOk result (0 < vec_capacity kept.new.commits - vec_len kept.new.commits) }
-    ensures front_lines { take (length kept.old.lines.items) kept.new.lines.items ≡ kept.old.lines.items }
+    ensures front_homes { take (length kept.old.homes.items) kept.new.homes.items ≡ kept.old.homes.items }
     ensures front_rows { map stored (take (length kept.old.entries.items) kept.new.entries.items) ≡ map stored kept.old.entries.items }
 {
     let before = kept.entries.len() as u32;
     let commit = kept.commits.len() as u32;
     kept.commits.reserve(1)?;
-    draw_lines(&mut kept.lines, commit, edits)?;
+    draw_homes(&mut kept.homes, before, edits)?;
     draw_entries(&mut kept.entries, before, commit, edits)?;
-    make_rooms(&mut kept.entries, before, edits)
+    make_rooms(&mut kept.entries, before, lines, edits)
 }
 
-fn make_rooms(entries: &mut Vec<Entry>, before: u32, edits: &[Edit]) -> Result<(), Memory>
+fn make_rooms(
+    entries: &mut Vec<Entry>,
+    nodes: u32,
+    lines: u32,
+    edits: &[Edit],
+) -> Result<(), Memory>
     requires numbered { AreNumbered 0 entries.old.items }
-    requires near { AreNear before edits.now }
+    requires near { AreNear nodes edits.now }
+    requires low { AreLow lines edits.now }
     requires few { length edits.now ≤ 16384 }
     ensures same { map stored entries.new.items ≡ map stored entries.old.items }
-    ensures room { OnOk result (AllByRecursion (HasRoom before edits.now) entries.new.items) }
+    ensures room { OnOk result (AllByRecursion (HasRoom nodes lines edits.now) entries.new.items) }
 {
-    add_rooms(entries, before, edits)
+    add_rooms(entries, nodes, lines, edits)
 }
 
 /// Cuts off what a commit's edits made behind so many nodes and lines.
 pub(crate) fn undraw(kept: &mut Kept, nodes: u32, lines: u32, edits: &[Edit])
     requires near { AreNear nodes edits.now }
     ensures commits { kept.new.commits.items ≡ kept.old.commits.items }
-    ensures lines { kept.new.lines.items ≡ take lines kept.old.lines.items }
+    ensures homes { kept.new.homes.items ≡ take lines kept.old.homes.items }
     ensures rows { map stored kept.new.entries.items ≡ map stored (take nodes kept.old.entries.items) }
 {
-    kept.lines.truncate(lines as usize);
+    let alloc = *kept.entries.allocator();
+    kept.homes.truncate(lines as usize);
     kept.entries.truncate(nodes as usize);
-    forget_rooms(&mut kept.entries, nodes, edits);
+    settle_files(alloc, &mut kept.entries, nodes, edits);
 }
 
-/// Installs a commit that is drawn.
-pub(crate) fn install(kept: &mut Kept, nodes: u32, lines: u32, edits: &[Edit], made: Made)
+/// Installs a commit that is drawn, and takes its steps.
+pub(crate) fn install(
+    kept: &mut Kept,
+    nodes: u32,
+    edits: &[Edit],
+    steps: VecDeque<Step>,
+    made: Made,
+)
     requires numbered { AreNumbered 0 kept.old.entries.items }
-    requires takes { CanTakeAll nodes lines lines edits.now kept.old.entries.items }
+    requires near { AreNear nodes edits.now }
+    requires can { CanStepAll made.position steps.items kept.old.entries.items }
     requires room { 0 < vec_capacity kept.old.commits - vec_len kept.old.commits }
     ensures commits { kept.new.commits.items ≡ kept.old.commits.items ++ made ∷ [] }
-    ensures lines { kept.new.lines.items ≡ kept.old.lines.items }
-    ensures rows { kept.new.entries.items ≡ with_new_lines nodes lines lines edits.now kept.old.entries.items }
+    ensures homes { kept.new.homes.items ≡ kept.old.homes.items }
+    ensures rows { AreInstalled made.position steps.items kept.old.entries.items kept.new.entries.items }
 {
-    insert_lines(&mut kept.entries, nodes, lines, edits);
+    let alloc = *kept.entries.allocator();
+    take_steps(&mut kept.entries, steps, made.position);
+    settle_files(alloc, &mut kept.entries, nodes, edits);
     match kept.commits.push(made) {
         Ok(()) => (),
         Err(_) => unreachable!(),

@@ -44,7 +44,7 @@ impl Model for Engine {
 
     ghost view = { λ e. record { history = e.state.commands.commands; table = e.state.table } };
 
-    ghost invariant = { λ e. IsStateOf e.state.commands.commands e.state.options.names e.state.table e.state.rules.standing e.state.counts × IsHeldBy e.state.commands.commands e.state.kept.commits.items e.state.kept.lines.items e.state.kept.entries.items };
+    ghost invariant = { λ e. IsStateOf e.state.commands.commands e.state.options.names e.state.table e.state.rules.standing e.state.counts × IsHeldBy e.state.commands.commands e.state.table e.state.kept.commits.items e.state.kept.homes.items e.state.kept.entries.items };
 }
 
 impl Engine {
@@ -65,7 +65,7 @@ impl Engine {
                 },
                 kept: Kept {
                     commits: Vec::new(alloc),
-                    lines: Vec::new(alloc),
+                    homes: Vec::new(alloc),
                     entries: Vec::new(alloc),
                 },
             },
@@ -132,7 +132,7 @@ impl Engine {
         ensures nodes { IfOk result (λ view. view.nodes_made ≡ 0) }
         ensures lines { IfOk result (λ view. view.lines_made ≡ 0) }
     {
-        show(alloc, &self.state.kept, choice, at)
+        show(alloc, &self.state.table, &self.state.kept, choice, at)
     }
 
     /// Makes everything ready for a command, so that its installation can't fail. A refusal hands the engine back. A
@@ -154,7 +154,7 @@ impl Engine {
 
     pub(crate) fn of_state(state: State) -> Engine
         requires state { IsStateOf state.commands.commands state.options.names state.table state.rules.standing state.counts }
-        requires held { IsHeldBy state.commands.commands state.kept.commits.items state.kept.lines.items state.kept.entries.items }
+        requires held { IsHeldBy state.commands.commands state.table state.kept.commits.items state.kept.homes.items state.kept.entries.items }
         ensures { result ≡ record { history = state.commands.commands; table = state.table } }
     {
         Engine { state }

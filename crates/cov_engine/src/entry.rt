@@ -1,14 +1,38 @@
 // Rows with the lines of their files.
-ghost use Rattle.std.specs.Prelude.{◌≡◌, ◌<◌, ◌≤◌, ◌+◌, ◌-◌, ◌^◌, ℕ, length, map, OnOk, IfSome};
+ghost use Rattle.std.specs.Prelude.{◌≡◌, ◌<◌, ◌≤◌, ◌+◌, ◌-◌, ◌^◌, ◌++◌, ◌∷◌, [], ℕ, true, length, map, OnOk, IfSome};
 ghost use Rattle.std.specs.List.{AllByRecursion};
-ghost use Rattle.cov_engine.specs.Files.{Takes};
-ghost use Rattle.cov_engine.specs.Drawing.{stored, index_of, AreNumbered, with_new_line, CanTake, after_line, IsReadyFor, one_more};
+ghost use Rattle.cov_edit.specs.declared.edit.Edit.{Edit};
+ghost use Rattle.cov_file.specs.Dated.{numbers_of};
+ghost use Rattle.cov_file.specs.Rooms.{IsMade};
+ghost use Rattle.cov_engine.specs.Drawing.{stored, index_of, AreNumbered};
+ghost use Rattle.cov_engine.specs.Stepping.{CanInsert, CanDelete, IsInserted, IsChanged};
 
-use cov_base::{Kind, LineNo, Memory, Name, NodeNo};
-use cov_order::Order;
+use cov_base::{Kind, LineNo, LineNos, Memory, Name, NodeNo, Position, Text};
+use cov_dd::Node;
+use cov_file::FileLines;
+use std::alloc::Global;
 
-/// A row, the number from 0 of the commit that made it, and the lines ever inserted into it in order. While a commit is
-/// ready, `room` is how many lines it inserts here; else it is 0.
+/// How many lines a commit that is drawn inserts into a file, and which it deletes from it.
+#[derive(Drop)]
+pub(crate) struct Coming {
+    pub(crate) inserts: u32,
+    pub(crate) deletes: LineNos,
+}
+
+impl Coming {
+    pub(crate) fn none(alloc: Global) -> Coming
+        ensures inserts { result.inserts ≡ 0 }
+        ensures deletes { result.deletes ≡ [] }
+    {
+        Coming {
+            inserts: 0,
+            deletes: LineNos::new(alloc),
+        }
+    }
+}
+
+/// A row, the number from 0 of the commit that made it, and the lines ever inserted into it. `coming` is nothing but while a
+/// commit is drawn.
 #[derive(Drop)]
 pub(crate) struct Entry {
     pub(crate) node: NodeNo,
@@ -16,42 +40,65 @@ pub(crate) struct Entry {
     pub(crate) parent: NodeNo,
     pub(crate) name: Name,
     pub(crate) commit: u32,
-    pub(crate) order: Order,
-    pub(crate) room: u32,
+    pub(crate) file: FileLines,
+    pub(crate) coming: Coming,
 }
 
 impl Entry {
-    // Makes room for one line more.
-    fn add_room(&mut self) -> Result<(), Memory>
+    /// Makes room for one line more.
+    pub(crate) fn expect_insert(&mut self) -> Result<(), Memory>
         ensures same { stored self.new ≡ stored self.old }
-        ensures more { (count : ℕ) → count ≤ self.old.room → count < 2 ^ 32 - 1 → count + 1 ≤ self.new.room }
-        ensures room { OnOk result (self.new.room ≤ self.new.order.spare) }
+        ensures inserts { (count : ℕ) → count ≤ self.old.coming.inserts + 1 → count < 2 ^ 32 - 1 → count ≤ self.new.coming.inserts }
+        ensures deletes { self.new.coming.deletes ≡ self.old.coming.deletes }
+        ensures room { OnOk result (IsMade self.new.file.room (numbers_of self.new.file.lines) self.new.coming.inserts self.new.coming.deletes) }
     {
-        if self.room < u32::MAX {
-            self.room += 1;
+        if self.coming.inserts < u32::MAX {
+            self.coming.inserts += 1;
         }
-        self.order.reserve(self.room)
+        self.file
+            .prepare(self.coming.inserts, &self.coming.deletes)
     }
 
-    // Takes back that there is room for one line more.
-    fn forget_room(&mut self)
-        ensures { stored self.new ≡ stored self.old }
+    /// Makes room for another visibility of a line.
+    pub(crate) fn expect_delete(&mut self, line: LineNo) -> Result<(), Memory>
+        ensures same { stored self.new ≡ stored self.old }
+        ensures inserts { self.new.coming.inserts ≡ self.old.coming.inserts }
+        ensures deletes { OnOk result (self.new.coming.deletes ≡ self.old.coming.deletes ++ line ∷ []) }
+        ensures room { OnOk result (IsMade self.new.file.room (numbers_of self.new.file.lines) self.new.coming.inserts self.new.coming.deletes) }
     {
-        self.room = self.room.saturating_sub(1);
+        self.coming.deletes.push(line)?;
+        self.file
+            .prepare(self.coming.inserts, &self.coming.deletes)
     }
 
-    fn insert(&mut self, anchor: LineNo, line: LineNo)
-        requires takes { Takes self.old.order.lines anchor line }
-        requires room { 0 < self.old.order.spare }
-        ensures { self.new ≡ after_line anchor line self.old }
+    /// Nothing more is expected.
+    fn settle(&mut self, alloc: Global)
+        ensures same { stored self.new ≡ stored self.old }
+        ensures inserts { self.new.coming.inserts ≡ 0 }
+        ensures deletes { self.new.coming.deletes ≡ [] }
     {
-        self.order.insert_after(anchor, line);
-        self.room = self.room.saturating_sub(1);
+        self.coming = Coming::none(alloc);
+    }
+
+    /// Puts a line directly after its anchor, with its visibility from a position on.
+    pub(crate) fn insert(&mut self, anchor: LineNo, line: LineNo, text: Text, vis: Node, at: Position)
+        requires { CanInsert at anchor line self.old }
+        ensures { IsInserted at anchor line text vis self.old self.new }
+    {
+        self.file.insert(anchor, line, text, vis, at);
+    }
+
+    /// Gives a line another visibility from a position on.
+    pub(crate) fn delete(&mut self, line: LineNo, vis: Node, at: Position)
+        requires { CanDelete at line self.old }
+        ensures { IsChanged at line vis self.old self.new }
+    {
+        self.file.delete(line, vis, at);
     }
 }
 
-// The place of a node's entry.
-fn index_of(entries: &[Entry], node: NodeNo) -> Option<usize>
+/// The place of a node's entry.
+pub(crate) fn index_of(entries: &[Entry], node: NodeNo) -> Option<usize>
     ensures place { result ≡ index_of (length entries.now) node }
     ensures within { IfSome result (λ at. at < length entries.now) }
 {
@@ -62,37 +109,12 @@ fn index_of(entries: &[Entry], node: NodeNo) -> Option<usize>
     Some(number - 1)
 }
 
-/// Makes room for one line more of a file.
-pub(crate) fn add_room(entries: &mut [Entry], file: NodeNo) -> Result<(), Memory>
-    requires numbered { AreNumbered 0 entries.old }
-    ensures same { map stored entries.new ≡ map stored entries.old }
-    ensures room { OnOk result ((count : ℕ → ℕ) → count file < 2 ^ 32 - 1 →
-        AllByRecursion (IsReadyFor count) entries.old → AllByRecursion (IsReadyFor (one_more file count)) entries.new) }
-{
-    match index_of(entries, file) {
-        Some(at) => entries[at].add_room(),
-        None => Ok(()),
-    }
-}
-
-/// Takes back that there is room for one line more of a file.
-pub(crate) fn forget_room(entries: &mut [Entry], file: NodeNo)
+/// What was expected of a file is no longer.
+pub(crate) fn settle(alloc: Global, entries: &mut [Entry], file: NodeNo)
     ensures { map stored entries.new ≡ map stored entries.old }
 {
     match index_of(entries, file) {
-        Some(at) => entries[at].forget_room(),
-        None => (),
-    }
-}
-
-/// Puts a line directly after its anchor in a file.
-pub(crate) fn insert_line(entries: &mut [Entry], file: NodeNo, anchor: LineNo, line: LineNo)
-    requires numbered { AreNumbered 0 entries.old }
-    requires takes { AllByRecursion (CanTake file anchor line) entries.old }
-    ensures { entries.new ≡ map (with_new_line file anchor line) entries.old }
-{
-    match index_of(entries, file) {
-        Some(at) => entries[at].insert(anchor, line),
+        Some(at) => entries[at].settle(alloc),
         None => (),
     }
 }

@@ -10,25 +10,31 @@ use crate::drawing::{install, undraw};
 use crate::kept::Made;
 use crate::ready::Ready;
 use crate::state::State;
+use crate::step::Step;
 use cov_base::{OptionName, Position};
 use cov_edit::{Command, Edit};
 use cov_rules::{Rule, RulePlan};
+use std::collections::VecDeque;
 
 /// Adds all of a command that is ready but the command itself, and answers the number on its receipt.
 pub(crate) fn add_ready(state: &mut State, command: &Command, ready: Ready) -> u32
     requires state { IsStateOf state.old.commands.commands state.old.options.names state.old.table state.old.rules.standing state.old.counts }
     requires next { IsNext state.old.commands.commands command.now state.old.commands.spare }
     requires ready { IsReady state.old.commands.commands command.now state.old.options.spare state.old.table state.old.rules
-        (vec_capacity state.old.kept.commits - vec_len state.old.kept.commits) state.old.kept.commits.items state.old.kept.lines.items state.old.kept.entries.items ready }
+        (vec_capacity state.old.kept.commits - vec_len state.old.kept.commits) state.old.kept.commits.items state.old.kept.homes.items state.old.kept.entries.items ready }
     ensures commands { state.new.commands ≡ state.old.commands }
     ensures state { IsStateOf (state.old.commands.commands ++ command.now ∷ []) state.new.options.names state.new.table state.new.rules.standing state.new.counts }
-    ensures held { IsHeldBy (state.old.commands.commands ++ command.now ∷ []) state.new.kept.commits.items state.new.kept.lines.items state.new.kept.entries.items }
+    ensures held { IsHeldBy (state.old.commands.commands ++ command.now ∷ []) state.new.table state.new.kept.commits.items state.new.kept.homes.items state.new.kept.entries.items }
     ensures number { result ≡ receipt_number state.old.commands.commands command.now }
 {
     match ready {
         Ready::Option { name } => add_option(state, command, name),
         Ready::Rule { rule, plan } => add_rule(state, command, rule, plan),
-        Ready::Commit { made, counts } => add_commit(state, command, made, counts),
+        Ready::Commit {
+            made,
+            counts,
+            steps,
+        } => add_commit(state, command, made, counts, steps),
     }
 }
 
@@ -36,10 +42,10 @@ fn add_option(state: &mut State, command: &Command, name: OptionName) -> u32
     requires state { IsStateOf state.old.commands.commands state.old.options.names state.old.table state.old.rules.standing state.old.counts }
     requires next { IsNext state.old.commands.commands command.now state.old.commands.spare }
     requires ready { IsReady state.old.commands.commands command.now state.old.options.spare state.old.table state.old.rules
-        (vec_capacity state.old.kept.commits - vec_len state.old.kept.commits) state.old.kept.commits.items state.old.kept.lines.items state.old.kept.entries.items (ready.Option name) }
+        (vec_capacity state.old.kept.commits - vec_len state.old.kept.commits) state.old.kept.commits.items state.old.kept.homes.items state.old.kept.entries.items (ready.Option name) }
     ensures commands { state.new.commands ≡ state.old.commands }
     ensures state { IsStateOf (state.old.commands.commands ++ command.now ∷ []) state.new.options.names state.new.table state.new.rules.standing state.new.counts }
-    ensures held { IsHeldBy (state.old.commands.commands ++ command.now ∷ []) state.new.kept.commits.items state.new.kept.lines.items state.new.kept.entries.items }
+    ensures held { IsHeldBy (state.old.commands.commands ++ command.now ∷ []) state.new.table state.new.kept.commits.items state.new.kept.homes.items state.new.kept.entries.items }
     ensures number { result ≡ receipt_number state.old.commands.commands command.now }
 {
     u32::from(state.options.declare(name).number())
@@ -49,31 +55,37 @@ fn add_rule(state: &mut State, command: &Command, rule: Rule, plan: RulePlan) ->
     requires state { IsStateOf state.old.commands.commands state.old.options.names state.old.table state.old.rules.standing state.old.counts }
     requires next { IsNext state.old.commands.commands command.now state.old.commands.spare }
     requires ready { IsReady state.old.commands.commands command.now state.old.options.spare state.old.table state.old.rules
-        (vec_capacity state.old.kept.commits - vec_len state.old.kept.commits) state.old.kept.commits.items state.old.kept.lines.items state.old.kept.entries.items (ready.Rule rule plan) }
+        (vec_capacity state.old.kept.commits - vec_len state.old.kept.commits) state.old.kept.commits.items state.old.kept.homes.items state.old.kept.entries.items (ready.Rule rule plan) }
     ensures commands { state.new.commands ≡ state.old.commands }
     ensures state { IsStateOf (state.old.commands.commands ++ command.now ∷ []) state.new.options.names state.new.table state.new.rules.standing state.new.counts }
-    ensures held { IsHeldBy (state.old.commands.commands ++ command.now ∷ []) state.new.kept.commits.items state.new.kept.lines.items state.new.kept.entries.items }
+    ensures held { IsHeldBy (state.old.commands.commands ++ command.now ∷ []) state.new.table state.new.kept.commits.items state.new.kept.homes.items state.new.kept.entries.items }
     ensures number { result ≡ receipt_number state.old.commands.commands command.now }
 {
     let at = Position::new(state.commands.len() as u32 + 1);
     state.rules.install(plan, rule, at)
 }
 
-fn add_commit(state: &mut State, command: &Command, made: Made, counts: Counts) -> u32
+fn add_commit(
+    state: &mut State,
+    command: &Command,
+    made: Made,
+    counts: Counts,
+    steps: VecDeque<Step>,
+) -> u32
     requires state { IsStateOf state.old.commands.commands state.old.options.names state.old.table state.old.rules.standing state.old.counts }
     requires next { IsNext state.old.commands.commands command.now state.old.commands.spare }
     requires ready { IsReady state.old.commands.commands command.now state.old.options.spare state.old.table state.old.rules
-        (vec_capacity state.old.kept.commits - vec_len state.old.kept.commits) state.old.kept.commits.items state.old.kept.lines.items state.old.kept.entries.items (ready.Commit made counts) }
+        (vec_capacity state.old.kept.commits - vec_len state.old.kept.commits) state.old.kept.commits.items state.old.kept.homes.items state.old.kept.entries.items (ready.Commit made counts steps) }
     ensures commands { state.new.commands ≡ state.old.commands }
     ensures state { IsStateOf (state.old.commands.commands ++ command.now ∷ []) state.new.options.names state.new.table state.new.rules.standing state.new.counts }
-    ensures held { IsHeldBy (state.old.commands.commands ++ command.now ∷ []) state.new.kept.commits.items state.new.kept.lines.items state.new.kept.entries.items }
+    ensures held { IsHeldBy (state.old.commands.commands ++ command.now ∷ []) state.new.table state.new.kept.commits.items state.new.kept.homes.items state.new.kept.entries.items }
     ensures number { result ≡ receipt_number state.old.commands.commands command.now }
 {
     install(
         &mut state.kept,
         state.counts.nodes - 1,
-        state.counts.lines,
         edits_in(command),
+        steps,
         made,
     );
     state.counts = counts;
@@ -85,10 +97,10 @@ pub(crate) fn give_up(state: &mut State, command: &Command, ready: &Ready)
     requires state { IsStateOf state.old.commands.commands state.old.options.names state.old.table state.old.rules.standing state.old.counts }
     requires next { IsNext state.old.commands.commands command.now state.old.commands.spare }
     requires ready { IsReady state.old.commands.commands command.now state.old.options.spare state.old.table state.old.rules
-        (vec_capacity state.old.kept.commits - vec_len state.old.kept.commits) state.old.kept.commits.items state.old.kept.lines.items state.old.kept.entries.items ready.now }
+        (vec_capacity state.old.kept.commits - vec_len state.old.kept.commits) state.old.kept.commits.items state.old.kept.homes.items state.old.kept.entries.items ready.now }
     ensures commands { state.new.commands ≡ state.old.commands }
     ensures state { IsStateOf state.new.commands.commands state.new.options.names state.new.table state.new.rules.standing state.new.counts }
-    ensures held { IsHeldBy state.new.commands.commands state.new.kept.commits.items state.new.kept.lines.items state.new.kept.entries.items }
+    ensures held { IsHeldBy state.new.commands.commands state.new.table state.new.kept.commits.items state.new.kept.homes.items state.new.kept.entries.items }
 {
     match ready {
         Ready::Option { .. } | Ready::Rule { .. } => (),

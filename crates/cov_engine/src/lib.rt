@@ -9,12 +9,14 @@ mod installing;
 mod kept;
 pub mod laws;
 mod number;
+mod planning;
 mod prepared;
 mod ready;
 mod refusal;
 mod rule;
 mod sizes;
 mod state;
+mod step;
 
 pub use counts::Counts;
 pub use engine::Engine;

@@ -36,7 +36,7 @@ impl Model for Prepared {
     ghost invariant = { λ p. IsStateOf p.state.commands.commands p.state.options.names p.state.table p.state.rules.standing p.state.counts
         × IsNext p.state.commands.commands p.command p.state.commands.spare
         × IsReady p.state.commands.commands p.command p.state.options.spare p.state.table p.state.rules
-        (vec_capacity p.state.kept.commits - vec_len p.state.kept.commits) p.state.kept.commits.items p.state.kept.lines.items p.state.kept.entries.items p.ready };
+        (vec_capacity p.state.kept.commits - vec_len p.state.kept.commits) p.state.kept.commits.items p.state.kept.homes.items p.state.kept.entries.items p.ready };
 }
 
 /// What a command made: the position after it, and the option's number, the rule's within its kind, or 0 for a commit.
@@ -51,7 +51,7 @@ impl Prepared {
         requires state { IsStateOf state.commands.commands state.options.names state.table state.rules.standing state.counts }
         requires next { IsNext state.commands.commands command state.commands.spare }
         requires ready { IsReady state.commands.commands command state.options.spare state.table state.rules
-            (vec_capacity state.kept.commits - vec_len state.kept.commits) state.kept.commits.items state.kept.lines.items state.kept.entries.items ready }
+            (vec_capacity state.kept.commits - vec_len state.kept.commits) state.kept.commits.items state.kept.homes.items state.kept.entries.items ready }
         ensures { result ≡ record { history = state.commands.commands; command = command } }
     {
         Prepared {

@@ -1,22 +1,26 @@
 // What an engine keeps.
-ghost use Rattle.std.specs.Prelude.{◌≡◌, ◌<◌, ◌^◌, ◌-◌, length, false, None, IfOk, IfErr, OnOk, OnErr, vec_len, vec_capacity};
+ghost use Rattle.std.specs.Prelude.{◌≡◌, ◌<◌, ◌≤◌, ◌^◌, ◌-◌, length, None, IfOk, IfErr, OnOk, OnErr, vec_len, vec_capacity};
+ghost use Rattle.cov_expr.specs.Formula.{reach};
+ghost use Rattle.cov_edit.specs.History.{option_count};
 ghost use Rattle.cov_engine.specs.Holdings.{IsHeldBy};
-ghost use Rattle.cov_engine.specs.Sessions.{MayCome, has_delete};
+ghost use Rattle.cov_engine.specs.Sessions.{MayCome};
 ghost use Rattle.cov_engine.specs.States.{IsStateOf, name_refusal};
 ghost use Rattle.cov_engine.specs.Ready.{IsReady, IsInBounds, IsDrawnReady};
 ghost use Rattle.cov_engine.specs.Verdict.{verdict, RefusedBy};
 ghost use Rattle.cov_engine.specs.declared.ready.Ready.TheVariants as ready;
 
 use crate::kept::{Kept, Made};
+use crate::planning::{Site, plan_steps};
 use crate::ready::{Ready, draw_commit};
 use crate::rule::rule_ready;
 use crate::sizes::{measure, with_sizes};
 use crate::{Counts, Refusal, sizes};
 use cov_base::{Memory, OptionName, Position};
 use cov_dd::Table;
-use cov_edit::{Command, Commands, Edit, Edits};
+use cov_edit::{Command, Commands, Edits};
 use cov_expr::{Expr, Options};
 use cov_rules::Rules;
+use cov_vis::compile;
 
 /// The greatest number of commands.
 const MOST_COMMANDS: usize = 1 << 20;
@@ -24,7 +28,7 @@ const MOST_COMMANDS: usize = 1 << 20;
 /// The greatest number of options.
 const MOST_OPTIONS: u8 = 64;
 
-/// The history with what it declares. The table has the nodes of the rules.
+/// The history with what it declares. The table has the nodes of the rules and of the lines' visibilities.
 #[derive(Drop)]
 pub(crate) struct State {
     pub(crate) commands: Commands,
@@ -38,16 +42,16 @@ pub(crate) struct State {
 /// Makes everything ready for a command, unless the history refuses it.
 pub(crate) fn make_ready(state: &mut State, command: &Command) -> Result<Ready, Refusal>
     requires state { IsStateOf state.old.commands.commands state.old.options.names state.old.table state.old.rules.standing state.old.counts }
-    requires held { IsHeldBy state.old.commands.commands state.old.kept.commits.items state.old.kept.lines.items state.old.kept.entries.items }
+    requires held { IsHeldBy state.old.commands.commands state.old.table state.old.kept.commits.items state.old.kept.homes.items state.old.kept.entries.items }
     requires may_come { MayCome state.old.commands.commands command.now }
     ensures history { state.new.commands.commands ≡ state.old.commands.commands }
     ensures state { IsStateOf state.new.commands.commands state.new.options.names state.new.table state.new.rules.standing state.new.counts }
     ensures room { OnOk result (0 < state.new.commands.spare) }
     ensures accepted { OnOk result (verdict state.old.commands.commands command.now ≡ None) }
     ensures ready { IfOk result (IsReady state.new.commands.commands command.now state.new.options.spare state.new.table state.new.rules
-        (vec_capacity state.new.kept.commits - vec_len state.new.kept.commits) state.new.kept.commits.items state.new.kept.lines.items state.new.kept.entries.items) }
+        (vec_capacity state.new.kept.commits - vec_len state.new.kept.commits) state.new.kept.commits.items state.new.kept.homes.items state.new.kept.entries.items) }
     ensures refused { IfErr result (λ refusal. RefusedBy refusal (verdict state.old.commands.commands command.now)) }
-    ensures held { OnErr result (IsHeldBy state.new.commands.commands state.new.kept.commits.items state.new.kept.lines.items state.new.kept.entries.items) }
+    ensures held { OnErr result (IsHeldBy state.new.commands.commands state.new.table state.new.kept.commits.items state.new.kept.homes.items state.new.kept.entries.items) }
 {
     if state.commands.len() >= MOST_COMMANDS {
         return Err(Refusal::Full);
@@ -61,16 +65,16 @@ pub(crate) fn make_ready(state: &mut State, command: &Command) -> Result<Ready, 
 // Makes ready what a command adds, where there is room for one more.
 fn ready_for(state: &mut State, command: &Command) -> Result<Ready, Refusal>
     requires state { IsStateOf state.old.commands.commands state.old.options.names state.old.table state.old.rules.standing state.old.counts }
-    requires held { IsHeldBy state.old.commands.commands state.old.kept.commits.items state.old.kept.lines.items state.old.kept.entries.items }
+    requires held { IsHeldBy state.old.commands.commands state.old.table state.old.kept.commits.items state.old.kept.homes.items state.old.kept.entries.items }
     requires may_come { MayCome state.old.commands.commands command.now }
     requires few { length state.old.commands.commands < 2 ^ 20 }
     ensures commands { state.new.commands ≡ state.old.commands }
     ensures state { IsStateOf state.new.commands.commands state.new.options.names state.new.table state.new.rules.standing state.new.counts }
     ensures accepted { OnOk result (verdict state.old.commands.commands command.now ≡ None) }
     ensures ready { IfOk result (IsReady state.new.commands.commands command.now state.new.options.spare state.new.table state.new.rules
-        (vec_capacity state.new.kept.commits - vec_len state.new.kept.commits) state.new.kept.commits.items state.new.kept.lines.items state.new.kept.entries.items) }
+        (vec_capacity state.new.kept.commits - vec_len state.new.kept.commits) state.new.kept.commits.items state.new.kept.homes.items state.new.kept.entries.items) }
     ensures refused { IfErr result (λ refusal. RefusedBy refusal (verdict state.old.commands.commands command.now)) }
-    ensures held { OnErr result (IsHeldBy state.new.commands.commands state.new.kept.commits.items state.new.kept.lines.items state.new.kept.entries.items) }
+    ensures held { OnErr result (IsHeldBy state.new.commands.commands state.new.table state.new.kept.commits.items state.new.kept.homes.items state.new.kept.entries.items) }
 {
     let alloc = *state.kept.commits.allocator();
     match command {
@@ -88,19 +92,6 @@ fn ready_for(state: &mut State, command: &Command) -> Result<Ready, Refusal>
         },
         _ => rule_ready(alloc, &mut state.rules, &mut state.table, command),
     }
-}
-
-fn has_delete(edits: &[Edit]) -> bool
-    ensures { result ≡ has_delete edits.now }
-{
-    let mut ahead = edits;
-    while let [edit, rest @ ..] = ahead {
-        if matches!(edit, Edit::Delete { .. }) {
-            return true;
-        }
-        ahead = rest;
-    }
-    false
 }
 
 // Makes room for an option, and a copy of its name.
@@ -142,40 +133,41 @@ fn name_refusal(options: &Options, name: &[u8]) -> Option<Refusal>
     }
 }
 
-// Draws a commit that keeps all lines.
+// Draws a commit, and plans its steps.
 fn commit_ready(state: &mut State, ambition: &Expr, edits: &Edits) -> Result<Ready, Memory>
     requires state { IsStateOf state.old.commands.commands state.old.options.names state.old.table state.old.rules.standing state.old.counts }
-    requires held { IsHeldBy state.old.commands.commands state.old.kept.commits.items state.old.kept.lines.items state.old.kept.entries.items }
+    requires held { IsHeldBy state.old.commands.commands state.old.table state.old.kept.commits.items state.old.kept.homes.items state.old.kept.entries.items }
+    requires reach { reach ambition.now ≤ option_count state.old.commands.commands }
     requires fits { IsInBounds state.old.commands.commands edits.now }
     ensures commands { state.new.commands ≡ state.old.commands }
     ensures state { IsStateOf state.new.commands.commands state.new.options.names state.new.table state.new.rules.standing state.new.counts }
-    ensures keeping { OnOk result (has_delete edits.now ≡ false) }
-    ensures ready { IfOk result (IsDrawnReady state.new.commands.commands ambition.now edits.now (vec_capacity state.new.kept.commits - vec_len state.new.kept.commits)
-        state.new.kept.commits.items state.new.kept.lines.items state.new.kept.entries.items) }
-    ensures held { OnErr result (IsHeldBy state.new.commands.commands state.new.kept.commits.items state.new.kept.lines.items state.new.kept.entries.items) }
+    ensures ready { IfOk result (IsDrawnReady state.new.commands.commands state.new.table ambition.now edits.now (vec_capacity state.new.kept.commits - vec_len state.new.kept.commits)
+        state.new.kept.commits.items state.new.kept.homes.items state.new.kept.entries.items) }
+    ensures held { OnErr result (IsHeldBy state.new.commands.commands state.new.table state.new.kept.commits.items state.new.kept.homes.items state.new.kept.entries.items) }
 {
-    if has_delete(edits.as_slice()) {
-        return Err(Memory);
-    }
-    drawn_commit(state, ambition, edits)
-}
-
-// Draws a commit.
-fn drawn_commit(state: &mut State, ambition: &Expr, edits: &Edits) -> Result<Ready, Memory>
-    requires state { IsStateOf state.old.commands.commands state.old.options.names state.old.table state.old.rules.standing state.old.counts }
-    requires held { IsHeldBy state.old.commands.commands state.old.kept.commits.items state.old.kept.lines.items state.old.kept.entries.items }
-    requires fits { IsInBounds state.old.commands.commands edits.now }
-    ensures commands { state.new.commands ≡ state.old.commands }
-    ensures state { IsStateOf state.new.commands.commands state.new.options.names state.new.table state.new.rules.standing state.new.counts }
-    ensures ready { IfOk result (IsDrawnReady state.new.commands.commands ambition.now edits.now (vec_capacity state.new.kept.commits - vec_len state.new.kept.commits)
-        state.new.kept.commits.items state.new.kept.lines.items state.new.kept.entries.items) }
-    ensures held { OnErr result (IsHeldBy state.new.commands.commands state.new.kept.commits.items state.new.kept.lines.items state.new.kept.entries.items) }
-{
+    let alloc = *state.kept.commits.allocator();
     let made = Made {
         position: Position::new(state.commands.len() as u32 + 1),
-        ambition: ambition.copy(*state.kept.commits.allocator())?,
+        ambition: ambition.copy(alloc)?,
     };
     let counts = with_sizes(state.counts, measure(edits.as_slice()));
+    let site = Site {
+        at: made.position,
+        nodes: state.counts.nodes - 1,
+        lines: state.counts.lines,
+        ambition: compile(&mut state.table, ambition)?,
+    };
+    let steps = plan_steps(
+        alloc,
+        &mut state.table,
+        &state.kept.entries,
+        site,
+        edits.as_slice(),
+    )?;
     draw_commit(&mut state.kept, state.counts, edits.as_slice())?;
-    Ok(Ready::Commit { made, counts })
+    Ok(Ready::Commit {
+        made,
+        counts,
+        steps,
+    })
 }

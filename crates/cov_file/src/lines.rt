@@ -51,7 +51,8 @@ impl FileLines {
     }
 
     /// Makes room for `inserts` lines more and for a change of each line named, all at one position. It takes time in the number
-    /// of lines. A whole list of nodes has room for a change of each line.
+    /// of lines, and a further call before the next change only in `inserts`. A whole list of nodes has room for a change of each
+    /// line.
     pub fn prepare(&mut self, inserts: u32, deletes: &LineNos) -> Result<(), Memory>
         ensures lines { self.new.lines ≡ self.old.lines }
         ensures newest { self.new.newest ≡ self.old.newest }

@@ -61,12 +61,16 @@ impl NodeLists {
         }
     }
 
-    /// Copies the newest list, with room for `inserts` nodes more.
+    /// Copies the newest list, unless that is done, with room for `inserts` nodes more.
     pub(crate) fn prepare(&mut self, inserts: u32) -> Result<(), Memory>
         ensures lists { lists_of self.new ≡ lists_of self.old }
         ensures room { OnOk result (inserts ≤ self.new.room) }
         ensures open { OnOk result (self.new.is_open ≡ true) }
     {
+        if let Some(ahead) = &mut self.ahead {
+            ahead.reserve(inserts as usize)?;
+            return Ok(());
+        }
         let room = self.newest.len() + inserts as usize;
         let mut nodes = Vec::with_capacity(*self.newest.allocator(), room)?;
         nodes.extend_from_slice(self.newest.as_slice())?;

@@ -1,7 +1,7 @@
 use Rattle.std.proofs.Common.{arith}
 use Rattle.cov_engine.proofs.Installed.{held-numbered}
 use Rattle.cov_engine.proofs.Readied.{held-nodes, held-near, held-few, is-ready, held-again, on-any, counted}
-use Rattle.cov_engine.proofs.state.drawn_commit.Goals as goal
+use Rattle.cov_engine.proofs.state.commit_ready.Goals as goal
 
 pub draw_commit-requires-clause-nodes : goal.draw_commit-requires-clause-nodes
 draw_commit-requires-clause-nodes c =

@@ -1,0 +1,108 @@
+// The steps of a commit's edits, with their nodes.
+ghost use Rattle.std.specs.Prelude.{◌≡◌, ◌<◌, ◌≤◌, ◌+◌, ◌^◌, ℕ, [], ◌∷◌, length, IfOk, OnOk};
+ghost use Rattle.std.specs.List.{AllByRecursion};
+ghost use Rattle.cov_dd.specs.Diagrams.{node_count, Extends};
+ghost use Rattle.cov_edit.specs.Numbering.{anchors_of};
+ghost use Rattle.cov_engine.specs.Drawing.{AreNumbered, AreNear, AreLow};
+ghost use Rattle.cov_engine.specs.Nodes.{old_node, HasNodesIn};
+ghost use Rattle.cov_engine.specs.Stepping.{ArePlanned, IsPlannedBehind};
+
+use crate::entry::{Entry, index_of};
+use crate::number::{line_number, node_number};
+use crate::step::Step;
+use cov_base::{LineNo, Memory, NodeNo, Position};
+use cov_dd::{FALSE, Node, Table};
+use cov_edit::Edit;
+use cov_vis::take;
+use std::alloc::Global;
+use std::collections::VecDeque;
+
+/// Where a commit's edits are planned: the position after it, how many nodes and lines were made before it, and the node of
+/// its ambition.
+#[derive(Clone, Copy)]
+pub(crate) struct Site {
+    pub(crate) at: Position,
+    pub(crate) nodes: u32,
+    pub(crate) lines: u32,
+    pub(crate) ambition: Node,
+}
+
+/// The steps of edits: what is inserted is visible where the ambition is, what is deleted where it was and the ambition isn't.
+pub(crate) fn plan_steps(
+    alloc: Global,
+    table: &mut Table,
+    entries: &[Entry],
+    site: Site,
+    edits: &[Edit],
+) -> Result<VecDeque<Step>, Memory>
+    requires numbered { AreNumbered 0 entries.now }
+    requires nodes { AllByRecursion (HasNodesIn table.old site.at) entries.now }
+    requires ambition { site.ambition < node_count table.old }
+    requires near { AreNear site.nodes edits.now }
+    requires low { AreLow site.lines edits.now }
+    requires few { site.lines + length (anchors_of 0 edits.now) < 2 ^ 32 }
+    ensures extends { Extends table.old table.new }
+    ensures steps { IfOk result (λ steps. ArePlanned site.at entries.now site.nodes site.lines site.ambition table.new site.lines edits.now steps.items) }
+{
+    let mut steps = VecDeque::new(alloc);
+    let mut made = site.lines;
+    let mut ahead = edits;
+    while let [edit, rest @ ..] = ahead {
+        made = plan_step(table, entries, &mut steps, site, made, edit)?;
+        ahead = rest;
+    }
+    Ok(steps)
+}
+
+// Plans an edit, so many lines having been made before it, and answers how many there are then.
+fn plan_step(
+    table: &mut Table,
+    entries: &[Entry],
+    steps: &mut VecDeque<Step>,
+    site: Site,
+    made: u32,
+    edit: &Edit,
+) -> Result<u32, Memory>
+    requires numbered { AreNumbered 0 entries.now }
+    requires nodes { AllByRecursion (HasNodesIn table.old site.at) entries.now }
+    requires ambition { site.ambition < node_count table.old }
+    requires near { AreNear site.nodes (edit.now ∷ []) }
+    requires low { AreLow site.lines (edit.now ∷ []) }
+    requires few { made + length (anchors_of 0 (edit.now ∷ [])) < 2 ^ 32 }
+    ensures extends { Extends table.old table.new }
+    ensures made { IfOk result (λ next. next ≡ made + length (anchors_of 0 (edit.now ∷ []))) }
+    ensures planned { OnOk result (IsPlannedBehind site.at entries.now site.nodes site.lines site.ambition table.new made edit.now steps.old.items steps.new.items) }
+{
+    match edit {
+        Edit::New { .. } => Ok(made),
+        Edit::Insert { file, after, text } => {
+            let line = made + 1;
+            steps.push_back(Step::Insert {
+                file: node_number(site.nodes, file),
+                anchor: line_number(site.lines, after),
+                line: LineNo::new(line),
+                text: text.copy()?,
+                vis: site.ambition,
+            })?;
+            Ok(line)
+        }
+        Edit::Delete { file, line } => {
+            let file = node_number(site.nodes, file);
+            let line = line_number(site.lines, line);
+            let vis = take(table, old_node(entries, file, line), site.ambition)?;
+            steps.push_back(Step::Delete { file, line, vis })?;
+            Ok(made)
+        }
+    }
+}
+
+// The newest node of a line in a file, FALSE where the file has no such line.
+fn old_node(entries: &[Entry], file: NodeNo, line: LineNo) -> Node
+    requires numbered { AreNumbered 0 entries.now }
+    ensures { (p : ℕ) → AllByRecursion (λ e. e.file.newest ≤ p) entries.now → result ≡ old_node p entries.now file line }
+{
+    match index_of(entries, file) {
+        Some(index) => entries[index].file.vis(line).unwrap_or(FALSE),
+        None => FALSE,
+    }
+}
