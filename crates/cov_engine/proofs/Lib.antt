@@ -1,5 +1,6 @@
 pub mod Appends
 pub mod Committed
+pub mod Dating
 pub mod Entries
 pub mod Examples
 pub mod FileLines
@@ -13,6 +14,7 @@ pub mod Lines
 pub mod Named
 pub mod Naming
 pub mod Orders
+pub mod Planned
 pub mod Reaching
 pub mod Readied
 pub mod Replays
