@@ -1,5 +1,6 @@
 pub mod Appends
 pub mod Committed
+pub mod Deletes
 pub mod Entries
 pub mod Examples
 pub mod FileLines

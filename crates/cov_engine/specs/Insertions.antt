@@ -33,6 +33,12 @@ module _ (history : List Command) where
   abbrev pub lines_before : ℕ
   lines_before = length (numbers_of history).addresses
 
+  -- what is held when the first of a commit's edits are done
+  abbrev pub held_amid : Formula ℕ → List Edit → List Edit → Holding
+  held_amid ambition es begun =
+      fold (held_after (length history + 1) ambition) (held_by history)
+      (numbered_from (numbers_of history) (numbers_after (numbers_of history) es).addresses (numbers_of history).nodes lines_before begun)
+
   -- how many lines there are when the edits before the insert are done
   abbrev pub lines_begun : Insertion → ℕ
   lines_begun i = lines_before + length (anchors_of lines_before i.begun)
@@ -55,8 +61,7 @@ module _ (history : List Command) where
 
   -- what is held when the first edits of the commit are done
   abbrev pub held_when : Formula ℕ → Insertion → List Edit → Holding
-  held_when ambition i es =
-      fold (held_after (length history + 1) ambition) (held_by history) (numbered_from (numbers_of history) (table_with i) (numbers_of history).nodes lines_before es)
+  held_when ambition i es = held_amid ambition (all_edits i) es
 
   -- what is held before the insert
   abbrev pub held_before : Formula ℕ → Insertion → Holding

@@ -1,3 +1,4 @@
+pub mod Deletions
 pub mod Drawing
 pub mod Files
 pub mod Holdings
