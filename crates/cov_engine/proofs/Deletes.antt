@@ -11,23 +11,23 @@ use Rattle.cov_order.specs.Orders.{has_line, AreLines}
 use Rattle.cov_expr.specs.Formula.{Formula}
 use Rattle.cov_edit.specs.declared.edit.Edit.{Edit}
 use Rattle.cov_edit.specs.declared.command.Command.{Command}
-use Rattle.cov_edit.specs.Numbering.{Numbers, node_number, line_number, anchors_of, numbers_after, numbers_of}
+use Rattle.cov_edit.specs.Numbering.{Numbers, node_number, numbers_of}
 use Rattle.cov_edit.specs.Variant.{Line, Variant, edited, is_line}
 use Rattle.cov_edit.specs.Replay.{replay}
 use Rattle.cov_view.specs.References.{is_head}
 use Rattle.cov_view.specs.Refusals.{when, first_of, has_node, is_dir, refusal}
 use Rattle.cov_view.specs.Refusals as refusals
 use Rattle.cov_view.specs.declared.fault.EditFault.TheVariants as faults
-use Rattle.cov_engine.specs.Kept.{Kept, kept_address, kept_number, hidden, hidden_where, Holding, file_kept, is_kept_anchor, Stands}
+use Rattle.cov_engine.specs.Kept.{Kept, kept_address, kept_number, hidden, hidden_where, Holding, held_by, kept_of, file_kept, is_kept_anchor, Stands}
 use Rattle.cov_engine.specs.Files.{DatedLine, dated, file_dated, file_order}
-use Rattle.cov_engine.specs.Insertions.{lines_before, held_amid}
+use Rattle.cov_engine.specs.Insertions.{table_of, numbered_amid, lines_amid, held_amid}
 use Rattle.cov_engine.specs.Deletions.{Deletion, the_delete, all_with, delete_file, delete_line, before_delete, behind_delete, hidden_by}
 use Rattle.cov_engine.specs.Sessions.{Session, IsGood, has_commit}
-use Rattle.cov_engine.proofs.Standing.{table-after, holding-stands}
+use Rattle.cov_engine.proofs.Standing.{holding-stands}
 use Rattle.cov_engine.proofs.Files.{in_order-filter}
-use Rattle.cov_engine.proofs.Inserts.{amid-append, begun-within, stands-amid}
+use Rattle.cov_engine.proofs.Inserts.{amid-append, is_table-of, amid-within, stands-amid}
 use Rattle.cov_engine.proofs.Orders.{any-mapped, any-none}
-use Rattle.cov_engine.proofs.Sessions.{line-shown, numbered_begun, before-seen, edit-at_turn}
+use Rattle.cov_engine.proofs.Sessions.{line-shown, amid-seen, edit-at_turn}
 
 -- an address in a table is that of the line with its number, if it isn't empty
 named : (t : List (List ℕ)) (line : ℕ) → IsTable t → 0 < length (address_in t line) → line_of (address_in t line) ≡ line
@@ -129,34 +129,33 @@ elsewhere-same file other q address within (k ∷ ks) h = by (nat_eq k.item.file
         ∙ ap (λ js. k ∷ js) rest
 
 module _ (history : List Command) (ambition : Formula ℕ) (d : Deletion) where
-  abbrev table_after : List (List ℕ)
-  table_after = (numbers_after (numbers_of history) (all_with d)).addresses
+  -- whether a line is the deleted one
+  abbrev is_deleted : Line → Bool
+  is_deleted l = is_line (delete_file history d) (address_in (table_of history (all_with d)) (delete_line history d)) l
 
   abbrev after_delete : Kept Line → Kept Line
-  after_delete k = hidden_where (is_line (delete_file history d) (address_in table_after (delete_line history d))) (length history + 1) ambition k
+  after_delete k = hidden_where is_deleted (length history + 1) ambition k
 
   behind : (behind_delete history ambition d).lines ≡ map after_delete (before_delete history ambition d).lines
   behind = ap (λ (held : Holding). held.lines) (amid-append history ambition (all_with d) d.begun (the_delete d ∷ []))
 
   file-behind : (file : ℕ) → file_kept file (behind_delete history ambition d).lines ≡ map after_delete (file_kept file (before_delete history ambition d).lines)
-  file-behind file =
-      ap (file_kept file) behind
-      ∙ file-hidden (is_line (delete_file history d) (address_in table_after (delete_line history d))) (length history + 1) ambition file (before_delete history ambition d).lines
+  file-behind file = ap (file_kept file) behind ∙ file-hidden is_deleted (length history + 1) ambition file (before_delete history ambition d).lines
 
 pub delete-dated : (history : List Command) (ambition : Formula ℕ) (d : Deletion)
     → file_dated (delete_file history d) (behind_delete history ambition d).lines
     ≡ map (hidden_by (delete_line history d) (length history + 1) ambition) (file_dated (delete_file history d) (before_delete history ambition d).lines)
 delete-dated history ambition d =
     ap (map dated) (file-behind history ambition d (delete_file history d))
-    ∙ own-dated (table_after history ambition d) (lines_before history + length (anchors_of (lines_before history) d.begun)) (delete_file history d) (delete_line history d) (length history + 1) ambition
-    (table-after (numbers_of history) (all_with d) (holding-stands history).0) (begun-within history d.begun (the_delete d ∷ d.later))
+    ∙ own-dated (table_of history (all_with d)) (lines_amid history d.begun) (delete_file history d) (delete_line history d) (length history + 1) ambition
+    (is_table-of history (all_with d)) (amid-within history d.begun (the_delete d ∷ d.later))
     (before_delete history ambition d).lines (stands-amid history d.begun (the_delete d ∷ d.later) ambition).numbered_lines
 
 pub delete-elsewhere : (history : List Command) (ambition : Formula ℕ) (d : Deletion) (file : ℕ) → nat_eq (delete_file history d) file ≡ false
     → file_kept file (behind_delete history ambition d).lines ≡ file_kept file (before_delete history ambition d).lines
 delete-elsewhere history ambition d file h =
     file-behind history ambition d file
-    ∙ elsewhere-same (delete_file history d) file (length history + 1) (address_in (table_after history ambition d) (delete_line history d)) ambition (before_delete history ambition d).lines h
+    ∙ elsewhere-same (delete_file history d) file (length history + 1) (address_in (table_of history (all_with d)) (delete_line history d)) ambition (before_delete history ambition d).lines h
 
 -- an accepted delete has its line
 line-there : (ns : Numbers) (v : Variant) (d : Deletion) → refusal ns v (the_delete d) ≡ None → refusals.has_line ns v (node_number ns.nodes d.file) d.line ≡ true
@@ -172,11 +171,11 @@ line-there ns v d h = at (not (has_node ns v d.file)) (is_dir v.rows (node_numbe
 pub accepted-there : (history : List Command) (s : Session) (d : Deletion) → IsGood history s → has_commit (drop s.base history) ≡ false → all_with d ≡ s.edits
     → has_line (delete_line history d) (file_order (delete_file history d) (before_delete history s.ambition d).lines) ≡ true
 accepted-there history s d good h all =
-    let v = fold edited (replay s.choice history) (numbered_begun history d.begun (the_delete d) d.later) in
+    let v = fold edited (replay s.choice history) (numbered_amid history (all_with d) d.begun) in
     any-mapped kept_number (delete_line history d) (file_kept (delete_file history d) (before_delete history s.ambition d).lines)
     ∙ line-shown s.choice (length history + 1) (before_delete history s.ambition d) v (numbers_of history) (delete_file history d) d.line
-    (before-seen history d.begun (the_delete d) d.later s.choice s.ambition good.in_ambition)
-    (line-there (numbers_of history) v d (edit-at_turn history d.begun (the_delete d) d.later s good h all))
+    (amid-seen history s.choice s.ambition d.begun (the_delete d ∷ d.later) good.in_ambition)
+    (line-there (numbers_of history) v d (edit-at_turn history s d.begun (the_delete d) d.later good h all))
 
 pub delete-order : (history : List Command) (ambition : Formula ℕ) (d : Deletion) (file : ℕ)
     → (file_order file (behind_delete history ambition d).lines ≡ file_order file (before_delete history ambition d).lines)
@@ -192,7 +191,7 @@ delete-order history ambition d file = (order, anchors)
     order : file_order file after ≡ file_order file before
     order =
         ap (file_order file) (behind history ambition d)
-        ∙ order-hidden (is_line (delete_file history d) (address_in (table_after history ambition d) (delete_line history d))) (length history + 1) ambition file before
+        ∙ order-hidden (is_deleted history ambition d) (length history + 1) ambition file before
 
     anchors : (line : ℕ) → is_kept_anchor file line after ≡ is_kept_anchor file line before
     anchors line =
@@ -235,9 +234,14 @@ file-lines t n q file held table below s =
 pub lines-amid : (history : List Command) (ambition : Formula ℕ) (begun later : List Edit) (file : ℕ)
     → AreLines (file_order file (held_amid history ambition (begun ++ later) begun).lines)
 lines-amid history ambition begun later file =
-    file-lines (numbers_after (numbers_of history) (begun ++ later)).addresses (lines_before history + length (anchors_of (lines_before history) begun)) (length history + 1) file
-    (held_amid history ambition (begun ++ later) begun) (table-after (numbers_of history) (begun ++ later) (holding-stands history).0)
-    (begun-within history begun later) (stands-amid history begun later ambition)
+    file-lines (table_of history (begun ++ later)) (lines_amid history begun) (length history + 1) file (held_amid history ambition (begun ++ later) begun)
+    (is_table-of history (begun ++ later)) (amid-within history begun later) (stands-amid history begun later ambition)
+
+pub lines-held : (history : List Command) (file : ℕ) → AreLines (file_order file (kept_of history))
+lines-held history file =
+    let stands = holding-stands history in
+    let t = (numbers_of history).addresses in
+    file-lines t (length t) (length history) file (held_by history) stands.0 (omega arith) stands.1
 
 -- numbers, each of them once
 abbrev pub AreDistinct : List ℕ → Type 0

@@ -12,8 +12,8 @@ use Rattle.cov_edit.specs.Numbering.{Numbers, OnRows, Inserted, Deleted, node_nu
 use Rattle.cov_edit.specs.Variant.{Line}
 use Rattle.cov_edit.proofs.Replays.{fold-append}
 use Rattle.cov_engine.specs.Kept.{Kept, kept_address, kept_number, Holding, held_after, held_by, file_kept, is_kept_anchor, Stands}
-use Rattle.cov_engine.specs.Insertions.{Insertion, the_insert, all_edits, lines_before, lines_begun, table_with, file_of, anchor_of, line_with, held_amid, held_before, held_behind}
-use Rattle.cov_engine.proofs.Standing.{numbered-next, numbered-count, stands-edits, stands-opened, table-after, holding-stands}
+use Rattle.cov_engine.specs.Insertions.{Insertion, the_insert, all_edits, lines_before, table_of, numbered_amid, lines_amid, held_amid, lines_begun, table_with, file_of, anchor_of, line_with, held_before, held_behind}
+use Rattle.cov_engine.proofs.Standing.{AreNext, numbered-next, numbered-count, stands-edits, stands-opened, table-after, holding-stands}
 use Rattle.cov_engine.proofs.Files.{anchor-below, placed-anchor, placed-elsewhere, anchor-stays, anchor-new}
 
 pub anchors-append : (m : ℕ) (es fs : List Edit) → anchors_of m (es ++ fs) ≡ anchors_of m es ++ anchors_of m fs
@@ -44,38 +44,43 @@ numbered-append ns t node line last next m (edits.Delete file which ∷ es) fs d
 pub amid-append : (history : List Command) (ambition : Formula ℕ) (es begun more : List Edit)
     → held_amid history ambition es (begun ++ more)
     ≡ fold (held_after (length history + 1) ambition) (held_amid history ambition es begun)
-    (numbered_from (numbers_of history) (numbers_after (numbers_of history) es).addresses ((numbers_of history).nodes + nodes_made begun) (lines_before history + length (anchors_of (lines_before history) begun)) more)
+    (numbered_from (numbers_of history) (table_of history es) ((numbers_of history).nodes + nodes_made begun) (lines_amid history begun) more)
 amid-append history ambition es begun more =
     let ns = numbers_of history in
-    let t = (numbers_after ns es).addresses in
-    let m = lines_before history in
+    let last = ns.nodes + nodes_made begun in
     ap (fold (held_after (length history + 1) ambition) (held_by history))
-    (numbered-append ns t ns.nodes m (ns.nodes + nodes_made begun) (m + length (anchors_of m begun)) m begun more refl refl)
-    ∙ fold-append (held_after (length history + 1) ambition) (held_by history) (numbered_from ns t ns.nodes m begun)
-    (numbered_from ns t (ns.nodes + nodes_made begun) (m + length (anchors_of m begun)) more)
+    (numbered-append ns (table_of history es) ns.nodes (lines_before history) last (lines_amid history begun) (lines_before history) begun more refl refl)
+    ∙ fold-append (held_after (length history + 1) ambition) (held_by history) (numbered_amid history es begun)
+    (numbered_from ns (table_of history es) last (lines_amid history begun) more)
+
+pub is_table-of : (history : List Command) (es : List Edit) → IsTable (table_of history es)
+is_table-of history es = table-after (numbers_of history) es (holding-stands history).0
 
 module _ (history : List Command) (begun later : List Edit) where
+  abbrev m : ℕ
+  m = lines_before history
+
   -- the lines of the first edits are in the table after all edits
-  pub begun-within : lines_before history + length (anchors_of (lines_before history) begun) ≤ length (numbers_after (numbers_of history) (begun ++ later)).addresses
-  begun-within =
-      let e = length-with_lines (numbers_of history).addresses (anchors_of (lines_before history) (begun ++ later)) in
-      let f = ap length (anchors-append (lines_before history) begun later) ∙ length-append (anchors_of (lines_before history) begun) (anchors_of (lines_before history) later) in
+  pub amid-within : lines_amid history begun ≤ length (table_of history (begun ++ later))
+  amid-within =
+      let e = length-with_lines (numbers_of history).addresses (anchors_of m (begun ++ later)) in
+      let f = ap length (anchors-append m begun later) ∙ length-append (anchors_of m begun) (anchors_of m later) in
       omega (arith, e, f)
+
+  pub amid-next : AreNext (table_of history (begun ++ later)) m (numbered_amid history (begun ++ later) begun)
+  amid-next = numbered-next (numbers_of history) (table_of history (begun ++ later)) (numbers_of history).nodes m m begun amid-within
+
+  pub amid-opened : Stands (table_of history (begun ++ later)) m (length history + 1) (held_by history)
+  amid-opened = stands-opened (numbers_of history) (begun ++ later) (length history) (held_by history) (holding-stands history).1
 
   -- what is held when the first edits are done stands
   pub stands-amid : (ambition : Formula ℕ)
-      → Stands (numbers_after (numbers_of history) (begun ++ later)).addresses (lines_before history + length (anchors_of (lines_before history) begun)) (length history + 1)
-      (held_amid history ambition (begun ++ later) begun)
+      → Stands (table_of history (begun ++ later)) (lines_amid history begun) (length history + 1) (held_amid history ambition (begun ++ later) begun)
   stands-amid ambition =
-      let ns = numbers_of history in
-      let t = (numbers_after ns (begun ++ later)).addresses in
-      let m = lines_before history in
-      subst (λ n. Stands t n (length history + 1) (held_amid history ambition (begun ++ later) begun))
-      (numbered-count ns t ns.nodes m m begun)
-      (stands-edits t m (length history + 1) ambition (held_by history) (numbered_from ns t ns.nodes m begun)
-      (table-after ns (begun ++ later) (holding-stands history).0)
-      (numbered-next ns t ns.nodes m m begun begun-within)
-      (stands-opened ns (begun ++ later) (length history) (held_by history) (holding-stands history).1))
+      subst (λ n. Stands (table_of history (begun ++ later)) n (length history + 1) (held_amid history ambition (begun ++ later) begun))
+      (numbered-count (numbers_of history) (table_of history (begun ++ later)) (numbers_of history).nodes m m begun)
+      (stands-edits (table_of history (begun ++ later)) m (length history + 1) ambition (held_by history) (numbered_amid history (begun ++ later) begun)
+      (is_table-of history (begun ++ later)) amid-next amid-opened)
 
 module _ (history : List Command) (i : Insertion) where
   abbrev begun : List ℕ
@@ -100,7 +105,7 @@ module _ (history : List Command) (i : Insertion) where
       omega (arith, e, f)
 
   pub is_table : IsTable (table_with history i)
-  is_table = table-after (numbers_of history) (all_edits i) (holding-stands history).0
+  is_table = is_table-of history (all_edits i)
 
   one_more : lines_begun history i + 1 ≡ suc (lines_begun history i)
   one_more = omega arith

@@ -15,7 +15,7 @@ use Rattle.cov_edit.specs.declared.edit.Edit.TheVariants as edits
 use Rattle.cov_edit.specs.declared.command.Command.{Command}
 use Rattle.cov_edit.specs.declared.command.Command.TheVariants as commands
 use Rattle.cov_edit.specs.History.{option_count, constraints_of, is_valid_in}
-use Rattle.cov_edit.specs.Numbering.{Numbers, NumberedEdit, OnRows, Inserted, Deleted, no_numbers, node_number, line_number, numbers_after, numbers_from, numbers_of, numbered_from, numbered}
+use Rattle.cov_edit.specs.Numbering.{Numbers, NumberedEdit, OnRows, Inserted, Deleted, no_numbers, node_number, line_number, numbers_from, numbers_of, numbered_from, numbered}
 use Rattle.cov_edit.specs.Variant.{Variant, edited}
 use Rattle.cov_edit.specs.Replay.{applying, changes_from, applied, replay}
 use Rattle.cov_edit.proofs.Replays.{numbers_from-append, replay-append, replay-commit, all_within}
@@ -26,13 +26,13 @@ use Rattle.cov_view.specs.declared.fault.EditFault.TheVariants as faults
 use Rattle.cov_engine.specs.declared.refusal.Refusal.{Refusal}
 use Rattle.cov_engine.specs.declared.refusal.Refusal.TheVariants as refusals
 use Rattle.cov_engine.specs.Kept.{Holding, held_by, variant_seen, kept_number, file_kept, is_kept_anchor}
-use Rattle.cov_engine.specs.Insertions.{Insertion, the_insert, all_edits, lines_before, held_amid, file_of, anchor_of, held_before}
+use Rattle.cov_engine.specs.Insertions.{Insertion, the_insert, all_edits, lines_before, table_of, numbered_amid, held_amid, file_of, anchor_of, held_before}
 use Rattle.cov_engine.specs.Verdict.{verdict, as_invalid, as_bad_record, has_no_edits, size_refusals, when_full}
 use Rattle.cov_engine.specs.Sessions.{Session, IsGood, seen, commit_of, has_commit}
-use Rattle.cov_engine.proofs.Standing.{numbered-next, stands-opened, table-after, holding-stands}
+use Rattle.cov_engine.proofs.Standing.{holding-stands}
 use Rattle.cov_engine.proofs.Replays.{edits-seen, variant-later, replay-seen}
 use Rattle.cov_engine.proofs.Files.{or_right, any-seen, any-filter}
-use Rattle.cov_engine.proofs.Inserts.{begun-within}
+use Rattle.cov_engine.proofs.Inserts.{is_table-of, amid-next, amid-opened}
 
 pub good-stays : (history later : List Command) (s : Session) → IsGood history s → IsGood (history ++ later) s
 good-stays history later s good =
@@ -223,40 +223,33 @@ line-kept c p held v ns file after shown h = at (is_head after) refl h
     at true e k = subst (λ n. is_kept_anchor file n held.lines ≡ true) (sym (head-number (length ns.addresses) after e)) refl
     at false e k = or_right (nat_eq number 0) (list_any (λ j. nat_eq (kept_number j) number) (file_kept file held.lines)) (line-shown c p held v ns file after shown k)
 
-module _ (history : List Command) (begun : List Edit) (e : Edit) (later : List Edit) where
-  -- the first edits by numbers and addresses
-  abbrev pub numbered_begun : List NumberedEdit
-  numbered_begun = numbered_from (numbers_of history) (numbers_after (numbers_of history) (begun ++ e ∷ later)).addresses (numbers_of history).nodes (lines_before history) begun
+-- within the ambition of a commit, its first edits are seen
+pub amid-seen : (history : List Command) (c : List Bool) (ambition : Formula ℕ) (begun later : List Edit) → value ambition c ≡ true
+    → variant_seen c (length history + 1) (held_amid history ambition (begun ++ later) begun) ≡ fold edited (replay c history) (numbered_amid history (begun ++ later) begun)
+amid-seen history c ambition begun later inside =
+    let ns = numbers_of history in
+    let ds = numbered_amid history (begun ++ later) begun in
+    edits-seen c (table_of history (begun ++ later)) (lines_before history) (length history + 1) ambition (held_by history) ds
+    (is_table-of history (begun ++ later)) (amid-next history begun later) (amid-opened history begun later)
+    ∙ ap (λ v. fold (applied c) v (map (applying ambition) ds))
+    (variant-later c ns.addresses (length ns.addresses) (length history + 1) (length history) (held_by history) (omega arith) (holding-stands history).1
+    ∙ replay-seen c (length history) history ∙ ap (replay c) (take-length history))
+    ∙ all_within c (replay c history) ambition ds inside
 
-  -- within the ambition, the edits before an edit are seen
-  pub before-seen : (c : List Bool) (ambition : Formula ℕ) → value ambition c ≡ true
-      → variant_seen c (length history + 1) (held_amid history ambition (begun ++ e ∷ later) begun) ≡ fold edited (replay c history) numbered_begun
-  before-seen c ambition inside =
-      let stands = holding-stands history in
-      let ns = numbers_of history in
-      let t = (numbers_after ns (begun ++ e ∷ later)).addresses in
-      edits-seen c t (lines_before history) (length history + 1) ambition (held_by history) numbered_begun (table-after ns (begun ++ e ∷ later) stands.0)
-      (numbered-next ns t ns.nodes (lines_before history) (lines_before history) begun (begun-within history begun (e ∷ later)))
-      (stands-opened ns (begun ++ e ∷ later) (length history) (held_by history) stands.1)
-      ∙ ap (λ v. fold (applied c) v (map (applying ambition) numbered_begun))
-      (variant-later c ns.addresses (length ns.addresses) (length history + 1) (length history) (held_by history) (omega arith) stands.1
-      ∙ replay-seen c (length history) history ∙ ap (replay c) (take-length history))
-      ∙ all_within c (replay c history) ambition numbered_begun inside
-
-  -- where no commit stands after the base, each edit of a good session is accepted when it is its turn
-  pub edit-at_turn : (s : Session) → IsGood history s → has_commit (drop s.base history) ≡ false → begun ++ e ∷ later ≡ s.edits
-      → refusal (numbers_of history) (fold edited (replay s.choice history) numbered_begun) e ≡ None
-  edit-at_turn s good h all =
-      turn-accepted (numbers_of history) (numbers_after (numbers_of history) (begun ++ e ∷ later)).addresses (numbers_of history).nodes (lines_before history) 0 (replay s.choice history) begun e later
-      (ap (first_refused (numbers_of history) (replay s.choice history)) all
-      ∙ ap (λ v. first_refused (numbers_of history) v s.edits) (replay-since s.choice s.base history h)
-      ∙ ap (λ ns. first_refused ns (replay s.choice (take s.base history)) s.edits) (numbers-since s.base history h)
-      ∙ good.accepted)
+-- where no commit stands after the base, each edit of a good session is accepted when it is its turn
+pub edit-at_turn : (history : List Command) (s : Session) (begun : List Edit) (e : Edit) (later : List Edit) → IsGood history s → has_commit (drop s.base history) ≡ false
+    → begun ++ e ∷ later ≡ s.edits → refusal (numbers_of history) (fold edited (replay s.choice history) (numbered_amid history (begun ++ e ∷ later) begun)) e ≡ None
+edit-at_turn history s begun e later good h all =
+    turn-accepted (numbers_of history) (table_of history (begun ++ e ∷ later)) (numbers_of history).nodes (lines_before history) 0 (replay s.choice history) begun e later
+    (ap (first_refused (numbers_of history) (replay s.choice history)) all
+    ∙ ap (λ v. first_refused (numbers_of history) v s.edits) (replay-since s.choice s.base history h)
+    ∙ ap (λ ns. first_refused ns (replay s.choice (take s.base history)) s.edits) (numbers-since s.base history h)
+    ∙ good.accepted)
 
 pub accepted-anchored : (history : List Command) (s : Session) (i : Insertion) → IsGood history s → has_commit (drop s.base history) ≡ false → all_edits i ≡ s.edits
     → is_kept_anchor (file_of history i) (anchor_of history i) (held_before history s.ambition i).lines ≡ true
 accepted-anchored history s i good h all =
-    let v = fold edited (replay s.choice history) (numbered_begun history i.begun (the_insert i) i.later) in
+    let v = fold edited (replay s.choice history) (numbered_amid history (all_edits i) i.begun) in
     line-kept s.choice (length history + 1) (held_before history s.ambition i) v (numbers_of history) (file_of history i) i.after
-    (before-seen history i.begun (the_insert i) i.later s.choice s.ambition good.in_ambition)
-    (anchor-there (numbers_of history) v i (edit-at_turn history i.begun (the_insert i) i.later s good h all))
+    (amid-seen history s.choice s.ambition i.begun (the_insert i ∷ i.later) good.in_ambition)
+    (anchor-there (numbers_of history) v i (edit-at_turn history s i.begun (the_insert i) i.later good h all))
