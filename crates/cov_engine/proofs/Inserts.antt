@@ -1,4 +1,4 @@
--- An insert among the edits of a commit.
+-- The edits of a commit, and an insert among them.
 use Rattle.std.proofs.Common.{◌≡◌, ℕ, suc, ◌+◌, ◌<◌, ◌≤◌, true, false, nat_eq, List, [], ◌∷◌, ◌++◌, length, length-append, refl, sym, ap, subst, ◌∙◌, arith}
 use Rattle.std.specs.List.{fold}
 use Rattle.cov_base.specs.Addresses.{address_in, with_line, with_lines, line_of, IsTable, placed, after_anchor_by}
@@ -8,12 +8,12 @@ use Rattle.cov_expr.specs.Formula.{Formula}
 use Rattle.cov_edit.specs.declared.edit.Edit.{Edit}
 use Rattle.cov_edit.specs.declared.edit.Edit.TheVariants as edits
 use Rattle.cov_edit.specs.declared.command.Command.{Command}
-use Rattle.cov_edit.specs.Numbering.{Numbers, OnRows, Inserted, Deleted, node_number, line_number, anchors_of, numbers_of, numbered_from}
+use Rattle.cov_edit.specs.Numbering.{Numbers, OnRows, Inserted, Deleted, node_number, line_number, nodes_made, anchors_of, numbers_after, numbers_of, numbered_from}
 use Rattle.cov_edit.specs.Variant.{Line}
 use Rattle.cov_edit.proofs.Replays.{fold-append}
 use Rattle.cov_engine.specs.Kept.{Kept, kept_address, kept_number, Holding, held_after, held_by, file_kept, is_kept_anchor, Stands}
-use Rattle.cov_engine.specs.Insertions.{Insertion, the_insert, all_edits, lines_before, lines_begun, table_with, file_of, anchor_of, line_with, held_before, held_behind}
-use Rattle.cov_engine.proofs.Standing.{numbered-next, numbered-count, stands-edits, stands-opened, table-after, holding-stands}
+use Rattle.cov_engine.specs.Insertions.{Insertion, the_insert, all_edits, lines_before, table_of, numbered_amid, lines_amid, held_amid, lines_begun, table_with, file_of, anchor_of, line_with, held_before, held_behind}
+use Rattle.cov_engine.proofs.Standing.{AreNext, numbered-next, numbered-count, stands-edits, stands-opened, table-after, holding-stands}
 use Rattle.cov_engine.proofs.Files.{anchor-below, placed-anchor, placed-elsewhere, anchor-stays, anchor-new}
 
 pub anchors-append : (m : ℕ) (es fs : List Edit) → anchors_of m (es ++ fs) ≡ anchors_of m es ++ anchors_of m fs
@@ -26,17 +26,61 @@ with_lines-append : (t : List (List ℕ)) (ms ns : List ℕ) → with_lines t (m
 with_lines-append t [] ns = refl
 with_lines-append t (m ∷ ms) ns = with_lines-append (with_line t m) ms ns
 
--- an insert after other edits is numbered after their lines
-numbered-insert : (ns : Numbers) (t : List (List ℕ)) (node line next m : ℕ) (es : List Edit) (i : Insertion) → next ≡ line + length (anchors_of m es)
-    → (numbered_from ns t node line (es ++ the_insert i ∷ []) ≡ numbered_from ns t node line es ++ numbered_from ns t 0 next (the_insert i ∷ []))
-numbered-insert ns t node line next m [] i e =
-    let same : line ≡ next = omega (arith, e) in
-    ap (λ k. numbered_from ns t 0 k (the_insert i ∷ [])) same
-numbered-insert ns t node line next m (edits.New kind parent name ∷ es) i e = ap (λ l. OnRows (Created (node + 1) kind (node_number ns.nodes parent) name) ∷ l) (numbered-insert ns t (node + 1) line next m es i e)
-numbered-insert ns t node line next m (edits.Insert file after text ∷ es) i e =
-    ap (λ l. Inserted (node_number ns.nodes file) (address_in t (line + 1)) text ∷ l) (numbered-insert ns t node (line + 1) next m es i (omega (arith, e)))
-numbered-insert ns t node line next m (edits.Delete file which ∷ es) i e =
-    ap (λ l. Deleted (node_number ns.nodes file) (address_in t (line_number (length ns.addresses) which)) ∷ l) (numbered-insert ns t node line next m es i e)
+-- edits after other edits are numbered after their nodes and lines
+numbered-append : (ns : Numbers) (t : List (List ℕ)) (node line last next m : ℕ) (es fs : List Edit) → last ≡ node + nodes_made es → next ≡ line + length (anchors_of m es)
+    → numbered_from ns t node line (es ++ fs) ≡ numbered_from ns t node line es ++ numbered_from ns t last next fs
+numbered-append ns t node line last next m [] fs d e =
+    let same_node : node ≡ last = omega (arith, d) in
+    let same_line : line ≡ next = omega (arith, e) in
+    ap (λ k. numbered_from ns t k line fs) same_node ∙ ap (λ k. numbered_from ns t last k fs) same_line
+numbered-append ns t node line last next m (edits.New kind parent name ∷ es) fs d e =
+    ap (λ l. OnRows (Created (node + 1) kind (node_number ns.nodes parent) name) ∷ l) (numbered-append ns t (node + 1) line last next m es fs (omega (arith, d)) e)
+numbered-append ns t node line last next m (edits.Insert file after text ∷ es) fs d e =
+    ap (λ l. Inserted (node_number ns.nodes file) (address_in t (line + 1)) text ∷ l) (numbered-append ns t node (line + 1) last next m es fs d (omega (arith, e)))
+numbered-append ns t node line last next m (edits.Delete file which ∷ es) fs d e =
+    ap (λ l. Deleted (node_number ns.nodes file) (address_in t (line_number (length ns.addresses) which)) ∷ l) (numbered-append ns t node line last next m es fs d e)
+
+-- what is held when more of a commit's edits are done
+pub amid-append : (history : List Command) (ambition : Formula ℕ) (es begun more : List Edit)
+    → held_amid history ambition es (begun ++ more)
+    ≡ fold (held_after (length history + 1) ambition) (held_amid history ambition es begun)
+    (numbered_from (numbers_of history) (table_of history es) ((numbers_of history).nodes + nodes_made begun) (lines_amid history begun) more)
+amid-append history ambition es begun more =
+    let ns = numbers_of history in
+    let last = ns.nodes + nodes_made begun in
+    ap (fold (held_after (length history + 1) ambition) (held_by history))
+    (numbered-append ns (table_of history es) ns.nodes (lines_before history) last (lines_amid history begun) (lines_before history) begun more refl refl)
+    ∙ fold-append (held_after (length history + 1) ambition) (held_by history) (numbered_amid history es begun)
+    (numbered_from ns (table_of history es) last (lines_amid history begun) more)
+
+pub is_table-of : (history : List Command) (es : List Edit) → IsTable (table_of history es)
+is_table-of history es = table-after (numbers_of history) es (holding-stands history).0
+
+module _ (history : List Command) (begun later : List Edit) where
+  abbrev m : ℕ
+  m = lines_before history
+
+  -- the lines of the first edits are in the table after all edits
+  pub amid-within : lines_amid history begun ≤ length (table_of history (begun ++ later))
+  amid-within =
+      let e = length-with_lines (numbers_of history).addresses (anchors_of m (begun ++ later)) in
+      let f = ap length (anchors-append m begun later) ∙ length-append (anchors_of m begun) (anchors_of m later) in
+      omega (arith, e, f)
+
+  pub amid-next : AreNext (table_of history (begun ++ later)) m (numbered_amid history (begun ++ later) begun)
+  amid-next = numbered-next (numbers_of history) (table_of history (begun ++ later)) (numbers_of history).nodes m m begun amid-within
+
+  pub amid-opened : Stands (table_of history (begun ++ later)) m (length history + 1) (held_by history)
+  amid-opened = stands-opened (numbers_of history) (begun ++ later) (length history) (held_by history) (holding-stands history).1
+
+  -- what is held when the first edits are done stands
+  pub stands-amid : (ambition : Formula ℕ)
+      → Stands (table_of history (begun ++ later)) (lines_amid history begun) (length history + 1) (held_amid history ambition (begun ++ later) begun)
+  stands-amid ambition =
+      subst (λ n. Stands (table_of history (begun ++ later)) n (length history + 1) (held_amid history ambition (begun ++ later) begun))
+      (numbered-count (numbers_of history) (table_of history (begun ++ later)) (numbers_of history).nodes m m begun)
+      (stands-edits (table_of history (begun ++ later)) m (length history + 1) ambition (held_by history) (numbered_amid history (begun ++ later) begun)
+      (is_table-of history (begun ++ later)) amid-next amid-opened)
 
 module _ (history : List Command) (i : Insertion) where
   abbrev begun : List ℕ
@@ -61,7 +105,7 @@ module _ (history : List Command) (i : Insertion) where
       omega (arith, e, f)
 
   pub is_table : IsTable (table_with history i)
-  is_table = table-after (numbers_of history) (all_edits i) (holding-stands history).0
+  is_table = is_table-of history (all_edits i)
 
   one_more : lines_begun history i + 1 ≡ suc (lines_begun history i)
   one_more = omega arith
@@ -76,23 +120,11 @@ module _ (history : List Command) (i : Insertion) where
       (address_in-next (with_lines before begun) (anchor_of history i) later (omega (arith, h, count))))
 
   pub stands_before_insert : (ambition : Formula ℕ) → Stands (table_with history i) (lines_begun history i) (length history + 1) (held_before history ambition i)
-  stands_before_insert ambition =
-      subst (λ n. Stands (table_with history i) n (length history + 1) (held_before history ambition i))
-      (numbered-count (numbers_of history) (table_with history i) (numbers_of history).nodes (lines_before history) (lines_before history) i.begun)
-      (stands-edits (table_with history i) (lines_before history) (length history + 1) ambition (held_by history)
-      (numbered_from (numbers_of history) (table_with history i) (numbers_of history).nodes (lines_before history) i.begun) is_table
-      (numbered-next (numbers_of history) (table_with history i) (numbers_of history).nodes (lines_before history) (lines_before history) i.begun (let h = in_table in omega (arith, h)))
-      (stands-opened (numbers_of history) (all_edits i) (length history) (held_by history) (holding-stands history).1))
+  stands_before_insert ambition = stands-amid history i.begun (the_insert i ∷ i.later) ambition
 
   -- the insert places its line
   behind : (ambition : Formula ℕ) → (held_behind history ambition i).lines ≡ placed kept_address (line_with history ambition i) (held_before history ambition i).lines
-  behind ambition =
-      ap (λ (held : Holding). held.lines)
-      (ap (fold (held_after (length history + 1) ambition) (held_by history))
-      (numbered-insert (numbers_of history) (table_with history i) (numbers_of history).nodes (lines_before history) (lines_begun history i) (lines_before history) i.begun i refl)
-      ∙ fold-append (held_after (length history + 1) ambition) (held_by history)
-      (numbered_from (numbers_of history) (table_with history i) (numbers_of history).nodes (lines_before history) i.begun)
-      (numbered_from (numbers_of history) (table_with history i) 0 (lines_begun history i) (the_insert i ∷ [])))
+  behind ambition = ap (λ (held : Holding). held.lines) (amid-append history ambition (all_edits i) i.begun (the_insert i ∷ []))
 
 -- an anchor that is kept is one of the lines so far
 pub anchor-known : (history : List Command) (ambition : Formula ℕ) (i : Insertion)

@@ -1,6 +1,7 @@
 pub mod Appends
 pub mod Committed
 pub mod Dating
+pub mod Deletes
 pub mod Entries
 pub mod Examples
 pub mod FileLines

@@ -59,11 +59,11 @@ insert-dated history ambition i h =
     numbered_line : ℕ → DatedLine
     numbered_line n = record { line = n; text = i.text; changes = (length history + 1, ambition) ∷ [] }
 
-any-mapped : {X : Type 0} (g : X → ℕ) (n : ℕ) (xs : List X) → has_line n (map g xs) ≡ list_any (λ x. nat_eq (g x) n) xs
+pub any-mapped : {X : Type 0} (g : X → ℕ) (n : ℕ) (xs : List X) → has_line n (map g xs) ≡ list_any (λ x. nat_eq (g x) n) xs
 any-mapped g n [] = refl
 any-mapped g n (x ∷ xs) = ap (λ b. nat_eq (g x) n || b) (any-mapped g n xs)
 
-any-none : {X : Type 0} (t : X → Bool) (xs : List X) → AllByRecursion (λ x. t x ≡ false) xs → list_any t xs ≡ false
+pub any-none : {X : Type 0} (t : X → Bool) (xs : List X) → AllByRecursion (λ x. t x ≡ false) xs → list_any t xs ≡ false
 any-none t [] h = refl
 any-none t (x ∷ xs) h = ap (λ b. b || list_any t xs) h.0 ∙ any-none t xs h.1
 

@@ -1,6 +1,6 @@
 -- The nodes of lines before a commit, and the steps that are planned for it.
-use Rattle.std.proofs.Common.{◌≡◌, ℕ, zero, suc, ◌+◌, ◌<◌, ◌≤◌, Bool, true, false, cond, ◌&&◌, not, nat_eq, List, [], ◌∷◌, ◌++◌, length, get_or, take, drop, Option, Some, None, unwrap_or, append-nil, append_assoc, refl, sym, ap, subst, ◌∙◌, arith}
-use Rattle.std.specs.List.{AllByRecursion}
+use Rattle.std.proofs.Common.{◌≡◌, ℕ, zero, suc, ◌+◌, ◌<◌, ◌≤◌, max, Bool, true, false, cond, ◌&&◌, not, nat_eq, List, [], ◌∷◌, ◌++◌, length, get_or, take, drop, Option, Some, None, unwrap_or, option_map, append-nil, append_assoc, refl, sym, ap, subst, ◌∙◌, arith}
+use Rattle.std.specs.List.{AllByRecursion, find}
 use Rattle.std.proofs.lemmas.Bool.Decides.{nat_tests}
 use Rattle.cov_dd.specs.declared.triple.Triple.{Triple}
 use Rattle.cov_dd.specs.Diagrams.{node_count, span, value_in, Extends, Stands}
@@ -10,7 +10,10 @@ use Rattle.cov_dd.proofs.Nodes.{some_nodes}
 use Rattle.cov_edit.specs.declared.edit.Edit.{Edit}
 use Rattle.cov_edit.specs.declared.edit.Edit.TheVariants as edits
 use Rattle.cov_edit.specs.Numbering.{node_number, line_number, anchors_of}
-use Rattle.cov_file.specs.Dated.{node_at, node_of}
+use Rattle.cov_base.specs.declared.number.NodeRef.{NodeRef}
+use Rattle.cov_base.specs.declared.number.LineRef.{LineRef}
+use Rattle.cov_base.proofs.Ordered.{all-map}
+use Rattle.cov_file.specs.Dated.{DatedLine as FileLine, node_at, node_of}
 use Rattle.cov_engine.specs.Drawing.{AreNumbered}
 use Rattle.cov_engine.specs.Nodes.{old_node, IsTaken, HasNodesIn}
 use Rattle.cov_engine.specs.Stepping.{ArePlanned, IsPlannedBehind}
@@ -47,3 +50,66 @@ old-at p k file line (suc i) (e ∷ es) d numbered is h =
     let differs : nat_eq e.node file ≡ false = grind (arith, nat_tests, it, is) in
     ap (λ b. cond b (unwrap_or (node_of line p e.file.lines) 0) (old_node p es file line)) differs
     ∙ old-at p (k + 1) file line i es d numbered.1 (omega (arith, is)) (omega (arith, h))
+
+node-within : (ts : List Triple) (p line : ℕ) (ls : List FileLine) → AllByRecursion (λ l. node_at l.changes p < node_count ts) ls → unwrap_or (node_of line p ls) 0 < node_count ts
+node-within ts p line [] all = let some = some_nodes ts in omega (arith, some)
+node-within ts p line (l ∷ ls) all = at (nat_eq l.line line) (node-within ts p line ls all.1)
+  where
+    at : (b : Bool) → unwrap_or (node_of line p ls) 0 < node_count ts
+        → unwrap_or (option_map (λ (k : FileLine). node_at k.changes p) (cond b (Some l) (find (λ k. nat_eq k.line line) ls))) 0 < node_count ts
+    at true rest = all.0
+    at false rest = rest
+
+-- it is a node of the table of which the entries' nodes are
+pub old-within : (ts : List Triple) (p file line : ℕ) (es : List Entry) → AllByRecursion (HasNodesIn ts p) es → old_node p es file line < node_count ts
+old-within ts p file line [] all = let some = some_nodes ts in omega (arith, some)
+old-within ts p file line (e ∷ es) all = at (nat_eq e.node file) (old-within ts p file line es all.1)
+  where
+    at : (b : Bool) → old_node p es file line < node_count ts → cond b (unwrap_or (node_of line p e.file.lines) 0) (old_node p es file line) < node_count ts
+    at true rest = node-within ts p line e.file.lines all.0.nodes
+    at false rest = rest
+
+-- no change of an entry is beyond the position
+pub newest-within : (ts : List Triple) (p : ℕ) (es : List Entry) → AllByRecursion (HasNodesIn ts p) es → AllByRecursion (λ e. e.file.newest ≤ p) es
+newest-within ts p es all = all-map (HasNodesIn ts p) (λ e. e.file.newest ≤ p) (λ e h. h.newest) es all
+
+-- the entries' nodes are of a longer table too
+pub nodes-later : (ts us : List Triple) (p : ℕ) (es : List Entry) → Extends ts us → AllByRecursion (HasNodesIn ts p) es → AllByRecursion (HasNodesIn us p) es
+nodes-later ts us p es x all =
+    all-map (HasNodesIn ts p) (HasNodesIn us p)
+    (λ e h. record {
+      nodes = all-map (λ l. node_at l.changes p < node_count ts) (λ l. node_at l.changes p < node_count us) (λ l less. let more = x.count in omega (arith, less, more)) e.file.lines h.nodes;
+      newest = h.newest;
+    }) es all
+
+taken-later : (ts new us : List Triple) (old a vis least : ℕ) → Extends ts new → Extends new us → old < node_count ts → a < node_count ts
+    → Stands new vis least (joint_span ts old a) (λ c. value_in ts old c && not (value_in ts a c)) → Stands us vis 0 (joint_span us old a) (λ c. value_in us old c && not (value_in us a c))
+taken-later ts new us old a vis least x y within_old within_a s =
+    let z : Extends ts us = extends_trans ts new us x y in
+    let span_old : span us old ≡ span ts old = z.most old within_old in
+    let span_a : span us a ≡ span ts a = z.most a within_a in
+    stands_weaker 0 (joint_span us old a) (λ c. value_in us old c && not (value_in us a c)) (omega arith)
+    (subst (λ m. joint_span ts old a ≤ max m (span us a)) (sym span_old) (subst (λ m. joint_span ts old a ≤ max (span ts old) m) (sym span_a) (omega arith)))
+    (λ c. ap (λ b. b && not (value_in ts a c)) (sym (z.value old within_old c)) ∙ ap (λ b. value_in us old c && not b) (sym (z.value a within_a c)))
+    (stands_later y s)
+
+module _ (p : ℕ) (entries : List Entry) (n m ambition : ℕ) where
+  -- a delete's step goes behind others
+  pub delete-planned : (ts new : List Triple) (made old vis least : ℕ) (file : NodeRef) (line : LineRef) (before behind : List Step) (edit : Edit) (step : Step)
+      → Extends ts new → AllByRecursion (HasNodesIn ts p) entries → ambition < node_count ts → old ≡ old_node p entries (node_number n file) (line_number m line)
+      → Stands new vis least (joint_span ts old ambition) (λ c. value_in ts old c && not (value_in ts ambition c))
+      → edit ≡ edits.Delete file line → step ≡ steps.Delete (node_number n file) (line_number m line) vis → behind ≡ before ++ step ∷ []
+      → IsPlannedBehind p entries n m ambition new made edit before behind
+  delete-planned ts new made old vis least file line before behind edit step x nodes within is stands ee se put = (
+    step ∷ [],
+    put,
+    λ us y es ss planned.
+    subst (λ e. ArePlanned p entries n m ambition us made (e ∷ es) (step ∷ ss)) (sym ee) (
+      vis,
+      ss,
+      ap (λ s. s ∷ ss) se,
+      subst (λ k. Stands us vis 0 (joint_span us k ambition) (λ c. value_in us k c && not (value_in us ambition c))) is
+          (taken-later ts new us old ambition vis least x y (subst (λ k. k < node_count ts) (sym is) (old-within ts p (node_number n file) (line_number m line) entries nodes)) within stands),
+      subst (λ k. ArePlanned p entries n m ambition us k es ss) (ap (λ e. made + length (anchors_of 0 (e ∷ []))) ee ∙ (let zero_more : made + 0 ≡ made = omega arith in zero_more)) planned,
+    ),
+  )

@@ -26,13 +26,13 @@ use Rattle.cov_view.specs.declared.fault.EditFault.TheVariants as faults
 use Rattle.cov_engine.specs.declared.refusal.Refusal.{Refusal}
 use Rattle.cov_engine.specs.declared.refusal.Refusal.TheVariants as refusals
 use Rattle.cov_engine.specs.Kept.{Holding, held_by, variant_seen, kept_number, file_kept, is_kept_anchor}
-use Rattle.cov_engine.specs.Insertions.{Insertion, the_insert, all_edits, lines_before, table_with, file_of, anchor_of, held_before}
+use Rattle.cov_engine.specs.Insertions.{Insertion, the_insert, all_edits, lines_before, table_of, numbered_amid, held_amid, file_of, anchor_of, held_before}
 use Rattle.cov_engine.specs.Verdict.{verdict, as_invalid, as_bad_record, has_no_edits, size_refusals, when_full}
 use Rattle.cov_engine.specs.Sessions.{Session, IsGood, seen, commit_of, has_commit}
-use Rattle.cov_engine.proofs.Standing.{numbered-next, stands-opened, holding-stands}
+use Rattle.cov_engine.proofs.Standing.{holding-stands}
 use Rattle.cov_engine.proofs.Replays.{edits-seen, variant-later, replay-seen}
 use Rattle.cov_engine.proofs.Files.{or_right, any-seen, any-filter}
-use Rattle.cov_engine.proofs.Inserts.{is_table, in_table}
+use Rattle.cov_engine.proofs.Inserts.{is_table-of, amid-next, amid-opened}
 
 pub good-stays : (history later : List Command) (s : Session) → IsGood history s → IsGood (history ++ later) s
 good-stays history later s good =
@@ -165,16 +165,20 @@ pub rest-accepted : (k : ℕ) (o : Option EditFault) (later : Option (ℕ × Edi
 rest-accepted k None later h = h
 rest-accepted k (Some f) later h = absurd (cc)
 
-insert-accepted : (ns : Numbers) (t : List (List ℕ)) (node line k : ℕ) (v : Variant) (es : List Edit) (i : Insertion)
-    → refused_from ns v k (es ++ the_insert i ∷ i.later) (numbered_from ns t node line (es ++ the_insert i ∷ i.later)) ≡ None
-    → refusal ns (fold edited v (numbered_from ns t node line es)) (the_insert i) ≡ None
-insert-accepted ns t node line k v [] i h = edit-accepted k (refusal ns v (the_insert i)) _ h
-insert-accepted ns t node line k v (edits.New kind parent name ∷ es) i h =
-    insert-accepted ns t (node + 1) line (k + 1) (edited v (OnRows (Created (node + 1) kind (node_number ns.nodes parent) name))) es i (rest-accepted k (refusal ns v (edits.New kind parent name)) _ h)
-insert-accepted ns t node line k v (edits.Insert file after text ∷ es) i h =
-    insert-accepted ns t node (line + 1) (k + 1) (edited v (Inserted (node_number ns.nodes file) (address_in t (line + 1)) text)) es i (rest-accepted k (refusal ns v (edits.Insert file after text)) _ h)
-insert-accepted ns t node line k v (edits.Delete file which ∷ es) i h =
-    insert-accepted ns t node line (k + 1) (edited v (Deleted (node_number ns.nodes file) (address_in t (line_number (length ns.addresses) which)))) es i (rest-accepted k (refusal ns v (edits.Delete file which)) _ h)
+turn-accepted : (ns : Numbers) (t : List (List ℕ)) (node line k : ℕ) (v : Variant) (begun : List Edit) (e : Edit) (later : List Edit)
+    → refused_from ns v k (begun ++ e ∷ later) (numbered_from ns t node line (begun ++ e ∷ later)) ≡ None → refusal ns (fold edited v (numbered_from ns t node line begun)) e ≡ None
+turn-accepted ns t node line k v [] (edits.New kind parent name) later h = edit-accepted k (refusal ns v (edits.New kind parent name)) _ h
+turn-accepted ns t node line k v [] (edits.Insert file after text) later h = edit-accepted k (refusal ns v (edits.Insert file after text)) _ h
+turn-accepted ns t node line k v [] (edits.Delete file which) later h = edit-accepted k (refusal ns v (edits.Delete file which)) _ h
+turn-accepted ns t node line k v (edits.New kind parent name ∷ begun) e later h =
+    turn-accepted ns t (node + 1) line (k + 1) (edited v (OnRows (Created (node + 1) kind (node_number ns.nodes parent) name))) begun e later
+    (rest-accepted k (refusal ns v (edits.New kind parent name)) _ h)
+turn-accepted ns t node line k v (edits.Insert file after text ∷ begun) e later h =
+    turn-accepted ns t node (line + 1) (k + 1) (edited v (Inserted (node_number ns.nodes file) (address_in t (line + 1)) text)) begun e later
+    (rest-accepted k (refusal ns v (edits.Insert file after text)) _ h)
+turn-accepted ns t node line k v (edits.Delete file which ∷ begun) e later h =
+    turn-accepted ns t node line (k + 1) (edited v (Deleted (node_number ns.nodes file) (address_in t (line_number (length ns.addresses) which)))) begun e later
+    (rest-accepted k (refusal ns v (edits.Delete file which)) _ h)
 
 -- an accepted insert has its anchor
 anchor-there : (ns : Numbers) (v : Variant) (i : Insertion) → refusal ns v (the_insert i) ≡ None → (is_head i.after || has_line ns v (node_number ns.nodes i.file) i.after) ≡ true
@@ -196,6 +200,18 @@ and_right true b h = h
 and_right false b h = absurd (cc)
 
 -- a line that a choice shows is kept
+pub line-shown : (c : List Bool) (p : ℕ) (held : Holding) (v : Variant) (ns : Numbers) (file : ℕ) (line : LineRef) → variant_seen c p held ≡ v → has_line ns v file line ≡ true
+    → list_any (λ k. nat_eq (kept_number k) (line_number (length ns.addresses) line)) (file_kept file held.lines) ≡ true
+line-shown c p held v ns file line shown h =
+    any-filter (λ k. nat_eq k.item.file file) (λ k. nat_eq (kept_number k) number) held.lines
+    ∙ any-seen c p (λ l. nat_eq l.file file && nat_eq (line_of l.address) number) held.lines
+    (ap (λ (w : Variant). list_any (λ l. nat_eq l.file file && nat_eq (line_of l.address) number) w.lines) shown
+    ∙ and_right (is_known_line (length ns.addresses) line) (list_any (λ l. nat_eq l.file file && nat_eq (line_of l.address) number) v.lines) h)
+  where
+    number : ℕ
+    number = line_number (length ns.addresses) line
+
+-- so is an anchor
 line-kept : (c : List Bool) (p : ℕ) (held : Holding) (v : Variant) (ns : Numbers) (file : ℕ) (after : LineRef) → variant_seen c p held ≡ v
     → (is_head after || has_line ns v file after) ≡ true → is_kept_anchor file (line_number (length ns.addresses) after) held.lines ≡ true
 line-kept c p held v ns file after shown h = at (is_head after) refl h
@@ -205,41 +221,35 @@ line-kept c p held v ns file after shown h = at (is_head after) refl h
 
     at : (b : Bool) → is_head after ≡ b → (b || has_line ns v file after) ≡ true → is_kept_anchor file number held.lines ≡ true
     at true e k = subst (λ n. is_kept_anchor file n held.lines ≡ true) (sym (head-number (length ns.addresses) after e)) refl
-    at false e k =
-        or_right (nat_eq number 0) (list_any (λ j. nat_eq (kept_number j) number) (file_kept file held.lines))
-        (any-filter (λ j. nat_eq j.item.file file) (λ j. nat_eq (kept_number j) number) held.lines
-        ∙ any-seen c p (λ l. nat_eq l.file file && nat_eq (line_of l.address) number) held.lines
-        (ap (λ (w : Variant). list_any (λ l. nat_eq l.file file && nat_eq (line_of l.address) number) w.lines) shown
-        ∙ and_right (is_known_line (length ns.addresses) after) (list_any (λ l. nat_eq l.file file && nat_eq (line_of l.address) number) v.lines) k))
+    at false e k = or_right (nat_eq number 0) (list_any (λ j. nat_eq (kept_number j) number) (file_kept file held.lines)) (line-shown c p held v ns file after shown k)
 
-module _ (history : List Command) (c : List Bool) (ambition : Formula ℕ) (i : Insertion) (inside : value ambition c ≡ true) where
-  abbrev begun : List NumberedEdit
-  begun = numbered_from (numbers_of history) (table_with history i) (numbers_of history).nodes (lines_before history) i.begun
+-- within the ambition of a commit, its first edits are seen
+pub amid-seen : (history : List Command) (c : List Bool) (ambition : Formula ℕ) (begun later : List Edit) → value ambition c ≡ true
+    → variant_seen c (length history + 1) (held_amid history ambition (begun ++ later) begun) ≡ fold edited (replay c history) (numbered_amid history (begun ++ later) begun)
+amid-seen history c ambition begun later inside =
+    let ns = numbers_of history in
+    let ds = numbered_amid history (begun ++ later) begun in
+    edits-seen c (table_of history (begun ++ later)) (lines_before history) (length history + 1) ambition (held_by history) ds
+    (is_table-of history (begun ++ later)) (amid-next history begun later) (amid-opened history begun later)
+    ∙ ap (λ v. fold (applied c) v (map (applying ambition) ds))
+    (variant-later c ns.addresses (length ns.addresses) (length history + 1) (length history) (held_by history) (omega arith) (holding-stands history).1
+    ∙ replay-seen c (length history) history ∙ ap (replay c) (take-length history))
+    ∙ all_within c (replay c history) ambition ds inside
 
-  -- within the ambition, the edits before the insert are seen
-  before-seen : variant_seen c (length history + 1) (held_before history ambition i) ≡ fold edited (replay c history) begun
-  before-seen =
-      let stands = holding-stands history in
-      edits-seen c (table_with history i) (lines_before history) (length history + 1) ambition (held_by history) begun (is_table history i)
-      (numbered-next (numbers_of history) (table_with history i) (numbers_of history).nodes (lines_before history) (lines_before history) i.begun (let h = in_table history i in omega (arith, h)))
-      (stands-opened (numbers_of history) (all_edits i) (length history) (held_by history) stands.1)
-      ∙ ap (λ v. fold (applied c) v (map (applying ambition) begun))
-      (variant-later c (numbers_of history).addresses (length (numbers_of history).addresses) (length history + 1) (length history) (held_by history) (omega arith) stands.1
-      ∙ replay-seen c (length history) history ∙ ap (replay c) (take-length history))
-      ∙ all_within c (replay c history) ambition begun inside
-
-  insert-anchored : first_refused (numbers_of history) (replay c history) (all_edits i) ≡ None
-      → is_kept_anchor (file_of history i) (anchor_of history i) (held_before history ambition i).lines ≡ true
-  insert-anchored h =
-      line-kept c (length history + 1) (held_before history ambition i) (fold edited (replay c history) begun) (numbers_of history) (file_of history i) i.after before-seen
-      (anchor-there (numbers_of history) (fold edited (replay c history) begun) i
-      (insert-accepted (numbers_of history) (table_with history i) (numbers_of history).nodes (lines_before history) 0 (replay c history) i.begun i h))
-
-pub accepted-anchored : (history : List Command) (s : Session) (i : Insertion) → IsGood history s → has_commit (drop s.base history) ≡ false → all_edits i ≡ s.edits
-    → is_kept_anchor (file_of history i) (anchor_of history i) (held_before history s.ambition i).lines ≡ true
-accepted-anchored history s i good h e =
-    insert-anchored history s.choice s.ambition i good.in_ambition
-    (ap (first_refused (numbers_of history) (replay s.choice history)) e
+-- where no commit stands after the base, each edit of a good session is accepted when it is its turn
+pub edit-at_turn : (history : List Command) (s : Session) (begun : List Edit) (e : Edit) (later : List Edit) → IsGood history s → has_commit (drop s.base history) ≡ false
+    → begun ++ e ∷ later ≡ s.edits → refusal (numbers_of history) (fold edited (replay s.choice history) (numbered_amid history (begun ++ e ∷ later) begun)) e ≡ None
+edit-at_turn history s begun e later good h all =
+    turn-accepted (numbers_of history) (table_of history (begun ++ e ∷ later)) (numbers_of history).nodes (lines_before history) 0 (replay s.choice history) begun e later
+    (ap (first_refused (numbers_of history) (replay s.choice history)) all
     ∙ ap (λ v. first_refused (numbers_of history) v s.edits) (replay-since s.choice s.base history h)
     ∙ ap (λ ns. first_refused ns (replay s.choice (take s.base history)) s.edits) (numbers-since s.base history h)
     ∙ good.accepted)
+
+pub accepted-anchored : (history : List Command) (s : Session) (i : Insertion) → IsGood history s → has_commit (drop s.base history) ≡ false → all_edits i ≡ s.edits
+    → is_kept_anchor (file_of history i) (anchor_of history i) (held_before history s.ambition i).lines ≡ true
+accepted-anchored history s i good h all =
+    let v = fold edited (replay s.choice history) (numbered_amid history (all_edits i) i.begun) in
+    line-kept s.choice (length history + 1) (held_before history s.ambition i) v (numbers_of history) (file_of history i) i.after
+    (amid-seen history s.choice s.ambition i.begun (the_insert i ∷ i.later) good.in_ambition)
+    (anchor-there (numbers_of history) v i (edit-at_turn history s i.begun (the_insert i) i.later good h all))

@@ -8,7 +8,7 @@ use Rattle.cov_expr.specs.Formula.{Formula}
 use Rattle.cov_edit.specs.declared.edit.Edit.{Edit}
 use Rattle.cov_edit.specs.declared.edit.Edit.TheVariants as edits
 use Rattle.cov_edit.specs.declared.command.Command.{Command}
-use Rattle.cov_edit.specs.Numbering.{node_number, line_number, anchors_of, numbers_after, numbers_of, numbered_from}
+use Rattle.cov_edit.specs.Numbering.{NumberedEdit, node_number, line_number, anchors_of, numbers_after, numbers_of, numbered_from}
 use Rattle.cov_edit.specs.Variant.{Line}
 use Rattle.cov_engine.specs.Kept.{Kept, new_line, Holding, held_after, held_by}
 
@@ -33,13 +33,29 @@ module _ (history : List Command) where
   abbrev pub lines_before : ℕ
   lines_before = length (numbers_of history).addresses
 
+  -- the addresses of all lines after a commit with these edits
+  abbrev pub table_of : List Edit → List (List ℕ)
+  table_of es = (numbers_after (numbers_of history) es).addresses
+
+  -- the first of a commit's edits by numbers and addresses
+  abbrev pub numbered_amid : List Edit → List Edit → List NumberedEdit
+  numbered_amid es begun = numbered_from (numbers_of history) (table_of es) (numbers_of history).nodes lines_before begun
+
+  -- how many lines there are when the first edits of a commit are done
+  abbrev pub lines_amid : List Edit → ℕ
+  lines_amid begun = lines_before + length (anchors_of lines_before begun)
+
+  -- what is held when the first of a commit's edits are done
+  abbrev pub held_amid : Formula ℕ → List Edit → List Edit → Holding
+  held_amid ambition es begun = fold (held_after (length history + 1) ambition) (held_by history) (numbered_amid es begun)
+
   -- how many lines there are when the edits before the insert are done
   abbrev pub lines_begun : Insertion → ℕ
-  lines_begun i = lines_before + length (anchors_of lines_before i.begun)
+  lines_begun i = lines_amid i.begun
 
   -- the addresses of all lines after the commit
   abbrev pub table_with : Insertion → List (List ℕ)
-  table_with i = (numbers_after (numbers_of history) (all_edits i)).addresses
+  table_with i = table_of (all_edits i)
 
   -- the number of the file
   abbrev pub file_of : Insertion → ℕ
@@ -55,8 +71,7 @@ module _ (history : List Command) where
 
   -- what is held when the first edits of the commit are done
   abbrev pub held_when : Formula ℕ → Insertion → List Edit → Holding
-  held_when ambition i es =
-      fold (held_after (length history + 1) ambition) (held_by history) (numbered_from (numbers_of history) (table_with i) (numbers_of history).nodes lines_before es)
+  held_when ambition i es = held_amid ambition (all_edits i) es
 
   -- what is held before the insert
   abbrev pub held_before : Formula ℕ → Insertion → Holding

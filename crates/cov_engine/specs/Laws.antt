@@ -2,6 +2,7 @@
 use Rattle.std.specs.Prelude.{◌≡◌, ℕ, ◌+◌, Bool, true, false, nat_eq, List, [], ◌∷◌, ◌++◌, take, drop, length, map}
 use Rattle.std.specs.List.{fold, list_any, AllByRecursion}
 use Rattle.cov_base.specs.Addresses.{IsTable, IsLineOf, AreInOrder, number_by, after_anchor, after_anchor_by}
+use Rattle.cov_order.specs.Orders.{has_line, AreLines}
 use Rattle.cov_expr.specs.Formula.{Formula}
 use Rattle.cov_edit.specs.declared.edit.Edit.{Edit}
 use Rattle.cov_edit.specs.declared.command.Command.{Command}
@@ -17,7 +18,8 @@ use Rattle.cov_engine.specs.Reach.{IsHeldInReach}
 use Rattle.cov_engine.specs.Verdict.{IsLegal, verdict, when_full, size_refusals, has_no_edits}
 use Rattle.cov_engine.specs.Sessions.{Session, IsGood, seen, commit_of, has_commit}
 use Rattle.cov_engine.specs.Files.{dated_number, file_dated, file_order, as_shown, dated_shown, Takes}
-use Rattle.cov_engine.specs.Insertions.{Insertion, all_edits, lines_begun, file_of, anchor_of, line_with, held_before, held_behind}
+use Rattle.cov_engine.specs.Deletions.{Deletion, all_with, delete_file, delete_line, before_delete, behind_delete, hidden_by}
+use Rattle.cov_engine.specs.Insertions.{Insertion, all_edits, lines_begun, file_of, anchor_of, line_with, held_amid, held_before, held_behind}
 
 -- at each position, the lines seen on a choice are those of the replay of the history up to there
 abbrev pub LinesFollowReplay : Type 0
@@ -139,3 +141,31 @@ ReplayStands = (c : List Bool) (history : List Command)
 -- on each choice, the replay of a legal history names only the root and the nodes that the history made
 abbrev pub LegalIsMade : Type 0
 LegalIsMade = (c : List Bool) (history : List Command) → IsLegal history → NamesOnlyMade (numbers_of history).nodes (replay c history)
+
+-- by number, a delete hides its line within the ambition from its commit on, and leaves the other lines of its file
+abbrev pub DeleteIsDated : Type 0
+DeleteIsDated = (history : List Command) (ambition : Formula ℕ) (d : Deletion)
+    → file_dated (delete_file history d) (behind_delete history ambition d).lines
+    ≡ map (hidden_by (delete_line history d) (length history + 1) ambition) (file_dated (delete_file history d) (before_delete history ambition d).lines)
+
+-- a delete leaves the other files as they are
+abbrev pub DeleteInOneFile : Type 0
+DeleteInOneFile = (history : List Command) (ambition : Formula ℕ) (d : Deletion) (file : ℕ)
+    → nat_eq (delete_file history d) file ≡ false
+    → file_kept file (behind_delete history ambition d).lines ≡ file_kept file (before_delete history ambition d).lines
+
+-- where no commit stands after the base, each delete of a good session has its line in its file when it is its turn
+abbrev pub AcceptedIsThere : Type 0
+AcceptedIsThere = (history : List Command) (s : Session) (d : Deletion) → IsGood history s → has_commit (drop s.base history) ≡ false → all_with d ≡ s.edits
+    → has_line (delete_line history d) (file_order (delete_file history d) (before_delete history s.ambition d).lines) ≡ true
+
+-- a delete leaves the order of each file, and what is an anchor in it
+abbrev pub DeleteKeepsOrder : Type 0
+DeleteKeepsOrder = (history : List Command) (ambition : Formula ℕ) (d : Deletion) (file : ℕ)
+    → (file_order file (behind_delete history ambition d).lines ≡ file_order file (before_delete history ambition d).lines)
+    × ((line : ℕ) → is_kept_anchor file line (behind_delete history ambition d).lines ≡ is_kept_anchor file line (before_delete history ambition d).lines)
+
+-- when the first of a commit's edits are done, each file has different lines, none of them the head
+abbrev pub LinesAreDistinct : Type 0
+LinesAreDistinct = (history : List Command) (ambition : Formula ℕ) (begun later : List Edit) (file : ℕ)
+    → AreLines (file_order file (held_amid history ambition (begun ++ later) begun).lines)

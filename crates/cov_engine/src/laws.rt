@@ -1,5 +1,5 @@
 //! Laws of what a history holds and accepts. Each function does nothing; what it ensures is the law.
-ghost use Rattle.cov_engine.specs.Laws.{LinesFollowReplay, RowsFollowReplay, HoldingFollowsReplay, HoldingStands, HoldingGoesOn, CommitKeepsLines, CommitKeepsRows, FileFollowsReplay, ShownIsKept, InsertAfterAnchor, InsertInOneFile, InsertIsNumbered, AnchorsStay, GoodSessionsStay, GoodCommitsPass, CommitShowsSeen, AcceptedIsAnchored, DeclarationsHoldNothing, FileShowsReplay, InsertIsDated, OrderTakesInsert, LegalIsInReach, ReplayStands, LegalIsMade};
+ghost use Rattle.cov_engine.specs.Laws.{LinesFollowReplay, RowsFollowReplay, HoldingFollowsReplay, HoldingStands, HoldingGoesOn, CommitKeepsLines, CommitKeepsRows, FileFollowsReplay, ShownIsKept, InsertAfterAnchor, InsertInOneFile, InsertIsNumbered, AnchorsStay, GoodSessionsStay, GoodCommitsPass, CommitShowsSeen, AcceptedIsAnchored, DeclarationsHoldNothing, FileShowsReplay, InsertIsDated, OrderTakesInsert, LegalIsInReach, ReplayStands, LegalIsMade, DeleteIsDated, DeleteInOneFile, AcceptedIsThere, DeleteKeepsOrder, LinesAreDistinct};
 
 /// At each position, the lines seen on a choice are those of the replay of the history up to there.
 pub fn lines_follow_replay()
@@ -119,4 +119,29 @@ pub fn replay_stands()
 /// On each choice, the replay of a legal history names only the root and the nodes that the history made.
 pub fn legal_is_made()
     ensures { LegalIsMade }
+{}
+
+/// By number, a delete hides its line within the ambition from its commit on, and leaves the other lines of its file.
+pub fn delete_is_dated()
+    ensures { DeleteIsDated }
+{}
+
+/// A delete leaves the other files as they are.
+pub fn delete_in_one_file()
+    ensures { DeleteInOneFile }
+{}
+
+/// Where no commit stands after the base, each delete of a good session has its line in its file when it is its turn.
+pub fn accepted_is_there()
+    ensures { AcceptedIsThere }
+{}
+
+/// A delete leaves the order of each file, and what is an anchor in it.
+pub fn delete_keeps_order()
+    ensures { DeleteKeepsOrder }
+{}
+
+/// When the first of a commit's edits are done, each file has different lines, none of them the head.
+pub fn lines_are_distinct()
+    ensures { LinesAreDistinct }
 {}
