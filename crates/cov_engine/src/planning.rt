@@ -14,7 +14,6 @@ use cov_base::{LineNo, Memory, NodeNo, Position};
 use cov_dd::{FALSE, Node, Table};
 use cov_edit::Edit;
 use cov_vis::take;
-use std::alloc::Global;
 use std::collections::VecDeque;
 
 /// Where a commit's edits are planned: the position after it, how many nodes and lines were made before it, and the node of
@@ -27,14 +26,15 @@ pub(crate) struct Site {
     pub(crate) ambition: Node,
 }
 
-/// The steps of edits: what is inserted is visible where the ambition is, what is deleted where it was and the ambition isn't.
+/// Puts the steps of edits behind others: what is inserted is visible where the ambition is, what is deleted where it was and
+/// the ambition isn't.
 pub(crate) fn plan_steps(
-    alloc: Global,
     table: &mut Table,
     entries: &[Entry],
+    steps: &mut VecDeque<Step>,
     site: Site,
     edits: &[Edit],
-) -> Result<VecDeque<Step>, Memory>
+) -> Result<(), Memory>
     requires numbered { AreNumbered 0 entries.now }
     requires nodes { AllByRecursion (HasNodesIn table.old site.at) entries.now }
     requires ambition { site.ambition < node_count table.old }
@@ -42,16 +42,15 @@ pub(crate) fn plan_steps(
     requires low { AreLow site.lines edits.now }
     requires few { site.lines + length (anchors_of 0 edits.now) < 2 ^ 32 }
     ensures extends { Extends table.old table.new }
-    ensures steps { IfOk result (λ steps. ArePlanned site.at entries.now site.nodes site.lines site.ambition table.new site.lines edits.now steps.items) }
+    ensures steps { OnOk result (steps.old.items ≡ [] → ArePlanned site.at entries.now site.nodes site.lines site.ambition table.new site.lines edits.now steps.new.items) }
 {
-    let mut steps = VecDeque::new(alloc);
     let mut made = site.lines;
     let mut ahead = edits;
     while let [edit, rest @ ..] = ahead {
-        made = plan_step(table, entries, &mut steps, site, made, edit)?;
+        made = plan_step(table, entries, steps, site, made, edit)?;
         ahead = rest;
     }
-    Ok(steps)
+    Ok(())
 }
 
 // Plans an edit, so many lines having been made before it, and answers how many there are then.

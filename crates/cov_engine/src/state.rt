@@ -21,6 +21,7 @@ use cov_edit::{Command, Commands, Edits};
 use cov_expr::{Expr, Options};
 use cov_rules::Rules;
 use cov_vis::compile;
+use std::collections::VecDeque;
 
 /// The greatest number of commands.
 const MOST_COMMANDS: usize = 1 << 20;
@@ -157,10 +158,11 @@ fn commit_ready(state: &mut State, ambition: &Expr, edits: &Edits) -> Result<Rea
         lines: state.counts.lines,
         ambition: compile(&mut state.table, ambition)?,
     };
-    let steps = plan_steps(
-        alloc,
+    let mut steps = VecDeque::new(alloc);
+    plan_steps(
         &mut state.table,
         &state.kept.entries,
+        &mut steps,
         site,
         edits.as_slice(),
     )?;

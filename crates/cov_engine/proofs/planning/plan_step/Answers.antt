@@ -1,5 +1,7 @@
 use Rattle.std.proofs.Common.{subst, sym, ap, ◌∙◌, ◌<◌}
 use Rattle.cov_dd.specs.Diagrams.{node_count}
+use Rattle.cov_engine.specs.Nodes.{old_node}
+use Rattle.cov_engine.specs.declared.step.Step.TheVariants as steps
 use Rattle.cov_engine.proofs.Planned.{old-within, newest-within, delete-planned}
 use Rattle.cov_engine.proofs.planning.plan_step.Goals as goal
 
@@ -11,5 +13,10 @@ take-requires-clause-old c =
 pub returns-in_ok-push_back-in-Delete-clause-planned : goal.returns-in_ok-push_back-in-Delete-clause-planned
 returns-in_ok-push_back-in-Delete-clause-planned c =
     delete-planned c.args.site.at c.args.entries.now c.args.site.nodes c.args.site.lines c.args.site.ambition c.args.table.now c.take.new.table c.args.made c.old_node.result c.in_ok-vis-in-Delete.vis _
-    c.in-Delete.file c.in-Delete.line c.args.steps.now.items c.push_back-in-Delete.new.self.items c.args.edit.now _
-    c.take.ensures.extends c.requires.nodes c.requires.ambition ? c.in_ok-vis-in-Delete.ensures.stands c.in-Delete.is ? ?
+    c.in-Delete.file c.in-Delete.line c.args.steps.now.items c.push_back-in-Delete.new.self.items c.args.edit.now
+    (steps.Delete c.node_number-file.result c.line_number-line.result c.in_ok-vis-in-Delete.vis)
+    c.take.ensures.extends c.requires.nodes c.requires.ambition
+    (c.old_node.ensures c.args.site.at (newest-within c.args.table.now c.args.site.at c.args.entries.now c.requires.nodes)
+    ∙ (λ i. old_node c.args.site.at c.args.entries.now (c.node_number-file.ensures i) (c.line_number-line.ensures i)))
+    c.in_ok-vis-in-Delete.ensures.stands c.in-Delete.is (λ i. steps.Delete (c.node_number-file.ensures i) (c.line_number-line.ensures i) c.in_ok-vis-in-Delete.vis)
+    c.in_ok-push_back-in-Delete.ensures.items
