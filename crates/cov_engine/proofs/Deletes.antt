@@ -1,7 +1,7 @@
 -- A delete among the edits of a commit.
-use Rattle.std.proofs.Common.{◌≡◌, ℕ, zero, suc, ◌+◌, ◌<◌, ◌≤◌, Bool, true, false, cond, ◌||◌, ◌&&◌, not, nat_eq, nat_lt, List, [], ◌∷◌, ◌++◌, length, map, drop, Option, None, refl, sym, ap, ◌∙◌, arith}
+use Rattle.std.proofs.Common.{◌≡◌, ℕ, zero, suc, ◌+◌, ◌<◌, ◌≤◌, Bool, true, false, cond, ◌||◌, ◌&&◌, not, nat_eq, nat_lt, List, [], ◌∷◌, ◌++◌, length, map, drop, None, refl, sym, ap, ◌∙◌, arith}
 use Rattle.std.specs.Str.{bytes_eq}
-use Rattle.std.specs.List.{fold, filter, list_any, AllByRecursion}
+use Rattle.std.specs.List.{fold, AllByRecursion}
 use Rattle.std.proofs.lemmas.Bool.Decides.{nat_tests}
 use Rattle.std.proofs.lemmas.Slice.Eq.{bytes_eq-Decides}
 use Rattle.cov_base.specs.Addresses.{stands_before, address_in, line_of, IsTable, IsLineOf, AreInOrder}
@@ -19,7 +19,7 @@ use Rattle.cov_view.specs.Refusals.{when, first_of, has_node, is_dir, refusal}
 use Rattle.cov_view.specs.Refusals as refusals
 use Rattle.cov_view.specs.declared.fault.EditFault.TheVariants as faults
 use Rattle.cov_engine.specs.Kept.{Kept, kept_address, kept_number, hidden, hidden_where, Holding, held_by, kept_of, file_kept, is_kept_anchor, Stands}
-use Rattle.cov_engine.specs.Files.{DatedLine, dated, file_dated, file_order}
+use Rattle.cov_engine.specs.Files.{dated, file_dated, file_order}
 use Rattle.cov_engine.specs.Insertions.{table_of, numbered_amid, lines_amid, held_amid}
 use Rattle.cov_engine.specs.Deletions.{Deletion, the_delete, all_with, delete_file, delete_line, before_delete, behind_delete, hidden_by}
 use Rattle.cov_engine.specs.Sessions.{Session, IsGood, has_commit}

@@ -8,7 +8,7 @@ use Rattle.cov_expr.specs.Formula.{Formula}
 use Rattle.cov_edit.specs.declared.edit.Edit.{Edit}
 use Rattle.cov_edit.specs.declared.edit.Edit.TheVariants as edits
 use Rattle.cov_edit.specs.declared.command.Command.{Command}
-use Rattle.cov_edit.specs.Numbering.{Numbers, OnRows, Inserted, Deleted, node_number, line_number, nodes_made, anchors_of, numbers_after, numbers_of, numbered_from}
+use Rattle.cov_edit.specs.Numbering.{Numbers, OnRows, Inserted, Deleted, node_number, line_number, nodes_made, anchors_of, numbers_of, numbered_from}
 use Rattle.cov_edit.specs.Variant.{Line}
 use Rattle.cov_edit.proofs.Replays.{fold-append}
 use Rattle.cov_engine.specs.Kept.{Kept, kept_address, kept_number, Holding, held_after, held_by, file_kept, is_kept_anchor, Stands}

@@ -1,4 +1,4 @@
--- One insert among the edits of a commit.
+-- The edits of a commit, and one insert among them.
 use Rattle.std.specs.Prelude.{ℕ, ◌+◌, List, [], ◌∷◌, ◌++◌, length}
 use Rattle.std.specs.List.{fold}
 use Rattle.cov_base.specs.Addresses.{address_in}

@@ -19,7 +19,8 @@ use Rattle.cov_engine.specs.Verdict.{IsLegal, verdict, when_full, size_refusals,
 use Rattle.cov_engine.specs.Sessions.{Session, IsGood, seen, commit_of, has_commit}
 use Rattle.cov_engine.specs.Files.{dated_number, file_dated, file_order, as_shown, dated_shown, Takes}
 use Rattle.cov_engine.specs.Deletions.{Deletion, all_with, delete_file, delete_line, before_delete, behind_delete, hidden_by}
-use Rattle.cov_engine.specs.Insertions.{Insertion, all_edits, lines_begun, file_of, anchor_of, line_with, held_amid, held_before, held_behind}
+use Rattle.cov_engine.specs.Insertions.{Insertion, all_edits, lines_begun, file_of, anchor_of, line_with, held_before, held_behind}
+use Rattle.cov_engine.specs.Insertions.{held_amid}
 
 -- at each position, the lines seen on a choice are those of the replay of the history up to there
 abbrev pub LinesFollowReplay : Type 0
