@@ -14,13 +14,14 @@ use Rattle.cov_base.specs.declared.number.NodeRef.{NodeRef}
 use Rattle.cov_base.specs.declared.number.LineRef.{LineRef}
 use Rattle.cov_base.proofs.Ordered.{all-map}
 use Rattle.cov_file.specs.Dated.{DatedLine as FileLine, node_at, node_of}
-use Rattle.cov_engine.specs.Drawing.{AreNumbered}
+use Rattle.cov_engine.specs.Drawing.{AreNumbered, AreLow}
 use Rattle.cov_engine.specs.Nodes.{old_node, IsTaken, HasNodesIn}
 use Rattle.cov_engine.specs.Stepping.{ArePlanned, IsPlannedBehind}
 use Rattle.cov_engine.specs.declared.entry.Entry.{Entry}
 use Rattle.cov_engine.specs.declared.step.Step.{Step}
 use Rattle.cov_engine.specs.declared.step.Step.TheVariants as steps
 use Rattle.cov_engine.proofs.Entries.{IsOutside, Below, Above}
+use Rattle.cov_engine.proofs.Rooms.{rest_of, rest-is}
 
 differs-outside : (k file : ℕ) (e : Entry) (es : List Entry) → e.node ≡ k + 1 → IsOutside k (suc (length es)) file → nat_eq e.node file ≡ false
 differs-outside k file e es is (Below h) = grind (arith, nat_tests, is, h)
@@ -113,3 +114,33 @@ module _ (p : ℕ) (entries : List Entry) (n m ambition : ℕ) where
       subst (λ k. ArePlanned p entries n m ambition us k es ss) (ap (λ e. made + length (anchors_of 0 (e ∷ []))) ee ∙ (let zero_more : made + 0 ≡ made = omega arith in zero_more)) planned,
     ),
   )
+
+anchors-first : (e : Edit) (es : List Edit) → length (anchors_of 0 (e ∷ es)) ≡ length (anchors_of 0 (e ∷ [])) + length (anchors_of 0 es)
+anchors-first (edits.New kind parent name) es = refl
+anchors-first (edits.Insert file after text) es = omega arith
+anchors-first (edits.Delete file line) es = refl
+
+-- the edits after the first are low too, and few
+pub low-rest : (m : ℕ) (es : List Edit) → AreLow m es → AreLow m (rest_of es)
+low-rest m [] h = tt
+low-rest m (e ∷ es) h = subst (AreLow m) (sym (rest-is e es)) h.1
+
+module _ (made next : ℕ) (edit d : Edit) (more : next ≡ made + length (anchors_of 0 (edit ∷ []))) where
+  pub few-rest : (most : ℕ) (ahead : List Edit) → edit ≡ get_or ahead 0 d → 1 ≤ length ahead → made + length (anchors_of 0 ahead) < most → next + length (anchors_of 0 (rest_of ahead)) < most
+  few-rest most [] is h few = absurd (omega (arith, h))
+  few-rest most (e ∷ es) is h few =
+      subst (λ rest. next + length (anchors_of 0 rest) < most) (sym (rest-is e es))
+      (let both = anchors-first e es in let one : length (anchors_of 0 (edit ∷ [])) ≡ length (anchors_of 0 (e ∷ [])) = ap (λ x. length (anchors_of 0 (x ∷ []))) is in omega (arith, few, more, both, one))
+
+  module _ (p : ℕ) (entries : List Entry) (n m ambition : ℕ) where
+    -- with the steps of the rest behind those of an edit, all are planned
+    pub planned-rest : (ts us : List Triple) (ahead : List Edit) (old new ss : List Step) → edit ≡ get_or ahead 0 d → 1 ≤ length ahead → Extends ts us
+        → IsPlannedBehind p entries n m ambition ts made edit old new → ArePlanned p entries n m ambition us next (rest_of ahead) ss
+        → (all : List Step) × (new ++ ss ≡ old ++ all) × ArePlanned p entries n m ambition us made ahead all
+    planned-rest ts us [] old new ss is h x behind planned = absurd (omega (arith, h))
+    planned-rest ts us (e ∷ es) old new ss is h x behind planned = (
+      behind.0 ++ ss,
+      ap (λ l. l ++ ss) behind.1 ∙ append_assoc old behind.0 ss,
+      subst (λ y. ArePlanned p entries n m ambition us made (y ∷ es) (behind.0 ++ ss)) is
+          (behind.2 us x es ss (subst (λ k. ArePlanned p entries n m ambition us k es ss) more (subst (λ rest. ArePlanned p entries n m ambition us next rest ss) (rest-is e es) planned))),
+    )

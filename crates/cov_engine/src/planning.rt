@@ -18,7 +18,7 @@ use std::collections::VecDeque;
 
 /// Where a commit's edits are planned: the position after it, how many nodes and lines were made before it, and the node of
 /// its ambition.
-#[derive(Clone, Copy)]
+#[derive(Drop)]
 pub(crate) struct Site {
     pub(crate) at: Position,
     pub(crate) nodes: u32,
@@ -32,17 +32,17 @@ pub(crate) fn plan_steps(
     table: &mut Table,
     entries: &[Entry],
     steps: &mut VecDeque<Step>,
-    site: Site,
+    site: &Site,
     edits: &[Edit],
 ) -> Result<(), Memory>
     requires numbered { AreNumbered 0 entries.now }
-    requires nodes { AllByRecursion (HasNodesIn table.old site.at) entries.now }
-    requires ambition { site.ambition < node_count table.old }
-    requires near { AreNear site.nodes edits.now }
-    requires low { AreLow site.lines edits.now }
-    requires few { site.lines + length (anchors_of 0 edits.now) < 2 ^ 32 }
+    requires nodes { AllByRecursion (HasNodesIn table.old site.now.at) entries.now }
+    requires ambition { site.now.ambition < node_count table.old }
+    requires near { AreNear site.now.nodes edits.now }
+    requires low { AreLow site.now.lines edits.now }
+    requires few { site.now.lines + length (anchors_of 0 edits.now) < 2 ^ 32 }
     ensures extends { Extends table.old table.new }
-    ensures steps { OnOk result (steps.old.items ≡ [] → ArePlanned site.at entries.now site.nodes site.lines site.ambition table.new site.lines edits.now steps.new.items) }
+    ensures steps { OnOk result (steps.old.items ≡ [] → ArePlanned site.now.at entries.now site.now.nodes site.now.lines site.now.ambition table.new site.now.lines edits.now steps.new.items) }
 {
     let mut made = site.lines;
     let mut ahead = edits;
@@ -58,19 +58,19 @@ fn plan_step(
     table: &mut Table,
     entries: &[Entry],
     steps: &mut VecDeque<Step>,
-    site: Site,
+    site: &Site,
     made: u32,
     edit: &Edit,
 ) -> Result<u32, Memory>
     requires numbered { AreNumbered 0 entries.now }
-    requires nodes { AllByRecursion (HasNodesIn table.old site.at) entries.now }
-    requires ambition { site.ambition < node_count table.old }
-    requires near { AreNear site.nodes (edit.now ∷ []) }
-    requires low { AreLow site.lines (edit.now ∷ []) }
+    requires nodes { AllByRecursion (HasNodesIn table.old site.now.at) entries.now }
+    requires ambition { site.now.ambition < node_count table.old }
+    requires near { AreNear site.now.nodes (edit.now ∷ []) }
+    requires low { AreLow site.now.lines (edit.now ∷ []) }
     requires few { made + length (anchors_of 0 (edit.now ∷ [])) < 2 ^ 32 }
     ensures extends { Extends table.old table.new }
     ensures made { IfOk result (λ next. next ≡ made + length (anchors_of 0 (edit.now ∷ []))) }
-    ensures planned { OnOk result (IsPlannedBehind site.at entries.now site.nodes site.lines site.ambition table.new made edit.now steps.old.items steps.new.items) }
+    ensures planned { OnOk result (IsPlannedBehind site.now.at entries.now site.now.nodes site.now.lines site.now.ambition table.new made edit.now steps.old.items steps.new.items) }
 {
     match edit {
         Edit::New { .. } => Ok(made),

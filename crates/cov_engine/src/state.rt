@@ -163,7 +163,7 @@ fn commit_ready(state: &mut State, ambition: &Expr, edits: &Edits) -> Result<Rea
         &mut state.table,
         &state.kept.entries,
         &mut steps,
-        site,
+        &site,
         edits.as_slice(),
     )?;
     draw_commit(&mut state.kept, state.counts, edits.as_slice())?;

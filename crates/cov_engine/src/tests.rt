@@ -33,7 +33,7 @@ fn declarations_are_installed(rt: HostRuntime) -> Result<(), Fail> {
 
 // A history with a command more.
 fn with(engine: Engine, command: Command) -> Result<Engine, Fail>
-    requires { MayCome engine command }
+    requires { MayCome engine.history command }
     ensures { IfOk result (λ longer. longer ≡ engine ++ command ∷ []) }
 {
     match engine.prepare(command) {
@@ -60,7 +60,7 @@ fn with_constraint(alloc: Global) -> Result<Engine, Fail>
 
 // The refusal of a command, if there is one.
 fn refusal_of(engine: Engine, command: Command) -> Option<Refusal>
-    requires { MayCome engine command }
+    requires { MayCome engine.history command }
 {
     match engine.prepare(command) {
         Ok(_) => None,

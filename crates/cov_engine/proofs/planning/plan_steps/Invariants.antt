@@ -11,14 +11,14 @@ use Rattle.cov_engine.proofs.planning.plan_steps.Given as goal
 
 abbrev pub invariant-loop-ahead : goal.invariant-loop-ahead
 invariant-loop-ahead l = record {
-  extends : Extends l.fn.table.now l.table.now;
-  nodes : AllByRecursion (HasNodesIn l.table.now l.site.at) l.entries.now;
-  ambition : l.site.ambition < node_count l.table.now;
+  extends : Extends l.fn.table l.table;
+  nodes : AllByRecursion (HasNodesIn l.table l.site.at) l.entries;
+  ambition : l.site.ambition < node_count l.table;
   near : AreNear l.site.nodes l.ahead;
   low : AreLow l.site.lines l.ahead;
   few : l.made + length (anchors_of 0 l.ahead) < 2 ^ 32;
-  planned : (us : List Triple) → Extends l.table.now us → (ss : List Step) → ArePlanned l.site.at l.entries.now l.site.nodes l.site.lines l.site.ambition us l.made l.ahead ss
-      → l.fn.steps.now.items ≡ [] → ArePlanned l.site.at l.entries.now l.site.nodes l.site.lines l.site.ambition us l.site.lines l.edits (l.steps.now.items ++ ss);
+  planned : (us : List Triple) → Extends l.table us → (ss : List Step) → ArePlanned l.site.at l.entries l.site.nodes l.site.lines l.site.ambition us l.made l.ahead ss
+      → l.fn.steps.items ≡ [] → ArePlanned l.site.at l.entries l.site.nodes l.site.lines l.site.ambition us l.site.lines l.edits (l.steps.items ++ ss);
 }
 
 abbrev pub decreases-loop-ahead : goal.decreases-loop-ahead

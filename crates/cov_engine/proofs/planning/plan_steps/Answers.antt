@@ -1,0 +1,43 @@
+use Rattle.std.proofs.Common.{◌<◌, [], ◌++◌, append-nil, sym, ap, subst, ◌∙◌, arith}
+use Rattle.cov_dd.proofs.CallerLemmas.{extends_none, extends_trans}
+use Rattle.cov_engine.specs.Stepping.{ArePlanned}
+use Rattle.cov_engine.proofs.Planned.{nodes-later, low-rest, few-rest, planned-rest}
+use Rattle.cov_engine.proofs.Rooms.{near-rest}
+use Rattle.cov_engine.proofs.planning.plan_steps.Goals as goal
+
+pub loop-ahead-init : goal.loop-ahead-init
+loop-ahead-init c = record {
+  extends = extends_none c.args.table.now;
+  nodes = c.requires.nodes;
+  ambition = c.requires.ambition;
+  near = c.requires.near;
+  low = c.requires.low;
+  few = c.requires.few;
+  planned = λ us x ss planned start. subst (ArePlanned c.args.site.now.at c.args.entries.now c.args.site.now.nodes c.args.site.now.lines c.args.site.now.ambition us c.args.site.now.lines c.args.edits.now)
+      (sym (ap (λ l. l ++ ss) start)) planned;
+}
+
+pub loop-ahead-preserved : goal.loop-ahead-preserved
+loop-ahead-preserved c =
+    let i = c.loop-ahead.invariant in
+    let x = c.plan_step.ensures.extends in
+    let more = c.in_ok-made.ensures.made in
+    record {
+      extends = extends_trans c.args.table.now c.loop-ahead.table c.plan_step.new.table i.extends x;
+      nodes = nodes-later c.loop-ahead.table c.plan_step.new.table c.args.site.now.at c.args.entries.now x i.nodes;
+      ambition = let grown = x.count in let low = i.ambition in omega (arith, grown, low);
+      near = near-rest c.args.site.now.nodes c.loop-ahead.ahead.now i.near;
+      low = low-rest c.args.site.now.lines c.loop-ahead.ahead.now i.low;
+      few = few-rest c.loop-ahead.made c.in_ok-made.made c.edit-item.result c.edit-item.result more _ c.loop-ahead.ahead.now c.edit-item.is c.in-len1-up.len_at_least i.few;
+      planned = λ us y ss planned start.
+          let all = planned-rest c.loop-ahead.made c.in_ok-made.made c.edit-item.result c.edit-item.result more c.args.site.now.at c.args.entries.now c.args.site.now.nodes c.args.site.now.lines c.args.site.now.ambition
+          c.plan_step.new.table us c.loop-ahead.ahead.now c.loop-ahead.steps.items c.plan_step.new.steps.items ss c.edit-item.is c.in-len1-up.len_at_least y c.in_ok-made.ensures.planned planned in
+          subst (ArePlanned c.args.site.now.at c.args.entries.now c.args.site.now.nodes c.args.site.now.lines c.args.site.now.ambition us c.args.site.now.lines c.args.edits.now)
+          (sym all.1) (i.planned us (extends_trans c.loop-ahead.table c.plan_step.new.table us x y) all.0 all.2 start);
+    }
+
+pub returns-in_err-made-clause-extends : goal.returns-in_err-made-clause-extends
+returns-in_err-made-clause-extends c = extends_trans c.args.table.now c.loop-ahead.table c.plan_step.new.table c.loop-ahead.invariant.extends c.plan_step.ensures.extends
+
+pub returns-clause-steps : goal.returns-clause-steps
+returns-clause-steps c = λ start. ?
