@@ -7,9 +7,9 @@ use Rattle.cov_engine.specs.declared.entry.Entry.{Entry}
 use Rattle.cov_engine.specs.declared.step.Step.{Step}
 use Rattle.cov_engine.specs.declared.step.Step.TheVariants as steps
 use Rattle.cov_engine.specs.Drawing.{Stored, stored, index_of, AreNumbered}
-use Rattle.cov_engine.specs.Stepping.{step_file, CanStep, IsStepped, AllPairs, IsChangedIn, AreStepped, CanStepIn, CanStepAll, AreSteppedAll}
+use Rattle.cov_engine.specs.Stepping.{step_file, IsStepped, AllPairs, IsChangedIn, AreStepped, CanStepAll, AreSteppedAll}
 
-index-some : (count node at : ℕ) → index_of count node ≡ Some at → (node ≡ at + 1) × (at < count)
+pub index-some : (count node at : ℕ) → index_of count node ≡ Some at → (node ≡ at + 1) × (at < count)
 index-some count node at h = by (nat_lt 0 node) (nat_le node count) refl refl h
   where
     by : (b c : Bool) → nat_lt 0 node ≡ b → nat_le node count ≡ c → cond (b && c) (Some (node - 1)) None ≡ Some at → (node ≡ at + 1) × (at < count)
@@ -22,11 +22,11 @@ index-some count node at h = by (nat_lt 0 node) (nat_le node count) refl refl h
     by false c e f k = absurd (cc)
 
 -- a node that has no entry
-data IsOutside (k count node : ℕ) : Type 0 where
+pub data IsOutside (k count node : ℕ) : Type 0 where
   Below : node ≤ k → IsOutside k count node
   Above : k + count < node → IsOutside k count node
 
-index-none : (count node : ℕ) → index_of count node ≡ None → IsOutside 0 count node
+pub index-none : (count node : ℕ) → index_of count node ≡ None → IsOutside 0 count node
 index-none count node h = by (nat_lt 0 node) (nat_le node count) refl refl h
   where
     by : (b c : Bool) → nat_lt 0 node ≡ b → nat_le node count ≡ c → cond (b && c) (Some (node - 1)) None ≡ None → IsOutside 0 count node
@@ -91,12 +91,12 @@ all-pairs Q A B f [] (y ∷ fs) pairs all = absurd pairs
 all-pairs Q A B f (x ∷ es) [] pairs all = absurd pairs
 all-pairs Q A B f (x ∷ es) (y ∷ fs) pairs all = (f x y pairs.0 all.0, all-pairs Q A B f es fs pairs.1 all.1)
 
-get-all : (P : Entry → Type 0) (es : List Entry) (i : ℕ) (d : Entry) → i < length es → AllByRecursion P es → P (get_or es i d)
+pub get-all : (P : Entry → Type 0) (es : List Entry) (i : ℕ) (d : Entry) → i < length es → AllByRecursion P es → P (get_or es i d)
 get-all P [] i d h all = absurd (omega (arith, h))
 get-all P (e ∷ es) zero d h all = all.0
 get-all P (e ∷ es) (suc i) d h all = get-all P es i d (omega (arith, h)) all.1
 
-get-node : (k : ℕ) (es : List Entry) (i : ℕ) (d : Entry) → i < length es → AreNumbered k es → (get_or es i d).node ≡ k + 1 + i
+pub get-node : (k : ℕ) (es : List Entry) (i : ℕ) (d : Entry) → i < length es → AreNumbered k es → (get_or es i d).node ≡ k + 1 + i
 get-node k [] i d h numbered = absurd (omega (arith, h))
 get-node k (e ∷ es) zero d h numbered = let it : e.node ≡ k + 1 = numbered.0 in omega (arith, it)
 get-node k (e ∷ es) (suc i) d h numbered = let it = get-node (k + 1) es i d (omega (arith, h)) numbered.1 in omega (arith, it)
@@ -141,6 +141,7 @@ stepped-node at s old new h = by (nat_eq old.node (step_file s)) refl
     row : (s : Step) → IsStepped at s old new → new.node ≡ old.node
     row (steps.Insert file anchor line text vis) p = ap (λ (r : Stored). r.node) p.row
     row (steps.Delete file line vis) p = ap (λ (r : Stored). r.node) p.row
+
     by : (b : Bool) → nat_eq old.node (step_file s) ≡ b → new.node ≡ old.node
     by true e = row s (h.here e)
     by false e = ap (λ (x : Entry). x.node) (h.elsewhere e)

@@ -1,7 +1,7 @@
 -- Room for what edits do to files, counted edit by edit.
-use Rattle.std.proofs.Common.{◌≡◌, ℕ, zero, suc, ◌+◌, ◌-◌, ◌<◌, ◌≤◌, ◌^◌, Bool, true, false, cond, ◌&&◌, ◌||◌, nat_eq, List, [], ◌∷◌, ◌++◌, length, map, take, drop, get_or, is_none, Option, Some, None, refl, sym, ap, subst, ◌∙◌, arith}
-use Rattle.std.specs.List.{AllByRecursion, list_any}
-use Rattle.std.proofs.lemmas.Bool.{or_left, or_right}
+use Rattle.std.proofs.Common.{◌≡◌, ℕ, zero, suc, ◌+◌, ◌-◌, ◌<◌, ◌≤◌, Bool, true, false, cond, ◌&&◌, ◌||◌, nat_eq, List, [], ◌∷◌, ◌++◌, length, map, take, drop, get_or, is_none, Option, Some, None, refl, sym, ap, subst, ◌∙◌, arith}
+use Rattle.std.specs.List.{AllByRecursion}
+use Rattle.std.proofs.lemmas.Bool.{or_right}
 use Rattle.std.proofs.lemmas.Bool.Decides.{nat_tests}
 use Rattle.std.proofs.lemmas.List.Folds.{list_any-append}
 use Rattle.cov_base.proofs.Ordered.{all-map}
@@ -14,7 +14,7 @@ use Rattle.cov_file.specs.Dated.{numbers_of}
 use Rattle.cov_file.specs.Rooms.{IsMade}
 use Rattle.cov_order.specs.Orders.{has_line}
 use Rattle.cov_engine.specs.declared.entry.Entry.{Entry}
-use Rattle.cov_engine.specs.Drawing.{Stored, stored, new_entries, inserts_into, deletes_from, touches, AreNear, AreLow, AreNumbered, HasRoom, IsReadyBut}
+use Rattle.cov_engine.specs.Drawing.{Stored, stored, new_entries, inserts_into, deletes_from, touches, AreNumbered, HasRoom, IsReadyBut}
 use Rattle.cov_engine.specs.Stepping.{IsChangedIn, IsExpectingInsert, IsExpectingDelete, ExpectsInsert, ExpectsDelete}
 use Rattle.cov_engine.proofs.Entries.{AreNumbers, to-numbers, from-numbers, node-stored, all-pairs}
 
@@ -73,7 +73,7 @@ module _ (n m : ℕ) (es ahead : List Edit) where
     counted = counted;
     listed = listed;
     changes = λ line deleted there.
-    either (deletes_from n m e.node line ahead) (has_line line e.coming.deletes) (has_line line e.file.room.changes) (listed line deleted) (λ is. room.changes line is there);
+        either (deletes_from n m e.node line ahead) (has_line line e.coming.deletes) (has_line line e.file.room.changes) (listed line deleted) (λ is. room.changes line is there);
     position = λ touched. or_right (touches n e.node ahead) (is_none e.file.room.position) (ap is_none room.position);
   }
 
@@ -83,14 +83,18 @@ module _ (n m : ℕ) (es ahead : List Edit) where
     where
       node : new.node ≡ old.node
       node = node-stored new old h.row
+
       more : inserts_into n old.node es ≤ old.coming.inserts + suc (inserts_into n old.node ahead)
       more = subst (λ b. inserts_into n old.node es ≤ old.coming.inserts + cond b (suc (inserts_into n old.node ahead)) (inserts_into n old.node ahead)) here ready.counted
+
       added : inserts_into n old.node es - inserts_into n old.node ahead ≤ new.coming.inserts
       added =
           let below = inserts-few n old.node es in
           h.inserts (inserts_into n old.node es - inserts_into n old.node ahead) (omega (arith, more)) (omega (arith, below, few))
+
       counted : inserts_into n new.node es ≤ new.coming.inserts + inserts_into n new.node ahead
       counted = subst (λ k. inserts_into n k es ≤ new.coming.inserts + inserts_into n k ahead) (sym node) (omega (arith, added))
+
       listed : (line : ℕ) → deletes_from n m new.node line es ≡ true → (deletes_from n m new.node line ahead || has_line line new.coming.deletes) ≡ true
       listed line =
           subst (λ k. deletes_from n m k line es ≡ true → (deletes_from n m k line ahead || has_line line new.coming.deletes) ≡ true) (sym node)
@@ -121,10 +125,12 @@ module _ (n m : ℕ) (es ahead : List Edit) where
     where
       node : new.node ≡ old.node
       node = node-stored new old h.row
+
       counted : inserts_into n new.node es ≤ new.coming.inserts + inserts_into n new.node ahead
       counted =
           subst (λ k. inserts_into n k es ≤ new.coming.inserts + inserts_into n k ahead) (sym node)
           (subst (λ k. inserts_into n old.node es ≤ k + inserts_into n old.node ahead) (sym h.inserts) ready.counted)
+
       listed : (which : ℕ) → deletes_from n m new.node which es ≡ true → (deletes_from n m new.node which ahead || has_line which new.coming.deletes) ≡ true
       listed which =
           subst (λ k. deletes_from n m k which es ≡ true → (deletes_from n m k which ahead || has_line which new.coming.deletes) ≡ true) (sym node)
@@ -138,9 +144,9 @@ module _ (n m : ℕ) (es ahead : List Edit) where
     inserts = ready.inserts;
     counted = ready.counted;
     listed = λ which deleted.
-    subst (λ b. (((b && nat_eq (line_number m line) which) || deletes_from n m e.node which ahead) || has_line which e.coming.deletes) ≡ true) differs (ready.listed which deleted);
+        subst (λ b. (((b && nat_eq (line_number m line) which) || deletes_from n m e.node which ahead) || has_line which e.coming.deletes) ≡ true) differs (ready.listed which deleted);
     changes = λ which deleted there.
-    subst (λ b. (((b && nat_eq (line_number m line) which) || deletes_from n m e.node which ahead) || has_line which e.file.room.changes) ≡ true) differs (ready.changes which deleted there);
+        subst (λ b. (((b && nat_eq (line_number m line) which) || deletes_from n m e.node which ahead) || has_line which e.file.room.changes) ≡ true) differs (ready.changes which deleted there);
     position = λ touched. subst (λ b. ((b || touches n e.node ahead) || is_none e.file.room.position) ≡ true) differs (ready.position touched);
   }
 
@@ -166,20 +172,6 @@ module _ (n m : ℕ) (es ahead : List Edit) where
       all-pairs (IsChangedIn (node_number n file) (IsExpectingDelete (line_number m line))) (IsReadyBut n m es (edits.Delete file line ∷ ahead)) (IsReadyBut n m es ahead) (delete-one file line) old new
       (subst (λ l. ExpectsDelete (node_number n file) l old new) that (subst (λ k. ExpectsDelete k which old new) there pairs))
       (subst (λ x. AllByRecursion (IsReadyBut n m es (x ∷ ahead)) old) is ready)
-
--- room for all edits but themselves is none
-ready-none : (n m : ℕ) (es : List Edit) (e : Entry) → IsReadyBut n m es es e
-ready-none n m es e = record {
-  inserts = omega arith;
-  counted = omega arith;
-  listed = λ line deleted. or_left (deletes_from n m e.node line es) (has_line line e.coming.deletes) deleted;
-  changes = λ line deleted there. or_left (deletes_from n m e.node line es) (has_line line e.file.room.changes) deleted;
-  position = λ touched. or_left (touches n e.node es) (is_none e.file.room.position) touched;
-}
-
-pub ready-start : (n m : ℕ) (es : List Edit) (entries : List Entry) → AllByRecursion (IsReadyBut n m es es) entries
-ready-start n m es [] = tt
-ready-start n m es (e ∷ entries) = (ready-none n m es e, ready-start n m es entries)
 
 pub ready-rest : (n m : ℕ) (es ahead : List Edit) (edit d : Edit) (old new : List Entry) → edit ≡ get_or ahead 0 d → 1 ≤ length ahead
     → ((rest : List Edit) → AllByRecursion (IsReadyBut n m es (edit ∷ rest)) old → AllByRecursion (IsReadyBut n m es rest) new)

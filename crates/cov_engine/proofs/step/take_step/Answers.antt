@@ -1,6 +1,5 @@
 use Rattle.std.proofs.Common.{slice_set, sym, subst, ◌∙◌}
 use Rattle.std.specs.List.{AllByRecursion}
-use Rattle.cov_engine.specs.declared.step.Step.TheVariants as steps
 use Rattle.cov_engine.specs.Stepping.{CanInsert, CanDelete, IsInserted, IsChanged, CanStepIn, AreStepped}
 use Rattle.cov_engine.proofs.Entries.{get-here, one-changed, none-changed}
 use Rattle.cov_engine.proofs.step.take_step.Goals as goal

@@ -8,6 +8,6 @@ loop-step-preserved c = record {
       can-rest c.args.at c.in-Some.step c.loop-step.steps.items c.pop_front.new.self.items c.loop-step.entries c.take_step.new.entries c.in-Some.ensures.items c.take_step.ensures
       c.loop-step.invariant.can;
   goes_on = λ after h.
-  c.loop-step.invariant.goes_on after
-  (stepped-rest c.args.at c.in-Some.step c.loop-step.steps.items c.pop_front.new.self.items c.loop-step.entries c.take_step.new.entries c.in-Some.ensures.items c.take_step.ensures after h);
+      c.loop-step.invariant.goes_on after
+      (stepped-rest c.args.at c.in-Some.step c.loop-step.steps.items c.pop_front.new.self.items c.loop-step.entries c.take_step.new.entries c.in-Some.ensures.items c.take_step.ensures after h);
 }
