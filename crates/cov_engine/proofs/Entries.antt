@@ -1,9 +1,13 @@
 -- Entries by the numbers of their nodes.
-use Rattle.std.proofs.Common.{◌≡◌, ℕ, zero, suc, ◌+◌, ◌-◌, ◌<◌, ◌≤◌, ◌^◌, Bool, true, false, cond, ◌&&◌, nat_eq, nat_lt, nat_le, List, [], ◌∷◌, length, map, get_or, set, Some, None, refl, sym, ap, subst, ◌∙◌, arith}
+use Rattle.std.proofs.Common.{◌≡◌, ℕ, zero, suc, ◌+◌, ◌-◌, ◌<◌, ◌≤◌, Bool, true, false, cond, ◌&&◌, nat_eq, nat_lt, nat_le, List, [], ◌∷◌, length, map, get_or, set, Some, None, Ok, Err, refl, sym, ap, subst, ◌∙◌, arith}
+use Rattle.std.specs.Prelude.{Result, OnOk}
 use Rattle.std.specs.List.{AllByRecursion}
 use Rattle.std.proofs.lemmas.Bool.Decides.{nat_tests}
 use Rattle.cov_engine.specs.declared.entry.Entry.{Entry}
-use Rattle.cov_engine.specs.Drawing.{Stored, stored, index_of, AreNumbered, IsReadyFor, one_more}
+use Rattle.cov_engine.specs.declared.step.Step.{Step}
+use Rattle.cov_engine.specs.declared.step.Step.TheVariants as steps
+use Rattle.cov_engine.specs.Drawing.{Stored, stored, index_of, AreNumbered}
+use Rattle.cov_engine.specs.Stepping.{step_file, IsStepped, AllPairs, IsChangedIn, AreStepped, CanStepAll, AreSteppedAll}
 
 pub index-some : (count node at : ℕ) → index_of count node ≡ Some at → (node ≡ at + 1) × (at < count)
 index-some count node at h = by (nat_lt 0 node) (nat_le node count) refl refl h
@@ -42,44 +46,50 @@ tail-outside : (k count file : ℕ) → IsOutside k (suc count) file → IsOutsi
 tail-outside k count file (Below h) = Below (omega (arith, h))
 tail-outside k count file (Above h) = Above (omega (arith, h))
 
-module _ (file : ℕ) where
-  -- an entry changed if it is the file's
-  abbrev pub here : (Entry → Entry) → Entry → Entry
-  here f e = cond (nat_eq e.node file) (f e) e
+never : true ≡ false → ⊥
+never h = cc
 
-  pub outside-same : (f : Entry → Entry) (k : ℕ) (es : List Entry) → AreNumbered k es → IsOutside k (length es) file → map (here f) es ≡ es
-  outside-same f k [] numbered out = refl
-  outside-same f k (e ∷ es) numbered out =
-      ap (λ b. cond b (f e) e ∷ map (here f) es) (other k file e numbered.0 (head-outside k (length es) file out))
-      ∙ ap (λ l. e ∷ l) (outside-same f (k + 1) es numbered.1 (tail-outside k (length es) file out))
+module _ (file : ℕ) (P : Entry → Entry → Type 0) where
+  same-one : (e : Entry) → nat_eq e.node file ≡ false → IsChangedIn file P e e
+  same-one e h = record { here = λ t. absurd (never (sym t ∙ h)); elsewhere = λ t. refl }
 
-  pub set-here : (f : Entry → Entry) (k : ℕ) (es : List Entry) (i : ℕ) (d : Entry) → AreNumbered k es → file ≡ k + 1 + i → i < length es
-      → set es i (f (get_or es i d)) ≡ map (here f) es
-  set-here f k [] i d numbered is h = absurd (omega (arith, h))
-  set-here f k (e ∷ es) zero d numbered is h =
+  changed-one : (e new : Entry) → nat_eq e.node file ≡ true → P e new → IsChangedIn file P e new
+  changed-one e new h p = record { here = λ t. p; elsewhere = λ t. absurd (never (sym h ∙ t)) }
+
+  same-outside : (k : ℕ) (es : List Entry) → AreNumbered k es → IsOutside k (length es) file → AllPairs (IsChangedIn file P) es es
+  same-outside k [] numbered out = tt
+  same-outside k (e ∷ es) numbered out =
+      (same-one e (other k file e numbered.0 (head-outside k (length es) file out)), same-outside (k + 1) es numbered.1 (tail-outside k (length es) file out))
+
+  changed-at : (k : ℕ) (es : List Entry) (i : ℕ) (d new : Entry) → AreNumbered k es → file ≡ k + 1 + i → i < length es → P (get_or es i d) new
+      → AllPairs (IsChangedIn file P) es (set es i new)
+  changed-at k [] i d new numbered is h p = absurd (omega (arith, h))
+  changed-at k (e ∷ es) zero d new numbered is h p =
       let it : e.node ≡ k + 1 = numbered.0 in
-      let same : nat_eq e.node file ≡ true = grind (arith, nat_tests, it, is) in
-      ap (λ l. f e ∷ l) (sym (outside-same f (k + 1) es numbered.1 (Below (omega (arith, is)))))
-      ∙ ap (λ b. cond b (f e) e ∷ map (here f) es) (sym same)
-  set-here f k (e ∷ es) (suc i) d numbered is h =
+      (changed-one e new (grind (arith, nat_tests, it, is)) p, same-outside (k + 1) es numbered.1 (Below (omega (arith, is))))
+  changed-at k (e ∷ es) (suc i) d new numbered is h p =
       let it : e.node ≡ k + 1 = numbered.0 in
-      let differs : nat_eq e.node file ≡ false = grind (arith, nat_tests, it, is) in
-      ap (λ l. e ∷ l) (set-here f (k + 1) es i d numbered.1 (omega (arith, is)) (omega (arith, h)))
-      ∙ ap (λ b. cond b (f e) e ∷ map (here f) es) (sym differs)
+      (same-one e (grind (arith, nat_tests, it, is)), changed-at (k + 1) es i d new numbered.1 (omega (arith, is)) (omega (arith, h)) p)
 
-  module _ (P Q : Entry → Type 0) (differ : (e : Entry) → nat_eq e.node file ≡ false → P e → Q e) where
-    pub all-outside : (k : ℕ) (es : List Entry) → AreNumbered k es → IsOutside k (length es) file → AllByRecursion P es → AllByRecursion Q es
-    all-outside k [] numbered out all = tt
-    all-outside k (e ∷ es) numbered out all =
-        (differ e (other k file e numbered.0 (head-outside k (length es) file out)) all.0, all-outside (k + 1) es numbered.1 (tail-outside k (length es) file out) all.1)
+  -- where the file has no entry, none is changed
+  pub none-changed : (es : List Entry) → AreNumbered 0 es → index_of (length es) file ≡ None → AllPairs (IsChangedIn file P) es es
+  none-changed es numbered h = same-outside 0 es numbered (index-none (length es) file h)
 
-    pub all-set : (k : ℕ) (es : List Entry) (i : ℕ) (new : Entry) → AreNumbered k es → file ≡ k + 1 + i → i < length es
-        → AllByRecursion P es → Q new → AllByRecursion Q (set es i new)
-    all-set k [] i new numbered is h all q = absurd (omega (arith, h))
-    all-set k (e ∷ es) zero new numbered is h all q = (q, all-outside (k + 1) es numbered.1 (Below (omega (arith, is))) all.1)
-    all-set k (e ∷ es) (suc i) new numbered is h all q =
-        let it : e.node ≡ k + 1 = numbered.0 in
-        (differ e (grind (arith, nat_tests, it, is)) all.0, all-set (k + 1) es i new numbered.1 (omega (arith, is)) (omega (arith, h)) all.1 q)
+  -- the file's entry is changed
+  pub one-changed : (es : List Entry) (i : ℕ) (d new : Entry) → AreNumbered 0 es → index_of (length es) file ≡ Some i → P (get_or es i d) new
+      → AllPairs (IsChangedIn file P) es (set es i new)
+  one-changed es i d new numbered h p =
+      let found = index-some (length es) file i h in
+      let is = found.0 in
+      changed-at 0 es i d new numbered (omega (arith, is)) found.1 p
+
+-- what holds of entries holds of those that they are paired with
+pub all-pairs : (Q : Entry → Entry → Type 0) (A B : Entry → Type 0) → ((e f : Entry) → Q e f → A e → B f)
+    → (es fs : List Entry) → AllPairs Q es fs → AllByRecursion A es → AllByRecursion B fs
+all-pairs Q A B f [] [] pairs all = tt
+all-pairs Q A B f [] (y ∷ fs) pairs all = absurd pairs
+all-pairs Q A B f (x ∷ es) [] pairs all = absurd pairs
+all-pairs Q A B f (x ∷ es) (y ∷ fs) pairs all = (f x y pairs.0 all.0, all-pairs Q A B f es fs pairs.1 all.1)
 
 pub get-all : (P : Entry → Type 0) (es : List Entry) (i : ℕ) (d : Entry) → i < length es → AllByRecursion P es → P (get_or es i d)
 get-all P [] i d h all = absurd (omega (arith, h))
@@ -90,6 +100,15 @@ pub get-node : (k : ℕ) (es : List Entry) (i : ℕ) (d : Entry) → i < length 
 get-node k [] i d h numbered = absurd (omega (arith, h))
 get-node k (e ∷ es) zero d h numbered = let it : e.node ≡ k + 1 = numbered.0 in omega (arith, it)
 get-node k (e ∷ es) (suc i) d h numbered = let it = get-node (k + 1) es i d (omega (arith, h)) numbered.1 in omega (arith, it)
+
+-- what each entry has if it is the file's, the file's has
+pub get-here : (P : Entry → Type 0) (file : ℕ) (es : List Entry) (i : ℕ) (d : Entry) → AreNumbered 0 es → index_of (length es) file ≡ Some i
+    → AllByRecursion (λ e. nat_eq e.node file ≡ true → P e) es → P (get_or es i d)
+get-here P file es i d numbered h all =
+    let found = index-some (length es) file i h in
+    let is = found.0 in
+    let node = get-node 0 es i d found.1 numbered in
+    get-all (λ e. nat_eq e.node file ≡ true → P e) es i d found.1 all (grind (arith, nat_tests, is, node))
 
 pub set-stored : (es : List Entry) (i : ℕ) (d new : Entry) → stored new ≡ stored (get_or es i d) → map stored (set es i new) ≡ map stored es
 set-stored [] i d new e = refl
@@ -112,27 +131,36 @@ from-numbers k (e ∷ es) h = (h.0, from-numbers (k + 1) es h.1)
 pub numbered-stored : (k : ℕ) (es fs : List Entry) → map stored fs ≡ map stored es → AreNumbered k es → AreNumbered k fs
 numbered-stored k es fs e h = from-numbers k fs (subst (AreNumbers k) (sym e) (to-numbers k es h))
 
-node-stored : (e f : Entry) → stored e ≡ stored f → e.node ≡ f.node
+pub node-stored : (e f : Entry) → stored e ≡ stored f → e.node ≡ f.node
 node-stored e f h = ap (λ (s : Stored). s.node) h
 
-more-elsewhere : (file : ℕ) (count : ℕ → ℕ) (e : Entry) → nat_eq e.node file ≡ false → IsReadyFor count e → IsReadyFor (one_more file count) e
-more-elsewhere file count e differs ready = subst (λ n. (n ≤ e.order.spare) × (n ≤ e.room)) (sym (ap (λ b. cond b (suc (count e.node)) (count e.node)) differs)) ready
+-- a step changes no numbers
+pub stepped-node : (at : ℕ) (s : Step) (old new : Entry) → IsChangedIn (step_file s) (IsStepped at s) old new → new.node ≡ old.node
+stepped-node at s old new h = by (nat_eq old.node (step_file s)) refl
+  where
+    row : (s : Step) → IsStepped at s old new → new.node ≡ old.node
+    row (steps.Insert file anchor line text vis) p = ap (λ (r : Stored). r.node) p.row
+    row (steps.Delete file line vis) p = ap (λ (r : Stored). r.node) p.row
 
-pub ready-outside : (file : ℕ) (count : ℕ → ℕ) (es : List Entry) → AreNumbered 0 es → IsOutside 0 (length es) file
-    → AllByRecursion (IsReadyFor count) es → AllByRecursion (IsReadyFor (one_more file count)) es
-ready-outside file count es numbered out ready = all-outside file (IsReadyFor count) (IsReadyFor (one_more file count)) (more-elsewhere file count) 0 es numbered out ready
+    by : (b : Bool) → nat_eq old.node (step_file s) ≡ b → new.node ≡ old.node
+    by true e = row s (h.here e)
+    by false e = ap (λ (x : Entry). x.node) (h.elsewhere e)
 
-pub ready-set : (file : ℕ) (count : ℕ → ℕ) (es : List Entry) (i : ℕ) (d new : Entry) → AreNumbered 0 es → file ≡ i + 1 → i < length es
-    → stored new ≡ stored (get_or es i d) → ((n : ℕ) → n ≤ (get_or es i d).room → n < 2 ^ 32 - 1 → n + 1 ≤ new.room) → new.room ≤ new.order.spare → count file < 2 ^ 32 - 1
-    → AllByRecursion (IsReadyFor count) es → AllByRecursion (IsReadyFor (one_more file count)) (set es i new)
-ready-set file count es i d new numbered is h same more room few ready =
-    let node : new.node ≡ file =
-    let old = get-node 0 es i d h numbered in
-    node-stored new (get_or es i d) same ∙ (let zero_first : 0 + 1 + i ≡ file = omega (arith, is) in old ∙ zero_first) in
-    let was : count file ≤ (get_or es i d).room =
-    subst (λ n. count n ≤ (get_or es i d).room) (sym (node-stored new (get_or es i d) same) ∙ node) (get-all (IsReadyFor count) es i d h ready).1 in
-    let now : count file + 1 ≤ new.room = more (count file) was few in
-    let true_here : nat_eq new.node file ≡ true = grind (arith, nat_tests, node) in
-    all-set file (IsReadyFor count) (IsReadyFor (one_more file count)) (more-elsewhere file count) 0 es i new numbered (omega (arith, is)) h ready
-    (subst (λ n. (n ≤ new.order.spare) × (n ≤ new.room)) (sym (ap (λ b. cond b (suc (count new.node)) (count new.node)) true_here))
-    (subst (λ m. (suc (count m) ≤ new.order.spare) × (suc (count m) ≤ new.room)) (sym node) (omega (arith, now, room), omega (arith, now))))
+pub stepped-numbers : (at : ℕ) (s : Step) (k : ℕ) (old new : List Entry) → AreStepped at s old new → AreNumbered k old → AreNumbered k new
+stepped-numbers at s k [] [] pairs h = tt
+stepped-numbers at s k [] (y ∷ new) pairs h = absurd pairs
+stepped-numbers at s k (x ∷ old) [] pairs h = absurd pairs
+stepped-numbers at s k (x ∷ old) (y ∷ new) pairs h = (stepped-node at s x y pairs.0 ∙ h.0, stepped-numbers at s (k + 1) old new pairs.1 h.1)
+
+module _ (at : ℕ) (s : Step) (ss rest : List Step) (old new : List Entry) where
+  -- the steps after the first can be taken after it
+  pub can-rest : ss ≡ s ∷ rest → AreStepped at s old new → CanStepAll at ss old → CanStepAll at rest new
+  can-rest is stepped can = (subst (λ l. CanStepAll at l old) is can).1 new stepped
+
+  pub stepped-rest : ss ≡ s ∷ rest → AreStepped at s old new → (after : List Entry) → AreSteppedAll at rest new after → AreSteppedAll at ss old after
+  stepped-rest is stepped after h = subst (λ l. AreSteppedAll at l old after) (sym is) (new, stepped, h)
+
+-- what two facts of an answer give together
+pub on_both : {A E : Type 0} (r : Result A E) (P Q R : Type 0) → (P → Q → R) → OnOk r P → OnOk r Q → OnOk r R
+on_both (Ok x) P Q R f p q = f p q
+on_both (Err e) P Q R f p q = tt

@@ -11,7 +11,6 @@ pub mod Holdings
 pub mod Inserts
 pub mod Installed
 pub mod Judged
-pub mod Lines
 pub mod Named
 pub mod Naming
 pub mod Orders

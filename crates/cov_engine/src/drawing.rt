@@ -18,11 +18,7 @@ use std::alloc::Global;
 use std::collections::VecDeque;
 
 /// Adds the files of the lines that a commit's edits insert, `before` nodes having been made before.
-pub(crate) fn draw_homes(
-    homes: &mut Vec<NodeNo>,
-    before: u32,
-    edits: &[Edit],
-) -> Result<(), Memory>
+pub(crate) fn draw_homes(homes: &mut Vec<NodeNo>, before: u32, edits: &[Edit]) -> Result<(), Memory>
     requires near { AreNear before edits.now }
     ensures ok { OnOk result (homes.new.items ≡ homes.old.items ++ new_homes before edits.now) }
     ensures front { take (length homes.old.items) homes.new.items ≡ homes.old.items }

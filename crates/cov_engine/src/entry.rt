@@ -55,8 +55,7 @@ impl Entry {
         if self.coming.inserts < u32::MAX {
             self.coming.inserts += 1;
         }
-        self.file
-            .prepare(self.coming.inserts, &self.coming.deletes)
+        self.file.prepare(self.coming.inserts, &self.coming.deletes)
     }
 
     /// Makes room for another visibility of a line.
@@ -67,8 +66,7 @@ impl Entry {
         ensures room { OnOk result (IsMade self.new.file.room (numbers_of self.new.file.lines) self.new.coming.inserts self.new.coming.deletes) }
     {
         self.coming.deletes.push(line)?;
-        self.file
-            .prepare(self.coming.inserts, &self.coming.deletes)
+        self.file.prepare(self.coming.inserts, &self.coming.deletes)
     }
 
     /// Nothing more is expected.
@@ -81,7 +79,14 @@ impl Entry {
     }
 
     /// Puts a line directly after its anchor, with its visibility from a position on.
-    pub(crate) fn insert(&mut self, anchor: LineNo, line: LineNo, text: Text, vis: Node, at: Position)
+    pub(crate) fn insert(
+        &mut self,
+        anchor: LineNo,
+        line: LineNo,
+        text: Text,
+        vis: Node,
+        at: Position,
+    )
         requires { CanInsert at anchor line self.old }
         ensures { IsInserted at anchor line text vis self.old self.new }
     {

@@ -17,9 +17,14 @@ use std::collections::VecDeque;
 #[derive(Drop)]
 pub(crate) enum Ready {
     /// The name of the option, for which there is room.
-    Option { name: OptionName },
+    Option {
+        name: OptionName,
+    },
     /// The rule, for which there is room.
-    Rule { rule: Rule, plan: RulePlan },
+    Rule {
+        rule: Rule,
+        plan: RulePlan,
+    },
     /// The position and ambition of the commit, the counts with it, and its steps. Its rows are drawn.
     Commit {
         made: Made,
