@@ -116,14 +116,9 @@ module _ (p : ℕ) (entries : List Entry) (n m ambition : ℕ) where
   )
 
 anchors-first : (e : Edit) (es : List Edit) → length (anchors_of 0 (e ∷ es)) ≡ length (anchors_of 0 (e ∷ [])) + length (anchors_of 0 es)
-anchors-first (edits.New kind parent name) es = refl
+anchors-first (edits.New kind parent name) es = omega arith
 anchors-first (edits.Insert file after text) es = omega arith
-anchors-first (edits.Delete file line) es = refl
-
--- the edits after the first are low too, and few
-pub low-rest : (m : ℕ) (es : List Edit) → AreLow m es → AreLow m (rest_of es)
-low-rest m [] h = tt
-low-rest m (e ∷ es) h = subst (AreLow m) (sym (rest-is e es)) h.1
+anchors-first (edits.Delete file line) es = omega arith
 
 module _ (made next : ℕ) (edit d : Edit) (more : next ≡ made + length (anchors_of 0 (edit ∷ []))) where
   pub few-rest : (most : ℕ) (ahead : List Edit) → edit ≡ get_or ahead 0 d → 1 ≤ length ahead → made + length (anchors_of 0 ahead) < most → next + length (anchors_of 0 (rest_of ahead)) < most
@@ -144,3 +139,9 @@ module _ (made next : ℕ) (edit d : Edit) (more : next ≡ made + length (ancho
       subst (λ y. ArePlanned p entries n m ambition us made (y ∷ es) (behind.0 ++ ss)) is
           (behind.2 us x es ss (subst (λ k. ArePlanned p entries n m ambition us k es ss) more (subst (λ rest. ArePlanned p entries n m ambition us next rest ss) (rest-is e es) planned))),
     )
+
+-- with no edit ahead, what there is are the steps
+pub planned-end : (p : ℕ) (entries : List Entry) (n m ambition : ℕ) (us : List Triple) (made start : ℕ) (es ahead : List Edit) (ss : List Step) → length ahead < 1
+    → ((rest : List Step) → ArePlanned p entries n m ambition us made ahead rest → ArePlanned p entries n m ambition us start es (ss ++ rest)) → ArePlanned p entries n m ambition us start es ss
+planned-end p entries n m ambition us made start es [] ss h on = subst (ArePlanned p entries n m ambition us start es) (append-nil ss) (on [] refl)
+planned-end p entries n m ambition us made start es (e ∷ ahead) ss h on = absurd (omega (arith, h))

@@ -1,8 +1,8 @@
 use Rattle.std.proofs.Common.{◌<◌, [], ◌++◌, append-nil, sym, ap, subst, ◌∙◌, arith}
 use Rattle.cov_dd.proofs.CallerLemmas.{extends_none, extends_trans}
 use Rattle.cov_engine.specs.Stepping.{ArePlanned}
-use Rattle.cov_engine.proofs.Planned.{nodes-later, low-rest, few-rest, planned-rest}
-use Rattle.cov_engine.proofs.Rooms.{near-rest}
+use Rattle.cov_engine.proofs.Planned.{nodes-later, few-rest, planned-rest, planned-end}
+use Rattle.cov_engine.proofs.Rooms.{all-rest}
 use Rattle.cov_engine.proofs.planning.plan_steps.Goals as goal
 
 pub loop-ahead-init : goal.loop-ahead-init
@@ -26,8 +26,8 @@ loop-ahead-preserved c =
       extends = extends_trans c.args.table.now c.loop-ahead.table c.plan_step.new.table i.extends x;
       nodes = nodes-later c.loop-ahead.table c.plan_step.new.table c.args.site.now.at c.args.entries.now x i.nodes;
       ambition = let grown = x.count in let low = i.ambition in omega (arith, grown, low);
-      near = near-rest c.args.site.now.nodes c.loop-ahead.ahead.now i.near;
-      low = low-rest c.args.site.now.lines c.loop-ahead.ahead.now i.low;
+      near = all-rest _ c.loop-ahead.ahead.now i.near;
+      low = all-rest _ c.loop-ahead.ahead.now i.low;
       few = few-rest c.loop-ahead.made c.in_ok-made.made c.edit-item.result c.edit-item.result more _ c.loop-ahead.ahead.now c.edit-item.is c.in-len1-up.len_at_least i.few;
       planned = λ us y ss planned start.
           let all = planned-rest c.loop-ahead.made c.in_ok-made.made c.edit-item.result c.edit-item.result more c.args.site.now.at c.args.entries.now c.args.site.now.nodes c.args.site.now.lines c.args.site.now.ambition
@@ -40,4 +40,7 @@ pub returns-in_err-made-clause-extends : goal.returns-in_err-made-clause-extends
 returns-in_err-made-clause-extends c = extends_trans c.args.table.now c.loop-ahead.table c.plan_step.new.table c.loop-ahead.invariant.extends c.plan_step.ensures.extends
 
 pub returns-clause-steps : goal.returns-clause-steps
-returns-clause-steps c = λ start. ?
+returns-clause-steps c = λ start.
+    planned-end c.args.site.now.at c.args.entries.now c.args.site.now.nodes c.args.site.now.lines c.args.site.now.ambition c.loop-ahead.table c.loop-ahead.made c.args.site.now.lines
+    c.args.edits.now c.loop-ahead.ahead.now c.loop-ahead.steps.items c.in_default.len_below
+    (λ rest planned. c.loop-ahead.invariant.planned c.loop-ahead.table (extends_none c.loop-ahead.table) rest planned start)
