@@ -1,3 +1,4 @@
+pub mod Amid
 pub mod Appends
 pub mod Committed
 pub mod Dating

@@ -1,0 +1,259 @@
+-- What entries have when the first edits of a commit are done.
+use Rattle.std.proofs.Common.{◌≡◌, ℕ, zero, suc, ◌+◌, ◌<◌, ◌≤◌, Bool, true, false, cond, ◌&&◌, ◌||◌, not, nat_eq, nat_le, List, [], ◌∷◌, ◌++◌, length, map, drop, append_assoc, append-nil, refl, sym, ap, subst, ◌∙◌, arith}
+use Rattle.std.specs.List.{fold, AllByRecursion}
+use Rattle.std.proofs.lemmas.Bool.Decides.{nat_tests}
+use Rattle.cov_base.specs.Addresses.{after_anchor, after_anchor_by}
+use Rattle.cov_base.proofs.Ordered.{all-map}
+use Rattle.cov_base.specs.declared.number.NodeRef.{NodeRef}
+use Rattle.cov_base.specs.declared.number.LineRef.{LineRef}
+use Rattle.cov_dd.specs.declared.triple.Triple.{Triple}
+use Rattle.cov_dd.specs.Diagrams.{Stands}
+use Rattle.cov_dd.proofs.CallerLemmas.{stands_weaker}
+use Rattle.cov_expr.specs.Formula.{Formula, Not, And, value}
+use Rattle.cov_edit.specs.declared.edit.Edit.{Edit}
+use Rattle.cov_edit.specs.declared.edit.Edit.TheVariants as edits
+use Rattle.cov_edit.specs.declared.command.Command.{Command}
+use Rattle.cov_edit.specs.History.{option_count}
+use Rattle.cov_edit.specs.Numbering.{node_number, line_number, anchors_of, numbers_of, numbered_from}
+use Rattle.cov_edit.specs.Variant.{Line}
+use Rattle.cov_file.specs.Dated.{DatedLine as FileLine, numbers_of as file_numbers, new_line, with_line, with_change, AreAlike}
+use Rattle.cov_file.specs.Rooms.{DatedFile, is_room_at, IsLeft}
+use Rattle.cov_file.proofs.Changes.{has_after}
+use Rattle.cov_order.specs.Orders.{has_line}
+use Rattle.cov_engine.specs.Deletions.{Deletion, hidden_by}
+use Rattle.cov_engine.specs.Drawing.{inserts_into, deletes_from, touches, new_homes}
+use Rattle.cov_engine.specs.Files.{DatedLine, dated_number, dated, file_dated, file_order, Takes}
+use Rattle.cov_engine.specs.Insertions.{Insertion, lines_amid, held_amid, numbered_amid}
+use Rattle.cov_engine.specs.Kept.{Kept, seen_at, kept_number, kept_of, held_by, file_kept, is_kept_anchor}
+use Rattle.cov_engine.specs.Nodes.{AreDated, AreHomes}
+use Rattle.cov_engine.specs.Sessions.{IsGood, has_commit, session_of}
+use Rattle.cov_engine.specs.Stepping.{CanInsert, CanDelete, IsInserted, IsChanged, IsStepped, IsChangedIn, AllPairs, AreStepped, CanStepIn, CanStepAll, AreSteppedAll, step_file, restored}
+use Rattle.cov_engine.specs.declared.entry.Entry.{Entry}
+use Rattle.cov_engine.specs.declared.step.Step.{Step}
+use Rattle.cov_engine.specs.declared.step.Step.TheVariants as steps
+use Rattle.cov_engine.proofs.Appends.{lines-edits}
+use Rattle.cov_engine.proofs.Committed.{numbers-dated, new-same}
+use Rattle.cov_engine.proofs.Dating.{IsGone, gone, dated-numbers, insert-lines, delete-lines, all-after}
+use Rattle.cov_engine.proofs.Deletes.{delete-dated, delete-elsewhere, delete-order, accepted-there}
+use Rattle.cov_engine.proofs.Entries.{all-pairs}
+use Rattle.cov_engine.proofs.Inserts.{anchors-append, anchors-stay, insert-elsewhere}
+use Rattle.cov_engine.proofs.Orders.{insert-dated, order-takes}
+use Rattle.cov_engine.proofs.Sessions.{accepted-anchored}
+use Rattle.cov_engine.proofs.Standing.{all-mapped}
+use Rattle.cov_engine.proofs.States.{length-one}
+
+alike-numbers : (ls ms : List FileLine) → AreAlike ls ms → file_numbers ls ≡ file_numbers ms
+alike-numbers [] [] h = refl
+alike-numbers [] (m ∷ ms) h = absurd h
+alike-numbers (l ∷ ls) [] h = absurd h
+alike-numbers (l ∷ ls) (m ∷ ms) h = ap (λ n. n ∷ file_numbers ls) h.0.line ∙ ap (λ ns. m.line ∷ ns) (alike-numbers ls ms h.1)
+
+reflexive : (q : ℕ) → nat_le q q ≡ true
+reflexive q = grind (arith, nat_tests)
+
+one_more : (history : List Command) (begun : List Edit) (file : NodeRef) (after : LineRef) (text : List ℕ) → lines_amid history (begun ++ edits.Insert file after text ∷ []) ≡ lines_amid history begun + 1
+one_more history begun file after text =
+    let m = length (numbers_of history).addresses in
+    let joined = ap length (anchors-append m begun (edits.Insert file after text ∷ [])) in
+    let one = length-one (anchors_of m begun) (line_number m after) in
+    omega (arith, joined, one)
+
+none_more : (m : ℕ) (begun : List Edit) (e : Edit) → anchors_of m (e ∷ []) ≡ [] → anchors_of m (begun ++ e ∷ []) ≡ anchors_of m begun
+none_more m begun e h = anchors-append m begun (e ∷ []) ∙ ap (λ l. anchors_of m begun ++ l) h ∙ append-nil (anchors_of m begun)
+
+or-left : (a b : Bool) → a ≡ true → (a || b) ≡ true
+or-left true b h = refl
+or-left false b h = absurd (cc)
+
+or-right : (a b : Bool) → b ≡ true → (a || b) ≡ true
+or-right true b h = refl
+or-right false b h = h
+
+both-true : (a b : Bool) → a ≡ true → b ≡ true → (a && b) ≡ true
+both-true true b g h = h
+both-true false b g h = absurd (cc)
+
+module _ (history : List Command) (base : ℕ) (choice : List Bool) (ambition : Formula ℕ) (es : List Edit)
+    (good : IsGood history (session_of base choice ambition es)) (alone : has_commit (drop base history) ≡ false) where
+  abbrev n : ℕ
+  n = (numbers_of history).nodes
+
+  abbrev m : ℕ
+  m = length (numbers_of history).addresses
+
+  abbrev q : ℕ
+  q = length history + 1
+
+  -- the lines that are kept when the first edits are done
+  abbrev pub lines_at : List Edit → List (Kept Line)
+  lines_at begun = (held_amid history ambition es begun).lines
+
+  abbrev new_dated : ℕ → List ℕ → DatedLine
+  new_dated number text = record { line = number; text = text; changes = (q, ambition) ∷ [] }
+
+  -- a made row leaves them
+  new-lines : (begun : List Edit) (e : Edit) (kind : Rattle.cov_base.specs.declared.number.Kind.Kind) (parent : NodeRef) (name : List ℕ) → e ≡ edits.New kind parent name → lines_at (begun ++ e ∷ []) ≡ lines_at begun
+  new-lines begun e kind parent name is =
+      ap (λ x. lines_at (begun ++ x ∷ [])) is
+      ∙ lines-edits q ambition (held_by history) (numbered_amid history es (begun ++ edits.New kind parent name ∷ []))
+      ∙ new-same q ambition (numbers_of history) _ n m (kept_of history) begun kind parent name
+      ∙ sym (lines-edits q ambition (held_by history) (numbered_amid history es begun))
+
+  module _ (begun later : List Edit) (file : NodeRef) (after : LineRef) (text : List ℕ) (all : begun ++ edits.Insert file after text ∷ later ≡ es) where
+    abbrev i : Insertion
+    i = record { begun = begun; file = file; after = after; text = text; later = later }
+
+    anchored : is_kept_anchor (node_number n file) (line_number m after) (held_amid history ambition (begun ++ edits.Insert file after text ∷ later) begun).lines ≡ true
+    anchored = accepted-anchored history (session_of base choice ambition es) i good alone all
+
+    insert-before : (held_amid history ambition (begun ++ edits.Insert file after text ∷ later) begun).lines ≡ lines_at begun
+    insert-before = ap (λ some. (held_amid history ambition some begun).lines) all
+
+    insert-behind : (held_amid history ambition (begun ++ edits.Insert file after text ∷ later) (begun ++ edits.Insert file after text ∷ [])).lines ≡ lines_at (begun ++ edits.Insert file after text ∷ [])
+    insert-behind = ap (λ some. (held_amid history ambition some (begun ++ edits.Insert file after text ∷ [])).lines) all
+
+    insert-anchored : is_kept_anchor (node_number n file) (line_number m after) (lines_at begun) ≡ true
+    insert-anchored = ap (is_kept_anchor (node_number n file) (line_number m after)) (sym insert-before) ∙ anchored
+
+    insert-here : file_dated (node_number n file) (lines_at (begun ++ edits.Insert file after text ∷ []))
+        ≡ after_anchor_by dated_number (line_number m after) (new_dated (lines_amid history begun + 1) text) (file_dated (node_number n file) (lines_at begun))
+    insert-here =
+        ap (file_dated (node_number n file)) (sym insert-behind) ∙ insert-dated history ambition i anchored
+        ∙ ap (λ ks. after_anchor_by dated_number (line_number m after) (new_dated (lines_amid history begun + 1) text) (file_dated (node_number n file) ks)) insert-before
+
+    insert-there : (other : ℕ) → nat_eq (node_number n file) other ≡ false → file_dated other (lines_at (begun ++ edits.Insert file after text ∷ [])) ≡ file_dated other (lines_at begun)
+    insert-there other differs =
+        ap (file_dated other) (sym insert-behind) ∙ ap (map dated) (insert-elsewhere history ambition i other differs) ∙ ap (file_dated other) insert-before
+
+    insert-takes : Takes (file_order (node_number n file) (lines_at begun)) (line_number m after) (lines_amid history begun + 1)
+    insert-takes = subst (λ ks. Takes (file_order (node_number n file) ks) (line_number m after) (lines_amid history begun + 1)) insert-before (order-takes history ambition i anchored).0
+
+    insert-stays : (other line : ℕ) → is_kept_anchor other line (lines_at begun) ≡ true → is_kept_anchor other line (lines_at (begun ++ edits.Insert file after text ∷ [])) ≡ true
+    insert-stays other line h =
+        ap (is_kept_anchor other line) (sym insert-behind) ∙ (anchors-stay history ambition i).0 other line (ap (is_kept_anchor other line) insert-before ∙ h)
+
+    insert-new : is_kept_anchor (node_number n file) (lines_amid history begun + 1) (lines_at (begun ++ edits.Insert file after text ∷ [])) ≡ true
+    insert-new = ap (is_kept_anchor (node_number n file) (lines_amid history begun + 1)) (sym insert-behind) ∙ (anchors-stay history ambition i).1
+
+  module _ (begun later : List Edit) (file : NodeRef) (line : LineRef) (all : begun ++ edits.Delete file line ∷ later ≡ es) where
+    abbrev gone_line : Deletion
+    gone_line = record { begun = begun; file = file; line = line; later = later }
+
+    delete-before : (held_amid history ambition (begun ++ edits.Delete file line ∷ later) begun).lines ≡ lines_at begun
+    delete-before = ap (λ some. (held_amid history ambition some begun).lines) all
+
+    delete-behind : (held_amid history ambition (begun ++ edits.Delete file line ∷ later) (begun ++ edits.Delete file line ∷ [])).lines ≡ lines_at (begun ++ edits.Delete file line ∷ [])
+    delete-behind = ap (λ some. (held_amid history ambition some (begun ++ edits.Delete file line ∷ [])).lines) all
+
+    pub delete-there : has_line (line_number m line) (file_order (node_number n file) (lines_at begun)) ≡ true
+    delete-there =
+        ap (λ ks. has_line (line_number m line) (file_order (node_number n file) ks)) (sym delete-before)
+        ∙ accepted-there history (session_of base choice ambition es) gone_line good alone all
+
+    delete-here : file_dated (node_number n file) (lines_at (begun ++ edits.Delete file line ∷ []))
+        ≡ map (hidden_by (line_number m line) q ambition) (file_dated (node_number n file) (lines_at begun))
+    delete-here =
+        ap (file_dated (node_number n file)) (sym delete-behind) ∙ delete-dated history ambition gone_line
+        ∙ ap (λ ks. map (hidden_by (line_number m line) q ambition) (file_dated (node_number n file) ks)) delete-before
+
+    delete-out : (other : ℕ) → nat_eq (node_number n file) other ≡ false → file_dated other (lines_at (begun ++ edits.Delete file line ∷ [])) ≡ file_dated other (lines_at begun)
+    delete-out other differs =
+        ap (file_dated other) (sym delete-behind) ∙ ap (map dated) (delete-elsewhere history ambition gone_line other differs) ∙ ap (file_dated other) delete-before
+
+    delete-stays : (other some : ℕ) → is_kept_anchor other some (lines_at begun) ≡ true → is_kept_anchor other some (lines_at (begun ++ edits.Delete file line ∷ [])) ≡ true
+    delete-stays other some h =
+        ap (is_kept_anchor other some) (sym delete-behind) ∙ (delete-order history ambition gone_line other).1 some ∙ ap (is_kept_anchor other some) delete-before ∙ h
+
+  module _ (ts : List Triple) (a : ℕ) (stands : Stands ts a 0 (option_count history) (value ambition)) where
+    abbrev count : ℕ
+    count = option_count history
+
+    -- a file has its lines, and room for the edits that are left
+    pub record IsHere (node : ℕ) (begun left : List Edit) (file : DatedFile) : Type 0 where
+      pub above : 0 < node
+      pub are_dated : AreDated ts count (file_dated node (lines_at begun)) file.lines
+      pub newest : file.newest ≤ q
+      pub inserts : inserts_into n node left ≤ file.room.inserts
+      pub changes : (line : ℕ) → deletes_from n m node line left ≡ true → has_line line (file_numbers file.lines) ≡ true → has_line line file.room.changes ≡ true
+      pub position : touches n node left ≡ true → is_room_at q file.room ≡ true
+
+    -- a node is that of a line that is taken out, and FALSE if the line isn't made yet
+    pub record IsRight (ks : List (Kept Line)) (file line vis : ℕ) : Type 0 where
+      pub taken : 0 < file → AllByRecursion (IsGone ts count ambition q line vis) (file_dated file ks)
+      pub fresh : m < line → Stands ts vis 0 count (λ c. false)
+
+    -- steps are those of edits, so many lines having been made before these
+    abbrev pub AreRight : List (Kept Line) → ℕ → List Edit → List Step → Type 0
+    AreRight ks made [] ss = ss ≡ []
+    AreRight ks made (edits.New kind parent name ∷ later) ss = AreRight ks made later ss
+    AreRight ks made (edits.Insert file after text ∷ later) ss =
+        (rest : List Step) × (ss ≡ steps.Insert (node_number n file) (line_number m after) (made + 1) text a ∷ rest) × AreRight ks (made + 1) later rest
+    AreRight ks made (edits.Delete file line ∷ later) ss =
+        (vis : ℕ) × (rest : List Step) × (ss ≡ steps.Delete (node_number n file) (line_number m line) vis ∷ rest) × IsRight ks (node_number n file) (line_number m line) vis × AreRight ks made later rest
+
+    right-on : (ks ks' : List (Kept Line)) → ((file line vis : ℕ) → IsRight ks file line vis → IsRight ks' file line vis) → (made : ℕ) (later : List Edit) (ss : List Step) → AreRight ks made later ss → AreRight ks' made later ss
+    right-on ks ks' f made [] ss h = h
+    right-on ks ks' f made (edits.New kind parent name ∷ later) ss h = right-on ks ks' f made later ss h
+    right-on ks ks' f made (edits.Insert file after text ∷ later) ss h = (h.0, h.1, right-on ks ks' f (made + 1) later h.0 h.2)
+    right-on ks ks' f made (edits.Delete file line ∷ later) ss h = (h.0, h.1, h.2, f (node_number n file) (line_number m line) h.0 h.3, right-on ks ks' f made later h.1 h.4)
+
+    new-gone : (number line vis : ℕ) (text : List ℕ) → m < number → (m < line → Stands ts vis 0 count (λ c. false)) → IsGone ts count ambition q line vis (new_dated number text)
+    new-gone number line vis text above fresh is =
+        let same : number ≡ line = grind (arith, nat_tests, is) in
+        stands_weaker 0 count (gone ts count ambition q (new_dated number text)) (omega arith) (omega arith)
+        (λ c. sym (ap (λ b. value (cond b ambition (seen_at [] q)) c && not (value ambition c)) (reflexive q) ∙ never (value ambition c))) (fresh (omega (arith, same, above)))
+      where
+        never : (b : Bool) → (b && not b) ≡ false
+        never true = refl
+        never false = refl
+
+    hidden-gone : (k line vis : ℕ) (d : DatedLine) → IsGone ts count ambition q line vis d → IsGone ts count ambition q line vis (hidden_by k q ambition d)
+    hidden-gone k line vis d h = at (nat_eq d.line k)
+      where
+        hid : DatedLine
+        hid = record { line = d.line; text = d.text; changes = (q, And (seen_at d.changes q) (Not ambition)) ∷ d.changes }
+
+        twice : (x y : Bool) → (x && not y) ≡ ((x && not y) && not y)
+        twice true true = refl
+        twice true false = refl
+        twice false y = refl
+
+        at : (b : Bool) → IsGone ts count ambition q line vis (cond b hid d)
+        at true is =
+            stands_weaker 0 count (gone ts count ambition q hid) (omega arith) (omega arith)
+            (λ c. twice (value (seen_at d.changes q) c) (value ambition c)
+            ∙ sym (ap (λ b. value (cond b (And (seen_at d.changes q) (Not ambition)) (seen_at d.changes q)) c && not (value ambition c)) (reflexive q))) (h is)
+        at false = h
+
+    -- what is right stays so when a line is put in
+    insert-right : (begun later : List Edit) (file : NodeRef) (after : LineRef) (text : List ℕ) (all : begun ++ edits.Insert file after text ∷ later ≡ es) (other line vis : ℕ)
+        → IsRight (lines_at begun) other line vis → IsRight (lines_at (begun ++ edits.Insert file after text ∷ [])) other line vis
+    insert-right begun later file after text all other line vis h = record { taken = λ above. by above (nat_eq (node_number n file) other) refl; fresh = h.fresh }
+      where
+        by : 0 < other → (b : Bool) → nat_eq (node_number n file) other ≡ b → AllByRecursion (IsGone ts count ambition q line vis) (file_dated other (lines_at (begun ++ edits.Insert file after text ∷ [])))
+        by above true is =
+            let same : node_number n file ≡ other = grind (arith, nat_tests, is) in
+            subst (λ f. AllByRecursion (IsGone ts count ambition q line vis) (file_dated f (lines_at (begun ++ edits.Insert file after text ∷ [])))) same
+            (subst (AllByRecursion (IsGone ts count ambition q line vis)) (sym (insert-here begun later file after text all))
+            (all-after (IsGone ts count ambition q line vis) dated_number (new_dated (lines_amid history begun + 1) text)
+            (new-gone (lines_amid history begun + 1) line vis text (omega arith) h.fresh) (line_number m after) (file_dated (node_number n file) (lines_at begun))
+            (subst (λ f. AllByRecursion (IsGone ts count ambition q line vis) (file_dated f (lines_at begun))) (sym same) (h.taken above))))
+        by above false is = subst (AllByRecursion (IsGone ts count ambition q line vis)) (sym (insert-there begun later file after text all other is)) (h.taken above)
+
+    -- and when a line is taken out
+    delete-right : (begun later : List Edit) (file : NodeRef) (gone : LineRef) (all : begun ++ edits.Delete file gone ∷ later ≡ es) (other line vis : ℕ)
+        → IsRight (lines_at begun) other line vis → IsRight (lines_at (begun ++ edits.Delete file gone ∷ [])) other line vis
+    delete-right begun later file which all other line vis h = record { taken = λ above. by above (nat_eq (node_number n file) other) refl; fresh = h.fresh }
+      where
+        by : 0 < other → (b : Bool) → nat_eq (node_number n file) other ≡ b → AllByRecursion (IsGone ts count ambition q line vis) (file_dated other (lines_at (begun ++ edits.Delete file which ∷ [])))
+        by above true is =
+            let same : node_number n file ≡ other = grind (arith, nat_tests, is) in
+            subst (λ f. AllByRecursion (IsGone ts count ambition q line vis) (file_dated f (lines_at (begun ++ edits.Delete file which ∷ [])))) same
+            (subst (AllByRecursion (IsGone ts count ambition q line vis)) (sym (delete-here begun later file which all))
+            (all-mapped (IsGone ts count ambition q line vis) (IsGone ts count ambition q line vis) (hidden_by (line_number m which) q ambition) (hidden-gone (line_number m which) line vis)
+            (file_dated (node_number n file) (lines_at begun))
+            (subst (λ f. AllByRecursion (IsGone ts count ambition q line vis) (file_dated f (lines_at begun))) (sym same) (h.taken above))))
+        by above false is = subst (AllByRecursion (IsGone ts count ambition q line vis)) (sym (delete-out begun later file which all other is)) (h.taken above)
+
+    numbers-here : (node : ℕ) (begun left : List Edit) (file : DatedFile) → IsHere node begun left file → file_numbers file.lines ≡ file_order node (lines_at begun)
+    numbers-here node begun left file h = dated-numbers ts count (file_dated node (lines_at begun)) file.lines h.are_dated ∙ numbers-dated (file_kept node (lines_at begun))
