@@ -1,6 +1,6 @@
 -- The lines of the files that are shown.
 use Rattle.std.specs.List.{fold, filter, AllByRecursion}
-use Rattle.std.proofs.Common.{◌≡◌, refl, ap, sym, subst, ◌∙◌, ℕ, ◌-◌, Bool, true, false, cond, ◌||◌, List, [], ◌∷◌, ◌++◌, map, take, Option, Some, None, nat_eq, slice_get, length, ◌+◌, ◌≤◌, append-nil, append_assoc, arith}
+use Rattle.std.proofs.Common.{◌≡◌, refl, ap, sym, subst, ◌∙◌, ℕ, Bool, true, false, cond, ◌||◌, List, [], ◌∷◌, ◌++◌, map, take, None, nat_eq, length, ◌+◌, ◌≤◌, append-nil, append_assoc, arith}
 use Rattle.std.proofs.lemmas.Bool.Decides.{nat_tests}
 use Rattle.cov_base.specs.declared.number.Kind.{Kind}
 use Rattle.cov_base.specs.declared.number.Kind.TheVariants as kinds
@@ -10,10 +10,14 @@ use Rattle.cov_base.specs.declared.number.LineRef.{LineRef}
 use Rattle.cov_base.specs.declared.number.LineRef.TheVariants as lines
 use Rattle.cov_base.specs.Addresses.{line_of}
 use Rattle.cov_base.proofs.Ordered.{all-map, all-filter}
+use Rattle.cov_dd.specs.declared.triple.Triple.{Triple}
 use Rattle.cov_edit.specs.declared.command.Command.{Command}
+use Rattle.cov_edit.specs.History.{option_count}
 use Rattle.cov_edit.specs.Numbering.{Numbers, line_number}
 use Rattle.cov_edit.specs.Variant.{Variant, Line, lines_of}
 use Rattle.cov_edit.specs.Replay.{replay}
+use Rattle.cov_file.specs.declared.row.FileRow.{FileRow}
+use Rattle.cov_file.specs.Dated.{DatedLine as FileLine, row_of, is_visible, rows_at}
 use Rattle.cov_view.specs.declared.line.ViewLine.{ViewLine}
 use Rattle.cov_view.specs.declared.row.ViewRow.{ViewRow}
 use Rattle.cov_view.specs.References.{same_node, is_made_line}
@@ -21,11 +25,11 @@ use Rattle.cov_view.specs.Seen.{has_row, kind_in, at_row, with_lines_by}
 use Rattle.cov_view.specs.Views.{ShowsLines, line_by_number, by_number}
 use Rattle.cov_view.proofs.Changes.{not_there}
 use Rattle.cov_engine.specs.declared.kept.Made.{Made}
-use Rattle.cov_engine.specs.declared.kept.KeptLine.{KeptLine}
 use Rattle.cov_engine.specs.declared.entry.Entry.{Entry}
 use Rattle.cov_engine.specs.Kept.{kept_of}
-use Rattle.cov_engine.specs.Files.{ShownLine, as_shown, dated_as_shown, dated_shown, is_dated_seen, file_dated}
-use Rattle.cov_engine.specs.Showing.{dated_from, dated_of, with_number, with_numbers, with_entry, AreFresh}
+use Rattle.cov_engine.specs.Files.{DatedLine, ShownLine, as_shown, dated_as_shown, dated_shown, is_dated_seen, file_dated}
+use Rattle.cov_engine.specs.Nodes.{AreDated}
+use Rattle.cov_engine.specs.Showing.{with_row, with_lines, with_entry, AreFresh}
 use Rattle.cov_engine.specs.Holdings.{IsFileOf}
 use Rattle.cov_engine.proofs.Standing.{all-mapped}
 use Rattle.cov_engine.proofs.Orders.{file-shows}
@@ -38,10 +42,6 @@ last-changed (s ∷ rows) r file f h same = at (same_node s.node file) (λ k. la
         → cond b (f s ∷ rows ++ r ∷ []) (s ∷ at_row file f (rows ++ r ∷ [])) ≡ s ∷ rows ++ f r ∷ []
     at true ih k = absurd (cc)
     at false ih k = ap (λ rs. s ∷ rs) (ih k)
-
-pub dated-line : (commits : List Made) (n : ℕ) (o : Option KeptLine) → (dated_from commits n o).line ≡ n
-dated-line commits n None = refl
-dated-line commits n (Some l) = refl
 
 abbrev pair : ShownLine → ℕ × List ℕ
 pair s = (s.line, s.text)
@@ -73,80 +73,82 @@ all-one : (P : ViewRow → Type 0) (rows : List ViewRow) (r : ViewRow) → AllBy
 all-one P [] r h p = (p, tt)
 all-one P (s ∷ rows) r h p = (h.0, all-one P rows r h.1 p)
 
-module _ (c : List Bool) (at : ℕ) (commits : List Made) (ls : List KeptLine) where
-  abbrev view_line : ℕ → ViewLine
-  view_line n = record { line = lines.Old n; text = (dated_of commits ls n).text }
+abbrev view_line : FileRow → ViewLine
+view_line r = record { line = lines.Old r.line; text = r.text }
 
-  abbrev lines_shown : List ℕ → List ViewLine
-  lines_shown [] = []
-  lines_shown (n ∷ ns) = cond (is_dated_seen c at (dated_of commits ls n)) (view_line n ∷ lines_shown ns) (lines_shown ns)
+abbrev row_pair : FileRow → ℕ × List ℕ
+row_pair r = (r.line, r.text)
 
-  one-line : (file : ℕ) (rows : List ViewRow) (r : ViewRow) (n : ℕ) (ns : List ℕ) → has_row rows (nodes.Old file) ≡ false → same_node r.node (nodes.Old file) ≡ true
-      → ((q : ViewRow) → same_node q.node (nodes.Old file) ≡ true → fold (with_number c at commits ls file) (rows ++ q ∷ []) ns ≡ rows ++ with_lines_by (λ l. l ++ lines_shown ns) q ∷ [])
-      → (b : Bool)
-      → fold (with_number c at commits ls file) (cond b (at_row (nodes.Old file) (with_lines_by (λ shown. shown ++ view_line n ∷ [])) (rows ++ r ∷ [])) (rows ++ r ∷ [])) ns
-      ≡ rows ++ with_lines_by (λ l. l ++ cond b (view_line n ∷ lines_shown ns) (lines_shown ns)) r ∷ []
-  one-line file rows r n ns h same ih true =
-      ap (λ rs. fold (with_number c at commits ls file) rs ns) (last-changed rows r (nodes.Old file) (with_lines_by (λ shown. shown ++ view_line n ∷ [])) h same)
-      ∙ ih (with_lines_by (λ shown. shown ++ view_line n ∷ []) r) same
-      ∙ ap (λ l. rows ++ with_lines_by (λ x. l) r ∷ []) (append_assoc r.lines (view_line n ∷ []) (lines_shown ns))
-  one-line file rows r n ns h same ih false = ih r same
+-- a row that is last gets the lines that are shown
+file-last : (file : ℕ) (rows : List ViewRow) (r : ViewRow) (shown : List FileRow) → has_row rows (nodes.Old file) ≡ false → same_node r.node (nodes.Old file) ≡ true
+    → fold (with_row file) (rows ++ r ∷ []) shown ≡ rows ++ with_lines_by (λ l. l ++ map view_line shown) r ∷ []
+file-last file rows r [] h same = ap (λ l. rows ++ with_lines_by (λ x. l) r ∷ []) (sym (append-nil r.lines))
+file-last file rows r (s ∷ shown) h same =
+    ap (λ rs. fold (with_row file) rs shown) (last-changed rows r (nodes.Old file) (with_lines_by (λ l. l ++ view_line s ∷ [])) h same)
+    ∙ file-last file rows (with_lines_by (λ l. l ++ view_line s ∷ []) r) shown h same
+    ∙ ap (λ l. rows ++ with_lines_by (λ x. l) r ∷ []) (append_assoc r.lines (view_line s ∷ []) (map view_line shown))
 
-  numbers-lines : (file : ℕ) (rows : List ViewRow) (r : ViewRow) (ns : List ℕ) → has_row rows (nodes.Old file) ≡ false → same_node r.node (nodes.Old file) ≡ true
-      → fold (with_number c at commits ls file) (rows ++ r ∷ []) ns ≡ rows ++ with_lines_by (λ l. l ++ lines_shown ns) r ∷ []
-  numbers-lines file rows r [] h same = ap (λ l. rows ++ with_lines_by (λ x. l) r ∷ []) (sym (append-nil r.lines))
-  numbers-lines file rows r (n ∷ ns) h same = one-line file rows r n ns h same (λ q s. numbers-lines file rows q ns h s) (is_dated_seen c at (dated_of commits ls n))
+by-row : (numbers : Numbers) (shown : List FileRow) → map (line_by_number numbers) (map view_line shown) ≡ map row_pair shown
+by-row numbers [] = refl
+by-row numbers (s ∷ shown) = ap (λ ps. row_pair s ∷ ps) (by-row numbers shown)
 
-  module _ (numbers : Numbers) where
-    one-shown : (n : ℕ) (ns : List ℕ) (b : Bool) → map (line_by_number numbers) (lines_shown ns) ≡ map pair (dated_shown c at (map (dated_of commits ls) ns))
-        → map (line_by_number numbers) (cond b (view_line n ∷ lines_shown ns) (lines_shown ns))
-        ≡ map pair (map dated_as_shown (cond b (dated_of commits ls n ∷ filter (is_dated_seen c at) (map (dated_of commits ls) ns)) (filter (is_dated_seen c at) (map (dated_of commits ls) ns))))
-    one-shown n ns true ih =
-        ap (λ ps. (n, (dated_of commits ls n).text) ∷ ps) ih
-        ∙ ap (λ m. (m, (dated_of commits ls n).text) ∷ map pair (dated_shown c at (map (dated_of commits ls) ns))) (sym (dated-line commits n (slice_get ls (n - 1))))
-    one-shown n ns false ih = ih
+-- the lines whose nodes are true are those that are seen
+dated-rows : (ts : List Triple) (c : List Bool) (at count : ℕ) (ds : List DatedLine) (ls : List FileLine) → AreDated ts count ds ls
+    → map row_pair (rows_at ts c at ls) ≡ map pair (dated_shown c at ds)
+dated-rows ts c at count [] [] h = refl
+dated-rows ts c at count [] (l ∷ ls) h = absurd h
+dated-rows ts c at count (d ∷ ds) [] h = absurd h
+dated-rows ts c at count (d ∷ ds) (l ∷ ls) h =
+    ap (λ b. map row_pair (map row_of (cond b (l ∷ filter (is_visible ts c at) ls) (filter (is_visible ts c at) ls)))) ((h.0.nodes at).value c)
+    ∙ one (is_dated_seen c at d) (dated-rows ts c at count ds ls h.1)
+  where
+    one : (b : Bool) → map row_pair (rows_at ts c at ls) ≡ map pair (dated_shown c at ds)
+        → map row_pair (map row_of (cond b (l ∷ filter (is_visible ts c at) ls) (filter (is_visible ts c at) ls)))
+        ≡ map pair (map dated_as_shown (cond b (d ∷ filter (is_dated_seen c at) ds) (filter (is_dated_seen c at) ds)))
+    one true ih = λ i. (h.0.line i, h.0.text i) ∷ ih i
+    one false ih = ih
 
-    all-shown : (ns : List ℕ) → map (line_by_number numbers) (lines_shown ns) ≡ map pair (dated_shown c at (map (dated_of commits ls) ns))
-    all-shown [] = refl
-    all-shown (n ∷ ns) = one-shown n ns (is_dated_seen c at (dated_of commits ls n)) (all-shown ns)
+module _ (c : List Bool) (at : ℕ) (numbers : Numbers) (history : List Command) (low : AllByRecursion (λ l. line_of l.address ≤ length numbers.addresses) (replay c (take at history)).lines) where
+  -- a row shows its lines, all of which are made
+  abbrev pub Shown : ViewRow → Type 0
+  Shown r = ShowsLines numbers (replay c (take at history)) r × AllByRecursion (λ l. is_made_line (length numbers.addresses) 0 l.line ≡ true) r.lines
 
-    module _ (history : List Command) (low : AllByRecursion (λ l. line_of l.address ≤ length numbers.addresses) (replay c (take at history)).lines) where
-      -- a row shows its lines, all of which are made
-      abbrev pub Shown : ViewRow → Type 0
-      Shown r = ShowsLines numbers (replay c (take at history)) r × AllByRecursion (λ l. is_made_line (length numbers.addresses) 0 l.line ≡ true) r.lines
+module _ (ts : List Triple) (c : List Bool) (at : ℕ) (commits : List Made) (numbers : Numbers) (history : List Command) (low : AllByRecursion (λ l. line_of l.address ≤ length numbers.addresses) (replay c (take at history)).lines) where
+  abbrev IsShown : ViewRow → Type 0
+  IsShown = Shown c at numbers history low
 
-      file-lines : (file : ℕ) (ns : List ℕ) → file_dated file (kept_of history) ≡ map (dated_of commits ls) ns
-          → map by_number (lines_of (replay c (take at history)) file) ≡ map (line_by_number numbers) (lines_shown ns)
-      file-lines file ns e =
-          sym (pairs (lines_of (replay c (take at history)) file))
-          ∙ ap (λ xs. map pair xs) (sym (file-shows c at file history))
-          ∙ ap (λ ds. map pair (dated_shown c at ds)) e
-          ∙ sym (all-shown ns)
+  file-lines : (file : ℕ) (ls : List FileLine) → AreDated ts (option_count history) (file_dated file (kept_of history)) ls
+      → map by_number (lines_of (replay c (take at history)) file) ≡ map (line_by_number numbers) (map view_line (rows_at ts c at ls))
+  file-lines file ls are =
+      sym (pairs (lines_of (replay c (take at history)) file))
+      ∙ ap (λ xs. map pair xs) (sym (file-shows c at file history))
+      ∙ sym (dated-rows ts c at (option_count history) (file_dated file (kept_of history)) ls are)
+      ∙ sym (by-row numbers (rows_at ts c at ls))
 
-      kinds-lines : (k : Kind) (e : Entry) (rows : List ViewRow) → kind_in rows (nodes.Old e.node) ≡ None → AllByRecursion Shown rows
-          → file_dated e.node (kept_of history) ≡ map (dated_of commits ls) e.order.lines
-          → AllByRecursion Shown (with_numbers c at commits ls k e (rows ++ record { node = nodes.Old e.node; kind = k; parent = nodes.Old e.parent; name = e.name; lines = [] } ∷ []))
-      kinds-lines kinds.File e rows fresh shown file =
-          let r : ViewRow = record { node = nodes.Old e.node; kind = kinds.File; parent = nodes.Old e.parent; name = e.name; lines = [] } in
-          let same : nat_eq e.node e.node ≡ true = grind (arith, nat_tests) in
-          subst (AllByRecursion Shown) (sym (numbers-lines e.node rows r e.order.lines (not_there rows (nodes.Old e.node) fresh).1 same))
-          (all-one Shown rows (with_lines_by (λ l. l ++ lines_shown e.order.lines) r) shown (
-            (λ f. file-lines e.node e.order.lines file),
-            lines-made numbers (replay c (take at history)) e.node (lines_shown e.order.lines) low (file-lines e.node e.order.lines file),
-          ))
-      kinds-lines kinds.Dir e rows fresh shown file =
-          all-one Shown rows (record { node = nodes.Old e.node; kind = kinds.Dir; parent = nodes.Old e.parent; name = e.name; lines = [] }) shown ((λ f. absurd (dir f)), tt)
-        where
-          dir : true ≡ false → ⊥
-          dir f = cc
+  kinds-lines : (k : Kind) (e : Entry) (rows : List ViewRow) → kind_in rows (nodes.Old e.node) ≡ None → AllByRecursion IsShown rows → IsFileOf history ts e
+      → AllByRecursion IsShown (with_lines ts c at commits k e (rows ++ record { node = nodes.Old e.node; kind = k; parent = nodes.Old e.parent; name = e.name; lines = [] } ∷ []))
+  kinds-lines kinds.File e rows fresh shown file =
+      let r : ViewRow = record { node = nodes.Old e.node; kind = kinds.File; parent = nodes.Old e.parent; name = e.name; lines = [] } in
+      let own : List FileRow = rows_at ts c at e.file.lines in
+      let same : nat_eq e.node e.node ≡ true = grind (arith, nat_tests) in
+      subst (AllByRecursion IsShown) (sym (file-last e.node rows r own (not_there rows (nodes.Old e.node) fresh).1 same))
+      (all-one IsShown rows (with_lines_by (λ l. l ++ map view_line own) r) shown (
+        (λ f. file-lines e.node e.file.lines file.lines),
+        lines-made numbers (replay c (take at history)) e.node (map view_line own) low (file-lines e.node e.file.lines file.lines),
+      ))
+  kinds-lines kinds.Dir e rows fresh shown file =
+      all-one IsShown rows (record { node = nodes.Old e.node; kind = kinds.Dir; parent = nodes.Old e.parent; name = e.name; lines = [] }) shown ((λ f. absurd (dir f)), tt)
+    where
+      dir : true ≡ false → ⊥
+      dir f = cc
 
-      either-lines : (b : Bool) (rows added : List ViewRow) → AllByRecursion Shown rows → AllByRecursion Shown added → AllByRecursion Shown (cond b added rows)
-      either-lines true rows added h k = k
-      either-lines false rows added h k = h
+  either-lines : (b : Bool) (rows added : List ViewRow) → AllByRecursion IsShown rows → AllByRecursion IsShown added → AllByRecursion IsShown (cond b added rows)
+  either-lines true rows added h k = k
+  either-lines false rows added h k = h
 
-      -- so do the rows of all entries
-      pub entries-lines : (rows : List ViewRow) (es : List Entry) → AllByRecursion Shown rows → AreFresh c at commits ls rows es → AllByRecursion (IsFileOf (kept_of history) commits ls) es
-          → AllByRecursion Shown (fold (with_entry c at commits ls) rows es)
-      entries-lines rows [] shown fresh files = shown
-      entries-lines rows (e ∷ es) shown fresh files =
-          entries-lines (with_entry c at commits ls rows e) es (either-lines _ rows _ shown (kinds-lines e.kind e rows fresh.0 shown files.0)) fresh.1 files.1
+  -- so do the rows of all entries
+  pub entries-lines : (rows : List ViewRow) (es : List Entry) → AllByRecursion IsShown rows → AreFresh ts c at commits rows es → AllByRecursion (IsFileOf history ts) es
+      → AllByRecursion IsShown (fold (with_entry ts c at commits) rows es)
+  entries-lines rows [] shown fresh files = shown
+  entries-lines rows (e ∷ es) shown fresh files =
+      entries-lines (with_entry ts c at commits rows e) es (either-lines _ rows _ shown (kinds-lines e.kind e rows fresh.0 shown files.0)) fresh.1 files.1

@@ -7,6 +7,7 @@ use Rattle.cov_base.specs.Rows.{Row, Created}
 use Rattle.cov_base.specs.declared.number.NodeRef.{NodeRef}
 use Rattle.cov_base.specs.declared.number.NodeRef.TheVariants as nodes
 use Rattle.cov_base.proofs.Ordered.{all-map, all-filter, all-append}
+use Rattle.cov_dd.specs.declared.triple.Triple.{Triple}
 use Rattle.cov_expr.specs.Formula.{Formula}
 use Rattle.cov_edit.specs.declared.edit.Edit.{Edit}
 use Rattle.cov_edit.specs.declared.edit.Edit.TheVariants as edits
@@ -18,7 +19,6 @@ use Rattle.cov_view.specs.Seen.{row_at, kind_in}
 use Rattle.cov_view.specs.Views.{row_by_number}
 use Rattle.cov_view.specs.declared.row.ViewRow.{ViewRow}
 use Rattle.cov_engine.specs.declared.kept.Made.{Made}
-use Rattle.cov_engine.specs.declared.kept.KeptLine.{KeptLine}
 use Rattle.cov_engine.specs.declared.entry.Entry.{Entry}
 use Rattle.cov_engine.specs.Kept.{Kept, new_item, is_seen, the_item, Holding, nothing_held, held_after, held_from, entries_of, rows_seen}
 use Rattle.cov_engine.specs.Showing.{with_entry, AreFresh}
@@ -76,8 +76,8 @@ not-yet : (n node : ℕ) (rows : List ViewRow) → node ≡ suc n → AreOfFirst
 not-yet n node rows e h =
     subst (λ i. kind_in rows (nodes.Old i) ≡ None) (sym e) (ap (λ (o : Option ViewRow). option_map (λ (r : ViewRow). r.kind) o) (no-row n rows h))
 
-module _ (c : List Bool) (at : ℕ) (commits : List Made) (ls : List KeptLine) where
-  with-next : (n : ℕ) (rows : List ViewRow) (e : Entry) → e.node ≡ suc n → AreOfFirst n rows → AreOfFirst (suc n) (with_entry c at commits ls rows e)
+module _ (ts : List Triple) (c : List Bool) (at : ℕ) (commits : List Made) where
+  with-next : (n : ℕ) (rows : List ViewRow) (e : Entry) → e.node ≡ suc n → AreOfFirst n rows → AreOfFirst (suc n) (with_entry ts c at commits rows e)
   with-next n rows e is h =
       let own : e.node ≤ suc n = omega (arith, is) in
       let added : AllByRecursion (λ (r : Row). r.node ≤ suc n) (map (row_by_number no_numbers) rows ++ rows_seen c at (entry_kept commits e ∷ [])) =
@@ -85,15 +85,15 @@ module _ (c : List Bool) (at : ℕ) (commits : List Made) (ls : List KeptLine) w
       (all-map (λ (r : Row). r.node ≤ n) (λ (r : Row). r.node ≤ suc n) (λ r below. omega (arith, below)) (map (row_by_number no_numbers) rows) h)
       (all-mapped (λ (k : Kept Row). k.item.node ≤ suc n) (λ (r : Row). r.node ≤ suc n) the_item (λ k below. below) (filter (is_seen c at) (entry_kept commits e ∷ []))
       (all-filter (λ (k : Kept Row). k.item.node ≤ suc n) (is_seen c at) (entry_kept commits e ∷ []) (own, tt))) in
-      subst (AllByRecursion (λ (r : Row). r.node ≤ suc n)) (sym (entries-rows no_numbers c at commits ls rows (e ∷ []))) added
+      subst (AllByRecursion (λ (r : Row). r.node ≤ suc n)) (sym (entries-rows no_numbers ts c at commits rows (e ∷ []))) added
 
-  fresh-from : (n m : ℕ) (rows : List ViewRow) (es : List Entry) → AreOfFirst n rows → NodesFrom n m (map (entry_kept commits) es) → AreFresh c at commits ls rows es
+  fresh-from : (n m : ℕ) (rows : List ViewRow) (es : List Entry) → AreOfFirst n rows → NodesFrom n m (map (entry_kept commits) es) → AreFresh ts c at commits rows es
   fresh-from n m rows [] h counted = tt
   fresh-from n m rows (e ∷ es) h counted =
-      (not-yet n e.node rows counted.0 h, fresh-from (suc n) m (with_entry c at commits ls rows e) es (with-next n rows e counted.0 h) counted.1)
+      (not-yet n e.node rows counted.0 h, fresh-from (suc n) m (with_entry ts c at commits rows e) es (with-next n rows e counted.0 h) counted.1)
 
 -- where the entries are the rows that a history holds, each is of a node that isn't shown before it
-pub held-fresh : (c : List Bool) (at : ℕ) (commits : List Made) (ls : List KeptLine) (entries : List Entry) (history : List Command) → entries_of history ≡ map (entry_kept commits) entries
-    → AreFresh c at commits ls [] entries
-held-fresh c at commits ls entries history rows =
-    fresh-from c at commits ls 0 (numbers_of history).nodes [] entries tt (subst (NodesFrom 0 (numbers_of history).nodes) rows (history-nodes 0 no_numbers nothing_held history refl))
+pub held-fresh : (ts : List Triple) (c : List Bool) (at : ℕ) (commits : List Made) (entries : List Entry) (history : List Command) → entries_of history ≡ map (entry_kept commits) entries
+    → AreFresh ts c at commits [] entries
+held-fresh ts c at commits entries history rows =
+    fresh-from ts c at commits 0 (numbers_of history).nodes [] entries tt (subst (NodesFrom 0 (numbers_of history).nodes) rows (history-nodes 0 no_numbers nothing_held history refl))

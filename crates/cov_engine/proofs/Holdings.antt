@@ -1,12 +1,17 @@
 -- What is kept of rows and lines, and the views of it.
-use Rattle.std.proofs.Common.{◌≡◌, refl, ap, sym, subst, ◌∙◌, ℕ, zero, suc, ◌≤◌, Bool, true, false, cond, List, [], ◌∷◌, ◌++◌, length, map, take, append-nil, append_assoc, arith, Ok, Err}
+use Rattle.std.proofs.Common.{◌≡◌, refl, ap, sym, subst, ◌∙◌, ℕ, zero, suc, ◌<◌, ◌≤◌, Bool, true, false, cond, List, [], ◌∷◌, ◌++◌, length, map, take, append-nil, append_assoc, arith, Ok, Err}
 use Rattle.std.specs.Prelude.{Result, IfOk}
-use Rattle.std.specs.List.{fold, AllByRecursion}
+use Rattle.std.specs.List.{fold}
 use Rattle.cov_base.specs.declared.number.Kind.{Kind}
 use Rattle.cov_base.specs.declared.number.Kind.TheVariants as kinds
 use Rattle.cov_base.specs.declared.number.NodeRef.{NodeRef}
 use Rattle.cov_base.specs.Rows.{Row}
+use Rattle.cov_base.proofs.Ordered.{all-map}
+use Rattle.cov_dd.specs.declared.triple.Triple.{Triple}
+use Rattle.cov_dd.specs.Diagrams.{node_count, span, Extends, Stands}
 use Rattle.cov_expr.specs.Formula.{value}
+use Rattle.cov_file.specs.declared.row.FileRow.{FileRow}
+use Rattle.cov_file.specs.Dated.{DatedLine as FileLine, node_at, rows_at}
 use Rattle.cov_edit.specs.declared.command.Command.{Command}
 use Rattle.cov_edit.specs.declared.command.Command.TheVariants as commands
 use Rattle.cov_edit.specs.History.{option_count}
@@ -19,11 +24,11 @@ use Rattle.cov_view.specs.References.{same_node}
 use Rattle.cov_view.specs.Seen.{at_row, with_lines_by}
 use Rattle.cov_view.specs.Views.{row_by_number}
 use Rattle.cov_engine.specs.declared.kept.Made.{Made}
-use Rattle.cov_engine.specs.declared.kept.KeptLine.{KeptLine}
 use Rattle.cov_engine.specs.declared.entry.Entry.{Entry}
-use Rattle.cov_engine.specs.Kept.{seen_at, Holding, held_by, rows_seen}
-use Rattle.cov_engine.specs.Files.{is_dated_seen}
-use Rattle.cov_engine.specs.Showing.{change_of, dated_of, AreInReach, with_number, with_numbers, with_entry}
+use Rattle.cov_engine.specs.Kept.{seen_at, Holding, held_by, kept_of, rows_seen}
+use Rattle.cov_engine.specs.Files.{DatedLine, file_dated}
+use Rattle.cov_engine.specs.Nodes.{AreDated, AreHomes}
+use Rattle.cov_engine.specs.Showing.{change_of, AreInReach, with_row, with_lines, with_entry}
 use Rattle.cov_engine.specs.Holdings.{entry_kept, IsFileOf, IsHeldBy}
 use Rattle.cov_engine.specs.Sessions.{has_commit}
 use Rattle.cov_engine.proofs.Appends.{holding-goes_on}
@@ -44,19 +49,13 @@ rows-same : (ns : Numbers) (node : NodeRef) (f : List ViewLine → List ViewLine
 rows-same ns node f [] = refl
 rows-same ns node f (r ∷ rows) = one-same ns (same_node r.node node) f r rows (at_row node (with_lines_by f) rows) (rows-same ns node f rows)
 
-either-same : (ns : Numbers) (b : Bool) (node : NodeRef) (f : List ViewLine → List ViewLine) (rows : List ViewRow) → map (row_by_number ns) (cond b (at_row node (with_lines_by f) rows) rows) ≡ map (row_by_number ns) rows
-either-same ns true node f rows = rows-same ns node f rows
-either-same ns false node f rows = refl
+module _ (ns : Numbers) (ts : List Triple) (c : List Bool) (at : ℕ) (commits : List Made) where
+  file-same : (file : ℕ) (rows : List ViewRow) (shown : List FileRow) → map (row_by_number ns) (fold (with_row file) rows shown) ≡ map (row_by_number ns) rows
+  file-same file rows [] = refl
+  file-same file rows (r ∷ shown) = file-same file (with_row file rows r) shown ∙ rows-same ns _ _ rows
 
-module _ (ns : Numbers) (c : List Bool) (at : ℕ) (commits : List Made) (ls : List KeptLine) where
-  numbers-same : (file : ℕ) (rows : List ViewRow) (numbers : List ℕ) → map (row_by_number ns) (fold (with_number c at commits ls file) rows numbers) ≡ map (row_by_number ns) rows
-  numbers-same file rows [] = refl
-  numbers-same file rows (n ∷ numbers) =
-      numbers-same file (with_number c at commits ls file rows n) numbers
-      ∙ either-same ns (is_dated_seen c at (dated_of commits ls n)) _ _ rows
-
-  kinds-same : (kind : Kind) (e : Entry) (rows : List ViewRow) → map (row_by_number ns) (with_numbers c at commits ls kind e rows) ≡ map (row_by_number ns) rows
-  kinds-same kinds.File e rows = numbers-same e.node rows e.order.lines
+  kinds-same : (kind : Kind) (e : Entry) (rows : List ViewRow) → map (row_by_number ns) (with_lines ts c at commits kind e rows) ≡ map (row_by_number ns) rows
+  kinds-same kinds.File e rows = file-same e.node rows (rows_at ts c at e.file.lines)
   kinds-same kinds.Dir e rows = refl
 
   entry-row : (b : Bool) (rows added : List ViewRow) (row : ViewRow) (x : Row) (s : List Row) → map (row_by_number ns) added ≡ map (row_by_number ns) (rows ++ row ∷ []) → row_by_number ns row ≡ x
@@ -68,18 +67,18 @@ module _ (ns : Numbers) (c : List Bool) (at : ℕ) (commits : List Made) (ls : L
   entry-row false rows added row x s h e = refl
 
   pub entries-rows : (rows : List ViewRow) (es : List Entry)
-      → map (row_by_number ns) (fold (with_entry c at commits ls) rows es) ≡ map (row_by_number ns) rows ++ rows_seen c at (map (entry_kept commits) es)
+      → map (row_by_number ns) (fold (with_entry ts c at commits) rows es) ≡ map (row_by_number ns) rows ++ rows_seen c at (map (entry_kept commits) es)
   entries-rows rows [] = sym (append-nil (map (row_by_number ns) rows))
   entries-rows rows (e ∷ es) =
-      entries-rows (with_entry c at commits ls rows e) es
+      entries-rows (with_entry ts c at commits rows e) es
       ∙ entry-row (value (seen_at (change_of commits e.commit ∷ []) at) c) rows _ _ _ (rows_seen c at (map (entry_kept commits) es)) (kinds-same e.kind e _) refl
       ∙ ap (λ rs. map (row_by_number ns) rows ++ rs) (sym (seen-cons c at (entry_kept commits e) (map (entry_kept commits) es)))
 
 -- the rows that are shown are those of the replay
-pub view-rows : (ns : Numbers) (c : List Bool) (at : ℕ) (history : List Command) (commits : List Made) (ls : List KeptLine) (entries : List Entry) → IsHeldBy history commits ls entries
-    → map (row_by_number ns) (fold (with_entry c at commits ls) [] entries) ≡ (replay c (take at history)).rows
-view-rows ns c at history commits ls entries held =
-    entries-rows ns c at commits ls [] entries
+pub view-rows : (ns : Numbers) (ts : List Triple) (c : List Bool) (at : ℕ) (history : List Command) (commits : List Made) (homes : List ℕ) (entries : List Entry) → IsHeldBy history ts commits homes entries
+    → map (row_by_number ns) (fold (with_entry ts c at commits) [] entries) ≡ (replay c (take at history)).rows
+view-rows ns ts c at history commits homes entries held =
+    entries-rows ns ts c at commits [] entries
     ∙ ap (λ rows. rows_seen c at rows) (sym held.rows)
     ∙ ap (λ (v : Variant). v.rows) (replay-seen c at history)
 
@@ -106,15 +105,82 @@ held-same history (commands.Prefer expr) h = holding-goes_on history (commands.P
 held-same history (commands.Default option on) h = holding-goes_on history (commands.Default option on ∷ [])
 held-same history (commands.Commit base choice ambition es) h = absurd (cc)
 
+pub as-many-options : (history later : List Command) → option_count history ≤ option_count (history ++ later)
+as-many-options [] later = omega arith
+as-many-options (commands.Option name ∷ history) later =
+    let ih : option_count history ≤ option_count (history ++ later) = as-many-options history later in
+    let left : option_count (commands.Option name ∷ history) ≡ suc (option_count history) = refl in
+    let right : option_count ((commands.Option name ∷ history) ++ later) ≡ suc (option_count (history ++ later)) = refl in
+    omega (arith, ih, left, right)
+as-many-options (commands.Constraint expr ∷ history) later = as-many-options history later
+as-many-options (commands.Prefer expr ∷ history) later = as-many-options history later
+as-many-options (commands.Default option on ∷ history) later = as-many-options history later
+as-many-options (commands.Commit base choice ambition es ∷ history) later = as-many-options history later
+
+-- a node stands in a table with more entries, below more options
+pub stands-on : (old new : List Triple) (a count more : ℕ) (f : List Bool → Bool) → Extends old new → count ≤ more → Stands old a 0 count f → Stands new a 0 more f
+stands-on old new a count more f grown few s =
+    let within : a < node_count old = s.within in
+    let counts : node_count old ≤ node_count new = grown.count in
+    let below : span old a ≤ count = s.below in
+    let spans : span new a ≡ span old a = grown.most a within in
+    record {
+      within = omega (arith, within, counts);
+      above = omega arith;
+      below = omega (arith, below, spans, few);
+      value = λ c. grown.value a within c ∙ s.value c;
+    }
+
+-- so do the lines of a file
+pub dated-on : (old new : List Triple) (count more : ℕ) (ds : List DatedLine) (ls : List FileLine) → Extends old new → count ≤ more → AreDated old count ds ls → AreDated new more ds ls
+dated-on old new count more [] [] grown few h = tt
+dated-on old new count more [] (l ∷ ls) grown few h = absurd h
+dated-on old new count more (d ∷ ds) [] grown few h = absurd h
+dated-on old new count more (d ∷ ds) (l ∷ ls) grown few h = (
+  record {
+    line = h.0.line;
+    text = h.0.text;
+    nodes = λ p. stands-on old new (node_at l.changes p) count more (value (seen_at d.changes p)) grown few (h.0.nodes p);
+  },
+  dated-on old new count more ds ls grown few h.1,
+)
+
+itself : (ts : List Triple) → Extends ts ts
+itself ts = record { more = []; is = refl; count = omega arith; least = λ a within. refl; most = λ a within. refl; value = λ a within c. refl }
+
+-- what is held is so with a table that has more entries
+pub held-grown : (history : List Command) (old new : List Triple) (commits : List Made) (homes : List ℕ) (entries : List Entry) → IsHeldBy history old commits homes entries → Extends old new
+    → IsHeldBy history new commits homes entries
+held-grown history old new commits homes entries held grown = record {
+  rows = held.rows;
+  files = all-map (IsFileOf history old) (IsFileOf history new)
+      (λ e h. record {
+        lines = dated-on old new (option_count history) (option_count history) (file_dated e.node (kept_of history)) e.file.lines grown (omega arith) h.lines;
+        newest = h.newest;
+      })
+      entries held.files;
+  in_reach = held.in_reach;
+  lines = held.lines;
+  homes = held.homes;
+  made_entries = held.made_entries;
+  few = held.few;
+}
+
 -- a declaration leaves what is held as it is
-pub held-declared : (history longer : List Command) (k : Command) (commits : List Made) (ls : List KeptLine) (entries : List Entry) → IsHeldBy history commits ls entries → has_commit (k ∷ []) ≡ false
-    → longer ≡ history ++ k ∷ [] → IsHeldBy longer commits ls entries
-held-declared history longer k commits ls entries held h e = rw e (record {
+pub held-declared : (history longer : List Command) (k : Command) (ts : List Triple) (commits : List Made) (homes : List ℕ) (entries : List Entry) → IsHeldBy history ts commits homes entries
+    → has_commit (k ∷ []) ≡ false → longer ≡ history ++ k ∷ [] → IsHeldBy longer ts commits homes entries
+held-declared history longer k ts commits homes entries held h e = rw e (record {
   rows = ap (λ (held : Holding). held.rows) (held-same history k h) ∙ held.rows;
-  files = subst (λ (h : Holding). AllByRecursion (IsFileOf h.lines commits ls) entries) (sym (held-same history k h)) held.files;
+  files = all-map (IsFileOf history ts) (IsFileOf (history ++ k ∷ []) ts)
+      (λ entry file. record {
+        lines = subst (λ (held : Holding). AreDated ts (option_count (history ++ k ∷ [])) (file_dated entry.node held.lines) entry.file.lines) (sym (held-same history k h))
+            (dated-on ts ts (option_count history) (option_count (history ++ k ∷ [])) (file_dated entry.node (kept_of history)) entry.file.lines (itself ts) (as-many-options history (k ∷ [])) file.lines);
+        newest = let one = length-one history k in let newest = file.newest in omega (arith, one, newest);
+      })
+      entries held.files;
   in_reach = λ at. in-reach (option_count (take at history)) _ at commits (held.in_reach at) (more-options at history (k ∷ []));
   lines = held.lines ∙ ap (λ ns. length ns.addresses) (sym (numbers-kept history k h));
-  made_lines = held.made_lines;
+  homes = subst (λ (held : Holding). AreHomes held.lines 0 homes) (sym (held-same history k h)) held.homes;
   made_entries = held.made_entries;
   few = let one = length-one history k in let few = held.few in omega (arith, one, few);
 })
@@ -124,14 +190,15 @@ if_ok (Ok a) P Q f h = f a h
 if_ok (Err e) P Q f h = tt
 
 -- before any command nothing is held
-pub held-none : (history : List Command) (commits : List Made) (ls : List KeptLine) (entries : List Entry) → history ≡ [] → commits ≡ [] → ls ≡ [] → entries ≡ [] → IsHeldBy history commits ls entries
-held-none history commits ls entries he ce le ee =
+pub held-none : (history : List Command) (ts : List Triple) (commits : List Made) (homes : List ℕ) (entries : List Entry) → history ≡ [] → commits ≡ [] → homes ≡ [] → entries ≡ []
+    → IsHeldBy history ts commits homes entries
+held-none history ts commits homes entries he ce le ee =
     rw (he, ce, le, ee) (record {
       rows = refl;
       files = tt;
       in_reach = λ at commit seen. omega arith;
       lines = refl;
-      made_lines = tt;
+      homes = tt;
       made_entries = tt;
       few = omega arith;
     })

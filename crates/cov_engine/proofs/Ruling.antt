@@ -23,7 +23,6 @@ use Rattle.cov_rules.proofs.CallerLemmas.{holds_later}
 use Rattle.cov_rules.proofs.Growing.{stay_below}
 use Rattle.cov_view.specs.Refusals.{when, first_of}
 use Rattle.cov_engine.specs.declared.entry.Entry.{Entry}
-use Rattle.cov_engine.specs.declared.kept.KeptLine.{KeptLine}
 use Rattle.cov_engine.specs.declared.kept.Made.{Made}
 use Rattle.cov_engine.specs.declared.ready.Ready.{Ready}
 use Rattle.cov_engine.specs.declared.ready.Ready.TheVariants as ready
@@ -274,12 +273,12 @@ on_ok_also (Ok x) P Q f h = f h
 on_ok_also (Err e) P Q f h = tt
 
 -- with what is held, a rule that is ready is what its command wants
-module _ (history : List Command) (k : Command) (os : ℕ) (ts : List Triple) (standing : RulesValue) (ks : ℕ) (commits : List Made) (ls : List KeptLine) (entries : List Entry) (held : IsHeldBy history commits ls entries) where
-  as-ready : (r : Ready) → IsRuleReady k ts standing r → IsReady history k os ts standing ks commits ls entries r
+module _ (history : List Command) (k : Command) (os : ℕ) (ts : List Triple) (standing : RulesValue) (ks : ℕ) (commits : List Made) (homes : List ℕ) (entries : List Entry) (held : IsHeldBy history ts commits homes entries) where
+  as-ready : (r : Ready) → IsRuleReady k ts standing r → IsReady history k os ts standing ks commits homes entries r
   as-ready (ready.Option name) h = absurd h
   as-ready (ready.Rule rule plan) h = (h.0, h.1, held)
-  as-ready (ready.Commit made counts) h = absurd h
+  as-ready (ready.Commit made counts steps) h = absurd h
 
-  pub all-ready : (r : Result Ready Refusal) → IfOk r (IsRuleReady k ts standing) → IfOk r (IsReady history k os ts standing ks commits ls entries)
+  pub all-ready : (r : Result Ready Refusal) → IfOk r (IsRuleReady k ts standing) → IfOk r (IsReady history k os ts standing ks commits homes entries)
   all-ready (Ok r) h = as-ready r h
   all-ready (Err e) h = tt

@@ -9,6 +9,7 @@ use Rattle.cov_base.specs.declared.number.NodeRef.{NodeRef}
 use Rattle.cov_base.specs.declared.number.NodeRef.TheVariants as nodes
 use Rattle.cov_base.proofs.Ordered.{all-map, all-both}
 use Rattle.cov_base.proofs.Tables.{line_of-in}
+use Rattle.cov_dd.specs.declared.triple.Triple.{Triple}
 use Rattle.cov_edit.specs.declared.command.Command.{Command}
 use Rattle.cov_edit.specs.Numbering.{Numbers, node_number, numbers_of}
 use Rattle.cov_edit.specs.Variant.{Variant}
@@ -18,7 +19,6 @@ use Rattle.cov_view.specs.Seen.{Seen}
 use Rattle.cov_view.specs.Views.{row_by_number, ShowsLines, IsMade, Shows}
 use Rattle.cov_view.specs.declared.row.ViewRow.{ViewRow}
 use Rattle.cov_engine.specs.declared.kept.Made.{Made}
-use Rattle.cov_engine.specs.declared.kept.KeptLine.{KeptLine}
 use Rattle.cov_engine.specs.declared.entry.Entry.{Entry}
 use Rattle.cov_engine.specs.Showing.{with_entry}
 use Rattle.cov_engine.specs.Holdings.{IsHeldBy}
@@ -66,9 +66,9 @@ rows-made ns rows v e named =
     (all-unmapped (λ (r : Row). r.node ≤ ns.nodes) (row_by_number ns) rows (subst (AllByRecursion (λ (r : Row). r.node ≤ ns.nodes)) e named.nodes))
     (all-unmapped (λ (r : Row). r.parent ≤ ns.nodes) (row_by_number ns) rows (subst (AllByRecursion (λ (r : Row). r.parent ≤ ns.nodes)) e named.parents))
 
-module _ (c : List Bool) (at : ℕ) (commits : List Made) (ls : List KeptLine) (entries : List Entry) where
+module _ (ts : List Triple) (c : List Bool) (at : ℕ) (commits : List Made) (homes : List ℕ) (entries : List Entry) where
   abbrev seen : Seen
-  seen = record { rows = fold (with_entry c at commits ls) [] entries; nodes_made = 0; lines_made = 0 }
+  seen = record { rows = fold (with_entry ts c at commits) [] entries; nodes_made = 0; lines_made = 0 }
 
   module _ (history : List Command) where
     abbrev ns : Numbers
@@ -80,16 +80,16 @@ module _ (c : List Bool) (at : ℕ) (commits : List Made) (ls : List KeptLine) (
     abbrev IsVariant : Type 0
     IsVariant = Shows ns ns.addresses seen v
 
-    view-shows : IsLegal history → IsHeldBy history commits ls entries → IsVariant
+    view-shows : IsLegal history → IsHeldBy history ts commits homes entries → IsVariant
     view-shows legal held =
-        let are : v.rows ≡ map (row_by_number ns) seen.rows = sym (view-rows ns c at history commits ls entries held) in
+        let are : v.rows ≡ map (row_by_number ns) seen.rows = sym (view-rows ns ts c at history commits homes entries held) in
         let named : NamesOnlyMade ns.nodes v = legal-named c (take at history) (legal-take [] history at legal) in
         let low = lines-below c (take at history) in
-        let shown : AllByRecursion (Shown c at commits ls ns history low) seen.rows = entries-lines c at commits ls ns history low [] entries tt (held-fresh c at commits ls entries history held.rows) held.files in
+        let shown : AllByRecursion (Shown c at ns history low) seen.rows = entries-lines ts c at commits ns history low [] entries tt (held-fresh ts c at commits entries history held.rows) held.files in
         record {
           rows = are;
-          lines = all-map (Shown c at commits ls ns history low) (ShowsLines ns v) (λ r h. h.0) seen.rows shown;
-          made = all-both (λ r. (is_made_node ns.nodes 0 r.node && is_made_node ns.nodes 0 r.parent) ≡ true) (Shown c at commits ls ns history low) (IsMade ns seen) (λ r a h. (a, h.1)) seen.rows
+          lines = all-map (Shown c at ns history low) (ShowsLines ns v) (λ r h. h.0) seen.rows shown;
+          made = all-both (λ r. (is_made_node ns.nodes 0 r.node && is_made_node ns.nodes 0 r.parent) ≡ true) (Shown c at ns history low) (IsMade ns seen) (λ r a h. (a, h.1)) seen.rows
               (rows-made ns seen.rows v are named) shown;
           in_order = (replay-stands c (take at history)).0;
           files = all-map (λ l. l.file ≤ ns.nodes) (λ l. l.file ≤ ns.nodes + 0) (λ l h. omega (arith, h)) v.lines named.files;
@@ -98,7 +98,7 @@ module _ (c : List Bool) (at : ℕ) (commits : List Made) (ls : List KeptLine) (
         }
 
   -- what is shown is the variant of the replay
-  pub shown-view : {E : Type 0} (r : Result Seen E) (history value : List Command) → IsLegal history → IsHeldBy history commits ls entries → history ≡ value
+  pub shown-view : {E : Type 0} (r : Result Seen E) (history value : List Command) → IsLegal history → IsHeldBy history ts commits homes entries → history ≡ value
       → IfOk r (λ view. view ≡ seen) → IfOk r (λ view. Shows (ns value) (ns value).addresses view (v value))
   shown-view r history value legal held is =
       if_ok r _ _ (λ view e. subst (λ (s : Seen). Shows (ns value) (ns value).addresses s (v value)) (sym e) (subst (λ h. IsVariant h) is (view-shows history legal held)))

@@ -24,11 +24,11 @@ pub record IsFileOf (history : List Command) (ts : List Triple) (e : Entry) : Ty
 
 -- the entries are the rows that a history holds, with the lines of each file, whose nodes are of a table; the file of each
 -- line is noted; each row names one of the commits, and each ambition speaks of options that are declared where it counts
-pub record IsHeldBy (history : List Command) (ts : List Triple) (commits : List Made) (homes : List ℕ) (entries : List Entry) : Type 0 where
+pub record IsHeldBy (history : List Command) (ts : List Triple) (commits : List Made) (line_files : List ℕ) (entries : List Entry) : Type 0 where
   pub rows : entries_of history ≡ map (entry_kept commits) entries
   pub files : AllByRecursion (IsFileOf history ts) entries
   pub in_reach : (at : ℕ) → AreInReach (option_count (take at history)) at commits
-  pub lines : length homes ≡ line_count history
-  pub homes : AreHomes (kept_of history) 0 homes
+  pub lines : length line_files ≡ line_count history
+  pub homes : AreHomes (kept_of history) 0 line_files
   pub made_entries : AllByRecursion (λ e. e.commit < length commits) entries
   pub few : length commits ≤ length history

@@ -5,8 +5,8 @@ use Rattle.cov_engine.proofs.kept.show.Given as goal
 
 abbrev pub invariant-loop-ahead : goal.invariant-loop-ahead
 invariant-loop-ahead l = record {
-  rows : fold (with_entry l.choice l.at l.kept.commits.items l.kept.lines.items) l.view.rows l.ahead ≡ fold (with_entry l.choice l.at l.kept.commits.items l.kept.lines.items) [] l.kept.entries.items;
-  fresh : AreFresh l.choice l.at l.kept.commits.items l.kept.lines.items l.view.rows l.ahead;
+  rows : fold (with_entry l.table l.choice l.at l.kept.commits.items) l.view.rows l.ahead ≡ fold (with_entry l.table l.choice l.at l.kept.commits.items) [] l.kept.entries.items;
+  fresh : AreFresh l.table l.choice l.at l.kept.commits.items l.view.rows l.ahead;
   nodes : l.view.nodes_made ≡ 0;
   lines : l.view.lines_made ≡ 0;
 }

@@ -5,6 +5,7 @@ use Rattle.cov_rules.proofs.Answering.{completed_is_valid}
 use Rattle.cov_rules.proofs.Opening.{if_ok_also, if_err_also}
 use Rattle.cov_engine.specs.Ruling.{AreRulesOf}
 use Rattle.cov_engine.specs.States.{EngineValue}
+use Rattle.cov_engine.proofs.Holdings.{held-grown}
 use Rattle.cov_engine.proofs.Ruling.{completed-same}
 use Rattle.cov_engine.proofs.States.{state-grown}
 use Rattle.cov_engine.proofs.engine.Engine.complete.Goals as goal
@@ -14,7 +15,8 @@ invariant_of-self c = (
   state-grown c.self.inside.state.commands.commands c.self.inside.state.commands.commands c.self.inside.state.options.names c.self.inside.state.options.names
       c.self.inside.state.table c.complete.new.table c.self.inside.state.rules.standing c.self.inside.state.rules.standing c.self.inside.state.counts
       c.self.invariant.0 refl refl c.complete.ensures.extends refl,
-  c.self.invariant.1,
+  held-grown c.self.inside.state.commands.commands c.self.inside.state.table c.complete.new.table c.self.inside.state.kept.commits.items
+      c.self.inside.state.kept.homes.items c.self.inside.state.kept.entries.items c.self.invariant.1 c.complete.ensures.extends,
 )
 
 pub returns-clause-answer : goal.returns-clause-answer
