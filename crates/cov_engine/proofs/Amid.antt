@@ -2,8 +2,9 @@
 use Rattle.std.proofs.Common.{◌≡◌, ℕ, zero, suc, ◌+◌, ◌<◌, ◌≤◌, Bool, true, false, cond, ◌&&◌, ◌||◌, not, nat_eq, nat_le, List, [], ◌∷◌, ◌++◌, length, map, drop, append_assoc, append-nil, refl, sym, ap, subst, ◌∙◌, arith}
 use Rattle.std.specs.List.{fold, AllByRecursion}
 use Rattle.std.proofs.lemmas.Bool.Decides.{nat_tests}
-use Rattle.cov_base.specs.Addresses.{after_anchor, after_anchor_by}
+use Rattle.cov_base.specs.Addresses.{after_first, after_anchor, after_anchor_by}
 use Rattle.cov_base.proofs.Ordered.{all-map}
+use Rattle.cov_base.specs.declared.number.Kind.{Kind}
 use Rattle.cov_base.specs.declared.number.NodeRef.{NodeRef}
 use Rattle.cov_base.specs.declared.number.LineRef.{LineRef}
 use Rattle.cov_dd.specs.declared.triple.Triple.{Triple}
@@ -21,7 +22,7 @@ use Rattle.cov_file.specs.Rooms.{DatedFile, is_room_at, IsLeft}
 use Rattle.cov_file.proofs.Changes.{has_after}
 use Rattle.cov_order.specs.Orders.{has_line}
 use Rattle.cov_engine.specs.Deletions.{Deletion, hidden_by}
-use Rattle.cov_engine.specs.Drawing.{inserts_into, deletes_from, touches, new_homes}
+use Rattle.cov_engine.specs.Drawing.{Stored, inserts_into, deletes_from, touches, new_homes}
 use Rattle.cov_engine.specs.Files.{DatedLine, dated_number, dated, file_dated, file_order, Takes}
 use Rattle.cov_engine.specs.Insertions.{Insertion, lines_amid, held_amid, numbered_amid}
 use Rattle.cov_engine.specs.Kept.{Kept, seen_at, kept_number, kept_of, held_by, file_kept, is_kept_anchor}
@@ -61,6 +62,36 @@ one_more history begun file after text =
 none_more : (m : ℕ) (begun : List Edit) (e : Edit) → anchors_of m (e ∷ []) ≡ [] → anchors_of m (begun ++ e ∷ []) ≡ anchors_of m begun
 none_more m begun e h = anchors-append m begun (e ∷ []) ∙ ap (λ l. anchors_of m begun ++ l) h ∙ append-nil (anchors_of m begun)
 
+numbers-first : (t : ℕ → Bool) (l : FileLine) (ls : List FileLine) → file_numbers (after_first (λ x. t x.line) l ls) ≡ after_first t l.line (file_numbers ls)
+numbers-first t l [] = refl
+numbers-first t l (x ∷ ls) = at (t x.line) (numbers-first t l ls)
+  where
+    at : (b : Bool) → file_numbers (after_first (λ x. t x.line) l ls) ≡ after_first t l.line (file_numbers ls)
+        → file_numbers (cond b (x ∷ l ∷ ls) (x ∷ after_first (λ x. t x.line) l ls)) ≡ cond b (x.line ∷ l.line ∷ file_numbers ls) (x.line ∷ after_first t l.line (file_numbers ls))
+    at true rest = refl
+    at false rest = ap (λ ns. x.line ∷ ns) rest
+
+numbers-with : (anchor : ℕ) (l : FileLine) (ls : List FileLine) → file_numbers (with_line anchor l ls) ≡ after_anchor anchor l.line (file_numbers ls)
+numbers-with zero l ls = refl
+numbers-with (suc anchor) l ls = numbers-first (λ y. nat_eq y (suc anchor)) l ls
+
+numbers-changed : (line vis q : ℕ) (ls : List FileLine) → file_numbers (with_change line vis q ls) ≡ file_numbers ls
+numbers-changed line vis q [] = refl
+numbers-changed line vis q (l ∷ ls) = ap (λ n. n ∷ file_numbers (with_change line vis q ls)) (at (nat_eq l.line line)) ∙ ap (λ ns. l.line ∷ ns) (numbers-changed line vis q ls)
+  where
+    at : (b : Bool) → (let x : FileLine = cond b (record { line = l.line; text = l.text; changes = (q, vis) ∷ l.changes }) l in x).line ≡ l.line
+    at true = refl
+    at false = refl
+
+homes-stay : (ks ks' : List (Kept Line)) → ((file line : ℕ) → is_kept_anchor file line ks ≡ true → is_kept_anchor file line ks' ≡ true) → (k : ℕ) (homes : List ℕ) → AreHomes ks k homes → AreHomes ks' k homes
+homes-stay ks ks' f k [] h = tt
+homes-stay ks ks' f k (file ∷ homes) h = (f file (k + 1) h.0, homes-stay ks ks' f (k + 1) homes h.1)
+
+home-more : (ks : List (Kept Line)) (file k : ℕ) (homes : List ℕ) → AreHomes ks k homes → is_kept_anchor file (k + length homes + 1) ks ≡ true → AreHomes ks k (homes ++ file ∷ [])
+home-more ks file k [] h own = (subst (λ j. is_kept_anchor file j ks ≡ true) (let same : k + 0 + 1 ≡ k + 1 = omega arith in same) own, tt)
+home-more ks file k (x ∷ homes) h own =
+    (h.0, home-more ks file (k + 1) homes h.1 (subst (λ j. is_kept_anchor file j ks ≡ true) (let same : k + suc (length homes) + 1 ≡ k + 1 + length homes + 1 = omega arith in same) own))
+
 or-left : (a b : Bool) → a ≡ true → (a || b) ≡ true
 or-left true b h = refl
 or-left false b h = absurd (cc)
@@ -92,7 +123,7 @@ module _ (history : List Command) (base : ℕ) (choice : List Bool) (ambition : 
   new_dated number text = record { line = number; text = text; changes = (q, ambition) ∷ [] }
 
   -- a made row leaves them
-  new-lines : (begun : List Edit) (e : Edit) (kind : Rattle.cov_base.specs.declared.number.Kind.Kind) (parent : NodeRef) (name : List ℕ) → e ≡ edits.New kind parent name → lines_at (begun ++ e ∷ []) ≡ lines_at begun
+  new-lines : (begun : List Edit) (e : Edit) (kind : Kind) (parent : NodeRef) (name : List ℕ) → e ≡ edits.New kind parent name → lines_at (begun ++ e ∷ []) ≡ lines_at begun
   new-lines begun e kind parent name is =
       ap (λ x. lines_at (begun ++ x ∷ [])) is
       ∙ lines-edits q ambition (held_by history) (numbered_amid history es (begun ++ edits.New kind parent name ∷ []))
@@ -223,7 +254,7 @@ module _ (history : List Command) (base : ℕ) (choice : List Bool) (ambition : 
             stands_weaker 0 count (gone ts count ambition q hid) (omega arith) (omega arith)
             (λ c. twice (value (seen_at d.changes q) c) (value ambition c)
             ∙ sym (ap (λ b. value (cond b (And (seen_at d.changes q) (Not ambition)) (seen_at d.changes q)) c && not (value ambition c)) (reflexive q))) (h is)
-        at false = h
+        at false is = h is
 
     -- what is right stays so when a line is put in
     insert-right : (begun later : List Edit) (file : NodeRef) (after : LineRef) (text : List ℕ) (all : begun ++ edits.Insert file after text ∷ later ≡ es) (other line vis : ℕ)
@@ -255,5 +286,221 @@ module _ (history : List Command) (base : ℕ) (choice : List Bool) (ambition : 
             (subst (λ f. AllByRecursion (IsGone ts count ambition q line vis) (file_dated f (lines_at begun))) (sym same) (h.taken above))))
         by above false is = subst (AllByRecursion (IsGone ts count ambition q line vis)) (sym (delete-out begun later file which all other is)) (h.taken above)
 
-    numbers-here : (node : ℕ) (begun left : List Edit) (file : DatedFile) → IsHere node begun left file → file_numbers file.lines ≡ file_order node (lines_at begun)
+    pub numbers-here : (node : ℕ) (begun left : List Edit) (file : DatedFile) → IsHere node begun left file → file_numbers file.lines ≡ file_order node (lines_at begun)
     numbers-here node begun left file h = dated-numbers ts count (file_dated node (lines_at begun)) file.lines h.are_dated ∙ numbers-dated (file_kept node (lines_at begun))
+
+    module _ (begun later : List Edit) (file : NodeRef) (after : LineRef) (text : List ℕ) (all : begun ++ edits.Insert file after text ∷ later ≡ es) where
+      abbrev f : ℕ
+      f = node_number n file
+
+      abbrev anchor : ℕ
+      anchor = line_number m after
+
+      abbrev had : ℕ
+      had = lines_amid history begun
+
+      touched : nat_eq f f ≡ true
+      touched = grind (arith, nat_tests)
+
+      -- a file can take the line
+      can-insert : (e : Entry) → IsHere e.node begun (edits.Insert file after text ∷ later) e.file → nat_eq e.node f ≡ true → CanInsert q anchor (had + 1) e
+      can-insert e h is =
+          let same : e.node ≡ f = grind (arith, nat_tests, is) in
+          let order = ap (λ k. file_order k (lines_at begun)) (sym same) ∙ sym (numbers-here e.node begun (edits.Insert file after text ∷ later) e.file h) in
+          let takes = subst (λ order. Takes order anchor (had + 1)) order (insert-takes begun later file after text all) in
+          let turned : nat_eq f e.node ≡ true = grind (arith, nat_tests, same) in
+          let some : suc (inserts_into n e.node later) ≤ e.file.room.inserts =
+          subst (λ b. cond b (suc (inserts_into n e.node later)) (inserts_into n e.node later) ≤ e.file.room.inserts) turned h.inserts in
+          record {
+            anchored = takes.anchored;
+            above_head = takes.above_head;
+            fresh = takes.fresh;
+            later = h.newest;
+            room = omega (arith, some);
+            position = h.position (or-left (nat_eq f e.node) (touches n e.node later) turned);
+          }
+
+      -- and has it then
+      inserted-here : (old new : DatedFile) → IsHere f begun (edits.Insert file after text ∷ later) old → AreAlike new.lines (with_line anchor (new_line (had + 1) text a q) old.lines)
+          → IsLeft old.room new.room q 1 → has_line (had + 1) new.room.changes ≡ true → new.newest ≡ q → IsHere f (begun ++ edits.Insert file after text ∷ []) later new
+      inserted-here old new h alike left own at =
+          let some : suc (inserts_into n f later) ≤ old.room.inserts =
+          subst (λ b. cond b (suc (inserts_into n f later)) (inserts_into n f later) ≤ old.room.inserts) touched h.inserts in
+          let fewer = left.inserts in
+          record {
+            above = h.above;
+            are_dated = subst (λ ds. AreDated ts count ds new.lines) (sym (insert-here begun later file after text all))
+                (insert-lines ts count q anchor (had + 1) a text ambition (file_dated f (lines_at begun)) old.lines new.lines stands h.are_dated alike);
+            newest = omega (arith, at);
+            inserts = omega (arith, some, fewer);
+            changes = λ line gone there. by line gone (nat_eq (had + 1) line) refl (sym (has_new line) ∙ there);
+            position = λ t. left.position;
+          }
+        where
+          has_new : (line : ℕ) → has_line line (file_numbers new.lines) ≡ (nat_eq (had + 1) line || has_line line (file_numbers old.lines))
+          has_new line =
+              ap (has_line line) (alike-numbers new.lines (with_line anchor (new_line (had + 1) text a q) old.lines) alike
+              ∙ numbers-with anchor (new_line (had + 1) text a q) old.lines)
+              ∙ has_after line anchor (had + 1) (file_numbers old.lines)
+
+          by : (line : ℕ) → deletes_from n m f line later ≡ true → (b : Bool) → nat_eq (had + 1) line ≡ b → (b || has_line line (file_numbers old.lines)) ≡ true → has_line line new.room.changes ≡ true
+          by line gone true is there = let same : had + 1 ≡ line = grind (arith, nat_tests, is) in subst (λ k. has_line k new.room.changes ≡ true) same own
+          by line gone false is there = left.changes line (h.changes line gone there)
+
+      insert-next : (e e' : Entry) → IsChangedIn f (IsStepped q (steps.Insert f anchor (had + 1) text a)) e e' → IsHere e.node begun (edits.Insert file after text ∷ later) e.file
+          → IsHere e'.node (begun ++ edits.Insert file after text ∷ []) later e'.file
+      insert-next e e' changed h = by (nat_eq e.node f) refl
+        where
+          by : (b : Bool) → nat_eq e.node f ≡ b → IsHere e'.node (begun ++ edits.Insert file after text ∷ []) later e'.file
+          by true is =
+              let same : e.node ≡ f = grind (arith, nat_tests, is) in
+              let it = changed.here is in
+              subst (λ k. IsHere k (begun ++ edits.Insert file after text ∷ []) later e'.file) (sym (ap (λ (s : Stored). s.node) it.row ∙ same))
+              (inserted-here e.file e'.file (subst (λ k. IsHere k begun (edits.Insert file after text ∷ later) e.file) same h) it.lines it.room it.own (ap (λ (s : Stored). s.newest) it.row))
+          by false is =
+              let turned : nat_eq f e.node ≡ false = grind (arith, nat_tests, is) in
+              subst (λ (x : Entry). IsHere x.node (begun ++ edits.Insert file after text ∷ []) later x.file) (sym (changed.elsewhere is)) (record {
+                above = h.above;
+                are_dated = subst (λ ds. AreDated ts count ds e.file.lines) (sym (insert-there begun later file after text all e.node turned)) h.are_dated;
+                newest = h.newest;
+                inserts = subst (λ b. cond b (suc (inserts_into n e.node later)) (inserts_into n e.node later) ≤ e.file.room.inserts) turned h.inserts;
+                changes = h.changes;
+                position = λ t. h.position (or-right (nat_eq f e.node) (touches n e.node later) t);
+              })
+
+    module _ (begun later : List Edit) (file : NodeRef) (line : LineRef) (all : begun ++ edits.Delete file line ∷ later ≡ es) where
+      abbrev df : ℕ
+      df = node_number n file
+
+      abbrev k : ℕ
+      k = line_number m line
+
+      -- a file can take the line out
+      can-delete : (e : Entry) → IsHere e.node begun (edits.Delete file line ∷ later) e.file → nat_eq e.node df ≡ true → CanDelete q k e
+      can-delete e h is =
+          let same : e.node ≡ df = grind (arith, nat_tests, is) in
+          let turned : nat_eq df e.node ≡ true = grind (arith, nat_tests, same) in
+          let own : nat_eq k k ≡ true = grind (arith, nat_tests) in
+          let there : has_line k (file_numbers e.file.lines) ≡ true =
+          ap (has_line k) (numbers-here e.node begun (edits.Delete file line ∷ later) e.file h ∙ ap (λ x. file_order x (lines_at begun)) same) ∙ delete-there begun later file line all in
+          record {
+            there = there;
+            later = h.newest;
+            room = h.changes k (or-left (nat_eq df e.node && nat_eq k k) (deletes_from n m e.node k later) (both-true (nat_eq df e.node) (nat_eq k k) turned own)) there;
+            position = h.position (or-left (nat_eq df e.node) (touches n e.node later) turned);
+          }
+
+      -- and hasn't it then
+      deleted-here : (vis : ℕ) (old new : DatedFile) → IsRight (lines_at begun) df k vis → IsHere df begun (edits.Delete file line ∷ later) old → AreAlike new.lines (with_change k vis q old.lines)
+          → IsLeft old.room new.room q 0 → new.newest ≡ q → IsHere df (begun ++ edits.Delete file line ∷ []) later new
+      deleted-here vis old new right h alike left at =
+          let some = h.inserts in
+          let fewer = left.inserts in
+          record {
+            above = h.above;
+            are_dated = subst (λ ds. AreDated ts count ds new.lines) (sym (delete-here begun later file line all))
+                (delete-lines ts count q k vis ambition (file_dated df (lines_at begun)) old.lines new.lines (right.taken h.above) h.are_dated alike);
+            newest = omega (arith, at);
+            inserts = omega (arith, some, fewer);
+            changes = λ some gone there. left.changes some
+                (h.changes some (or-right (nat_eq df df && nat_eq k some) (deletes_from n m df some later) gone)
+                (sym (ap (has_line some) (alike-numbers new.lines (with_change k vis q old.lines) alike ∙ numbers-changed k vis q old.lines)) ∙ there));
+            position = λ t. left.position;
+          }
+
+      delete-next : (vis : ℕ) → IsRight (lines_at begun) df k vis → (e e' : Entry) → IsChangedIn df (IsStepped q (steps.Delete df k vis)) e e' → IsHere e.node begun (edits.Delete file line ∷ later) e.file
+          → IsHere e'.node (begun ++ edits.Delete file line ∷ []) later e'.file
+      delete-next vis right e e' changed h = by (nat_eq e.node df) refl
+        where
+          by : (b : Bool) → nat_eq e.node df ≡ b → IsHere e'.node (begun ++ edits.Delete file line ∷ []) later e'.file
+          by true is =
+              let same : e.node ≡ df = grind (arith, nat_tests, is) in
+              let it = changed.here is in
+              subst (λ x. IsHere x (begun ++ edits.Delete file line ∷ []) later e'.file) (sym (ap (λ (s : Stored). s.node) it.row ∙ same))
+              (deleted-here vis e.file e'.file right (subst (λ x. IsHere x begun (edits.Delete file line ∷ later) e.file) same h) it.lines it.room (ap (λ (s : Stored). s.newest) it.row))
+          by false is =
+              let turned : nat_eq df e.node ≡ false = grind (arith, nat_tests, is) in
+              subst (λ (x : Entry). IsHere x.node (begun ++ edits.Delete file line ∷ []) later x.file) (sym (changed.elsewhere is)) (record {
+                above = h.above;
+                are_dated = subst (λ ds. AreDated ts count ds e.file.lines) (sym (delete-out begun later file line all e.node turned)) h.are_dated;
+                newest = h.newest;
+                inserts = h.inserts;
+                changes = λ some gone there. h.changes some (or-right (nat_eq df e.node && nat_eq k some) (deletes_from n m e.node some later) gone) there;
+                position = λ t. h.position (or-right (nat_eq df e.node) (touches n e.node later) t);
+              })
+
+    abbrev pub AreHere : List Edit → List Edit → List Entry → Type 0
+    AreHere begun left entries = AllByRecursion (λ e. IsHere e.node begun left e.file) entries
+
+    -- the entries can take the steps of the edits, and have them then
+    pub stepped : (later begun : List Edit) (made : ℕ) (entries : List Entry) (ss : List Step) → begun ++ later ≡ es → made ≡ lines_amid history begun → AreRight (lines_at begun) made later ss
+        → AreHere begun later entries → CanStepAll q ss entries × ((after : List Entry) → AreSteppedAll q ss entries after → AreHere es [] after)
+    stepped [] begun made entries ss all counted right here =
+        subst (λ ss. CanStepAll q ss entries × ((after : List Entry) → AreSteppedAll q ss entries after → AreHere es [] after)) (sym right)
+        (tt, λ after same. subst (λ b. AreHere b [] after) (sym (append-nil begun) ∙ all) (subst (AreHere begun []) (sym same) here))
+    stepped (edits.New kind parent name ∷ later) begun made entries ss all counted right here =
+        let e = edits.New kind parent name in
+        let same : lines_at (begun ++ e ∷ []) ≡ lines_at begun = new-lines begun e kind parent name refl in
+        stepped later (begun ++ e ∷ []) made entries ss (append_assoc begun (e ∷ []) later ∙ all)
+        (counted ∙ ap (λ l. m + length l) (sym (none_more m begun e refl)))
+        (subst (λ ks. AreRight ks made later ss) (sym same) right)
+        (all-map (λ x. IsHere x.node begun (e ∷ later) x.file) (λ x. IsHere x.node (begun ++ e ∷ []) later x.file)
+        (λ x h. record {
+          above = h.above;
+          are_dated = subst (λ ks. AreDated ts count (file_dated x.node ks) x.file.lines) (sym same) h.are_dated;
+          newest = h.newest;
+          inserts = h.inserts;
+          changes = h.changes;
+          position = h.position;
+        }) entries here)
+    stepped (edits.Insert file after text ∷ later) begun made entries ss all counted right here =
+        let e = edits.Insert file after text in
+        let step : Step = steps.Insert (node_number n file) (line_number m after) (lines_amid history begun + 1) text a in
+        let put : ss ≡ step ∷ right.0 = right.1 ∙ ap (λ j. steps.Insert (node_number n file) (line_number m after) (j + 1) text a ∷ right.0) counted in
+        let rest : (mid : List Entry) → AreStepped q step entries mid → CanStepAll q right.0 mid × ((after : List Entry) → AreSteppedAll q right.0 mid after → AreHere es [] after) =
+        λ mid st. stepped later (begun ++ e ∷ []) (made + 1) mid right.0 (append_assoc begun (e ∷ []) later ∙ all)
+        (ap (λ j. j + 1) counted ∙ sym (one_more history begun file after text))
+        (right-on (lines_at begun) (lines_at (begun ++ e ∷ [])) (insert-right begun later file after text all) (made + 1) later right.0 right.2)
+        (all-pairs (IsChangedIn (node_number n file) (IsStepped q step)) (λ x. IsHere x.node begun (e ∷ later) x.file) (λ x. IsHere x.node (begun ++ e ∷ []) later x.file)
+        (insert-next begun later file after text all) entries mid st here) in
+        subst (λ ss. CanStepAll q ss entries × ((after : List Entry) → AreSteppedAll q ss entries after → AreHere es [] after)) (sym put) (
+          (all-map (λ x. IsHere x.node begun (e ∷ later) x.file) (CanStepIn q step) (can-insert begun later file after text all) entries here, λ mid st. (rest mid st).0),
+          λ after st. (rest st.0 st.1).1 after st.2,
+        )
+    stepped (edits.Delete file line ∷ later) begun made entries ss all counted right here =
+        let e = edits.Delete file line in
+        let vis = right.0 in
+        let step : Step = steps.Delete (node_number n file) (line_number m line) vis in
+        let rest : (mid : List Entry) → AreStepped q step entries mid → CanStepAll q right.1 mid × ((after : List Entry) → AreSteppedAll q right.1 mid after → AreHere es [] after) =
+        λ mid st. stepped later (begun ++ e ∷ []) made mid right.1 (append_assoc begun (e ∷ []) later ∙ all)
+        (counted ∙ ap (λ l. m + length l) (sym (none_more m begun e refl)))
+        (right-on (lines_at begun) (lines_at (begun ++ e ∷ [])) (delete-right begun later file line all) made later right.1 right.4)
+        (all-pairs (IsChangedIn (node_number n file) (IsStepped q step)) (λ x. IsHere x.node begun (e ∷ later) x.file) (λ x. IsHere x.node (begun ++ e ∷ []) later x.file)
+        (delete-next begun later file line all vis right.3) entries mid st here) in
+        subst (λ ss. CanStepAll q ss entries × ((after : List Entry) → AreSteppedAll q ss entries after → AreHere es [] after)) (sym right.2) (
+          (all-map (λ x. IsHere x.node begun (e ∷ later) x.file) (CanStepIn q step) (can-delete begun later file line all) entries here, λ mid st. (rest mid st).0),
+          λ after st. (rest st.0 st.1).1 after st.2,
+        )
+
+  -- the files of lines are noted when all edits are done
+  pub homes-along : (later begun : List Edit) (homes : List ℕ) → begun ++ later ≡ es → length homes ≡ lines_amid history begun → AreHomes (lines_at begun) 0 homes
+      → AreHomes (lines_at es) 0 (homes ++ new_homes n later)
+  homes-along [] begun homes all counted at_home =
+      subst (λ b. AreHomes (lines_at b) 0 (homes ++ [])) (sym (append-nil begun) ∙ all) (subst (AreHomes (lines_at begun) 0) (sym (append-nil homes)) at_home)
+  homes-along (edits.New kind parent name ∷ later) begun homes all counted at_home =
+      let e = edits.New kind parent name in
+      homes-along later (begun ++ e ∷ []) homes (append_assoc begun (e ∷ []) later ∙ all) (counted ∙ ap (λ l. m + length l) (sym (none_more m begun e refl)))
+      (subst (λ ks. AreHomes ks 0 homes) (sym (new-lines begun e kind parent name refl)) at_home)
+  homes-along (edits.Delete file line ∷ later) begun homes all counted at_home =
+      let e = edits.Delete file line in
+      homes-along later (begun ++ e ∷ []) homes (append_assoc begun (e ∷ []) later ∙ all) (counted ∙ ap (λ l. m + length l) (sym (none_more m begun e refl)))
+      (homes-stay (lines_at begun) (lines_at (begun ++ e ∷ [])) (delete-stays begun later file line all) 0 homes at_home)
+  homes-along (edits.Insert file after text ∷ later) begun homes all counted at_home =
+      let e = edits.Insert file after text in
+      subst (AreHomes (lines_at es) 0) (append_assoc homes (node_number n file ∷ []) (new_homes n later))
+      (homes-along later (begun ++ e ∷ []) (homes ++ node_number n file ∷ []) (append_assoc begun (e ∷ []) later ∙ all)
+      (let one = length-one homes (node_number n file) in let more = one_more history begun file after text in omega (arith, counted, one, more))
+      (home-more (lines_at (begun ++ e ∷ [])) (node_number n file) 0 homes
+      (homes-stay (lines_at begun) (lines_at (begun ++ e ∷ [])) (insert-stays begun later file after text all) 0 homes at_home)
+      (subst (λ k. is_kept_anchor (node_number n file) k (lines_at (begun ++ e ∷ [])) ≡ true) (let one : lines_amid history begun + 1 ≡ 0 + length homes + 1 = omega (arith, counted) in one)
+      (insert-new begun later file after text all))))

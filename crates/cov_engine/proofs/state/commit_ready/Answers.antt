@@ -1,4 +1,4 @@
-use Rattle.cov_engine.proofs.Amid.{numbers-here}
+use Rattle.cov_engine.proofs.Amid.{numbers-here, stepped, homes-along}
 use Rattle.cov_engine.proofs.state.commit_ready.Goals as goal
 
 pub draw_commit-requires-clause-nodes : goal.draw_commit-requires-clause-nodes
