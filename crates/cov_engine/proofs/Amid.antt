@@ -1,6 +1,6 @@
 -- What entries have when the first edits of a commit are done.
-use Rattle.std.proofs.Common.{◌≡◌, ℕ, zero, suc, ◌+◌, ◌<◌, ◌≤◌, Bool, true, false, cond, ◌&&◌, ◌||◌, not, nat_eq, nat_le, List, [], ◌∷◌, ◌++◌, length, map, drop, append_assoc, append-nil, refl, sym, ap, subst, ◌∙◌, arith}
-use Rattle.std.specs.List.{fold, AllByRecursion}
+use Rattle.std.proofs.Common.{◌≡◌, ℕ, zero, suc, ◌+◌, ◌<◌, ◌≤◌, Bool, true, false, cond, ◌&&◌, ◌||◌, not, nat_eq, nat_le, List, [], ◌∷◌, ◌++◌, length, length-append, map, drop, append_assoc, append-nil, refl, sym, ap, subst, ◌∙◌, arith}
+use Rattle.std.specs.List.{fold, list_any, AllByRecursion}
 use Rattle.std.proofs.lemmas.Bool.Decides.{nat_tests}
 use Rattle.cov_base.specs.Addresses.{after_first, after_anchor, after_anchor_by}
 use Rattle.cov_base.proofs.Ordered.{all-map}
@@ -22,9 +22,9 @@ use Rattle.cov_file.specs.Rooms.{DatedFile, is_room_at, IsLeft}
 use Rattle.cov_file.proofs.Changes.{has_after}
 use Rattle.cov_order.specs.Orders.{has_line}
 use Rattle.cov_engine.specs.Deletions.{Deletion, hidden_by}
-use Rattle.cov_engine.specs.Drawing.{Stored, inserts_into, deletes_from, touches, new_homes}
+use Rattle.cov_engine.specs.Drawing.{Stored, named_line, inserts_into, deletes_from, touches, new_homes}
 use Rattle.cov_engine.specs.Files.{DatedLine, dated_number, dated, file_dated, file_order, Takes}
-use Rattle.cov_engine.specs.Insertions.{Insertion, lines_amid, held_amid, numbered_amid}
+use Rattle.cov_engine.specs.Insertions.{Insertion, table_of, lines_amid, held_amid, numbered_amid}
 use Rattle.cov_engine.specs.Kept.{Kept, seen_at, kept_number, kept_of, held_by, file_kept, is_kept_anchor}
 use Rattle.cov_engine.specs.Nodes.{AreDated, AreHomes}
 use Rattle.cov_engine.specs.Sessions.{IsGood, has_commit, session_of}
@@ -37,8 +37,9 @@ use Rattle.cov_engine.proofs.Committed.{numbers-dated, new-same}
 use Rattle.cov_engine.proofs.Dating.{IsGone, gone, dated-numbers, insert-lines, delete-lines, all-after}
 use Rattle.cov_engine.proofs.Deletes.{delete-dated, delete-elsewhere, delete-order, accepted-there}
 use Rattle.cov_engine.proofs.Entries.{all-pairs}
-use Rattle.cov_engine.proofs.Inserts.{anchors-append, anchors-stay, insert-elsewhere}
-use Rattle.cov_engine.proofs.Orders.{insert-dated, order-takes}
+use Rattle.cov_engine.proofs.Files.{anchor-below}
+use Rattle.cov_engine.proofs.Inserts.{anchors-append, anchors-stay, anchor-known, insert-elsewhere, is_table-of, amid-within, stands-amid}
+use Rattle.cov_engine.proofs.Orders.{any-mapped, insert-dated, order-takes}
 use Rattle.cov_engine.proofs.Sessions.{accepted-anchored}
 use Rattle.cov_engine.proofs.Standing.{all-mapped}
 use Rattle.cov_engine.proofs.States.{length-one}
@@ -104,6 +105,15 @@ both-true : (a b : Bool) → a ≡ true → b ≡ true → (a && b) ≡ true
 both-true true b g h = h
 both-true false b g h = absurd (cc)
 
+-- a line of a file has at most the number of lines that are made
+line-below : (history : List Command) (ambition : Formula ℕ) (begun later : List Edit) (file line : ℕ)
+    → has_line line (file_order file (held_amid history ambition (begun ++ later) begun).lines) ≡ true → line ≤ lines_amid history begun
+line-below history ambition begun later file line h =
+    let held = held_amid history ambition (begun ++ later) begun in
+    anchor-below (table_of history (begun ++ later)) (lines_amid history begun) (length history + 1) file line held (is_table-of history (begun ++ later)) (amid-within history begun later)
+    (stands-amid history begun later ambition)
+    (or-right (nat_eq line 0) (list_any (λ k. nat_eq (kept_number k) line) (file_kept file held.lines)) (sym (any-mapped kept_number line (file_kept file held.lines)) ∙ h))
+
 module _ (history : List Command) (base : ℕ) (choice : List Bool) (ambition : Formula ℕ) (es : List Edit)
     (good : IsGood history (session_of base choice ambition es)) (alone : has_commit (drop base history) ≡ false) where
   abbrev n : ℕ
@@ -129,6 +139,13 @@ module _ (history : List Command) (base : ℕ) (choice : List Bool) (ambition : 
       ∙ lines-edits q ambition (held_by history) (numbered_amid history es (begun ++ edits.New kind parent name ∷ []))
       ∙ new-same q ambition (numbers_of history) _ n m (kept_of history) begun kind parent name
       ∙ sym (lines-edits q ambition (held_by history) (numbered_amid history es begun))
+
+  begun-few : (begun later : List Edit) → begun ++ later ≡ es → lines_amid history begun ≤ lines_amid history es
+  begun-few begun later all =
+      let parts = ap length (anchors-append m begun later) in
+      let sum = length-append (anchors_of m begun) (anchors_of m later) in
+      let same = ap (λ l. length (anchors_of m l)) all in
+      omega (arith, parts, sum, same)
 
   module _ (begun later : List Edit) (file : NodeRef) (after : LineRef) (text : List ℕ) (all : begun ++ edits.Insert file after text ∷ later ≡ es) where
     abbrev i : Insertion
@@ -481,6 +498,23 @@ module _ (history : List Command) (base : ℕ) (choice : List Bool) (ambition : 
           (all-map (λ x. IsHere x.node begun (e ∷ later) x.file) (CanStepIn q step) (can-delete begun later file line all) entries here, λ mid st. (rest mid st).0),
           λ after st. (rest st.0 st.1).1 after st.2,
         )
+
+  -- the lines that edits name are made before them
+  pub named-low : (most : ℕ) (later begun : List Edit) → begun ++ later ≡ es → lines_amid history es ≤ most → AllByRecursion (λ e. named_line m e ≤ most) later
+  named-low most [] begun all few = tt
+  named-low most (edits.New kind parent name ∷ later) begun all few =
+      (omega arith, named-low most later (begun ++ edits.New kind parent name ∷ []) (append_assoc begun (edits.New kind parent name ∷ []) later ∙ all) few)
+  named-low most (edits.Insert file after text ∷ later) begun all few =
+      let i : Insertion = record { begun = begun; file = file; after = after; text = text; later = later } in
+      let known = anchor-known history ambition i (anchored begun later file after text all) in
+      let below = begun-few begun (edits.Insert file after text ∷ later) all in
+      (omega (arith, known, below, few), named-low most later (begun ++ edits.Insert file after text ∷ []) (append_assoc begun (edits.Insert file after text ∷ []) later ∙ all) few)
+  named-low most (edits.Delete file line ∷ later) begun all few =
+      let known : line_number m line ≤ lines_amid history begun =
+      line-below history ambition begun (edits.Delete file line ∷ later) (node_number n file) (line_number m line)
+      (ap (λ ks. has_line (line_number m line) (file_order (node_number n file) ks)) (delete-before begun later file line all) ∙ delete-there begun later file line all) in
+      let below = begun-few begun (edits.Delete file line ∷ later) all in
+      (omega (arith, known, below, few), named-low most later (begun ++ edits.Delete file line ∷ []) (append_assoc begun (edits.Delete file line ∷ []) later ∙ all) few)
 
   -- the files of lines are noted when all edits are done
   pub homes-along : (later begun : List Edit) (homes : List ℕ) → begun ++ later ≡ es → length homes ≡ lines_amid history begun → AreHomes (lines_at begun) 0 homes

@@ -26,5 +26,6 @@ pub mod Sessions
 pub mod Showing
 pub mod Shown
 pub mod Standing
+pub mod Started
 pub mod States
 pub mod Views

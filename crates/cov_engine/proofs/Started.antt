@@ -1,0 +1,147 @@
+-- What a commit's steps start from: the nodes of the lines that are kept before it.
+use Rattle.std.proofs.Common.{◌≡◌, ℕ, zero, suc, ◌+◌, ◌<◌, ◌≤◌, ◌^◌, max, Bool, true, false, cond, ◌&&◌, not, nat_eq, nat_le, nat_lt, List, [], ◌∷◌, ◌++◌, length, map, drop, unwrap_or, append_assoc, refl, sym, ap, subst, ◌∙◌, arith}
+use Rattle.std.specs.List.{AllByRecursion}
+use Rattle.std.proofs.lemmas.Bool.Decides.{nat_tests}
+use Rattle.cov_base.proofs.Ordered.{all-map}
+use Rattle.cov_dd.specs.declared.triple.Triple.{Triple}
+use Rattle.cov_dd.specs.Diagrams.{node_count, span, value_in, Stands}
+use Rattle.cov_dd.specs.Combinations.{joint_span}
+use Rattle.cov_dd.proofs.CallerLemmas.{stands_weaker}
+use Rattle.cov_dd.proofs.Nodes.{some_nodes}
+use Rattle.cov_expr.specs.Formula.{Formula, value}
+use Rattle.cov_edit.specs.declared.edit.Edit.{Edit}
+use Rattle.cov_edit.specs.declared.edit.Edit.TheVariants as edits
+use Rattle.cov_edit.specs.declared.command.Command.{Command}
+use Rattle.cov_edit.specs.History.{option_count}
+use Rattle.cov_edit.specs.Numbering.{node_number, line_number, anchors_of, numbers_of, line_count}
+use Rattle.cov_edit.specs.Variant.{Line}
+use Rattle.cov_file.specs.Dated.{node_of}
+use Rattle.cov_order.specs.Orders.{has_line, AreLines}
+use Rattle.cov_engine.specs.Drawing.{AreNumbered, AreLow}
+use Rattle.cov_engine.specs.Files.{DatedLine, dated_number, dated, file_dated, file_order}
+use Rattle.cov_engine.specs.Holdings.{IsFileOf}
+use Rattle.cov_engine.specs.Insertions.{Insertion, lines_amid}
+use Rattle.cov_engine.specs.Kept.{Kept, seen_at, kept_number, kept_of, file_kept}
+use Rattle.cov_engine.specs.Nodes.{AreDated, old_node, IsTaken}
+use Rattle.cov_engine.specs.Sessions.{IsGood, has_commit, session_of}
+use Rattle.cov_engine.specs.Stepping.{ArePlanned}
+use Rattle.cov_engine.specs.Verdict.{IsLegal}
+use Rattle.cov_engine.specs.declared.entry.Entry.{Entry}
+use Rattle.cov_engine.specs.declared.step.Step.{Step}
+use Rattle.cov_engine.proofs.Amid.{IsRight, AreRight}
+use Rattle.cov_engine.proofs.Committed.{numbers-dated, file-empty, in-range}
+use Rattle.cov_engine.proofs.Dating.{AreOnce, false-stands, gone, dated-numbers, node-right, node-low, node-none, IsGone}
+use Rattle.cov_engine.proofs.Deletes.{lines-held}
+use Rattle.cov_engine.proofs.Named.{legal-files}
+use Rattle.cov_engine.proofs.Orders.{any-none, any-mapped}
+use Rattle.cov_engine.proofs.Standing.{all-mapped}
+
+-- lines with distinct numbers
+once-of : (ks : List (Kept Line)) → AreLines (map kept_number ks) → AreOnce (map dated ks)
+once-of [] h = tt
+once-of (k ∷ ks) h = (ap (has_line (kept_number k)) (numbers-dated ks) ∙ h.1, once-of ks h.2)
+
+-- no line of a history has a number above their count
+unmade : (history : List Command) (file line : ℕ) → length (numbers_of history).addresses < line → has_line line (file_order file (kept_of history)) ≡ false
+unmade history file line above =
+    ap (has_line line) (sym (numbers-dated (file_kept file (kept_of history))))
+    ∙ any-mapped dated_number line (file_dated file (kept_of history))
+    ∙ any-none (λ d. nat_eq (dated_number d) line) (file_dated file (kept_of history))
+    (all-map (λ d. (1 ≤ dated_number d) × (dated_number d ≤ length (numbers_of history).addresses)) (λ d. nat_eq (dated_number d) line ≡ false)
+    (λ d r. let high = r.1 in grind (arith, nat_tests, high, above)) (file_dated file (kept_of history)) (in-range history file))
+
+module _ (history : List Command) (ts : List Triple) (q line : ℕ) where
+  abbrev count : ℕ
+  count = option_count history
+
+  abbrev IsSeen : ℕ → DatedLine → Type 0
+  IsSeen old d = nat_eq d.line line ≡ true → (c : List Bool) → value_in ts old c ≡ value (seen_at d.changes q) c
+
+  -- the node of a line before the commit has the values of the line
+  old-seen : (file k : ℕ) (es : List Entry) → AreNumbered k es → AllByRecursion (IsFileOf history ts) es → k < file → file ≤ k + length es
+      → AllByRecursion (IsSeen (old_node q es file line)) (file_dated file (kept_of history))
+  old-seen file k [] numbered files low high = absurd (omega (arith, low, high))
+  old-seen file k (e ∷ es) numbered files low high = by (nat_eq e.node file) refl
+    where
+      own : nat_eq e.node file ≡ true → AllByRecursion (IsSeen (unwrap_or (node_of line q e.file.lines) 0)) (file_dated file (kept_of history))
+      own is =
+          let same : e.node ≡ file = grind (arith, nat_tests, is) in
+          subst (λ f. AllByRecursion (IsSeen (unwrap_or (node_of line q e.file.lines) 0)) (file_dated f (kept_of history))) same
+          (node-right ts count q line (file_dated e.node (kept_of history)) e.file.lines (once-of (file_kept e.node (kept_of history)) (lines-held history e.node)) files.0.lines)
+
+      by : (b : Bool) → nat_eq e.node file ≡ b → AllByRecursion (IsSeen (cond b (unwrap_or (node_of line q e.file.lines) 0) (old_node q es file line))) (file_dated file (kept_of history))
+      by true is = own is
+      by false is =
+          let it : e.node ≡ k + 1 = numbered.0 in
+          old-seen file (k + 1) es numbered.1 files.1 (grind (arith, nat_tests, is, it, low)) (omega (arith, high))
+
+  -- it is a node of the table, and names only declared options
+  old-low : (file : ℕ) (es : List Entry) → AllByRecursion (IsFileOf history ts) es → (old_node q es file line < node_count ts) × (span ts (old_node q es file line) ≤ count)
+  old-low file [] files = node-low ts count q line [] [] tt
+  old-low file (e ∷ es) files = by (nat_eq e.node file) (old-low file es files.1)
+    where
+      by : (b : Bool) → (old_node q es file line < node_count ts) × (span ts (old_node q es file line) ≤ count)
+          → let r = cond b (unwrap_or (node_of line q e.file.lines) 0) (old_node q es file line) in (r < node_count ts) × (span ts r ≤ count)
+      by true rest = node-low ts count q line (file_dated e.node (kept_of history)) e.file.lines files.0.lines
+      by false rest = rest
+
+  -- a line that isn't made yet has none
+  old-none : (file : ℕ) (es : List Entry) → AllByRecursion (IsFileOf history ts) es → length (numbers_of history).addresses < line → old_node q es file line ≡ 0
+  old-none file [] files above = refl
+  old-none file (e ∷ es) files above = by (nat_eq e.node file) (old-none file es files.1 above)
+    where
+      by : (b : Bool) → old_node q es file line ≡ 0 → cond b (unwrap_or (node_of line q e.file.lines) 0) (old_node q es file line) ≡ 0
+      by true rest =
+          node-none ts count q line e.file.lines
+          (ap (has_line line) (dated-numbers ts count (file_dated e.node (kept_of history)) e.file.lines files.0.lines ∙ numbers-dated (file_kept e.node (kept_of history))) ∙ unmade history e.node line above)
+      by false rest = rest
+
+module _ (history : List Command) (base : ℕ) (choice : List Bool) (ambition : Formula ℕ) (es : List Edit)
+    (good : IsGood history (session_of base choice ambition es)) (alone : has_commit (drop base history) ≡ false)
+    (ts : List Triple) (a : ℕ) (stands : Stands ts a 0 (option_count history) (value ambition)) (legal : IsLegal history) (entries : List Entry)
+    (numbered : AreNumbered 0 entries) (counted : length entries ≡ (numbers_of history).nodes) (files : AllByRecursion (IsFileOf history ts) entries) where
+  abbrev n : ℕ
+  n = (numbers_of history).nodes
+
+  abbrev m : ℕ
+  m = length (numbers_of history).addresses
+
+  abbrev q : ℕ
+  q = length history + 1
+
+  taken-right : (file line vis : ℕ) → IsTaken ts q entries a file line vis → IsRight history base choice ambition es good alone ts a stands (kept_of history) file line vis
+  taken-right file line vis h = record {
+    taken = λ above. all above (nat_le file n) refl;
+    fresh = λ unmade. stands_weaker 0 (option_count history) (λ c. false) (omega arith) below
+        (λ c. ap (λ r. value_in ts r c && not (value_in ts a c)) (old-none history ts q line file entries files unmade) ∙ ap (λ b. b && not (value_in ts a c)) (false-value c)) h;
+  }
+    where
+      old : ℕ
+      old = old_node q entries file line
+
+      below : joint_span ts old a ≤ option_count history
+      below = let o = (old-low history ts q line file entries files).1 in let b = stands.below in omega (arith, o, b)
+
+      false-value : (c : List Bool) → value_in ts 0 c ≡ false
+      false-value c = (false-stands ts 0).value c
+
+      own : (d : DatedLine) → IsSeen history ts q line old d → IsGone ts (option_count history) ambition q line vis d
+      own d seen is =
+          stands_weaker 0 (option_count history) (gone ts (option_count history) ambition q d) (omega arith) below
+          (λ c. ap (λ b. b && not (value_in ts a c)) (seen is c) ∙ ap (λ b. value (seen_at d.changes q) c && not b) (stands.value c)) h
+
+      all : 0 < file → (b : Bool) → nat_le file n ≡ b → AllByRecursion (IsGone ts (option_count history) ambition q line vis) (file_dated file (kept_of history))
+      all above true is =
+          all-map (IsSeen history ts q line old) (IsGone ts (option_count history) ambition q line vis) own (file_dated file (kept_of history))
+          (old-seen history ts q line file 0 entries numbered files above (grind (arith, nat_tests, is, counted)))
+      all above false is =
+          subst (λ ks. AllByRecursion (IsGone ts (option_count history) ambition q line vis) (map dated ks))
+          (sym (file-empty n file (kept_of history) (grind (arith, nat_tests, is)) (legal-files history legal))) tt
+
+  -- what is planned is right
+  pub planned-right : (made : ℕ) (later : List Edit) (ss : List Step) → ArePlanned q entries n m a ts made later ss → AreRight history base choice ambition es good alone ts a stands (kept_of history) made later ss
+  planned-right made [] ss h = h
+  planned-right made (edits.New kind parent name ∷ later) ss h = planned-right made later ss h
+  planned-right made (edits.Insert file after text ∷ later) ss h = (h.0, h.1, planned-right (made + 1) later h.0 h.2)
+  planned-right made (edits.Delete file line ∷ later) ss h =
+      (h.0, h.1, h.2, taken-right (node_number n file) (line_number m line) h.0 h.3, planned-right made later h.1 h.4)
