@@ -6,6 +6,7 @@ pub mod FileLines
 pub mod Files
 pub mod Fresh
 pub mod Holdings
+pub mod Homes
 pub mod Inserts
 pub mod Installed
 pub mod Judged
@@ -25,3 +26,4 @@ pub mod Shown
 pub mod Standing
 pub mod States
 pub mod Views
+pub mod Visibilities
