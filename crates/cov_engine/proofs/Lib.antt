@@ -9,6 +9,7 @@ pub mod FileLines
 pub mod Files
 pub mod Fresh
 pub mod Holdings
+pub mod Homes
 pub mod Inserts
 pub mod Installed
 pub mod Judged
@@ -29,3 +30,4 @@ pub mod Standing
 pub mod Started
 pub mod States
 pub mod Views
+pub mod Visibilities

@@ -16,3 +16,4 @@ pub mod Showing
 pub mod States
 pub mod Stepping
 pub mod Verdict
+pub mod Visibility

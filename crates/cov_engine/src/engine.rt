@@ -1,5 +1,5 @@
 // A history in use.
-ghost use Rattle.std.specs.Prelude.{◌≡◌, ◌≤◌, [], true, nat_lt, length, take, None, Some, IfOk, IfErr, OnOk};
+ghost use Rattle.std.specs.Prelude.{◌≡◌, ◌≤◌, [], true, nat_lt, length, map, take, None, Some, is_none, IfOk, IfErr, IfSome, OnOk};
 ghost use Rattle.std.specs.List.{list_all};
 ghost use Rattle.cov_dd.specs.Diagrams.{Extends};
 ghost use Rattle.cov_edit.specs.History.{options_of, option_count, constraints_of, first_false_in};
@@ -7,19 +7,23 @@ ghost use Rattle.cov_edit.specs.Numbering.{numbers_of};
 ghost use Rattle.cov_edit.specs.Replay.{replay};
 ghost use Rattle.cov_rules.specs.Completion.{Complete, IsAnswer, IsRefusalBy};
 ghost use Rattle.cov_view.specs.Views.{Shows};
+ghost use Rattle.cov_engine.specs.Files.{file_dated};
 ghost use Rattle.cov_engine.specs.Holdings.{IsHeldBy};
+ghost use Rattle.cov_engine.specs.Kept.{kept_of};
 ghost use Rattle.cov_engine.specs.Ruling.{completed_in};
 ghost use Rattle.cov_engine.specs.Sessions.{MayCome};
 ghost use Rattle.cov_engine.specs.States.{AreCountsOf, IsStateOf};
 ghost use Rattle.cov_engine.specs.Verdict.{verdict, RefusedBy};
+ghost use Rattle.cov_engine.specs.Visibility.{IsVisibilityOf, is_no_line, as_row};
 
-use crate::kept::{Kept, show};
+use crate::kept::{Kept, entry_of, file_of, show};
 use crate::state::{State, make_ready};
 use crate::{Counts, Prepared, Refusal};
-use cov_base::{Choice, Memory, Position};
-use cov_dd::Table;
+use cov_base::{Choice, LineNo, Memory, NodeNo, Position};
+use cov_dd::{Node, Table};
 use cov_edit::{Command, Commands};
 use cov_expr::{Options, Partial};
+use cov_file::FileRows;
 use cov_rules::{CompleteFault, Invalid, Rules};
 use cov_view::View;
 use std::alloc::Global;
@@ -97,6 +101,37 @@ impl Engine {
         ensures { AreCountsOf self.now.history result }
     {
         self.state.counts
+    }
+
+    /// The diagrams of the rules and of the visibilities of lines.
+    pub fn table(&self) -> &Table
+        ensures { result.now ≡ self.now.table }
+    {
+        &self.state.table
+    }
+
+    /// The visibility of a line now: the node that is true on exactly the choices in whose replay of the whole history the
+    /// line is, its file present or not. None exactly where the history has no line with this number. So two lines have the
+    /// same node (`Table::is_same`) exactly where they are in the replays of the same choices. Takes no memory, and its time
+    /// doesn't grow with the history.
+    pub fn vis(&self, line: LineNo) -> Option<Node>
+        ensures none { is_none result ≡ is_no_line self.now.history line }
+        ensures stands { IfSome result (IsVisibilityOf self.now.history self.now.table line) }
+    {
+        match file_of(&self.state.kept, line) {
+            Some(entry) => entry.file.vis(line),
+            None => None,
+        }
+    }
+
+    /// All lines ever inserted into a file, in order; none where the number isn't a file's. It takes time in their number.
+    pub fn file_lines(&self, file: NodeNo) -> Result<FileRows, Memory>
+        ensures { IfOk result (λ rows. rows ≡ map as_row (file_dated file (kept_of self.now.history))) }
+    {
+        match entry_of(&self.state.kept.entries, file) {
+            Some(entry) => entry.file.all(),
+            None => Ok(FileRows::new(*self.state.kept.entries.allocator())),
+        }
     }
 
     /// Whether each constraint is true on a choice. Takes no memory.

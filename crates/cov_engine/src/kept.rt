@@ -1,6 +1,7 @@
 // The rows and lines that a history ever made.
 ghost use Rattle.std.specs.Prelude.{◌≡◌, ◌≤◌, ◌∷◌, [], ℕ, length, true, IfOk, OnOk, None, Some};
 ghost use Rattle.std.specs.List.{fold};
+ghost use Rattle.std.specs.Option.{option_copied};
 ghost use Rattle.cov_base.specs.declared.number.Kind.TheVariants.{File};
 ghost use Rattle.cov_base.specs.declared.number.NodeRef.TheVariants.{Old};
 ghost use Rattle.cov_expr.specs.Formula.{value};
@@ -8,9 +9,10 @@ ghost use Rattle.cov_file.specs.Dated.{rows_at};
 ghost use Rattle.cov_view.specs.Seen.{kind_in};
 ghost use Rattle.cov_engine.specs.Kept.{seen_at};
 ghost use Rattle.cov_engine.specs.Showing.{change_of, AreInReach, with_row, with_entry, AreFresh};
+ghost use Rattle.cov_engine.specs.Visibility.{item_of, entry_of};
 
 use crate::entry::Entry;
-use cov_base::{Choice, Kind, Memory, NodeNo, Position};
+use cov_base::{Choice, Kind, LineNo, Memory, NodeNo, Position};
 use cov_dd::Table;
 use cov_expr::Expr;
 use cov_file::FileRows;
@@ -109,6 +111,36 @@ fn add_rows(view: &mut View, file: NodeNo, rows: &FileRows) -> Result<(), Memory
         index += 1;
     }
     Ok(())
+}
+
+/// The row of a node.
+pub(crate) fn entry_of(entries: &[Entry], node: NodeNo) -> Option<&Entry>
+    ensures { option_copied result ≡ item_of entries.now node }
+{
+    match node.number() {
+        0 => None,
+        number => entries.get(number as usize - 1),
+    }
+}
+
+/// The row of the file of a line.
+pub(crate) fn file_of(kept: &Kept, line: LineNo) -> Option<&Entry>
+    ensures { option_copied result ≡ entry_of kept.now.entries.items (item_of kept.now.homes.items line) }
+{
+    match home_of(&kept.homes, line) {
+        Some(file) => entry_of(&kept.entries, file),
+        None => None,
+    }
+}
+
+// The file of a line.
+fn home_of(homes: &[NodeNo], line: LineNo) -> Option<NodeNo>
+    ensures { result ≡ item_of homes.now line }
+{
+    match line.number() {
+        0 => None,
+        number => homes.get(number as usize - 1).copied(),
+    }
 }
 
 // Whether what a commit made is seen on a choice at a position.

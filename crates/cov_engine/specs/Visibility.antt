@@ -1,0 +1,40 @@
+-- On which choices a line of a history stands.
+use Rattle.std.specs.Prelude.{ℕ, ◌-◌, Bool, ◌||◌, nat_eq, nat_lt, List, Option, Some, None, slice_get, if◌then◌else◌}
+use Rattle.std.specs.List.{list_any}
+use Rattle.cov_base.specs.Addresses.{line_of}
+use Rattle.cov_dd.specs.declared.triple.Triple.{Triple}
+use Rattle.cov_dd.specs.Diagrams.{Stands}
+use Rattle.cov_edit.specs.declared.command.Command.{Command}
+use Rattle.cov_edit.specs.History.{option_count}
+use Rattle.cov_edit.specs.Numbering.{line_count}
+use Rattle.cov_edit.specs.Variant.{Variant}
+use Rattle.cov_edit.specs.Replay.{replay}
+use Rattle.cov_file.specs.declared.row.FileRow.{FileRow}
+use Rattle.cov_engine.specs.Files.{DatedLine}
+use Rattle.cov_engine.specs.declared.entry.Entry.{Entry}
+
+-- whether a variant has the line with a number, its file present or not
+abbrev pub has_line_number : ℕ → Variant → Bool
+has_line_number line v = list_any (λ l. nat_eq (line_of l.address) line) v.lines
+
+-- a node of a table is the visibility of a line: it names only declared options and is true on exactly the choices in whose
+-- replay of the history the line is
+abbrev pub IsVisibilityOf : List Command → List Triple → ℕ → ℕ → Type 0
+IsVisibilityOf history ts line node = Stands ts node 0 (option_count history) (λ c. has_line_number line (replay c history))
+
+-- whether a history has no line with a number
+abbrev pub is_no_line : List Command → ℕ → Bool
+is_no_line history line = nat_eq line 0 || nat_lt (line_count history) line
+
+-- a kept line as a line of its file
+abbrev pub as_row : DatedLine → FileRow
+as_row d = record { line = d.line; text = d.text }
+
+-- the item with a number, from 1
+abbrev pub item_of : {X : Type 0} → List X → ℕ → Option X
+item_of xs number = if nat_eq number 0 then None else slice_get xs (number - 1)
+
+-- the entry of a file, if it is one
+abbrev pub entry_of : List Entry → Option ℕ → Option Entry
+entry_of entries None = None
+entry_of entries (Some file) = item_of entries file
