@@ -1,36 +1,46 @@
 -- A commit that is drawn, and then installed.
-use Rattle.std.proofs.Common.{◌≡◌, ℕ, zero, suc, ◌+◌, ◌<◌, ◌≤◌, ◌^◌, Bool, true, false, ◌||◌, nat_eq, nat_lt, List, [], ◌∷◌, ◌++◌, length, map, take, drop, Option, Some, None, refl, sym, ap, subst, ◌∙◌, arith}
+use Rattle.std.proofs.Common.{◌≡◌, ℕ, zero, suc, ◌+◌, ◌<◌, ◌≤◌, ◌^◌, Bool, true, false, ◌||◌, nat_eq, nat_lt, List, [], ◌∷◌, ◌++◌, length, map, take, drop, append-nil, Option, Some, None, refl, sym, ap, subst, ◌∙◌, arith}
 use Rattle.std.specs.List.{AllByRecursion}
+use Rattle.std.specs.Option.{option_map_or}
 use Rattle.std.proofs.lemmas.Bool.Decides.{nat_tests}
-use Rattle.cov_base.proofs.Ordered.{all-map, all-append}
+use Rattle.cov_base.proofs.Ordered.{all-map, all-both, all-append}
 use Rattle.cov_expr.specs.Formula.{Formula, reach}
 use Rattle.cov_edit.specs.declared.edit.Edit.{Edit}
 use Rattle.cov_edit.specs.declared.command.Command.{Command}
 use Rattle.cov_edit.specs.declared.command.Command.TheVariants as commands
-use Rattle.cov_edit.specs.History.{option_count, text_bytes, byte_count}
+use Rattle.cov_edit.specs.History.{options_of, option_count, text_bytes, byte_count}
 use Rattle.cov_edit.specs.Numbering.{nodes_made, anchors_of, no_numbers, numbers_after, numbers_of, numbered_from, line_count, node_count}
 use Rattle.cov_view.specs.Refusals.{when, first_of}
 use Rattle.cov_engine.specs.declared.kept.Made.{Made}
-use Rattle.cov_engine.specs.declared.kept.KeptLine.{KeptLine}
 use Rattle.cov_engine.specs.declared.entry.Entry.{Entry}
 use Rattle.cov_engine.specs.declared.refusal.Refusal.{Refusal}
 use Rattle.cov_engine.specs.declared.refusal.Refusal.TheVariants as refusals
 use Rattle.cov_engine.specs.Kept.{nothing_held, held_by, kept_of, entries_of}
-use Rattle.cov_engine.specs.Files.{dated, dated_number, file_dated}
-use Rattle.cov_engine.specs.Showing.{change_in, change_of, dated_of, AreInReach}
+use Rattle.cov_engine.specs.Files.{dated, file_dated}
+use Rattle.cov_engine.specs.Showing.{change_in, change_of, AreInReach}
 use Rattle.cov_engine.specs.Holdings.{entry_kept, IsFileOf, IsHeldBy}
-use Rattle.cov_engine.specs.Sessions.{IsGood, has_commit, has_delete, session_of}
+use Rattle.cov_engine.specs.Sessions.{IsGood, has_commit, session_of}
 use Rattle.cov_engine.specs.Verdict.{IsLegal, verdict, when_full, refusals_of}
-use Rattle.cov_engine.specs.Drawing.{Stored, stored, new_lines, new_entries, AreNear, AreNumbered, with_new_lines, CanTakeAll, IsDrawn}
+use Rattle.cov_engine.specs.Drawing.{Stored, stored, new_homes, new_entries, AreNear, AreLow, AreNumbered, HasRoom, named_line}
+use Rattle.cov_engine.specs.Drawn.{IsDrawn}
+use Rattle.cov_engine.specs.Insertions.{numbered_amid, held_amid}
+use Rattle.cov_engine.specs.Nodes.{AreDated, AreHomes}
+use Rattle.cov_file.specs.Dated.{DatedLine as FileLine}
+use Rattle.cov_dd.specs.declared.triple.Triple.{Triple}
+use Rattle.cov_engine.specs.Stepping.{IsChangedIn, IsStepped, AllPairs, AreStepped, CanStepAll, AreSteppedAll, AreInstalled, step_file, restored}
+use Rattle.cov_engine.specs.declared.step.Step.{Step}
+use Rattle.cov_engine.specs.declared.step.Step.TheVariants as steps
 use Rattle.cov_engine.proofs.Appends.{commit-lines, commit-rows, lines-edits}
 use Rattle.cov_engine.proofs.Standing.{all-mapped}
 use Rattle.cov_engine.proofs.FileLines.{all-unmapped}
 use Rattle.cov_engine.proofs.Fresh.{NodesFrom, history-nodes}
 use Rattle.cov_engine.proofs.Holdings.{more-options, in-reach}
-use Rattle.cov_engine.proofs.States.{length-one, not-below}
+use Rattle.cov_engine.proofs.States.{length-one, not-below, options-append}
 use Rattle.cov_engine.proofs.Naming.{base-nodes, edits-accepted}
 use Rattle.cov_engine.proofs.Named.{edits-named, named-near, legal-files}
-use Rattle.cov_engine.proofs.Committed.{HasLines, all-taken, kept-behind, stored_kept, kept-stored, map-append, rows-behind, rows-put, made-put, old-rows, in-range, new-lines-count, new-lines-made, new-entries-all, lines-after, dated-fronts, file-empty, numbers-of, change-front, change-last, get-behind}
+use Rattle.cov_engine.proofs.Amid.{IsHere, AreHere, stepped, homes-along, named-low}
+use Rattle.cov_engine.proofs.Started.{planned-right}
+use Rattle.cov_engine.proofs.Committed.{stored_kept, kept-stored, map-append, rows-behind, old-rows, new-homes-count, new-entries-all, homes-after, file-empty, change-front, change-last, get-behind}
 
 numbers-in : (k m : ℕ) (commits : List Made) (entries : List Entry) → NodesFrom k m (map (entry_kept commits) entries) → AreNumbered k entries
 numbers-in k m commits [] h = tt
@@ -116,6 +126,13 @@ module _ (history : List Command) (base : ℕ) (choice : List Bool) (ambition : 
       named-near (numbers_of (take base history)).nodes (numbers_of history).nodes 0 es (base-nodes base history) (omega (arith, few))
       (edits-named history base choice es (edits-accepted history base choice ambition es accepted))
 
+  -- the lines that they name have small numbers
+  pub edits-low : IsGood history (session_of base choice ambition es) → has_commit (drop base history) ≡ false → AreLow (line_count history) es
+  edits-low good alone =
+      all-map (λ e. named_line (line_count history) e ≤ 2 ^ 20) (λ e. named_line (line_count history) e < 2 ^ 32) (λ e low. omega (arith, low)) es
+      (named-low history base choice ambition es good alone (2 ^ 20) es [] refl
+      (let few = lines-few in let same = sym (new-homes-count 0 (line_count history) es) ∙ new-homes-count 0 0 es in omega (arith, few, same)))
+
 take-all : (at : ℕ) (history : List Command) → length history ≤ at → take at history ≡ history
 take-all zero [] h = refl
 take-all (suc at) [] h = refl
@@ -169,15 +186,71 @@ in-reach-more history k ambition commits made is low old at commit seen = by com
         last true f = here commit (grind (arith, nat_tests, f)) seen
         last false f = behind commit (grind (arith, nat_tests, e, f))
 
+-- entries that are the same but for their room have the same files
+pub files-stored : (history : List Command) (ts : List Triple) (old now : List Entry) → map stored now ≡ map stored old → AllByRecursion (IsFileOf history ts) old → AllByRecursion (IsFileOf history ts) now
+files-stored history ts old now same files =
+    all-map (λ e. HasFile (stored e)) (IsFileOf history ts) (λ e h. record { lines = h.0; newest = h.1 }) now
+    (all-unmapped HasFile stored now (subst (AllByRecursion HasFile) (sym same) (all-mapped (IsFileOf history ts) HasFile stored (λ e h. (h.lines, h.newest)) old files)))
+  where
+    HasFile : Stored → Type 0
+    HasFile s = AreDated ts (option_count history) (file_dated s.node (kept_of history)) s.lines × (s.newest ≤ length history)
+
+-- entries before and after a step are of the same rows
+module _ {X : Type 0} (row : Entry → X) (same : (e f : Entry) → stored e ≡ stored f → row e ≡ row f)
+    (kept : (e : Entry) (ls : List FileLine) (newest : ℕ) (f : Entry) → stored f ≡ restored e ls newest → row f ≡ row e) where
+  step-row : (q : ℕ) (s : Step) (e f : Entry) → IsChangedIn (step_file s) (IsStepped q s) e f → row f ≡ row e
+  step-row q (steps.Insert file anchor line text vis) e f h = by (nat_eq e.node file) refl
+    where
+      by : (b : Bool) → nat_eq e.node file ≡ b → row f ≡ row e
+      by true is = kept e f.file.lines q f (h.here is).row
+      by false is = ap row (h.elsewhere is)
+  step-row q (steps.Delete file line vis) e f h = by (nat_eq e.node file) refl
+    where
+      by : (b : Bool) → nat_eq e.node file ≡ b → row f ≡ row e
+      by true is = kept e f.file.lines q f (h.here is).row
+      by false is = ap row (h.elsewhere is)
+
+  step-rows : (q : ℕ) (s : Step) (es fs : List Entry) → AreStepped q s es fs → map row fs ≡ map row es
+  step-rows q s [] [] h = refl
+  step-rows q s [] (f ∷ fs) h = absurd h
+  step-rows q s (e ∷ es) [] h = absurd h
+  step-rows q s (e ∷ es) (f ∷ fs) h = ap (λ x. x ∷ map row fs) (step-row q s e f h.0) ∙ ap (λ xs. row e ∷ xs) (step-rows q s es fs h.1)
+
+  steps-rows : (q : ℕ) (ss : List Step) (es fs : List Entry) → AreSteppedAll q ss es fs → map row fs ≡ map row es
+  steps-rows q [] es fs h = ap (map row) h
+  steps-rows q (s ∷ ss) es fs h = steps-rows q ss h.0 fs h.2 ∙ step-rows q s es h.0 h.1
+
+  same-rows : (es fs : List Entry) → map stored fs ≡ map stored es → map row fs ≡ map row es
+  same-rows [] [] h = refl
+  same-rows [] (f ∷ fs) h = absurd (cc)
+  same-rows (e ∷ es) [] h = absurd (cc)
+  same-rows (e ∷ es) (f ∷ fs) h = ap (λ x. x ∷ map row fs) (same f e (head-of h)) ∙ ap (λ xs. row e ∷ xs) (same-rows es fs (tail-of h))
+    where
+      head-of : stored f ∷ map stored fs ≡ stored e ∷ map stored es → stored f ≡ stored e
+      head-of h = cc
+
+      tail-of : stored f ∷ map stored fs ≡ stored e ∷ map stored es → map stored fs ≡ map stored es
+      tail-of h = cc
+
+  pub installed-rows : (q : ℕ) (ss : List Step) (es fs : List Entry) → AreInstalled q ss es fs → map row fs ≡ map row es
+  installed-rows q ss es fs h = same-rows h.0 fs h.2 ∙ steps-rows q ss es h.0 h.1
+
+any-position : (q : ℕ) (o : Option ℕ) → o ≡ None → option_map_or (λ p. nat_eq q p) o true ≡ true
+any-position q None h = refl
+any-position q (Some p) h = absurd (cc)
+
 module _ (history : List Command) (base : ℕ) (choice : List Bool) (ambition : Formula ℕ) (es : List Edit) (legal : IsLegal history)
-    (good : IsGood history (session_of base choice ambition es)) (alone : has_commit (drop base history) ≡ false) (keeping : has_delete es ≡ false)
+    (good : IsGood history (session_of base choice ambition es)) (alone : has_commit (drop base history) ≡ false)
     (accepted : verdict history (commands.Commit base choice ambition es) ≡ None)
-    (commits : List Made) (made : Made) (ls : List KeptLine) (entries : List Entry) (drawn : IsDrawn history ambition es commits made ls entries) where
+    (ts : List Triple) (commits : List Made) (made : Made) (ss : List Step) (homes : List ℕ) (entries : List Entry) (drawn : IsDrawn history ts ambition es commits made ss homes entries) where
   abbrev n : ℕ
   n = (numbers_of history).nodes
 
   abbrev m : ℕ
   m = length (numbers_of history).addresses
+
+  abbrev q : ℕ
+  q = length history + 1
 
   abbrev commit : Command
   commit = commands.Commit base choice ambition es
@@ -201,41 +274,49 @@ module _ (history : List Command) (base : ℕ) (choice : List Bool) (ambition : 
   pub drawn-numbered : AreNumbered 0 entries
   drawn-numbered = held-numbered (history ++ commit ∷ []) all_commits entries rows
 
-  abbrev StoredLines : Stored → Type 0
-  StoredLines s = file_dated s.node (kept_of history) ≡ map (dated_of all_commits ls) s.lines
+  old-numbered : AreNumbered 0 drawn.old_entries
+  old-numbered = held-numbered history commits drawn.old_entries drawn.held.rows
 
-  old-lines : (e : Entry) → IsFileOf (kept_of history) commits drawn.old_lines e → StoredLines (stored e)
-  old-lines e h =
-      let at_lines : AllByRecursion (λ k. (1 ≤ k) × (k ≤ length drawn.old_lines)) e.order.lines =
-      subst (AllByRecursion (λ k. (1 ≤ k) × (k ≤ length drawn.old_lines))) (ap (map dated_number) h ∙ numbers-of commits drawn.old_lines e.order.lines)
-      (all-mapped (λ d. (1 ≤ dated_number d) × (dated_number d ≤ m)) (λ k. (1 ≤ k) × (k ≤ length drawn.old_lines)) dated_number
-      (λ d r. let low = r.0 in let high = r.1 in let count = drawn.held.lines in (omega (arith, low), omega (arith, high, count))) (file_dated e.node (kept_of history)) (in-range history e.node)) in
-      h ∙ sym (dated-fronts commits made drawn.old_lines (new_lines (length commits) es) e.order.lines drawn.held.made_lines at_lines)
-      ∙ ap (λ xs. map (dated_of all_commits xs) e.order.lines) (sym drawn.lines)
+  abbrev IsKeptFile : Stored → Type 0
+  IsKeptFile s = AreDated ts (option_count history) (file_dated s.node (kept_of history)) s.lines × (s.newest ≤ q)
 
-  start-lines : AllByRecursion (HasLines (kept_of history) all_commits ls) entries
-  start-lines =
-      all-unmapped StoredLines stored entries
-      (subst (AllByRecursion StoredLines) (sym drawn.rows)
-      (all-append StoredLines (map stored drawn.old_entries) (new_entries n (length commits) n es)
-      (all-mapped (IsFileOf (kept_of history) commits drawn.old_lines) StoredLines stored old-lines drawn.old_entries drawn.held.files)
-      (new-entries-all StoredLines n (length commits) n es (λ node parent kind name h. ap (map dated) (file-empty n node (kept_of history) h (legal-files history legal))))))
+  kept-files : AllByRecursion IsKeptFile (map stored entries)
+  kept-files =
+      subst (AllByRecursion IsKeptFile) (sym drawn.rows)
+      (all-append IsKeptFile (map stored drawn.old_entries) (new_entries n (length commits) n es)
+      (all-mapped (IsFileOf history ts) IsKeptFile stored (λ e h. (h.lines, let low = h.newest in omega (arith, low))) drawn.old_entries drawn.held.files)
+      (new-entries-all IsKeptFile n (length commits) n es (λ node parent kind name h.
+      (subst (λ ks. AreDated ts (option_count history) (map dated ks) []) (sym (file-empty n node (kept_of history) h (legal-files history legal))) tt, omega arith))))
 
-  taken : CanTakeAll n m m es entries × AllByRecursion (HasLines (kept_of (history ++ commit ∷ [])) all_commits ls) (with_new_lines n m m es entries)
-  taken =
-      let few = lines-few history base choice ambition es accepted in
-      let same = sym (new-lines-count 0 m es) ∙ new-lines-count 0 0 es in
-      let both = all-taken history base choice ambition es good alone all_commits ls es [] m entries refl (omega arith)
-      (kept-behind history base choice ambition es good alone commits made ls drawn.old_lines m es drawn.made_is drawn.lines (sym drawn.held.lines) keeping)
-      (edits-near history base choice ambition es accepted) (omega (arith, few, same)) drawn.room start-lines in (
-        both.0,
-        subst (λ ks. AllByRecursion (HasLines ks all_commits ls) (with_new_lines n m m es entries))
-            (lines-edits (length history + 1) ambition (held_by history) (numbered_from (numbers_of history) (numbers_after (numbers_of history) es).addresses n m es)
-            ∙ sym (commit-lines history base choice ambition es)) both.1,
-      )
+  above-zero : (k : ℕ) (xs : List Entry) → AreNumbered k xs → AllByRecursion (λ (e : Entry). 0 < e.node) xs
+  above-zero k [] h = tt
+  above-zero k (e ∷ xs) h = (let own : e.node ≡ k + 1 = h.0 in omega (arith, own), above-zero (k + 1) xs h.1)
 
-  pub drawn-takes : CanTakeAll n m m es entries
-  drawn-takes = taken.0
+  abbrev AreHereNow : List Edit → List Edit → List Entry → Type 0
+  AreHereNow begun left xs = AreHere history base choice ambition es good alone ts drawn.node drawn.stands begun left xs
+
+  start : AreHereNow [] es entries
+  start =
+      all-both (λ e. (0 < e.node) × HasRoom n m es e) (λ e. IsKeptFile (stored e)) (λ e. IsHere history base choice ambition es good alone ts drawn.node drawn.stands e.node [] es e.file)
+      (λ e h file. record {
+        above = h.0;
+        are_dated = file.0;
+        newest = file.1;
+        inserts = h.1.inserts;
+        changes = h.1.changes;
+        position = λ t. any-position q e.file.room.position (h.1.position t);
+      }) entries
+      (all-both (λ e. 0 < e.node) (HasRoom n m es) (λ e. (0 < e.node) × HasRoom n m es e) (λ e a r. (a, r)) entries (above-zero 0 entries drawn-numbered) drawn.room)
+      (all-unmapped IsKeptFile stored entries kept-files)
+
+  all-stepped : CanStepAll q ss entries × ((after : List Entry) → AreSteppedAll q ss entries after → AreHereNow es [] after)
+  all-stepped =
+      stepped history base choice ambition es good alone ts drawn.node drawn.stands es [] m entries ss refl (omega arith)
+      (planned-right history base choice ambition es good alone ts drawn.node drawn.stands legal drawn.old_entries old-numbered (held-count history commits drawn.old_entries drawn.held.rows) drawn.held.files m es ss drawn.planned)
+      start
+
+  pub drawn-steps : CanStepAll q ss entries
+  drawn-steps = all-stepped.0
 
   base-reach : reach ambition ≤ option_count history
   base-reach =
@@ -250,22 +331,38 @@ module _ (history : List Command) (base : ℕ) (choice : List Bool) (ambition : 
       (all-mapped (λ (e : Entry). e.commit < length commits) (λ (s : Stored). s.commit < length commits + 1) stored (λ e h. omega (arith, h)) drawn.old_entries drawn.held.made_entries)
       (new-entries-all (λ (s : Stored). s.commit < length commits + 1) n (length commits) n es (λ node parent kind name h. omega arith)))
 
+  lines-now : (held_amid history ambition es es).lines ≡ kept_of (history ++ commit ∷ [])
+  lines-now = lines-edits (length history + 1) ambition (held_by history) (numbered_amid history es es) ∙ sym (commit-lines history base choice ambition es)
+
+  options-now : option_count (history ++ commit ∷ []) ≡ option_count history
+  options-now = ap length (options-append history (commit ∷ []) ∙ append-nil (options_of history))
+
   -- after the commit, the entries with its lines are what is held
-  pub held-committed : IsHeldBy (history ++ commit ∷ []) all_commits ls (with_new_lines n m m es entries)
-  held-committed =
+  pub held-committed : (after : List Entry) → AreInstalled q ss entries after → IsHeldBy (history ++ commit ∷ []) ts all_commits homes after
+  held-committed after installed =
       let one = length-one commits made in
+      let longer = length-one history commit in
       let count : length commits + 1 ≡ length all_commits = sym one in
       record {
-        rows = rows ∙ sym (rows-put all_commits n m m es entries);
-        files = taken.1;
+        rows = rows ∙ sym (installed-rows (entry_kept all_commits)
+            (λ e f same. ap (stored_kept all_commits) same) (λ e ls newest f same. ap (stored_kept all_commits) same) q ss entries after installed);
+        files = files-stored (history ++ commit ∷ []) ts installed.0 after installed.2
+            (all-map (λ e. IsHere history base choice ambition es good alone ts drawn.node drawn.stands e.node es [] e.file) (IsFileOf (history ++ commit ∷ []) ts)
+            (λ e h. record {
+              lines = subst (λ ks. AreDated ts (option_count (history ++ commit ∷ [])) (file_dated e.node ks) e.file.lines) lines-now
+                  (subst (λ c. AreDated ts c (file_dated e.node (held_amid history ambition es es).lines) e.file.lines) (sym options-now) h.are_dated);
+              newest = let low = h.newest in omega (arith, low, longer);
+            }) installed.0 (all-stepped.1 installed.0 installed.1));
         in_reach = in-reach-more history commit ambition commits made drawn.made_is base-reach drawn.held.in_reach;
-        lines = ap length drawn.lines ∙ lines-after history base choice ambition es drawn.old_lines (length commits) drawn.held.lines;
-        made_lines = subst (λ k. AllByRecursion (λ l. l.commit < k) ls) count
-            (subst (AllByRecursion (λ l. l.commit < length commits + 1)) (sym drawn.lines)
-            (all-append (λ l. l.commit < length commits + 1) drawn.old_lines (new_lines (length commits) es)
-            (all-map (λ l. l.commit < length commits) (λ l. l.commit < length commits + 1) (λ l h. omega (arith, h)) drawn.old_lines drawn.held.made_lines)
-            (new-lines-made (length commits) es)));
-        made_entries = subst (λ k. AllByRecursion (λ e. e.commit < k) (with_new_lines n m m es entries)) count
-            (made-put (length commits + 1) n m m es entries (all-unmapped (λ (s : Stored). s.commit < length commits + 1) stored entries stored-made));
-        few = let old = drawn.held.few in let longer = length-one history commit in omega (arith, old, longer, one);
+        lines = ap length drawn.homes_are ∙ homes-after history base choice ambition es drawn.old_homes n drawn.held.lines;
+        homes = subst (AreHomes (kept_of (history ++ commit ∷ [])) 0) (sym drawn.homes_are)
+            (subst (λ ks. AreHomes ks 0 (drawn.old_homes ++ new_homes n es)) lines-now
+            (homes-along history base choice ambition es good alone es [] drawn.old_homes refl (let old = drawn.held.lines in omega (arith, old)) drawn.held.homes));
+        made_entries = subst (λ k. AllByRecursion (λ e. e.commit < k) after) count
+            (all-unmapped (λ (k : ℕ). k < length commits + 1) (λ (e : Entry). e.commit) after
+            (subst (AllByRecursion (λ k. k < length commits + 1))
+            (sym (installed-rows (λ e. e.commit) (λ e f same. ap (λ (s : Stored). s.commit) same) (λ e ls newest f same. ap (λ (s : Stored). s.commit) same) q ss entries after installed))
+            (all-mapped (λ (e : Entry). e.commit < length commits + 1) (λ k. k < length commits + 1) (λ (e : Entry). e.commit) (λ e h. h) entries
+            (all-unmapped (λ (s : Stored). s.commit < length commits + 1) stored entries stored-made))));
+        few = let old = drawn.held.few in omega (arith, old, longer, one);
       }

@@ -1,10 +1,11 @@
 -- What is ready for a command, drawn, installed or given up.
-use Rattle.std.proofs.Common.{◌≡◌, ℕ, zero, suc, ◌+◌, ◌-◌, ◌<◌, ◌^◌, Bool, true, false, nat_le, List, [], ◌∷◌, ◌++◌, length, map, take, None, Result, Ok, Err, OnErr, append-nil, refl, sym, ap, subst, ◌∙◌, arith}
+use Rattle.std.proofs.Common.{◌≡◌, ℕ, zero, suc, ◌+◌, ◌-◌, ◌<◌, ◌≤◌, ◌^◌, Bool, true, false, nat_le, List, [], ◌∷◌, ◌++◌, length, map, take, drop, None, Result, Ok, Err, OnErr, append-nil, refl, sym, ap, subst, ◌∙◌, arith}
 use Rattle.std.specs.List.{AllByRecursion}
 use Rattle.std.proofs.lemmas.Bool.Decides.{nat_tests}
 use Rattle.cov_base.proofs.Tables.{length-with_lines}
 use Rattle.cov_dd.specs.declared.triple.Triple.{Triple}
-use Rattle.cov_expr.specs.Formula.{Formula}
+use Rattle.cov_base.proofs.Ordered.{all-map}
+use Rattle.cov_expr.specs.Formula.{Formula, value}
 use Rattle.cov_edit.specs.declared.edit.Edit.{Edit}
 use Rattle.cov_edit.specs.declared.command.Command.{Command}
 use Rattle.cov_edit.specs.declared.command.Command.TheVariants as commands
@@ -18,24 +19,30 @@ use Rattle.cov_view.specs.Refusals.{when, first_of}
 use Rattle.cov_engine.specs.declared.counts.Counts.{Counts}
 use Rattle.cov_engine.specs.declared.entry.Entry.{Entry}
 use Rattle.cov_engine.specs.declared.kept.Made.{Made}
-use Rattle.cov_engine.specs.declared.kept.KeptLine.{KeptLine}
+use Rattle.cov_engine.specs.declared.step.Step.{Step}
 use Rattle.cov_engine.specs.declared.sizes.Sizes.{Sizes}
 use Rattle.cov_engine.specs.declared.refusal.Refusal.TheVariants as refusals
 use Rattle.cov_engine.specs.Kept.{kept_of}
+use Rattle.cov_engine.specs.Files.{file_dated}
+use Rattle.cov_engine.specs.Nodes.{HasNodesIn}
+use Rattle.cov_engine.proofs.Dating.{dated-nodes}
 use Rattle.cov_engine.specs.Holdings.{IsFileOf, IsHeldBy}
-use Rattle.cov_engine.specs.Sessions.{IsGood, session_of}
+use Rattle.cov_engine.specs.Sessions.{IsGood, has_commit, session_of}
 use Rattle.cov_engine.specs.States.{AreCountsOf, IsStateOf}
 use Rattle.cov_engine.specs.Verdict.{verdict, refusals_of, size_refusals, has_no_edits}
-use Rattle.cov_engine.specs.Drawing.{Stored, stored, sizes_of, sizes_refusal, new_lines, new_entries, AreNumbered, AreNear, HasRoom, CanTakeAll, with_new_lines, IsDrawn}
+use Rattle.cov_engine.specs.Drawing.{Stored, stored, sizes_of, sizes_refusal, new_homes, new_entries, AreNumbered, AreNear, AreLow, HasRoom}
+use Rattle.cov_engine.specs.Drawn.{IsDrawn}
+use Rattle.cov_engine.specs.Stepping.{ArePlanned, CanStepAll, AreInstalled}
+use Rattle.cov_dd.specs.Diagrams.{Extends, Stands}
 use Rattle.cov_engine.specs.Ready.{IsNext, IsInBounds, AreCountsWith, IsCommitReady, edits_in}
 use Rattle.cov_engine.proofs.Standing.{all-mapped}
 use Rattle.cov_engine.proofs.FileLines.{all-unmapped}
 use Rattle.cov_engine.proofs.Sessions.{good-passes}
 use Rattle.cov_engine.proofs.States.{legal-one, length-one, sum-one, options-append, below, first-none}
-use Rattle.cov_engine.proofs.Committed.{stored_kept, kept-stored, new-lines-count}
+use Rattle.cov_engine.proofs.Committed.{stored_kept, kept-stored, new-homes-count}
 use Rattle.cov_engine.proofs.Rooms.{map-length}
 use Rattle.cov_engine.proofs.Ruling.{rules-same}
-use Rattle.cov_engine.proofs.Installed.{held-count, lines-few, nodes-few, edits-few, bytes-few, edits-near, drawn-numbered, drawn-takes, held-committed}
+use Rattle.cov_engine.proofs.Installed.{held-count, lines-few, nodes-few, edits-few, bytes-few, edits-near, edits-low, drawn-numbered, drawn-steps, held-committed, files-stored}
 
 -- the verdict on the commit of a good session is that of its sizes
 pub sized-verdict : (history : List Command) (counts : Counts) (base : ℕ) (choice : List Bool) (ambition : Formula ℕ) (es : List Edit)
@@ -51,9 +58,11 @@ sized-verdict history counts base choice ambition es are good h =
     not-full = grind (arith, nat_tests, h)
 
 -- an accepted commit is within the limits
-pub in-bounds : (history : List Command) (base : ℕ) (choice : List Bool) (ambition : Formula ℕ) (es : List Edit) → verdict history (commands.Commit base choice ambition es) ≡ None → IsInBounds history es
-in-bounds history base choice ambition es accepted = record {
+pub in-bounds : (history : List Command) (base : ℕ) (choice : List Bool) (ambition : Formula ℕ) (es : List Edit) → IsGood history (session_of base choice ambition es) → has_commit (drop base history) ≡ false
+    → verdict history (commands.Commit base choice ambition es) ≡ None → IsInBounds history es
+in-bounds history base choice ambition es good alone accepted = record {
   near = edits-near history base choice ambition es accepted;
+  low = edits-low history base choice ambition es accepted good alone;
   edits = edits-few history base choice ambition es accepted;
   lines = lines-few history base choice ambition es accepted;
   nodes = nodes-few history base choice ambition es accepted;
@@ -61,22 +70,19 @@ in-bounds history base choice ambition es accepted = record {
 }
 
 -- entries that are the same but for their room hold the same
-module _ (history : List Command) (commits : List Made) (ls : List KeptLine) (old now : List Entry) (same : map stored now ≡ map stored old) where
-  abbrev IsStoredFile : Stored → Type 0
-  IsStoredFile s = Rattle.cov_engine.specs.Files.file_dated s.node (kept_of history) ≡ map (Rattle.cov_engine.specs.Showing.dated_of commits ls) s.lines
-
-  pub held-stored : IsHeldBy history commits ls old → IsHeldBy history commits ls now
-  held-stored held = record {
-    rows = held.rows ∙ sym (kept-stored commits old) ∙ ap (map (stored_kept commits)) (sym same) ∙ kept-stored commits now;
-    files = all-unmapped IsStoredFile stored now (subst (AllByRecursion IsStoredFile) (sym same) (all-mapped (IsFileOf (kept_of history) commits ls) IsStoredFile stored (λ e h. h) old held.files));
-    in_reach = held.in_reach;
-    lines = held.lines;
-    made_lines = held.made_lines;
-    made_entries = all-unmapped (λ (s : Stored). s.commit < length commits) stored now
-        (subst (AllByRecursion (λ (s : Stored). s.commit < length commits)) (sym same)
-        (all-mapped (λ (e : Entry). e.commit < length commits) (λ (s : Stored). s.commit < length commits) stored (λ e h. h) old held.made_entries));
-    few = held.few;
-  }
+pub held-stored : (history : List Command) (ts : List Triple) (commits : List Made) (homes : List ℕ) (old now : List Entry) → map stored now ≡ map stored old
+    → IsHeldBy history ts commits homes old → IsHeldBy history ts commits homes now
+held-stored history ts commits homes old now same held = record {
+  rows = held.rows ∙ sym (kept-stored commits old) ∙ ap (map (stored_kept commits)) (sym same) ∙ kept-stored commits now;
+  files = files-stored history ts old now same held.files;
+  in_reach = held.in_reach;
+  lines = held.lines;
+  homes = held.homes;
+  made_entries = all-unmapped (λ (s : Stored). s.commit < length commits) stored now
+      (subst (AllByRecursion (λ (s : Stored). s.commit < length commits)) (sym same)
+      (all-mapped (λ (e : Entry). e.commit < length commits) (λ (s : Stored). s.commit < length commits) stored (λ e h. h) old held.made_entries));
+  few = held.few;
+}
 
 take-front : {X : Type 0} (n : ℕ) (xs ys : List X) → n ≡ length xs → take n (xs ++ ys) ≡ xs
 take-front zero [] ys e = none ys
@@ -95,19 +101,19 @@ taken-stored (suc n) [] = refl
 taken-stored (suc n) (e ∷ es) = ap (λ l. stored e ∷ l) (taken-stored n es)
 
 -- what is drawn is cut off again
-pub given-up : (history : List Command) (ambition : Formula ℕ) (es : List Edit) (counts : Counts) (commits : List Made) (made : Made) (ls : List KeptLine) (entries : List Entry)
-    (commits' : List Made) (ls' : List KeptLine) (entries' : List Entry) → AreCountsOf history counts → IsDrawn history ambition es commits made ls entries
-    → commits' ≡ commits → ls' ≡ take counts.lines ls → map stored entries' ≡ map stored (take (counts.nodes - 1) entries) → IsHeldBy history commits' ls' entries'
-given-up history ambition es counts commits made ls entries commits' ls' entries' are drawn ce le ee =
+pub given-up : (history : List Command) (ts : List Triple) (ambition : Formula ℕ) (es : List Edit) (counts : Counts) (commits : List Made) (made : Made) (ss : List Step) (homes : List ℕ) (entries : List Entry)
+    (commits' : List Made) (homes' : List ℕ) (entries' : List Entry) → AreCountsOf history counts → IsDrawn history ts ambition es commits made ss homes entries
+    → commits' ≡ commits → homes' ≡ take counts.lines homes → map stored entries' ≡ map stored (take (counts.nodes - 1) entries) → IsHeldBy history ts commits' homes' entries'
+given-up history ts ambition es counts commits made ss homes entries commits' homes' entries' are drawn ce he ee =
     let nodes = are.nodes in
     let lines = are.lines in
     let held_nodes = held-count history commits drawn.old_entries drawn.held.rows in
     let held_lines = drawn.held.lines in
     let count = map-length drawn.old_entries in
-    subst (λ cs. IsHeldBy history cs ls' entries') (sym ce)
-    (subst (λ xs. IsHeldBy history commits xs entries')
-    (sym (le ∙ ap (take counts.lines) drawn.lines ∙ take-front counts.lines drawn.old_lines (new_lines (length commits) es) (omega (arith, lines, held_lines))))
-    (held-stored history commits drawn.old_lines drawn.old_entries entries'
+    subst (λ cs. IsHeldBy history ts cs homes' entries') (sym ce)
+    (subst (λ xs. IsHeldBy history ts commits xs entries')
+    (sym (he ∙ ap (take counts.lines) drawn.homes_are ∙ take-front counts.lines drawn.old_homes (new_homes (numbers_of history).nodes es) (omega (arith, lines, held_lines))))
+    (held-stored history ts commits drawn.old_homes drawn.old_entries entries'
     (ee ∙ taken-stored (counts.nodes - 1) entries ∙ ap (take (counts.nodes - 1)) drawn.rows
     ∙ take-front (counts.nodes - 1) (map stored drawn.old_entries) (new_entries (numbers_of history).nodes (length commits) (numbers_of history).nodes es) (omega (arith, nodes, held_nodes, count)))
     drawn.held))
@@ -126,7 +132,7 @@ module _ (history : List Command) (base : ℕ) (choice : List Bool) (ambition : 
       let grown = length-with_lines ns.addresses (anchors_of (length ns.addresses) es) in
       let more = ap (λ (ms : Numbers). length ms.addresses) numbers-with in
       let made = ap (λ (ms : Numbers). ms.nodes) numbers-with in
-      let same = sym (new-lines-count 0 (length ns.addresses) es) ∙ new-lines-count 0 0 es in
+      let same = sym (new-homes-count 0 (length ns.addresses) es) ∙ new-homes-count 0 0 es in
       let sum = sum-one command_bytes history commit in
       let lines = with.lines in
       let nodes = with.nodes in
@@ -161,10 +167,10 @@ first-nodes : (history : List Command) (counts : Counts) → AreCountsOf history
 first-nodes history counts are = let nodes = are.nodes in omega (arith, nodes)
 
 -- a command for which a commit is ready
-module _ (history : List Command) (names : List (List ℕ)) (ts : List Triple) (standing : Standing) (old new : Counts) (ks : ℕ) (commits : List Made) (made : Made) (ls : List KeptLine) (entries : List Entry)
+module _ (history : List Command) (names : List (List ℕ)) (ts : List Triple) (standing : Standing) (old new : Counts) (ks : ℕ) (commits : List Made) (made : Made) (ss : List Step) (homes : List ℕ) (entries : List Entry)
     (state : IsStateOf history names ts standing old) where
   abbrev IsThat : Command → Type 0
-  IsThat command = IsCommitReady history command ks commits ls entries made new
+  IsThat command = IsCommitReady history ts command ks commits homes entries made new ss
 
   pub ready-numbered : (command : Command) (spare : ℕ) → IsNext history command spare → IsThat command → AreNumbered 0 entries
   ready-numbered (commands.Option name) spare next r = absurd r
@@ -172,19 +178,16 @@ module _ (history : List Command) (names : List (List ℕ)) (ts : List Triple) (
   ready-numbered (commands.Prefer expr) spare next r = absurd r
   ready-numbered (commands.Default option on) spare next r = absurd r
   ready-numbered (commands.Commit base choice ambition es) spare next r =
-      drawn-numbered history base choice ambition es state.legal r.0.0 r.0.1 r.0.2 next.accepted commits made ls entries r.1
+      drawn-numbered history base choice ambition es state.legal r.0.0 r.0.1 next.accepted ts commits made ss homes entries r.1
 
-  -- the counts before are those of the history
-  pub ready-takes : (command : Command) (spare : ℕ) (edits : List Edit) → IsNext history command spare → IsThat command → edits ≡ edits_in command → CanTakeAll (old.nodes - 1) old.lines old.lines edits entries
-  ready-takes (commands.Option name) spare edits next r e = absurd r
-  ready-takes (commands.Constraint expr) spare edits next r e = absurd r
-  ready-takes (commands.Prefer expr) spare edits next r e = absurd r
-  ready-takes (commands.Default option on) spare edits next r e = absurd r
-  ready-takes (commands.Commit base choice ambition es) spare edits next r e =
-      subst (λ n. CanTakeAll n old.lines old.lines edits entries) (sym (first-nodes history old state.counted))
-      (subst (λ m. CanTakeAll (numbers_of history).nodes m m edits entries) (sym state.counted.lines)
-      (subst (λ some. CanTakeAll (numbers_of history).nodes (line_count history) (line_count history) some entries) (sym e)
-      (drawn-takes history base choice ambition es state.legal r.0.0 r.0.1 r.0.2 next.accepted commits made ls entries r.1)))
+  pub ready-steps : (command : Command) (spare : ℕ) → IsNext history command spare → IsThat command → CanStepAll made.position ss entries
+  ready-steps (commands.Option name) spare next r = absurd r
+  ready-steps (commands.Constraint expr) spare next r = absurd r
+  ready-steps (commands.Prefer expr) spare next r = absurd r
+  ready-steps (commands.Default option on) spare next r = absurd r
+  ready-steps (commands.Commit base choice ambition es) spare next r =
+      subst (λ q. CanStepAll q ss entries) (sym (ap (λ (k : Made). k.position) r.1.made_is))
+      (drawn-steps history base choice ambition es state.legal r.0.0 r.0.1 next.accepted ts commits made ss homes entries r.1)
 
   pub ready-state : (command : Command) (spare : ℕ) → IsNext history command spare → IsThat command → IsStateOf (history ++ command ∷ []) names ts standing new
   ready-state (commands.Option name) spare next r = absurd r
@@ -193,29 +196,26 @@ module _ (history : List Command) (names : List (List ℕ)) (ts : List Triple) (
   ready-state (commands.Default option on) spare next r = absurd r
   ready-state (commands.Commit base choice ambition es) spare next r = state-with history base choice ambition es names ts standing old new next.fits next.accepted r.2 state
 
-  pub ready-held : (command : Command) (spare : ℕ) (edits : List Edit) (commits' : List Made) (ls' : List KeptLine) (entries' : List Entry) → IsNext history command spare → IsThat command → edits ≡ edits_in command
-      → commits' ≡ commits ++ made ∷ [] → ls' ≡ ls → entries' ≡ with_new_lines (old.nodes - 1) old.lines old.lines edits entries → IsHeldBy (history ++ command ∷ []) commits' ls' entries'
-  ready-held (commands.Option name) spare edits commits' ls' entries' next r e ce le ee = absurd r
-  ready-held (commands.Constraint expr) spare edits commits' ls' entries' next r e ce le ee = absurd r
-  ready-held (commands.Prefer expr) spare edits commits' ls' entries' next r e ce le ee = absurd r
-  ready-held (commands.Default option on) spare edits commits' ls' entries' next r e ce le ee = absurd r
-  ready-held (commands.Commit base choice ambition es) spare edits commits' ls' entries' next r e ce le ee =
-      subst (λ cs. IsHeldBy (history ++ commands.Commit base choice ambition es ∷ []) cs ls' entries') (sym ce)
-      (subst (λ xs. IsHeldBy (history ++ commands.Commit base choice ambition es ∷ []) (commits ++ made ∷ []) xs entries') (sym le)
-      (subst (λ en. IsHeldBy (history ++ commands.Commit base choice ambition es ∷ []) (commits ++ made ∷ []) ls en)
-      (ap (λ n. with_new_lines n (line_count history) (line_count history) es entries) (sym (first-nodes history old state.counted))
-      ∙ ap (λ m. with_new_lines (old.nodes - 1) m m es entries) (sym state.counted.lines)
-      ∙ ap (λ some. with_new_lines (old.nodes - 1) old.lines old.lines some entries) (sym e) ∙ sym ee)
-      (held-committed history base choice ambition es state.legal r.0.0 r.0.1 r.0.2 next.accepted commits made ls entries r.1)))
+  pub ready-held : (command : Command) (spare : ℕ) (commits' : List Made) (homes' : List ℕ) (entries' : List Entry) → IsNext history command spare → IsThat command
+      → commits' ≡ commits ++ made ∷ [] → homes' ≡ homes → AreInstalled made.position ss entries entries' → IsHeldBy (history ++ command ∷ []) ts commits' homes' entries'
+  ready-held (commands.Option name) spare commits' homes' entries' next r ce he installed = absurd r
+  ready-held (commands.Constraint expr) spare commits' homes' entries' next r ce he installed = absurd r
+  ready-held (commands.Prefer expr) spare commits' homes' entries' next r ce he installed = absurd r
+  ready-held (commands.Default option on) spare commits' homes' entries' next r ce he installed = absurd r
+  ready-held (commands.Commit base choice ambition es) spare commits' homes' entries' next r ce he installed =
+      subst (λ cs. IsHeldBy (history ++ commands.Commit base choice ambition es ∷ []) ts cs homes' entries') (sym ce)
+      (subst (λ xs. IsHeldBy (history ++ commands.Commit base choice ambition es ∷ []) ts (commits ++ made ∷ []) xs entries') (sym he)
+      (held-committed history base choice ambition es state.legal r.0.0 r.0.1 next.accepted ts commits made ss homes entries r.1 entries'
+      (subst (λ q. AreInstalled q ss entries entries') (ap (λ (k : Made). k.position) r.1.made_is) installed)))
 
   -- given up, it leaves what is held
-  pub ready-given-up : (command : Command) (commits' : List Made) (ls' : List KeptLine) (entries' : List Entry) → IsThat command
-      → commits' ≡ commits → ls' ≡ take old.lines ls → map stored entries' ≡ map stored (take (old.nodes - 1) entries) → IsHeldBy history commits' ls' entries'
-  ready-given-up (commands.Option name) commits' ls' entries' r ce le ee = absurd r
-  ready-given-up (commands.Constraint expr) commits' ls' entries' r ce le ee = absurd r
-  ready-given-up (commands.Prefer expr) commits' ls' entries' r ce le ee = absurd r
-  ready-given-up (commands.Default option on) commits' ls' entries' r ce le ee = absurd r
-  ready-given-up (commands.Commit base choice ambition es) commits' ls' entries' r ce le ee = given-up history ambition es old commits made ls entries commits' ls' entries' state.counted r.1 ce le ee
+  pub ready-given-up : (command : Command) (commits' : List Made) (homes' : List ℕ) (entries' : List Entry) → IsThat command
+      → commits' ≡ commits → homes' ≡ take old.lines homes → map stored entries' ≡ map stored (take (old.nodes - 1) entries) → IsHeldBy history ts commits' homes' entries'
+  ready-given-up (commands.Option name) commits' homes' entries' r ce he ee = absurd r
+  ready-given-up (commands.Constraint expr) commits' homes' entries' r ce he ee = absurd r
+  ready-given-up (commands.Prefer expr) commits' homes' entries' r ce he ee = absurd r
+  ready-given-up (commands.Default option on) commits' homes' entries' r ce he ee = absurd r
+  ready-given-up (commands.Commit base choice ambition es) commits' homes' entries' r ce he ee = given-up history ts ambition es old commits made ss homes entries commits' homes' entries' state.counted r.1 ce he ee
 
 -- the edits of an accepted command name near nodes
 pub next-near : (history : List Command) (command : Command) (counts : Counts) (edits : List Edit) → AreCountsOf history counts → verdict history command ≡ None → edits ≡ edits_in command → AreNear (counts.nodes - 1) edits
@@ -230,8 +230,8 @@ next-near history command counts edits are accepted e = subst (AreNear (counts.n
         subst (λ n. AreNear n es) (sym (first-nodes history counts are)) (edits-near history base choice ambition es accepted)
 
 -- a history with edits that are within its limits
-module _ (history : List Command) (ambition : Formula ℕ) (es : List Edit) (counts : Counts) (commits : List Made) (ls : List KeptLine) (entries : List Entry)
-    (are : AreCountsOf history counts) (held : IsHeldBy history commits ls entries) (within : IsInBounds history es) where
+module _ (history : List Command) (ambition : Formula ℕ) (es : List Edit) (counts : Counts) (ts : List Triple) (commits : List Made) (homes : List ℕ) (entries : List Entry)
+    (are : AreCountsOf history counts) (held : IsHeldBy history ts commits homes entries) (within : IsInBounds history es) where
   pub held-nodes : counts.nodes ≡ length entries + 1
   held-nodes =
       let count = held-count history commits entries held.rows in
@@ -248,25 +248,40 @@ module _ (history : List Command) (ambition : Formula ℕ) (es : List Edit) (cou
       let same = ap nodes_made e in
       omega (arith, count, nodes, same)
 
+  pub held-lines : counts.lines ≡ length homes
+  held-lines = are.lines ∙ sym held.lines
+
+  pub held-low : (some : List Edit) → some ≡ es → AreLow counts.lines some
+  held-low some e = subst (AreLow counts.lines) (sym e) (subst (λ m. AreLow m es) (sym are.lines) within.low)
+
   -- what is drawn of them is ready
-  pub is-ready : (spare : ℕ) (made : Made) (new : Counts) (commits' : List Made) (ls' : List KeptLine) (entries' : List Entry) (some : List Edit) → some ≡ es
+  pub is-ready : (spare : ℕ) (made : Made) (new : Counts) (node : ℕ) (steps : List Step) (commits' : List Made) (homes' : List ℕ) (entries' : List Entry) (some : List Edit) → some ≡ es
       → made.position ≡ length history + 1 → made.ambition ≡ ambition
       → new ≡ record { lines = counts.lines + length (anchors_of 0 es); nodes = counts.nodes + nodes_made es; bytes = counts.bytes + text_bytes es }
-      → commits' ≡ commits → ls' ≡ ls ++ new_lines (length commits) some
-      → map stored entries' ≡ map stored entries ++ new_entries (length entries) (length commits) (length entries) some → AllByRecursion (HasRoom (length entries) some) entries' → 0 < spare
-      → IsDrawn history ambition es commits' made ls' entries' × AreCountsWith history es new × (0 < spare)
-  is-ready spare made new commits' ls' entries' some e at amb ne ce le ee room free =
-      let count = held-count history commits entries held.rows in (
+      → Stands ts node 0 (option_count history) (value ambition) → ArePlanned made.position entries (counts.nodes - 1) counts.lines node ts counts.lines some steps
+      → commits' ≡ commits → homes' ≡ homes ++ new_homes (length entries) some
+      → map stored entries' ≡ map stored entries ++ new_entries (length entries) (length commits) (length entries) some → AllByRecursion (HasRoom (length entries) counts.lines some) entries' → 0 < spare
+      → IsDrawn history ts ambition es commits' made steps homes' entries' × AreCountsWith history es new × (0 < spare)
+  is-ready spare made new node steps commits' homes' entries' some e at amb ne stands planned ce he ee room free =
+      let count = held-count history commits entries held.rows in
+      let nodes : counts.nodes - 1 ≡ (numbers_of history).nodes = first-nodes history counts are in (
         record {
-          old_lines = ls;
+          old_homes = homes;
           old_entries = entries;
-          held = subst (λ cs. IsHeldBy history cs ls entries) (sym ce) held;
+          held = subst (λ cs. IsHeldBy history ts cs homes entries) (sym ce) held;
           made_is = λ j. record { position = at j; ambition = amb j };
-          lines = le ∙ ap (λ k. ls ++ new_lines k some) (ap length (sym ce)) ∙ ap (λ x. ls ++ new_lines (length commits') x) e;
+          homes_are = he ∙ ap (λ k. homes ++ new_homes k some) count ∙ ap (λ x. homes ++ new_homes (numbers_of history).nodes x) e;
           rows = ee ∙ ap (λ n. map stored entries ++ new_entries n (length commits) n some) count
               ∙ ap (λ k. map stored entries ++ new_entries (numbers_of history).nodes k (numbers_of history).nodes some) (ap length (sym ce))
               ∙ ap (λ x. map stored entries ++ new_entries (numbers_of history).nodes (length commits') (numbers_of history).nodes x) e;
-          room = subst (λ x. AllByRecursion (HasRoom (numbers_of history).nodes x) entries') e (subst (λ n. AllByRecursion (HasRoom n some) entries') count room);
+          room = subst (λ x. AllByRecursion (HasRoom (numbers_of history).nodes (line_count history) x) entries') e
+              (subst (λ m. AllByRecursion (HasRoom (numbers_of history).nodes m some) entries') are.lines (subst (λ n. AllByRecursion (HasRoom n counts.lines some) entries') count room));
+          node = node;
+          stands = stands;
+          planned = subst (λ x. ArePlanned (length history + 1) entries (numbers_of history).nodes (line_count history) node ts (line_count history) x steps) e
+              (subst (λ m. ArePlanned (length history + 1) entries (numbers_of history).nodes m node ts m some steps) are.lines
+              (subst (λ n. ArePlanned (length history + 1) entries n counts.lines node ts counts.lines some steps) nodes
+              (subst (λ q. ArePlanned q entries (counts.nodes - 1) counts.lines node ts counts.lines some steps) at planned)));
         },
         record {
           lines = ap (λ (k : Counts). k.lines) ne ∙ ap (λ n. n + length (anchors_of 0 es)) are.lines;
@@ -276,10 +291,16 @@ module _ (history : List Command) (ambition : Formula ℕ) (es : List Edit) (cou
         free,
       )
 
-pub held-again : (history : List Command) (commits commits' : List Made) (ls ls' : List KeptLine) (entries entries' : List Entry) → IsHeldBy history commits ls entries
-    → commits' ≡ commits → ls' ≡ ls → map stored entries' ≡ map stored entries → IsHeldBy history commits' ls' entries'
-held-again history commits commits' ls ls' entries entries' held ce le ee =
-    subst (λ cs. IsHeldBy history cs ls' entries') (sym ce) (subst (λ xs. IsHeldBy history commits xs entries') (sym le) (held-stored history commits ls entries entries' ee held))
+pub held-again : (history : List Command) (ts : List Triple) (commits commits' : List Made) (homes homes' : List ℕ) (entries entries' : List Entry) → IsHeldBy history ts commits homes entries
+    → commits' ≡ commits → homes' ≡ homes → map stored entries' ≡ map stored entries → IsHeldBy history ts commits' homes' entries'
+held-again history ts commits commits' homes homes' entries entries' held ce he ee =
+    subst (λ cs. IsHeldBy history ts cs homes' entries') (sym ce) (subst (λ xs. IsHeldBy history ts commits xs entries') (sym he) (held-stored history ts commits homes entries entries' ee held))
+
+-- the nodes of what is held are of the table
+pub held-within : (history : List Command) (ts : List Triple) (q : ℕ) (entries : List Entry) → length history ≤ q → AllByRecursion (IsFileOf history ts) entries → AllByRecursion (HasNodesIn ts q) entries
+held-within history ts q entries le files =
+    all-map (IsFileOf history ts) (HasNodesIn ts q)
+    (λ e h. record { nodes = dated-nodes ts (option_count history) q (file_dated e.node (kept_of history)) e.file.lines h.lines; newest = let low = h.newest in omega (arith, low, le) }) entries files
 
 pub on-any : {A E : Type 0} (r : Result A E) (P : Type 0) → P → OnErr r P
 on-any (Ok a) P p = tt

@@ -61,7 +61,7 @@ module _ (history : List Command) (ts : List Triple) (q line : ℕ) where
   old-seen : (file k : ℕ) (es : List Entry) → AreNumbered k es → AllByRecursion (IsFileOf history ts) es → k < file → file ≤ k + length es
       → AllByRecursion (IsSeen (old_node q es file line)) (file_dated file (kept_of history))
   old-seen file k [] numbered files low high = absurd (omega (arith, low, high))
-  old-seen file k (e ∷ es) numbered files low high = by (nat_eq e.node file) refl
+  old-seen file k (e ∷ es) numbered files low high = by (nat_eq e.node file) refl (λ behind. old-seen file (k + 1) es numbered.1 files.1 behind (omega (arith, high)))
     where
       own : nat_eq e.node file ≡ true → AllByRecursion (IsSeen (unwrap_or (node_of line q e.file.lines) 0)) (file_dated file (kept_of history))
       own is =
@@ -69,11 +69,10 @@ module _ (history : List Command) (ts : List Triple) (q line : ℕ) where
           subst (λ f. AllByRecursion (IsSeen (unwrap_or (node_of line q e.file.lines) 0)) (file_dated f (kept_of history))) same
           (node-right ts count q line (file_dated e.node (kept_of history)) e.file.lines (once-of (file_kept e.node (kept_of history)) (lines-held history e.node)) files.0.lines)
 
-      by : (b : Bool) → nat_eq e.node file ≡ b → AllByRecursion (IsSeen (cond b (unwrap_or (node_of line q e.file.lines) 0) (old_node q es file line))) (file_dated file (kept_of history))
-      by true is = own is
-      by false is =
-          let it : e.node ≡ k + 1 = numbered.0 in
-          old-seen file (k + 1) es numbered.1 files.1 (grind (arith, nat_tests, is, it, low)) (omega (arith, high))
+      by : (b : Bool) → nat_eq e.node file ≡ b → (k + 1 < file → AllByRecursion (IsSeen (old_node q es file line)) (file_dated file (kept_of history)))
+          → AllByRecursion (IsSeen (cond b (unwrap_or (node_of line q e.file.lines) 0) (old_node q es file line))) (file_dated file (kept_of history))
+      by true is rest = own is
+      by false is rest = let it : e.node ≡ k + 1 = numbered.0 in rest (grind (arith, nat_tests, is, it, low))
 
   -- it is a node of the table, and names only declared options
   old-low : (file : ℕ) (es : List Entry) → AllByRecursion (IsFileOf history ts) es → (old_node q es file line < node_count ts) × (span ts (old_node q es file line) ≤ count)
