@@ -139,7 +139,8 @@ take-all (suc at) [] h = refl
 take-all zero (k ∷ history) h = absurd (omega (arith, h))
 take-all (suc at) (k ∷ history) h = ap (λ l. k ∷ l) (take-all at history (omega (arith, h)))
 
-declared-less : (base : ℕ) (history : List Command) → option_count (take base history) ≤ option_count history
+-- no fewer options are declared later
+pub declared-less : (base : ℕ) (history : List Command) → option_count (take base history) ≤ option_count history
 declared-less zero history = omega arith
 declared-less (suc base) [] = omega arith
 declared-less (suc base) (commands.Option name ∷ history) =

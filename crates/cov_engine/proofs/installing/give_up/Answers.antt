@@ -11,7 +11,7 @@ undraw-requires c = record {
 pub returns-in-Commit-clause-held : goal.returns-in-Commit-clause-held
 returns-in-Commit-clause-held c =
     ready-given-up c.args.state.now.commands.commands c.args.state.now.options.names c.args.state.now.table c.args.state.now.rules.standing c.args.state.now.counts c.in-Commit.counts _
-    c.args.state.now.kept.commits.items c.in-Commit.made c.args.state.now.kept.lines.items c.args.state.now.kept.entries.items c.requires.state c.args.command.now
-    c.undraw.new.kept.commits.items c.undraw.new.kept.lines.items c.undraw.new.kept.entries.items
-    (subst (IsReady c.args.state.now.commands.commands c.args.command.now _ _ _ _ c.args.state.now.kept.commits.items c.args.state.now.kept.lines.items c.args.state.now.kept.entries.items) c.in-Commit.is c.requires.ready)
-    c.undraw.ensures.commits c.undraw.ensures.lines c.undraw.ensures.rows
+    c.args.state.now.kept.commits.items c.in-Commit.made c.in-Commit.steps.items c.args.state.now.kept.homes.items c.args.state.now.kept.entries.items c.requires.state c.args.command.now
+    c.undraw.new.kept.commits.items c.undraw.new.kept.homes.items c.undraw.new.kept.entries.items
+    (subst (IsReady c.args.state.now.commands.commands c.args.command.now _ _ _ _ c.args.state.now.kept.commits.items c.args.state.now.kept.homes.items c.args.state.now.kept.entries.items) c.in-Commit.is c.requires.ready)
+    c.undraw.ensures.commits c.undraw.ensures.homes c.undraw.ensures.rows
