@@ -105,14 +105,14 @@ module _ (p : ℕ) (entries : List Entry) (n m ambition : ℕ) where
     step ∷ [],
     put,
     λ us y es ss planned.
-    subst (λ e. ArePlanned p entries n m ambition us made (e ∷ es) (step ∷ ss)) (sym ee) (
-      vis,
-      ss,
-      ap (λ s. s ∷ ss) se,
-      subst (λ k. Stands us vis 0 (joint_span us k ambition) (λ c. value_in us k c && not (value_in us ambition c))) is
-          (taken-later ts new us old ambition vis least x y (subst (λ k. k < node_count ts) (sym is) (old-within ts p (node_number n file) (line_number m line) entries nodes)) within stands),
-      subst (λ k. ArePlanned p entries n m ambition us k es ss) (ap (λ e. made + length (anchors_of 0 (e ∷ []))) ee ∙ (let zero_more : made + 0 ≡ made = omega arith in zero_more)) planned,
-    ),
+        subst (λ e. ArePlanned p entries n m ambition us made (e ∷ es) (step ∷ ss)) (sym ee) (
+          vis,
+          ss,
+          ap (λ s. s ∷ ss) se,
+          subst (λ k. Stands us vis 0 (joint_span us k ambition) (λ c. value_in us k c && not (value_in us ambition c))) is
+              (taken-later ts new us old ambition vis least x y (subst (λ k. k < node_count ts) (sym is) (old-within ts p (node_number n file) (line_number m line) entries nodes)) within stands),
+          subst (λ k. ArePlanned p entries n m ambition us k es ss) (ap (λ e. made + length (anchors_of 0 (e ∷ []))) ee ∙ (let zero_more : made + 0 ≡ made = omega arith in zero_more)) planned,
+        ),
   )
 
 anchors-first : (e : Edit) (es : List Edit) → length (anchors_of 0 (e ∷ es)) ≡ length (anchors_of 0 (e ∷ [])) + length (anchors_of 0 es)

@@ -34,7 +34,7 @@ fn declarations_are_installed(rt: HostRuntime) -> Result<(), Fail> {
 // A history with a command more.
 fn with(engine: Engine, command: Command) -> Result<Engine, Fail>
     requires { MayCome engine.history command }
-    ensures { IfOk result (λ longer. longer ≡ engine ++ command ∷ []) }
+    ensures { IfOk result (λ longer. longer.history ≡ engine.history ++ command ∷ []) }
 {
     match engine.prepare(command) {
         Ok(prepared) => Ok(prepared.install().0),
@@ -44,7 +44,7 @@ fn with(engine: Engine, command: Command) -> Result<Engine, Fail>
 
 // The option a.
 fn with_option(alloc: Global) -> Result<Engine, Fail>
-    ensures { IfOk result (λ engine. option_count engine ≡ 1) }
+    ensures { IfOk result (λ engine. option_count engine.history ≡ 1) }
 {
     let name = OptionName::read(alloc, b"a")?;
     with(Engine::new(alloc)?, Command::Option { name })
@@ -52,7 +52,7 @@ fn with_option(alloc: Global) -> Result<Engine, Fail>
 
 // The option a and a constraint that it is on.
 fn with_constraint(alloc: Global) -> Result<Engine, Fail>
-    ensures { IfOk result (λ engine. option_count engine ≡ 1) }
+    ensures { IfOk result (λ engine. option_count engine.history ≡ 1) }
 {
     let expr = Expr::new(Part::Option(OptionId::new(0)))?;
     with(with_option(alloc)?, Command::Constraint { expr })

@@ -8,4 +8,4 @@ pub returns : goal.returns
 returns c =
     let engine = c.in_ok-with_option.field-0 in
     if_ok_also c.with.result _ _
-    (λ longer e. ap option_count e ∙ ap (λ names. length names) (options-append engine _ ∙ append-nil (options_of engine)) ∙ c.in_ok-with_option.ensures) c.with.ensures
+    (λ longer e. ap option_count e ∙ ap (λ names. length names) (options-append engine.history _ ∙ append-nil (options_of engine.history)) ∙ c.in_ok-with_option.ensures) c.with.ensures
