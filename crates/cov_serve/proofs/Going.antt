@@ -9,7 +9,6 @@ use Rattle.cov_base.specs.declared.number.NodeRef.TheVariants as nodes
 use Rattle.cov_script.specs.Lines.{form_of}
 use Rattle.cov_script.specs.declared.line.Line.{Line}
 use Rattle.cov_script.specs.declared.line.Line.TheVariants as lines
-use Rattle.cov_script.specs.declared.line.LineField.{LineField}
 use Rattle.cov_script.specs.declared.line.LineSyntax.{LineSyntax}
 use Rattle.cov_edit.specs.declared.edit.Edit.{Edit}
 use Rattle.cov_edit.specs.declared.edit.Edit.TheVariants as edits
@@ -27,7 +26,7 @@ use Rattle.cov_serve.specs.Editing.{addition_refusal, ref_in, line_ref}
 use Rattle.cov_serve.specs.Finding.{Found, found_option, found_expression, found_partial, found_choice, completed_choice}
 use Rattle.cov_view.specs.Paths.{path_node}
 use Rattle.cov_serve.specs.States.{State, named, is_used}
-use Rattle.cov_serve.specs.Step.{appended_if, with_found, constrained, preferred, defaulted, told_choice, opened_within, opened_for, opened_on, added_unless, added, file_made, inserted_at, inserted_in, committed_if, committed_in, dropped_in, file_told, told, told_for, with_file, served, served_if, step}
+use Rattle.cov_serve.specs.Step.{appended_if, with_found, constrained, preferred, defaulted, told_choice, opened_within, opened_for, opened_on, added_unless, added, file_made, with_seen, in_session, at_file, inserted_in, deleted_in, replaced_in, shown_in, committed_if, committed_in, dropped_in, file_told, told, told_for, with_file, served, served_if, step}
 use Rattle.cov_serve.specs.Turns.{EndsWith, GoesOn, IsWhole, ServesFirst, WritesFront, ahead_of, answer_of, is_refusal, status_at_end}
 use Rattle.cov_serve.specs.declared.answer.Answer.{Answer}
 use Rattle.cov_script.specs.declared.code.Code.{Code}
@@ -52,21 +51,22 @@ opened_says : (st : State) (name : List ℕ) (partial : List (ℕ × Bool)) (amb
 opened_says st name partial ambition =
     found_says st (completed_choice st.history partial) (opened_within st name ambition) (λ c. either_says (value ambition c) _ _ refl refl)
 
-added_unless_says : (st : State) (s : Session) (e : Edit) (n : ℕ) (ns : List ℕ) (refusal : Option Code) → SaysRefusal (added_unless st s e (n ∷ ns) refusal)
-added_unless_says st s e n ns (Some code) = refl
-added_unless_says st s e n ns None = refl
+added_unless_says : (st : State) (s : Session) (es : List Edit) (n : ℕ) (ns : List ℕ) (refusal : Option Code) → SaysRefusal (added_unless st s es (n ∷ ns) refusal)
+added_unless_says st s es n ns (Some code) = refl
+added_unless_says st s es n ns None = refl
 
-added_says : (st : State) (session : Option Session) (e : Edit) (n : ℕ) (ns : List ℕ) → SaysRefusal (added st session e (n ∷ ns))
-added_says st None e n ns = refl
-added_says st (Some s) e n ns = added_unless_says st s e n ns (addition_refusal st.history s e)
+added_says : (st : State) (session : Option Session) (es : List Edit) (n : ℕ) (ns : List ℕ) → SaysRefusal (added st session es (n ∷ ns))
+added_says st None es n ns = refl
+added_says st (Some s) es n ns = added_unless_says st s es n ns (addition_refusal st.history s es)
 
-inserted_at_says : (st : State) (s : Session) (line : LineField) (text : List ℕ) (node : Option ℕ) → SaysRefusal (inserted_at st s line text node)
-inserted_at_says st s line text None = refl
-inserted_at_says st s line text (Some node) = added_says st (Some s) (edits.Insert (ref_in st.history s node) (line_ref line) text) _ _
+seen_says : (st : State) (go : ℕ → Outcome State) (node : Option ℕ) → ((n : ℕ) → SaysRefusal (go n)) → SaysRefusal (with_seen st go node)
+seen_says st go None h = refl
+seen_says st go (Some node) h = h node
 
-inserted_says : (st : State) (path : List (List ℕ)) (line : LineField) (text : List ℕ) (session : Option Session) → SaysRefusal (inserted_in st path line text session)
-inserted_says st path line text None = refl
-inserted_says st path line text (Some s) = inserted_at_says st s line text (path_node (seen s st.history).rows 0 path)
+session_says : (st : State) (path : List (List ℕ)) (go : Session → ℕ → Outcome State) (session : Option Session) → ((s : Session) (n : ℕ) → SaysRefusal (go s n))
+    → SaysRefusal (in_session st path go session)
+session_says st path go None h = refl
+session_says st path go (Some s) h = seen_says st (go s) (path_node (seen s st.history).rows 0 path) (h s)
 
 committed_if_says : (st : State) (command : Command) (refusal : Option Refusal) → SaysRefusal (committed_if st command refusal)
 committed_if_says st command (Some r) = refl
@@ -93,6 +93,10 @@ with_file_says st [] go h = refl
 with_file_says st (file ∷ []) go h = h file
 with_file_says st (file ∷ name ∷ names) go h = refl
 
+at_file_says : (st : State) (name : List ℕ) (path : List (List ℕ)) (go : Session → ℕ → Outcome State) → ((s : Session) (n : ℕ) → SaysRefusal (go s n)) → SaysRefusal (at_file st name path go)
+at_file_says st name path go h =
+    with_file_says st path (λ file. in_session st path go (named st.session name)) (λ file. session_says st path go (named st.session name) h)
+
 form_says : (st : State) (line : Line) → SaysRefusal (served st line)
 form_says st lines.Nothing = refl
 form_says st (lines.Option token) =
@@ -110,9 +114,15 @@ form_says st (lines.OpenSession name bindings ambition) =
     (λ partial. found_says st (found_expression st.history ambition) (opened_for st name partial) (λ e. opened_says st name partial e)))
 form_says st (lines.MakeFile name path) =
     with_file_says st path (λ file. file_made st name file)
-    (λ file. either_says (is_used st file) _ _ refl (added_says st (named st.session name) (edits.New kinds.File (nodes.Old 0) file) _ _))
+    (λ file. either_says (is_used st file) _ _ refl (added_says st (named st.session name) (edits.New kinds.File (nodes.Old 0) file ∷ []) _ _))
 form_says st (lines.Insert name path line text) =
-    with_file_says st path (λ file. inserted_in st path line text (named st.session name)) (λ file. inserted_says st path line text (named st.session name))
+    at_file_says st name path (inserted_in st line text) (λ s n. added_says st (Some s) (edits.Insert (ref_in st.history s n) (line_ref line) text ∷ []) _ _)
+form_says st (lines.Delete name path line) =
+    at_file_says st name path (deleted_in st line) (λ s n. added_says st (Some s) (edits.Delete (ref_in st.history s n) (line_ref line) ∷ []) _ _)
+form_says st (lines.Replace name path line text) =
+    at_file_says st name path (replaced_in st line text)
+    (λ s n. added_says st (Some s) (edits.Insert (ref_in st.history s n) (line_ref line) text ∷ edits.Delete (ref_in st.history s n) (line_ref line) ∷ []) _ _)
+form_says st (lines.Show name path) = at_file_says st name path (shown_in st) (λ s n. either_says (is_dir (seen s st.history).rows n) _ _ refl refl)
 form_says st (lines.Commit name) = committed_says st (named st.session name)
 form_says st (lines.Discard name) = dropped_says st (named st.session name)
 form_says st (lines.Cat bindings path) = with_file_says st path (λ file. told_for st path bindings) (λ file. told_says st path bindings)
@@ -120,9 +130,6 @@ form_says st (lines.MakeDir name path) = refl
 form_says st (lines.Rename name path to) = refl
 form_says st (lines.Move name path target) = refl
 form_says st (lines.Remove name path) = refl
-form_says st (lines.Delete name path line) = refl
-form_says st (lines.Replace name path line text) = refl
-form_says st (lines.Show name path) = refl
 form_says st (lines.List name path) = refl
 form_says st (lines.Refresh name) = refl
 form_says st (lines.Checkout tree bindings) = refl

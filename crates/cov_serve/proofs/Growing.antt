@@ -14,7 +14,7 @@ use Rattle.cov_edit.specs.Numbering.{nodes_made, anchors_of, numbers_of, numbers
 use Rattle.cov_edit.specs.Variant.{edited}
 use Rattle.cov_edit.specs.Replay.{replay}
 use Rattle.cov_view.specs.Views.{Shows}
-use Rattle.cov_engine.specs.Sessions.{Session, IsGood, MayCome, has_commit, has_delete, commit_of}
+use Rattle.cov_engine.specs.Sessions.{Session, IsGood, MayCome, has_commit, commit_of}
 use Rattle.cov_engine.specs.Verdict.{Pending}
 use Rattle.cov_engine.proofs.Sessions.{good-stays}
 use Rattle.cov_serve.specs.Keeping.{as_session, IsOpen, IsOpenIf, Keeps}
@@ -76,7 +76,6 @@ open-stays history later s none here =
       latest = ap has_commit (drop-append s.base history later within) ∙ commit-append (drop s.base history) later here.latest ∙ none;
       shows = subst (λ h. Shows (numbers_of h) (numbers_after (numbers_of h) s.edits).addresses s.view (fold edited (replay s.choice h) (numbered (numbers_of h) s.edits))) e here.shows;
       counted = here.counted;
-      keeping = here.keeping;
     }
 
 if-stays : (history later : List Command) (kept : Option OpenSession) → has_commit later ≡ false → IsOpenIf history kept → IsOpenIf (history ++ later) kept
@@ -121,7 +120,6 @@ may-commit history s here = (
     accepted = here.good.accepted;
   },
   here.latest,
-  here.keeping,
 )
 
 full-prefix : (c : List Bool) (es : List (Formula ℕ)) → length es ≤ position_or_len (λ f. not (value f c)) es → is_valid es c ≡ true
@@ -161,7 +159,6 @@ open-first history name c ambition s is names bytes nodes lines count within val
     few = subst (λ (r : Session). length r.edits ≤ 16384) (sym is) (omega arith);
     light = subst (λ (r : Session). text_bytes r.edits ≤ 16777216) (sym is) (omega arith);
   };
-  keeping = ap (λ (r : Session). has_delete r.edits) is;
 }
   where
     whole : take (length history) history ≡ history

@@ -2,6 +2,9 @@ pub mod Adding
 pub mod Counting
 pub mod Declared
 pub mod Examples
+pub mod Heads
+pub mod Made
+pub mod Replacing
 pub mod Named
 pub mod Going
 pub mod Growing

@@ -8,6 +8,7 @@ pub mod Outcome
 pub mod Program
 pub mod Refusing
 pub mod Replies
+pub mod Seeing
 pub mod States
 pub mod Step
 pub mod Texts

@@ -1,5 +1,5 @@
 -- The model of the program: what one line of a script does.
-use Rattle.std.specs.Prelude.{ℕ, ◌+◌, Bool, true, false, nat_lt, List, [], ◌∷◌, length, map, is_some, Option, Some, None, Result, Ok, Err, if◌then◌else◌}
+use Rattle.std.specs.Prelude.{ℕ, ◌+◌, Bool, true, false, nat_lt, List, [], ◌∷◌, length, map, take, is_some, Option, Some, None, Result, Ok, Err, if◌then◌else◌}
 use Rattle.cov_base.specs.Lines.{lines_of as script_lines}
 use Rattle.cov_base.specs.Spelling.{is_option_name}
 use Rattle.cov_base.specs.declared.number.Kind.TheVariants as kinds
@@ -16,6 +16,7 @@ use Rattle.cov_edit.specs.declared.edit.Edit.TheVariants as edits
 use Rattle.cov_edit.specs.declared.command.Command.{Command}
 use Rattle.cov_edit.specs.declared.command.Command.TheVariants as commands
 use Rattle.cov_edit.specs.History.{options_of, option_count, constraints_of, preferences_of, defaults_of}
+use Rattle.cov_edit.specs.Numbering.{line_count}
 use Rattle.cov_edit.specs.Replay.{replay}
 use Rattle.cov_edit.specs.Variant.{Variant, lines_of}
 use Rattle.cov_view.specs.Refusals.{is_dir}
@@ -24,11 +25,11 @@ use Rattle.cov_engine.specs.Sessions.{Session, seen, commit_of}
 use Rattle.cov_engine.specs.Verdict.{verdict}
 use Rattle.cov_engine.specs.declared.refusal.Refusal.{Refusal}
 use Rattle.cov_serve.specs.Codes.{syntax_code, refusal_code}
-use Rattle.cov_serve.specs.Editing.{with_edit, addition_refusal, ref_in, line_ref, own_lines}
+use Rattle.cov_serve.specs.Editing.{with_edits, addition_refusal, ref_in, line_ref, own_lines}
 use Rattle.cov_serve.specs.Finding.{Found, found_option, found_expression, found_partial, found_choice, completed_choice}
 use Rattle.cov_serve.specs.Outcome.{Outcome, answers}
 use Rattle.cov_view.specs.Paths.{path_node}
-use Rattle.cov_serve.specs.Replies.{file_reply}
+use Rattle.cov_serve.specs.Replies.{file_reply, seen_reply}
 use Rattle.cov_serve.specs.States.{State, at_start, with_command, with_session, named, is_used}
 use Rattle.cov_script.specs.declared.code.Code.{Code}
 use Rattle.cov_script.specs.declared.code.Code.TheVariants.{Long, BadName, NotBuilt, NoSession, OutsideAmbition, NoSuchPath, NotFile}
@@ -103,31 +104,52 @@ abbrev pub opened : State → List ℕ → List (List ℕ × Bool) → Formula (
 opened st name bindings ambition =
     if is_some st.session then refused st NotBuilt else with_found st (found_partial st.history bindings) (opened_on st name ambition)
 
--- an edit is added to a session unless this refuses it
-abbrev pub added_unless : State → Session → Edit → List ℕ → Option Code → Outcome State
-added_unless st s e reply (Some code) = refused st code
-added_unless st s e reply None = accepted (with_session st (Some (with_edit s e))) reply
+-- edits are added to a session unless this refuses them
+abbrev pub added_unless : State → Session → List Edit → List ℕ → Option Code → Outcome State
+added_unless st s es reply (Some code) = refused st code
+added_unless st s es reply None = accepted (with_session st (Some (with_edits s es))) reply
 
--- an edit is added to a session, if there is one
-abbrev pub added : State → Option Session → Edit → List ℕ → Outcome State
-added st None e reply = refused st NoSession
-added st (Some s) e reply = added_unless st s e reply (addition_refusal st.history s e)
+-- edits are added to a session, all or none of them, if there is one
+abbrev pub added : State → Option Session → List Edit → List ℕ → Outcome State
+added st None es reply = refused st NoSession
+added st (Some s) es reply = added_unless st s es reply (addition_refusal st.history s es)
 
 -- a file is made in the root; a name that was used isn't served
 abbrev pub file_made : State → List ℕ → List ℕ → Outcome State
 file_made st name file =
     if is_used st file then refused st NotBuilt
-    else added st (named st.session name) (edits.New kinds.File (nodes.Old 0) file) plain_reply
+    else added st (named st.session name) (edits.New kinds.File (nodes.Old 0) file ∷ []) plain_reply
 
--- a line is inserted into the file that a session sees at a path
-abbrev pub inserted_at : State → Session → LineField → List ℕ → Option ℕ → Outcome State
-inserted_at st s line text None = refused st NoSuchPath
-inserted_at st s line text (Some node) = added st (Some s) (edits.Insert (ref_in st.history s node) (line_ref line) text) (new_line_reply (own_lines s))
+-- what a line does with a node that a session sees, if it sees one
+abbrev pub with_seen : State → (ℕ → Outcome State) → Option ℕ → Outcome State
+with_seen st go None = refused st NoSuchPath
+with_seen st go (Some node) = go node
 
--- a line is inserted in a session, if there is one
-abbrev pub inserted_in : State → List (List ℕ) → LineField → List ℕ → Option Session → Outcome State
-inserted_in st path line text None = refused st NoSession
-inserted_in st path line text (Some s) = inserted_at st s line text (path_node (seen s st.history).rows 0 path)
+-- what a line does with a session and the node that this sees at a path, if there is such a session
+abbrev pub in_session : State → List (List ℕ) → (Session → ℕ → Outcome State) → Option Session → Outcome State
+in_session st path go None = refused st NoSession
+in_session st path go (Some s) = with_seen st (go s) (path_node (seen s st.history).rows 0 path)
+
+-- a line is inserted into a file that a session sees
+abbrev pub inserted_in : State → LineField → List ℕ → Session → ℕ → Outcome State
+inserted_in st line text s node = added st (Some s) (edits.Insert (ref_in st.history s node) (line_ref line) text ∷ []) (new_line_reply (own_lines s))
+
+-- a line of a file that a session sees is deleted
+abbrev pub deleted_in : State → LineField → Session → ℕ → Outcome State
+deleted_in st line s node = added st (Some s) (edits.Delete (ref_in st.history s node) (line_ref line) ∷ []) plain_reply
+
+-- a line of a file that a session sees is replaced: another is inserted directly after it, and it is deleted
+abbrev pub replaced_in : State → LineField → List ℕ → Session → ℕ → Outcome State
+replaced_in st line text s node =
+    let file = ref_in st.history s node in
+    let replaced = line_ref line in
+    added st (Some s) (edits.Insert file replaced text ∷ edits.Delete file replaced ∷ []) (new_line_reply (own_lines s))
+
+-- the lines of a file are told as a session sees them
+abbrev pub shown_in : State → Session → ℕ → Outcome State
+shown_in st s node =
+    if is_dir (seen s st.history).rows node then refused st NotFile
+    else accepted st (seen_reply (line_count (take s.base st.history)) (map by_number (lines_of (seen s st.history) node)))
 
 -- the commit of a session is appended and ends it, unless the history refuses it
 abbrev pub committed_if : State → Command → Option Refusal → Outcome State
@@ -162,6 +184,10 @@ abbrev pub with_file : State → List (List ℕ) → (List ℕ → Outcome State
 with_file st (file ∷ []) go = go file
 with_file st _ go = refused st NotBuilt
 
+-- what a line does with the session of a name and the file that this sees at a path of one name
+abbrev pub at_file : State → List ℕ → List (List ℕ) → (Session → ℕ → Outcome State) → Outcome State
+at_file st name path go = with_file st path (λ file. in_session st path go (named st.session name))
+
 -- what a line of a form does; other forms aren't served
 abbrev pub served : State → Line → Outcome State
 served st lines.Nothing = passed_over st
@@ -172,7 +198,10 @@ served st (lines.Default token on) = with_found st (found_option st.history toke
 served st (lines.Complete bindings) = with_found st (found_choice st.history bindings) (told_choice st)
 served st (lines.OpenSession name bindings ambition) = opened st name bindings ambition
 served st (lines.MakeFile name path) = with_file st path (λ file. file_made st name file)
-served st (lines.Insert name path line text) = with_file st path (λ file. inserted_in st path line text (named st.session name))
+served st (lines.Insert name path line text) = at_file st name path (inserted_in st line text)
+served st (lines.Delete name path line) = at_file st name path (deleted_in st line)
+served st (lines.Replace name path line text) = at_file st name path (replaced_in st line text)
+served st (lines.Show name path) = at_file st name path (shown_in st)
 served st (lines.Commit name) = committed_in st (named st.session name)
 served st (lines.Discard name) = dropped_in st (named st.session name)
 served st (lines.Cat bindings path) = with_file st path (λ file. told_for st path bindings)

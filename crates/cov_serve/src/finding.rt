@@ -24,9 +24,9 @@ pub type Found<X> = Result<Result<X, Code>, Memory>;
 
 /// The option that has a name.
 pub fn find_option(engine: &Engine, name: Text) -> Result<OptionId, Code>
-    ensures found { result ≡ found_option engine.now name }
-    ensures within { IfOk result (λ option. option < option_count engine.now) }
-    ensures named { IfErr result (IsCodeOf (option_count engine.now)) }
+    ensures found { result ≡ found_option engine.now.history name }
+    ensures within { IfOk result (λ option. option < option_count engine.now.history) }
+    ensures named { IfErr result (IsCodeOf (option_count engine.now.history)) }
 {
     match engine.options().find(name.as_slice()) {
         Some(option) => Ok(option),
@@ -36,9 +36,9 @@ pub fn find_option(engine: &Engine, name: Text) -> Result<OptionId, Code>
 
 /// An expression with options in place of their names.
 pub fn find_expression(alloc: Global, engine: &Engine, expr: &RawExpr) -> Found<Expr>
-    ensures found { IfOk result (λ found. found ≡ found_expression engine.now expr.now) }
-    ensures within { IfOk result (λ found. IfOk found (λ expr. reach expr ≤ option_count engine.now)) }
-    ensures named { IfOk result (λ found. IfErr found (IsCodeOf (option_count engine.now))) }
+    ensures found { IfOk result (λ found. found ≡ found_expression engine.now.history expr.now) }
+    ensures within { IfOk result (λ found. IfOk found (λ expr. reach expr ≤ option_count engine.now.history)) }
+    ensures named { IfOk result (λ found. IfErr found (IsCodeOf (option_count engine.now.history))) }
 {
     match expr.bind(alloc, engine.options()) {
         Ok(expr) => Ok(Ok(expr)),
@@ -49,9 +49,9 @@ pub fn find_expression(alloc: Global, engine: &Engine, expr: &RawExpr) -> Found<
 
 /// The partial choice that bindings are.
 pub fn find_partial(alloc: Global, engine: &Engine, choice: &RawChoice) -> Found<Partial>
-    ensures found { IfOk result (λ found. found ≡ found_partial engine.now choice.now) }
-    ensures within { IfOk result (λ found. IfOk found (λ partial. list_all (λ b. nat_lt b.0 (option_count engine.now)) partial ≡ true)) }
-    ensures named { IfOk result (λ found. IfErr found (IsCodeOf (option_count engine.now))) }
+    ensures found { IfOk result (λ found. found ≡ found_partial engine.now.history choice.now) }
+    ensures within { IfOk result (λ found. IfOk found (λ partial. list_all (λ b. nat_lt b.0 (option_count engine.now.history)) partial ≡ true)) }
+    ensures named { IfOk result (λ found. IfErr found (IsCodeOf (option_count engine.now.history))) }
 {
     match choice.bind(alloc, engine.options()) {
         Ok(partial) => Ok(Ok(partial)),
@@ -76,12 +76,12 @@ fn refuse_bindings(fault: BindFault) -> Found<Partial>
 
 /// The choice to which the rules complete a partial one.
 pub fn complete(engine: &mut Engine, partial: &Partial) -> Found<Choice>
-    requires bound { list_all (λ b. nat_lt b.0 (option_count engine.old)) partial.now ≡ true }
-    ensures same { engine.new ≡ engine.old }
-    ensures found { IfOk result (λ found. found ≡ completed_choice engine.old partial.now) }
-    ensures whole { IfOk result (λ found. IfOk found (λ choice. length choice ≡ option_count engine.old)) }
-    ensures valid { IfOk result (λ found. IfOk found (λ choice. first_false_in engine.old choice ≡ None)) }
-    ensures named { IfOk result (λ found. IfErr found (IsCodeOf (option_count engine.old))) }
+    requires bound { list_all (λ b. nat_lt b.0 (option_count engine.old.history)) partial.now ≡ true }
+    ensures same { engine.new.history ≡ engine.old.history }
+    ensures found { IfOk result (λ found. found ≡ completed_choice engine.old.history partial.now) }
+    ensures whole { IfOk result (λ found. IfOk found (λ choice. length choice ≡ option_count engine.old.history)) }
+    ensures valid { IfOk result (λ found. IfOk found (λ choice. first_false_in engine.old.history choice ≡ None)) }
+    ensures named { IfOk result (λ found. IfErr found (IsCodeOf (option_count engine.old.history))) }
 {
     match engine.complete(partial) {
         Ok(choice) => Ok(Ok(choice)),
@@ -105,10 +105,10 @@ fn refuse_completion(fault: CompleteFault) -> Found<Choice>
 
 /// The choice to which the rules complete bindings.
 pub fn find_choice(alloc: Global, engine: &mut Engine, choice: &RawChoice) -> Found<Choice>
-    ensures same { engine.new ≡ engine.old }
-    ensures found { IfOk result (λ found. found ≡ found_choice engine.old choice.now) }
-    ensures whole { IfOk result (λ found. IfOk found (λ choice. length choice ≡ option_count engine.old)) }
-    ensures named { IfOk result (λ found. IfErr found (IsCodeOf (option_count engine.old))) }
+    ensures same { engine.new.history ≡ engine.old.history }
+    ensures found { IfOk result (λ found. found ≡ found_choice engine.old.history choice.now) }
+    ensures whole { IfOk result (λ found. IfOk found (λ choice. length choice ≡ option_count engine.old.history)) }
+    ensures named { IfOk result (λ found. IfErr found (IsCodeOf (option_count engine.old.history))) }
 {
     match find_partial(alloc, engine, choice)? {
         Ok(partial) => complete(engine, &partial),

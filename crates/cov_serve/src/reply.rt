@@ -1,11 +1,12 @@
 // The texts of replies that aren't one line of a form alone.
-ghost use Rattle.std.specs.Prelude.{◌≡◌, IfOk, map};
-ghost use Rattle.cov_serve.specs.Listing.{number_within, numbered_within};
-ghost use Rattle.cov_serve.specs.Replies.{declared_reply, file_reply};
+ghost use Rattle.std.specs.Prelude.{◌≡◌, IfOk};
+ghost use Rattle.cov_serve.specs.Listing.{number_within, told_line, session_line, lines_reply};
+ghost use Rattle.cov_serve.specs.Replies.{declared_reply};
 
 use cov_base::{LineNo, LineRef, Memory, OptionId, Text, Texts};
 use cov_script::{
-    cat_line, reply_constraint, reply_count, reply_default, reply_option, reply_prefer, whole,
+    cat_line, reply_constraint, reply_count, reply_default, reply_option, reply_prefer, show_line,
+    whole,
 };
 use cov_view::ViewLines;
 use std::alloc::Global;
@@ -33,13 +34,27 @@ pub fn reply_declared(alloc: Global, declared: Declared, number: u32) -> Result<
 
 /// The reply that tells the lines of a file.
 pub fn file_text(alloc: Global, lines: &ViewLines) -> Result<Text, Memory>
-    ensures { IfOk result (λ text. text ≡ file_reply (map numbered_within lines.now)) }
+    ensures { IfOk result (λ text. text ≡ lines_reply told_line lines.now) }
 {
     let first = reply_count(alloc, lines.len() as u64)?;
     let mut rows = Texts::new(alloc);
     let mut index = 0;
     'lines: while let Some(line) = lines.get(index) {
         rows.push(cat_line(alloc, number_within(line.line), &line.text)?)?;
+        index += 1;
+    }
+    whole(first, &rows)
+}
+
+/// The reply that tells the lines of a file as a session sees them.
+pub fn session_text(alloc: Global, lines: &ViewLines) -> Result<Text, Memory>
+    ensures { IfOk result (λ text. text ≡ lines_reply session_line lines.now) }
+{
+    let first = reply_count(alloc, lines.len() as u64)?;
+    let mut rows = Texts::new(alloc);
+    let mut index = 0;
+    'lines: while let Some(line) = lines.get(index) {
+        rows.push(show_line(alloc, line.line, &line.text)?)?;
         index += 1;
     }
     whole(first, &rows)

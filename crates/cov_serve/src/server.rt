@@ -41,9 +41,9 @@ impl Model for Server {
 
     ghost coded = { Prim.hlevel (codes, formula_code coded_ℕ, command_row.the_row.coded, edit_row.the_row.coded) };
 
-    ghost view = { λ s. record { history = s.engine; session = option_map as_session s.session } };
+    ghost view = { λ s. record { history = s.engine.history; session = option_map as_session s.session } };
 
-    ghost invariant = { λ s. Keeps s.engine s.used s.session };
+    ghost invariant = { λ s. Keeps s.engine.history s.used s.session };
 }
 
 /// The server after a line, and the reply; or want of memory, after which the server is gone.

@@ -77,14 +77,14 @@ impl Server {
             Line::Rename { name, path, to } => self.leave((name, path, to)),
             Line::Move { name, path, target } => self.leave((name, path, target)),
             Line::Remove { name, path } => self.leave((name, path)),
-            Line::Delete { name, path, .. } => self.leave((name, path)),
+            Line::Delete { name, path, line } => self.delete(name, path, line),
             Line::Replace {
                 name,
                 path,
+                line,
                 text,
-                ..
-            } => self.leave((name, path, text)),
-            Line::Show { name, path } => self.leave((name, path)),
+            } => self.replace(name, path, line, text),
+            Line::Show { name, path } => self.show(name, path),
             Line::List { name, path } => self.leave((name, path)),
             Line::Refresh { name } => self.leave(name),
             Line::Checkout { tree, choice } => self.leave((tree, choice)),

@@ -1,17 +1,19 @@
-// How a file of a variant is told.
+// How a file is told: in the variant of a choice, or as the session sees it.
 ghost use Rattle.std.specs.Prelude.{◌≡◌, List, ℕ, IfOk, length};
 ghost use Rattle.cov_edit.specs.History.{option_count};
 ghost use Rattle.cov_edit.specs.Numbering.{Numbers};
 ghost use Rattle.cov_edit.specs.Variant.{Variant};
 ghost use Rattle.cov_view.specs.Views.{Shows};
 ghost use Rattle.cov_view.specs.Paths.{path_node};
-ghost use Rattle.cov_serve.specs.Step.{with_file, told_for, told, file_told};
+ghost use Rattle.cov_engine.specs.Sessions.{Session};
+ghost use Rattle.cov_serve.specs.Seeing.{IsSeen};
+ghost use Rattle.cov_serve.specs.Step.{with_file, told_for, told, file_told, at_file, shown_in};
 ghost use Rattle.cov_serve.specs.Turns.{Gives};
 
 use crate::finding::find_choice;
-use crate::reply::file_text;
+use crate::reply::{file_text, session_text};
 use crate::server::{Served, Server};
-use cov_base::{Choice, Memory, Path};
+use cov_base::{Choice, Memory, Name, NodeRef, Path};
 use cov_expr::RawChoice;
 use cov_script::Code;
 use cov_view::{ReadFaultOfView, View};
@@ -56,6 +58,33 @@ impl Server {
         match view.lines(file) {
             Ok(lines) => {
                 let text = file_text(self.alloc, &lines)?;
+                Ok(self.accept(text))
+            }
+            Err(ReadFaultOfView::NoSuchNode) => self.refuse(Code::NoSuchPath),
+            Err(ReadFaultOfView::NotFile) => self.refuse(Code::NotFile),
+            Err(ReadFaultOfView::Memory) => Err(Memory),
+        }
+    }
+
+    /// Tells the lines of a file in the root as the session sees them.
+    pub(crate) fn show(self, name: Name, path: Path) -> Served
+        ensures { IfOk result (λ next. Gives (at_file self name path (shown_in self)) next.0 next.1) }
+    {
+        match self.file_at(&name, &path) {
+            Ok(file) => self.show_file(file),
+            Err(code) => self.refuse(code),
+        }
+    }
+
+    fn show_file(self, file: NodeRef) -> Served
+        ensures { IfOk result (λ next. (s : Session) (node : ℕ) → IsSeen self s node file → Gives (shown_in self s node) next.0 next.1) }
+    {
+        let Some(session) = &self.session else {
+            return self.refuse(Code::NoSession);
+        };
+        match session.view.lines(file) {
+            Ok(lines) => {
+                let text = session_text(self.alloc, &lines)?;
                 Ok(self.accept(text))
             }
             Err(ReadFaultOfView::NoSuchNode) => self.refuse(Code::NoSuchPath),

@@ -1,11 +1,10 @@
 use Rattle.std.proofs.Common.{◌≡◌, ◌++◌, length, drop, map, ◌<◌}
-use Rattle.cov_serve.specs.Listing.{numbered_within}
-use Rattle.cov_serve.specs.Replies.{numbered_line}
+use Rattle.cov_serve.specs.Listing.{told_line}
 use Rattle.cov_serve.proofs.reply.file_text.Given as goal
 
 abbrev pub invariant-lines : goal.invariant-lines
 invariant-lines l = record {
-  so_far : l.rows ++ map numbered_line (map numbered_within (drop l.index l.lines)) ≡ map numbered_line (map numbered_within l.lines);
+  so_far : l.rows ++ map told_line (drop l.index l.lines) ≡ map told_line l.lines;
   short : length l.lines < 18446744073709551616;
 }
 

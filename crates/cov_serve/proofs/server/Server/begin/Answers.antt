@@ -10,7 +10,7 @@ use Rattle.cov_serve.proofs.server.Server.begin.Goals as goal
 
 pub invariant_of-server : goal.invariant_of-server
 invariant_of-server c =
-    let engine = c.self.inside.engine in
+    let engine = c.self.inside.engine.history in
     let same : c.args.self.history ≡ engine = ap (λ (st : State). st.history) (sym c.self.view_is) in
     record {
       names = c.self.invariant.names;

@@ -10,4 +10,4 @@ pub returns : goal.returns
 returns c =
     ended c.args.self c.self.inside.session c.accept.result.0 c.accept.result.1 (ap (λ (t : State). t.session) (sym c.self.view_is)) c.is_none.result c.is_none.ensures c.if-is_none.false
     (subst (λ h. Gives (accepted (record { history = h; session = None }) plain_reply) c.accept.result.0 c.accept.result.1) (ap (λ (t : State). t.history) c.self.view_is)
-    (subst (λ t. Gives (accepted (record { history = c.self.inside.engine; session = None }) t) c.accept.result.0 c.accept.result.1) c.in_ok-text.ensures c.accept.ensures))
+    (subst (λ t. Gives (accepted (record { history = c.self.inside.engine.history; session = None }) t) c.accept.result.0 c.accept.result.1) c.in_ok-text.ensures c.accept.ensures))

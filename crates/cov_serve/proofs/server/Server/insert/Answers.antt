@@ -1,28 +1,13 @@
-use Rattle.std.proofs.Common.{◌∙◌, sym, ap, subst, arith, IfOk}
-use Rattle.std.proofs.lemmas.Bool.Decides.{nat_tests}
-use Rattle.cov_serve.specs.Outcome.{Outcome}
-use Rattle.cov_serve.specs.States.{State, named}
+use Rattle.cov_edit.specs.History.{option_count}
 use Rattle.cov_serve.specs.Step.{inserted_in}
-use Rattle.cov_serve.specs.Turns.{Gives}
-use Rattle.cov_serve.proofs.Spoken.{not-one, one-any}
+use Rattle.cov_serve.proofs.Spoken.{goes-on-at, refused-at-file}
 use Rattle.cov_serve.proofs.server.Server.insert.Goals as goal
 
-pub returns-then-len-ne1 : goal.returns-then-len-ne1
-returns-then-len-ne1 c =
-    subst (λ (o : Outcome State). IfOk c.refuse.result (λ next. Gives o next.0 next.1))
-    (sym (not-one c.args.self c.args.path (λ file. inserted_in c.args.self c.args.path c.args.line c.args.text (named c.args.self.session c.args.name)) (grind (arith, nat_tests, c.if-len-ne1.true, c.len.ensures))))
-    c.refuse.ensures
-
-pub returns-then-not-has_session : goal.returns-then-not-has_session
-returns-then-not-has_session c =
-    subst (λ (o : Outcome State). IfOk c.refuse-then-not-has_session.result (λ next. Gives o next.0 next.1))
-    (sym (one-any c.args.self c.args.path (inserted_in c.args.self c.args.path c.args.line c.args.text (named c.args.self.session c.args.name)) (grind (arith, nat_tests, c.if-len-ne1.false, c.len.ensures))
-    ∙ ap (inserted_in c.args.self c.args.path c.args.line c.args.text) c.if-not-has_session.ensures))
-    c.refuse-then-not-has_session.ensures
+pub returns-in-Ok : goal.returns-in-Ok
+returns-in-Ok c = goes-on-at c.insert_in.result c.args.self c.args.name c.args.path c.in-Ok.file (inserted_in c.args.self c.args.line c.args.text) c.in-Ok.ensures.found c.insert_in.ensures
 
 pub returns : goal.returns
-returns c =
-    subst (λ (o : Outcome State). IfOk c.insert_at.result (λ next. Gives o next.0 next.1))
-    (sym (one-any c.args.self c.args.path (inserted_in c.args.self c.args.path c.args.line c.args.text (named c.args.self.session c.args.name)) (grind (arith, nat_tests, c.if-len-ne1.false, c.len.ensures))
-    ∙ ap (inserted_in c.args.self c.args.path c.args.line c.args.text) c.if-not-has_session.ensures))
-    c.insert_at.ensures
+returns c = refused-at-file c.refuse.result c.args.self c.args.name c.args.path c.in-Err.code (inserted_in c.args.self c.args.line c.args.text) (c.in-Err.ensures.refused (inserted_in c.args.self c.args.line c.args.text)) c.refuse.ensures
+
+pub refuse-requires : goal.refuse-requires
+refuse-requires c = c.in-Err.ensures.named (option_count c.args.self.history)

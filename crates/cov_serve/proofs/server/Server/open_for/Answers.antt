@@ -16,7 +16,7 @@ complete-requires c = record {
 
 pub returns-in-Ok : goal.returns-in-Ok
 returns-in-Ok c =
-    let same : record { history = c.complete.new.engine; session = option_map as_session c.self.inside.session } ≡ c.args.self =
+    let same : record { history = c.complete.new.engine.history; session = option_map as_session c.self.inside.session } ≡ c.args.self =
     ap (λ h. record { history = h; session = option_map as_session c.self.inside.session }) c.complete.ensures.same ∙ c.self.view_is in
     goes-on c.args.self (completed_choice c.args.self.history c.args.partial.now) (opened_within c.args.self c.args.name c.args.ambition) c.in-Ok.choice c.open_within.result
     (ap (λ (st : State). completed_choice st.history c.args.partial.now) (sym c.self.view_is) ∙ sym c.in_ok-choice.ensures.found ∙ c.in-Ok.is)

@@ -7,4 +7,4 @@ use Rattle.cov_serve.proofs.server.Server.open_named.Goals as goal
 pub open_on-requires : goal.open_on-requires
 open_on-requires c =
     subst (λ (st : State). list_all (λ b. nat_lt b.0 (option_count st.history)) c.in-Ok.partial ≡ true) c.self.view_is
-    (subst (λ found. IfOk found (λ partial. list_all (λ b. nat_lt b.0 (option_count c.self.inside.engine)) partial ≡ true)) c.in-Ok.is c.in_ok-partial.ensures.within)
+    (subst (λ found. IfOk found (λ partial. list_all (λ b. nat_lt b.0 (option_count c.self.inside.engine.history)) partial ≡ true)) c.in-Ok.is c.in_ok-partial.ensures.within)

@@ -11,7 +11,7 @@ use Rattle.cov_serve.proofs.server.Server.tell_at.Goals as goal
 
 pub returns : goal.returns
 returns c =
-    let engine = c.self.inside.engine in
+    let engine = c.self.inside.engine.history in
     let before = take c.position.result engine in
     let whole : replay c.args.choice before ≡ replay c.args.choice c.args.self.history =
     ap (replay c.args.choice) (ap (λ n. take n engine) c.position.ensures ∙ take-length engine ∙ ap (λ (t : State). t.history) c.self.view_is) in

@@ -2,24 +2,19 @@ use Rattle.std.proofs.Common.{◌≡◌, ◌∙◌, Some, ap, sym, subst, option
 use Rattle.cov_edit.specs.Numbering.{node_number}
 use Rattle.cov_engine.specs.Sessions.{seen}
 use Rattle.cov_serve.specs.Keeping.{as_session, IsOpen, IsOpenIf, numbers_at_base, table_of}
-use Rattle.cov_script.specs.Replies.{new_line_reply}
 use Rattle.cov_serve.specs.States.{State}
-use Rattle.cov_serve.proofs.Spoken.{insert-found}
-use Rattle.cov_serve.proofs.server.Server.insert_at.Goals as goal
+use Rattle.cov_serve.proofs.Spoken.{node-found}
+use Rattle.cov_serve.proofs.server.Server.node_at.Goals as goal
 
-pub returns : goal.returns
-returns c =
-    let st = c.args.self in
+pub returns-in-Some-resolve-clause-found : goal.returns-in-Some-resolve-clause-found
+returns-in-Some-resolve-clause-found c =
+    let st = c.args.self.now in
     let s = c.in-Some.session in
-    let file = c.in-Some-resolve.file in
     let live : st.session ≡ Some (as_session s) = ap (λ (t : State). t.session) (sym c.self.view_is) ∙ ap (option_map as_session) c.in-Some.is in
-    let kept : IsOpen st.history s = subst (λ h. IsOpen h s) (ap (λ (t : State). t.history) c.self.view_is) (subst (IsOpenIf c.self.inside.engine) c.in-Some.is c.self.invariant.session) in
+    let kept : IsOpen st.history s = subst (λ h. IsOpen h s) (ap (λ (t : State). t.history) c.self.view_is) (subst (IsOpenIf c.self.inside.engine.history) c.in-Some.is c.self.invariant.session) in
     let ns = numbers_at_base st.history (as_session s) in
     let table = table_of st.history (as_session s) in
     let v = seen (as_session s) st.history in
-    insert-found st s file c.line_ref-after.result c.args.path c.args.line c.args.text c.in_ok-reply.reply c.edit.result live
+    node-found st s c.in-Some-resolve.node c.args.path.now live
     (ap (option_map (node_number ns.nodes)) (sym c.in-Some-resolve.is) ∙ c.resolve.ensures.shown ns table v kept.shows)
     (c.in-Some-resolve.ensures.made ns table v kept.shows)
-    c.line_ref-after.ensures
-    (c.in_ok-reply.ensures ∙ ap new_line_reply (c.lines_made.ensures ∙ kept.counted.lines))
-    c.edit.ensures

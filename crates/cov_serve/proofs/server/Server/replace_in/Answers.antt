@@ -1,0 +1,11 @@
+use Rattle.std.proofs.Common.{◌∙◌, ap, [], ◌∷◌}
+use Rattle.cov_edit.specs.declared.edit.Edit.TheVariants as edits
+use Rattle.cov_script.specs.Replies.{new_line_reply}
+use Rattle.cov_serve.specs.Editing.{own_lines}
+use Rattle.cov_serve.proofs.Spoken.{added-at}
+use Rattle.cov_serve.proofs.server.Server.replace_in.Goals as goal
+
+pub returns : goal.returns
+returns c =
+    added-at c.exchange.result c.args.self c.args.file c.line_ref-line.result c.args.line (λ a f. edits.Insert f a c.args.text ∷ edits.Delete f a ∷ []) c.in_ok-reply.reply (λ s. new_line_reply (own_lines s))
+    c.line_ref-line.ensures (λ s live. c.in_ok-reply.ensures ∙ ap new_line_reply (c.own_lines.ensures s live)) c.exchange.ensures
