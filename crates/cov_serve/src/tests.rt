@@ -227,8 +227,12 @@ fn sessions_are_limited(rt: HostRuntime) -> Result<(), Fail> {
         writeln!(script, "insert s /m 0 {text}")?;
         writeln!(written, "ok +{number}")?;
     }
-    script.push_str("insert s /m 0 x\ninsert s /m 0 \ninsert s /m 5 x\nreplace s /m 5 x\nreplace s /m 5 \nreplace s /m +4096 x\nreplace s /m +0 \ndelete s /m +1\ninsert s /m 0 x\n")?;
-    written.push_str("refused too-many-bytes\nok +4096\nrefused too-many-bytes\nrefused too-many-bytes\nrefused no-such-line\nrefused too-many-bytes\nok +4097\nok\nrefused too-many-bytes\n")?;
+    script.push_str(
+        "insert s /m 0 x\ninsert s /m 0 \ninsert s /m 5 x\nreplace s /m 5 x\nreplace s /m 5 \nreplace s /m +4096 x\nreplace s /m +0 \ndelete s /m +1\ninsert s /m 0 x\n",
+    )?;
+    written.push_str(
+        "refused too-many-bytes\nok +4096\nrefused too-many-bytes\nrefused too-many-bytes\nrefused no-such-line\nrefused too-many-bytes\nok +4097\nok\nrefused too-many-bytes\n",
+    )?;
     let case = (script.as_bytes(), written.as_bytes(), Status::SomeRefused);
     expect(&rt, alloc, SERVED, case)
 }
@@ -244,8 +248,12 @@ fn replacements_are_limited(rt: HostRuntime) -> Result<(), Fail> {
         writeln!(script, "replace s /m +{number} x")?;
         writeln!(written, "ok +{next}")?;
     }
-    script.push_str("insert s /m 0 y\nreplace s /m +8190 z\nreplace s /m 9 z\nreplace s /n 1 z\ndelete s /m +8190\ndelete s /m +8191\nshow s /m\n")?;
-    written.push_str("ok +8191\nrefused too-many-edits\nrefused too-many-edits\nrefused no-such-path\nok\nrefused too-many-edits\nok 1\n+8191 y\n")?;
+    script.push_str(
+        "insert s /m 0 y\nreplace s /m +8190 z\nreplace s /m 9 z\nreplace s /n 1 z\ndelete s /m +8190\ndelete s /m +8191\nshow s /m\n",
+    )?;
+    written.push_str(
+        "ok +8191\nrefused too-many-edits\nrefused too-many-edits\nrefused no-such-path\nok\nrefused too-many-edits\nok 1\n+8191 y\n",
+    )?;
     let case = (script.as_bytes(), written.as_bytes(), Status::SomeRefused);
     expect(&rt, alloc, SERVED, case)
 }
