@@ -118,8 +118,8 @@ const RULES: [Case; 6] = [
         Status::SomeRefused,
     ),
     (
-        b"mkdir s /d\nrename s /m n\nmove s /m /\nremove s /m\ndelete s /m 1\nreplace s /m 1 x\nshow s /m\nlist s /\nrefresh s\ncheckout t -\nalt - a /m\nwhere 1\nmkdir s m\nwhere 01\nside s true\nupgrade\n",
-        b"refused not-built\nrefused not-built\nrefused not-built\nrefused not-built\nrefused not-built\nrefused not-built\nrefused not-built\nrefused not-built\nrefused not-built\nrefused not-built\nrefused not-built\nrefused not-built\nrefused syntax 8\nrefused syntax 6\nrefused syntax 0\nrefused syntax 0\n",
+        b"mkdir s /d\nrename s /m n\nmove s /m /\nremove s /m\nlist s /\nrefresh s\ncheckout t -\nalt - a /m\nwhere 1\nmkdir s m\nwhere 01\nside s true\nupgrade\n",
+        b"refused not-built\nrefused not-built\nrefused not-built\nrefused not-built\nrefused not-built\nrefused not-built\nrefused not-built\nrefused not-built\nrefused not-built\nrefused syntax 8\nrefused syntax 6\nrefused syntax 0\nrefused syntax 0\n",
         Status::SomeRefused,
     ),
 ];
@@ -139,8 +139,8 @@ const SESSIONS: [Case; 5] = [
         Status::SomeRefused,
     ),
     (
-        b"open s - for true\nmkfile s /m\ninsert s /m 0 one\ncommit s\nopen s - for true\ninsert s /m 1 two\ncommit s\ncat - /m\n",
-        b"ok open 0 -\nok\nok +0\nok commit 1\nok open 1 -\nok +0\nok commit 2\nok 2\n1 one\n2 two\n",
+        b"open s - for true\nmkfile s /m\ninsert s /m 0 one\ncommit s\nopen s - for true\ninsert s /m 1 two\nshow s /m\ncommit s\ncat - /m\n",
+        b"ok open 0 -\nok\nok +0\nok commit 1\nok open 1 -\nok +0\nok 2\n1 one\n+0 two\nok commit 2\nok 2\n1 one\n2 two\n",
         Status::Done,
     ),
     (
@@ -149,8 +149,8 @@ const SESSIONS: [Case; 5] = [
         Status::SomeRefused,
     ),
     (
-        b"option d\nopen s d=on for true\nmkfile s /m\ninsert s /m 0 A\ncommit s\nopen s d=on for d\ninsert s /m 1 B\ncommit s\nopen s d=on for true\ninsert s /m 2 C\ncommit s\nopen s d=off for true\ninsert s /m 1 X\ncommit s\ncat d=on /m\ncat d=off /m\n",
-        b"ok option 0\nok open 1 d=on\nok\nok +0\nok commit 2\nok open 2 d=on\nok +0\nok commit 3\nok open 3 d=on\nok +0\nok commit 4\nok open 4 d=off\nok +0\nok commit 5\nok 4\n1 A\n4 X\n2 B\n3 C\nok 3\n1 A\n4 X\n3 C\n",
+        b"option d\nopen s d=on for true\nmkfile s /m\ninsert s /m 0 A\ncommit s\nopen s d=on for d\ninsert s /m 1 B\ncommit s\nopen s d=on for true\ninsert s /m 2 C\ncommit s\nopen s d=off for true\nshow s /m\ninsert s /m 1 X\ncommit s\ncat d=on /m\ncat d=off /m\n",
+        b"ok option 0\nok open 1 d=on\nok\nok +0\nok commit 2\nok open 2 d=on\nok +0\nok commit 3\nok open 3 d=on\nok +0\nok commit 4\nok open 4 d=off\nok 2\n1 A\n3 C\nok +0\nok commit 5\nok 4\n1 A\n4 X\n2 B\n3 C\nok 3\n1 A\n4 X\n3 C\n",
         Status::Done,
     ),
     (
@@ -168,7 +168,55 @@ fn sessions_are_served(rt: HostRuntime) -> Result<(), Fail> {
     Ok(())
 }
 
-// A session on which 4,096 bytes are inserted again and again reaches the bytes of a commit, and then its edits run out.
+const EDITING: [Case; 3] = [
+    (
+        b"open s - for true\nmkfile s /m\ninsert s /m 0 one\ncommit s\nopen s - for true\ninsert s /m 1 two\ncommit s\nopen s - for true\ninsert s /m 1 x\ndelete s /m 3\ninsert s /m 3 y\ndelete s /m +0\ndelete s /m +0\nshow s /m\n",
+        b"ok open 0 -\nok\nok +0\nok commit 1\nok open 1 -\nok +0\nok commit 2\nok open 2 -\nok +0\nrefused no-such-line\nrefused no-such-line\nok\nrefused no-such-line\nok 2\n1 one\n2 two\n",
+        Status::SomeRefused,
+    ),
+    (
+        b"open s - for true\nmkfile s /m\ninsert s /m 0 one\ninsert s /m +0 two\ncommit s\nopen s - for true\ndelete s /m 0\nreplace s /m 0 zero\nreplace s /m 3 zero\nreplace s /m 1 uno\nshow s /m\nreplace s /m 1 uno\nreplace s /m +0 eins\ninsert s /m +1 und\nshow s /m\ndelete s /n 1\nreplace s /n 1 x\nshow s /n\ndelete t /m 1\nreplace t /m 1 x\nshow t /m\ndelete s /m/n 1\nreplace s / 1 x\nshow s /m/n\n",
+        b"ok open 0 -\nok\nok +0\nok +1\nok commit 1\nok open 1 -\nrefused no-such-line\nrefused no-such-line\nrefused no-such-line\nok +0\nok 2\n+0 uno\n2 two\nrefused no-such-line\nok +1\nok +2\nok 3\n+1 eins\n+2 und\n2 two\nrefused no-such-path\nrefused no-such-path\nrefused no-such-path\nrefused no-session\nrefused no-session\nrefused no-session\nrefused not-built\nrefused not-built\nrefused not-built\n",
+        Status::SomeRefused,
+    ),
+    (
+        b"option d\nopen s d=on for true\nmkfile s /m\ninsert s /m 0 a\ninsert s /m +0 b\ndelete s /m +0\ninsert s /m +1 c\nreplace s /m +1 d\ndelete s /m 1\ninsert s /m 1 e\nreplace s /m 2 e\ninsert s /m +0 e\nshow s /m\ndrop s\nshow s /m\ndelete s /m +1\nreplace s /m +1 x\ndelete s /m + 1\nshow s\n",
+        b"ok option 0\nok open 1 d=on\nok\nok +0\nok +1\nok\nok +2\nok +3\nrefused no-such-line\nrefused no-such-line\nrefused no-such-line\nrefused no-such-line\nok 2\n+3 d\n+2 c\nok\nrefused no-session\nrefused no-session\nrefused no-session\nrefused syntax 12\nrefused syntax 6\n",
+        Status::SomeRefused,
+    ),
+];
+
+#[test]
+fn lines_are_deleted_and_replaced(rt: HostRuntime) -> Result<(), Fail> {
+    for case in &EDITING {
+        expect(&rt, rt.alloc(), SERVED, *case)?;
+    }
+    Ok(())
+}
+
+const DELETED: [Case; 2] = [
+    (
+        b"option d\nopen s d=on for true\nmkfile s /m\ninsert s /m 0 A\ncommit s\nopen s d=on for d\ninsert s /m 1 B\ncommit s\nopen s d=on for true\ninsert s /m 2 C\ncommit s\nopen s d=off for true\nshow s /m\ninsert s /m 1 X\ncommit s\ncat d=on /m\ncat d=off /m\nopen s d=on for true\ndelete s /m 2\ncommit s\ncat d=on /m\ncat d=off /m\nopen s d=on for d\ndelete s /m 4\ncommit s\ncat d=on /m\ncat d=off /m\n",
+        b"ok option 0\nok open 1 d=on\nok\nok +0\nok commit 2\nok open 2 d=on\nok +0\nok commit 3\nok open 3 d=on\nok +0\nok commit 4\nok open 4 d=off\nok 2\n1 A\n3 C\nok +0\nok commit 5\nok 4\n1 A\n4 X\n2 B\n3 C\nok 3\n1 A\n4 X\n3 C\nok open 5 d=on\nok\nok commit 6\nok 3\n1 A\n4 X\n3 C\nok 3\n1 A\n4 X\n3 C\nok open 6 d=on\nok\nok commit 7\nok 2\n1 A\n3 C\nok 3\n1 A\n4 X\n3 C\n",
+        Status::Done,
+    ),
+    (
+        b"open s - for true\nmkfile s /m\ninsert s /m 0 one\ninsert s /m +0 two\ncommit s\nopen s - for true\nreplace s /m 1 uno\nreplace s /m +0 eins\ninsert s /m +1 und\ncommit s\ncat - /m\n",
+        b"ok open 0 -\nok\nok +0\nok +1\nok commit 1\nok open 1 -\nok +0\nok +1\nok +2\nok commit 2\nok 3\n4 eins\n5 und\n2 two\n",
+        Status::Done,
+    ),
+];
+
+#[test]
+fn deletes_are_committed(rt: HostRuntime) -> Result<(), Fail> {
+    for case in &DELETED {
+        expect(&rt, rt.alloc(), SERVED, *case)?;
+    }
+    Ok(())
+}
+
+// A session on which 4,096 bytes are inserted again and again reaches the bytes of a commit; those of a
+// line that is deleted still count.
 #[test]
 fn sessions_are_limited(rt: HostRuntime) -> Result<(), Fail> {
     let alloc = rt.alloc();
@@ -179,8 +227,33 @@ fn sessions_are_limited(rt: HostRuntime) -> Result<(), Fail> {
         writeln!(script, "insert s /m 0 {text}")?;
         writeln!(written, "ok +{number}")?;
     }
-    script.push_str("insert s /m 0 x\ninsert s /m 0 \ninsert s /m 5 x\n")?;
-    written.push_str("refused too-many-bytes\nok +4096\nrefused too-many-bytes\n")?;
+    script.push_str(
+        "insert s /m 0 x\ninsert s /m 0 \ninsert s /m 5 x\nreplace s /m 5 x\nreplace s /m 5 \nreplace s /m +4096 x\nreplace s /m +0 \ndelete s /m +1\ninsert s /m 0 x\n",
+    )?;
+    written.push_str(
+        "refused too-many-bytes\nok +4096\nrefused too-many-bytes\nrefused too-many-bytes\nrefused no-such-line\nrefused too-many-bytes\nok +4097\nok\nrefused too-many-bytes\n",
+    )?;
+    let case = (script.as_bytes(), written.as_bytes(), Status::SomeRefused);
+    expect(&rt, alloc, SERVED, case)
+}
+
+// A session on which a line is replaced again and again runs out of edits, two at a time.
+#[test]
+fn replacements_are_limited(rt: HostRuntime) -> Result<(), Fail> {
+    let alloc = rt.alloc();
+    let mut script = String::from_str(alloc, "open s - for true\nmkfile s /m\ninsert s /m 0 x\n")?;
+    let mut written = String::from_str(alloc, "ok open 0 -\nok\nok +0\n")?;
+    for number in 0..8190u32 {
+        let next = number + 1;
+        writeln!(script, "replace s /m +{number} x")?;
+        writeln!(written, "ok +{next}")?;
+    }
+    script.push_str(
+        "insert s /m 0 y\nreplace s /m +8190 z\nreplace s /m 9 z\nreplace s /n 1 z\ndelete s /m +8190\ndelete s /m +8191\nshow s /m\n",
+    )?;
+    written.push_str(
+        "ok +8191\nrefused too-many-edits\nrefused too-many-edits\nrefused no-such-path\nok\nrefused too-many-edits\nok 1\n+8191 y\n",
+    )?;
     let case = (script.as_bytes(), written.as_bytes(), Status::SomeRefused);
     expect(&rt, alloc, SERVED, case)
 }
