@@ -1,6 +1,6 @@
 -- What entries have when the first edits of a commit are done.
 use Rattle.std.proofs.Common.{◌≡◌, ℕ, zero, suc, ◌+◌, ◌<◌, ◌≤◌, Bool, true, false, cond, ◌&&◌, ◌||◌, not, nat_eq, nat_le, List, [], ◌∷◌, ◌++◌, length, length-append, map, drop, append_assoc, append-nil, refl, sym, ap, subst, ◌∙◌, arith}
-use Rattle.std.specs.List.{fold, list_any, AllByRecursion}
+use Rattle.std.specs.List.{list_any, AllByRecursion}
 use Rattle.std.proofs.lemmas.Bool.Decides.{nat_tests}
 use Rattle.cov_base.specs.Addresses.{after_first, after_anchor, after_anchor_by}
 use Rattle.cov_base.proofs.Ordered.{all-map}
@@ -15,7 +15,7 @@ use Rattle.cov_edit.specs.declared.edit.Edit.{Edit}
 use Rattle.cov_edit.specs.declared.edit.Edit.TheVariants as edits
 use Rattle.cov_edit.specs.declared.command.Command.{Command}
 use Rattle.cov_edit.specs.History.{option_count}
-use Rattle.cov_edit.specs.Numbering.{node_number, line_number, anchors_of, numbers_of, numbered_from}
+use Rattle.cov_edit.specs.Numbering.{node_number, line_number, anchors_of, numbers_of}
 use Rattle.cov_edit.specs.Variant.{Line}
 use Rattle.cov_file.specs.Dated.{DatedLine as FileLine, numbers_of as file_numbers, new_line, with_line, with_change, AreAlike}
 use Rattle.cov_file.specs.Rooms.{DatedFile, is_room_at, IsLeft}
@@ -28,7 +28,7 @@ use Rattle.cov_engine.specs.Insertions.{Insertion, table_of, lines_amid, held_am
 use Rattle.cov_engine.specs.Kept.{Kept, seen_at, kept_number, kept_of, held_by, file_kept, is_kept_anchor}
 use Rattle.cov_engine.specs.Nodes.{AreDated, AreHomes}
 use Rattle.cov_engine.specs.Sessions.{IsGood, has_commit, session_of}
-use Rattle.cov_engine.specs.Stepping.{CanInsert, CanDelete, IsInserted, IsChanged, IsStepped, IsChangedIn, AllPairs, AreStepped, CanStepIn, CanStepAll, AreSteppedAll, step_file, restored}
+use Rattle.cov_engine.specs.Stepping.{CanInsert, CanDelete, IsStepped, IsChangedIn, AreStepped, CanStepIn, CanStepAll, AreSteppedAll}
 use Rattle.cov_engine.specs.declared.entry.Entry.{Entry}
 use Rattle.cov_engine.specs.declared.step.Step.{Step}
 use Rattle.cov_engine.specs.declared.step.Step.TheVariants as steps

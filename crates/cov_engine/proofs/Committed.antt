@@ -1,5 +1,5 @@
 -- What is kept after a commit: lists, rows and numbers.
-use Rattle.std.proofs.Common.{◌≡◌, ℕ, zero, suc, ◌+◌, ◌-◌, ◌<◌, ◌≤◌, Bool, true, false, cond, nat_eq, List, [], ◌∷◌, ◌++◌, length, length-append, map, Option, Some, None, slice_get, append_assoc, append-nil, refl, sym, ap, subst, ◌∙◌, arith}
+use Rattle.std.proofs.Common.{◌≡◌, ℕ, zero, suc, ◌+◌, ◌<◌, ◌≤◌, Bool, false, cond, nat_eq, List, [], ◌∷◌, ◌++◌, length, length-append, map, Some, None, slice_get, append_assoc, append-nil, refl, sym, ap, ◌∙◌, arith}
 use Rattle.std.specs.List.{fold, AllByRecursion}
 use Rattle.std.proofs.lemmas.Bool.Decides.{nat_tests}
 use Rattle.cov_base.specs.Addresses.{line_of, IsLineOf}
@@ -13,7 +13,7 @@ use Rattle.cov_edit.specs.declared.edit.Edit.{Edit}
 use Rattle.cov_edit.specs.declared.edit.Edit.TheVariants as edits
 use Rattle.cov_edit.specs.declared.command.Command.{Command}
 use Rattle.cov_edit.specs.declared.command.Command.TheVariants as commands
-use Rattle.cov_edit.specs.Numbering.{Numbers, node_number, line_number, anchors_of, no_numbers, numbers_after, numbers_of, numbered_from}
+use Rattle.cov_edit.specs.Numbering.{Numbers, node_number, anchors_of, no_numbers, numbers_after, numbers_of, numbered_from}
 use Rattle.cov_edit.specs.Variant.{Line}
 use Rattle.cov_edit.proofs.Replays.{numbers_from-append}
 use Rattle.cov_engine.specs.declared.kept.Made.{Made}

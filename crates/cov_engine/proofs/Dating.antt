@@ -1,11 +1,11 @@
 -- Dated lines and the lines of a file that have nodes for them.
-use Rattle.std.proofs.Common.{◌≡◌, ℕ, zero, suc, ◌+◌, ◌<◌, ◌≤◌, max, Bool, true, false, cond, ◌&&◌, ◌||◌, not, nat_eq, nat_le, List, [], ◌∷◌, length, map, Option, Some, None, unwrap_or, option_map, refl, sym, ap, subst, ◌∙◌, arith}
+use Rattle.std.proofs.Common.{◌≡◌, ℕ, zero, suc, ◌<◌, ◌≤◌, Bool, true, false, cond, ◌&&◌, ◌||◌, not, nat_eq, nat_le, List, [], ◌∷◌, map, Some, unwrap_or, option_map, refl, sym, ap, subst, ◌∙◌, arith}
 use Rattle.std.specs.List.{AllByRecursion, find}
 use Rattle.std.proofs.lemmas.Bool.Decides.{nat_tests}
 use Rattle.cov_base.specs.Addresses.{after_first, after_anchor_by}
 use Rattle.cov_dd.specs.declared.triple.Triple.{Triple}
-use Rattle.cov_dd.specs.Diagrams.{node_count, span, value_in, Extends, Stands}
-use Rattle.cov_dd.proofs.CallerLemmas.{stands_later, stands_weaker}
+use Rattle.cov_dd.specs.Diagrams.{node_count, span, value_in, Stands}
+use Rattle.cov_dd.proofs.CallerLemmas.{stands_weaker}
 use Rattle.cov_dd.proofs.Nodes.{constant_stands}
 use Rattle.cov_expr.specs.Formula.{Formula, False, Not, And, value}
 use Rattle.cov_file.specs.Dated.{DatedLine as FileLine, dated_number as file_number, node_at, numbers_of, new_line, with_line, changed, with_change, node_of, IsAlike, AreAlike}
@@ -118,20 +118,6 @@ module _ (ts : List Triple) (count : ℕ) where
       all [] (l ∷ ls) r h = absurd h
       all (d ∷ ds) [] r h = absurd h
       all (d ∷ ds) (l ∷ ls) r h = (hidden-one q line vis within d l h.0 r.0, all ds ls r.1 h.1)
-
--- so in a longer table, with more options
-pub dated-later : (ts us : List Triple) (count more : ℕ) → Extends ts us → count ≤ more → (ds : List DatedLine) (ls : List FileLine) → AreDated ts count ds ls → AreDated us more ds ls
-dated-later ts us count more x le [] [] h = tt
-dated-later ts us count more x le [] (l ∷ ls) h = absurd h
-dated-later ts us count more x le (d ∷ ds) [] h = absurd h
-dated-later ts us count more x le (d ∷ ds) (l ∷ ls) h = (
-  record {
-    line = h.0.line;
-    text = h.0.text;
-    nodes = λ p. stands_weaker 0 more (value (seen_at d.changes p)) (omega arith) le (λ c. refl) (stands_later x (h.0.nodes p));
-  },
-  dated-later ts us count more x le ds ls h.1,
-)
 
 -- the node at a position of each line
 pub dated-nodes : (ts : List Triple) (count p : ℕ) (ds : List DatedLine) (ls : List FileLine) → AreDated ts count ds ls → AllByRecursion (λ l. node_at l.changes p < node_count ts) ls

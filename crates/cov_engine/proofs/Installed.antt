@@ -3,13 +3,14 @@ use Rattle.std.proofs.Common.{◌≡◌, ℕ, zero, suc, ◌+◌, ◌<◌, ◌�
 use Rattle.std.specs.List.{AllByRecursion}
 use Rattle.std.specs.Option.{option_map_or}
 use Rattle.std.proofs.lemmas.Bool.Decides.{nat_tests}
+use Rattle.std.proofs.lemmas.List.{take-append-drop}
 use Rattle.cov_base.proofs.Ordered.{all-map, all-both, all-append}
 use Rattle.cov_expr.specs.Formula.{Formula, reach}
 use Rattle.cov_edit.specs.declared.edit.Edit.{Edit}
 use Rattle.cov_edit.specs.declared.command.Command.{Command}
 use Rattle.cov_edit.specs.declared.command.Command.TheVariants as commands
 use Rattle.cov_edit.specs.History.{options_of, option_count, text_bytes, byte_count}
-use Rattle.cov_edit.specs.Numbering.{nodes_made, anchors_of, no_numbers, numbers_after, numbers_of, numbered_from, line_count, node_count}
+use Rattle.cov_edit.specs.Numbering.{nodes_made, anchors_of, no_numbers, numbers_after, numbers_of, line_count, node_count}
 use Rattle.cov_view.specs.Refusals.{when, first_of}
 use Rattle.cov_engine.specs.declared.kept.Made.{Made}
 use Rattle.cov_engine.specs.declared.entry.Entry.{Entry}
@@ -27,14 +28,14 @@ use Rattle.cov_engine.specs.Insertions.{numbered_amid, held_amid}
 use Rattle.cov_engine.specs.Nodes.{AreDated, AreHomes}
 use Rattle.cov_file.specs.Dated.{DatedLine as FileLine}
 use Rattle.cov_dd.specs.declared.triple.Triple.{Triple}
-use Rattle.cov_engine.specs.Stepping.{IsChangedIn, IsStepped, AllPairs, AreStepped, CanStepAll, AreSteppedAll, AreInstalled, step_file, restored}
+use Rattle.cov_engine.specs.Stepping.{IsChangedIn, IsStepped, AreStepped, CanStepAll, AreSteppedAll, AreInstalled, step_file, restored}
 use Rattle.cov_engine.specs.declared.step.Step.{Step}
 use Rattle.cov_engine.specs.declared.step.Step.TheVariants as steps
 use Rattle.cov_engine.proofs.Appends.{commit-lines, commit-rows, lines-edits}
 use Rattle.cov_engine.proofs.Standing.{all-mapped}
 use Rattle.cov_engine.proofs.FileLines.{all-unmapped}
 use Rattle.cov_engine.proofs.Fresh.{NodesFrom, history-nodes}
-use Rattle.cov_engine.proofs.Holdings.{more-options, in-reach}
+use Rattle.cov_engine.proofs.Holdings.{as-many-options, more-options, in-reach}
 use Rattle.cov_engine.proofs.States.{length-one, not-below, options-append}
 use Rattle.cov_engine.proofs.Naming.{base-nodes, edits-accepted}
 use Rattle.cov_engine.proofs.Named.{edits-named, named-near, legal-files}
@@ -141,17 +142,7 @@ take-all (suc at) (k ∷ history) h = ap (λ l. k ∷ l) (take-all at history (o
 
 -- no fewer options are declared later
 pub declared-less : (base : ℕ) (history : List Command) → option_count (take base history) ≤ option_count history
-declared-less zero history = omega arith
-declared-less (suc base) [] = omega arith
-declared-less (suc base) (commands.Option name ∷ history) =
-    let ih = declared-less base history in
-    let left : option_count (take (suc base) (commands.Option name ∷ history)) ≡ suc (option_count (take base history)) = refl in
-    let right : option_count (commands.Option name ∷ history) ≡ suc (option_count history) = refl in
-    omega (arith, ih, left, right)
-declared-less (suc base) (commands.Constraint expr ∷ history) = declared-less base history
-declared-less (suc base) (commands.Prefer expr ∷ history) = declared-less base history
-declared-less (suc base) (commands.Default option on ∷ history) = declared-less base history
-declared-less (suc base) (commands.Commit b choice ambition es ∷ history) = declared-less base history
+declared-less base history = subst (λ h. option_count (take base history) ≤ option_count h) (take-append-drop base history) (as-many-options (take base history) (drop base history))
 
 in-reach-more : (history : List Command) (k : Command) (ambition : Formula ℕ) (commits : List Made) (made : Made) → made ≡ record { position = length history + 1; ambition = ambition } → reach ambition ≤ option_count history
     → ((at : ℕ) → AreInReach (option_count (take at history)) at commits) → (at : ℕ) → AreInReach (option_count (take at (history ++ k ∷ []))) at (commits ++ made ∷ [])

@@ -1,11 +1,11 @@
 -- The nodes of lines before a commit, and the steps that are planned for it.
-use Rattle.std.proofs.Common.{◌≡◌, ℕ, zero, suc, ◌+◌, ◌<◌, ◌≤◌, max, Bool, true, false, cond, ◌&&◌, not, nat_eq, List, [], ◌∷◌, ◌++◌, length, get_or, take, drop, Option, Some, None, unwrap_or, option_map, append-nil, append_assoc, refl, sym, ap, subst, ◌∙◌, arith}
+use Rattle.std.proofs.Common.{◌≡◌, ℕ, zero, suc, ◌+◌, ◌<◌, ◌≤◌, max, Bool, true, false, cond, ◌&&◌, not, nat_eq, List, [], ◌∷◌, ◌++◌, length, get_or, Some, unwrap_or, option_map, append-nil, append_assoc, refl, sym, ap, subst, ◌∙◌, arith}
 use Rattle.std.specs.List.{AllByRecursion, find}
 use Rattle.std.proofs.lemmas.Bool.Decides.{nat_tests}
 use Rattle.cov_dd.specs.declared.triple.Triple.{Triple}
 use Rattle.cov_dd.specs.Diagrams.{node_count, span, value_in, Extends, Stands}
-use Rattle.cov_dd.specs.Combinations.{first_option, joint_span}
-use Rattle.cov_dd.proofs.CallerLemmas.{extends_none, extends_trans, stands_later, stands_weaker}
+use Rattle.cov_dd.specs.Combinations.{joint_span}
+use Rattle.cov_dd.proofs.CallerLemmas.{extends_trans, stands_later, stands_weaker}
 use Rattle.cov_dd.proofs.Nodes.{some_nodes}
 use Rattle.cov_edit.specs.declared.edit.Edit.{Edit}
 use Rattle.cov_edit.specs.declared.edit.Edit.TheVariants as edits
@@ -14,8 +14,8 @@ use Rattle.cov_base.specs.declared.number.NodeRef.{NodeRef}
 use Rattle.cov_base.specs.declared.number.LineRef.{LineRef}
 use Rattle.cov_base.proofs.Ordered.{all-map}
 use Rattle.cov_file.specs.Dated.{DatedLine as FileLine, node_at, node_of}
-use Rattle.cov_engine.specs.Drawing.{AreNumbered, AreLow}
-use Rattle.cov_engine.specs.Nodes.{old_node, IsTaken, HasNodesIn}
+use Rattle.cov_engine.specs.Drawing.{AreNumbered}
+use Rattle.cov_engine.specs.Nodes.{old_node, HasNodesIn}
 use Rattle.cov_engine.specs.Stepping.{ArePlanned, IsPlannedBehind}
 use Rattle.cov_engine.specs.declared.entry.Entry.{Entry}
 use Rattle.cov_engine.specs.declared.step.Step.{Step}

@@ -33,7 +33,7 @@ use Rattle.cov_engine.specs.Verdict.{verdict, refusals_of, size_refusals, has_no
 use Rattle.cov_engine.specs.Drawing.{Stored, stored, sizes_of, sizes_refusal, new_homes, new_entries, AreNumbered, AreNear, AreLow, HasRoom}
 use Rattle.cov_engine.specs.Drawn.{IsDrawn}
 use Rattle.cov_engine.specs.Stepping.{ArePlanned, CanStepAll, AreInstalled}
-use Rattle.cov_dd.specs.Diagrams.{Extends, Stands}
+use Rattle.cov_dd.specs.Diagrams.{Stands}
 use Rattle.cov_engine.specs.Ready.{IsNext, IsInBounds, AreCountsWith, IsCommitReady, edits_in}
 use Rattle.cov_engine.proofs.Standing.{all-mapped}
 use Rattle.cov_engine.proofs.FileLines.{all-unmapped}

@@ -1,5 +1,5 @@
 -- What a commit's steps start from: the nodes of the lines that are kept before it.
-use Rattle.std.proofs.Common.{◌≡◌, ℕ, zero, suc, ◌+◌, ◌<◌, ◌≤◌, ◌^◌, max, Bool, true, false, cond, ◌&&◌, not, nat_eq, nat_le, nat_lt, List, [], ◌∷◌, ◌++◌, length, map, drop, unwrap_or, append_assoc, refl, sym, ap, subst, ◌∙◌, arith}
+use Rattle.std.proofs.Common.{◌≡◌, ℕ, ◌+◌, ◌<◌, ◌≤◌, Bool, true, false, cond, ◌&&◌, not, nat_eq, nat_le, List, [], ◌∷◌, length, map, drop, unwrap_or, refl, sym, ap, subst, ◌∙◌, arith}
 use Rattle.std.specs.List.{AllByRecursion}
 use Rattle.std.proofs.lemmas.Bool.Decides.{nat_tests}
 use Rattle.cov_base.proofs.Ordered.{all-map}
@@ -7,22 +7,20 @@ use Rattle.cov_dd.specs.declared.triple.Triple.{Triple}
 use Rattle.cov_dd.specs.Diagrams.{node_count, span, value_in, Stands}
 use Rattle.cov_dd.specs.Combinations.{joint_span}
 use Rattle.cov_dd.proofs.CallerLemmas.{stands_weaker}
-use Rattle.cov_dd.proofs.Nodes.{some_nodes}
 use Rattle.cov_expr.specs.Formula.{Formula, value}
 use Rattle.cov_edit.specs.declared.edit.Edit.{Edit}
 use Rattle.cov_edit.specs.declared.edit.Edit.TheVariants as edits
 use Rattle.cov_edit.specs.declared.command.Command.{Command}
 use Rattle.cov_edit.specs.History.{option_count}
-use Rattle.cov_edit.specs.Numbering.{node_number, line_number, anchors_of, numbers_of, line_count}
+use Rattle.cov_edit.specs.Numbering.{node_number, line_number, numbers_of}
 use Rattle.cov_edit.specs.Variant.{Line}
 use Rattle.cov_file.specs.Dated.{node_of}
 use Rattle.cov_order.specs.Orders.{has_line, AreLines}
-use Rattle.cov_engine.specs.Drawing.{AreNumbered, AreLow}
+use Rattle.cov_engine.specs.Drawing.{AreNumbered}
 use Rattle.cov_engine.specs.Files.{DatedLine, dated_number, dated, file_dated, file_order}
 use Rattle.cov_engine.specs.Holdings.{IsFileOf}
-use Rattle.cov_engine.specs.Insertions.{Insertion, lines_amid}
 use Rattle.cov_engine.specs.Kept.{Kept, seen_at, kept_number, kept_of, file_kept}
-use Rattle.cov_engine.specs.Nodes.{AreDated, old_node, IsTaken}
+use Rattle.cov_engine.specs.Nodes.{old_node, IsTaken}
 use Rattle.cov_engine.specs.Sessions.{IsGood, has_commit, session_of}
 use Rattle.cov_engine.specs.Stepping.{ArePlanned}
 use Rattle.cov_engine.specs.Verdict.{IsLegal}
@@ -34,7 +32,6 @@ use Rattle.cov_engine.proofs.Dating.{AreOnce, false-stands, gone, dated-numbers,
 use Rattle.cov_engine.proofs.Deletes.{lines-held}
 use Rattle.cov_engine.proofs.Named.{legal-files}
 use Rattle.cov_engine.proofs.Orders.{any-none, any-mapped}
-use Rattle.cov_engine.proofs.Standing.{all-mapped}
 
 -- lines with distinct numbers
 once-of : (ks : List (Kept Line)) → AreLines (map kept_number ks) → AreOnce (map dated ks)

@@ -4,7 +4,7 @@ use Rattle.cov_dd.specs.declared.triple.Triple.{Triple}
 use Rattle.std.specs.List.{AllByRecursion}
 use Rattle.cov_dd.specs.Diagrams.{node_count, value_in, Stands}
 use Rattle.cov_dd.specs.Combinations.{joint_span}
-use Rattle.cov_expr.specs.Formula.{Formula, value}
+use Rattle.cov_expr.specs.Formula.{value}
 use Rattle.cov_file.specs.Dated.{DatedLine as FileLine, node_at, node_of}
 use Rattle.cov_engine.specs.Kept.{Kept, seen_at, is_kept_anchor}
 use Rattle.cov_edit.specs.Variant.{Line}

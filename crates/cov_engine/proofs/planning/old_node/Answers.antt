@@ -1,7 +1,6 @@
 use Rattle.std.proofs.Common.{ap, sym, ◌∙◌, ◌≤◌, unwrap_or, arith}
 use Rattle.cov_engine.proofs.Entries.{index-some, index-none, get-all}
 use Rattle.cov_engine.proofs.Planned.{old-outside, old-at}
-use Rattle.cov_engine.proofs.Dating.{node-right, node-low, node-none, all-after, dated-nodes, dated-later, delete-lines, insert-lines}
 use Rattle.cov_engine.proofs.planning.old_node.Goals as goal
 
 pub returns-in-Some : goal.returns-in-Some

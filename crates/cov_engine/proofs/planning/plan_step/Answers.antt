@@ -1,4 +1,4 @@
-use Rattle.std.proofs.Common.{subst, sym, ap, ◌∙◌, ◌<◌}
+use Rattle.std.proofs.Common.{subst, sym, ◌∙◌, ◌<◌}
 use Rattle.cov_dd.specs.Diagrams.{node_count}
 use Rattle.cov_engine.specs.Nodes.{old_node}
 use Rattle.cov_engine.specs.declared.step.Step.TheVariants as steps

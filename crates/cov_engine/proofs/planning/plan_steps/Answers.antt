@@ -1,4 +1,4 @@
-use Rattle.std.proofs.Common.{◌<◌, [], ◌++◌, append-nil, sym, ap, subst, ◌∙◌, arith}
+use Rattle.std.proofs.Common.{◌++◌, sym, ap, subst, arith}
 use Rattle.cov_dd.proofs.CallerLemmas.{extends_none, extends_trans}
 use Rattle.cov_engine.specs.Stepping.{ArePlanned}
 use Rattle.cov_engine.proofs.Planned.{nodes-later, few-rest, planned-rest, planned-end}
