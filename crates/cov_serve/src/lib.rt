@@ -25,3 +25,5 @@ pub use status::Status;
 
 #[cfg(test)]
 mod tests;
+#[cfg(test)]
+mod visibilities;
