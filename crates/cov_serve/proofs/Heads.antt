@@ -13,7 +13,6 @@ use Rattle.cov_edit.specs.Variant.{Variant}
 use Rattle.cov_view.specs.Paths.{kind_of, shown_kind}
 use Rattle.cov_view.specs.References.{is_dir_kind, is_known_node}
 use Rattle.cov_view.specs.Refusals.{when, first_of, is_dir, row_is_dir, refusal}
-use Rattle.cov_view.specs.declared.fault.EditFault.{EditFault}
 use Rattle.cov_view.specs.declared.fault.EditFault.TheVariants as faults
 use Rattle.cov_serve.specs.Codes.{edit_code}
 use Rattle.cov_script.specs.declared.code.Code.{Code}

@@ -1,10 +1,9 @@
 -- What lines do with what they name.
-use Rattle.std.proofs.Common.{◌≡◌, Result, Ok, Err, IfOk, sym, subst}
-use Rattle.cov_script.specs.declared.code.Code.{Code}
+use Rattle.std.proofs.Common.{◌≡◌, Result, Ok, IfOk, sym, subst}
 use Rattle.cov_serve.specs.Finding.{Found}
 use Rattle.cov_serve.specs.Outcome.{Outcome}
 use Rattle.cov_serve.specs.States.{State}
-use Rattle.cov_serve.specs.Step.{refused, with_found}
+use Rattle.cov_serve.specs.Step.{with_found}
 use Rattle.cov_serve.specs.Turns.{Gives}
 use Rattle.cov_serve.specs.declared.answer.Reply.{Reply}
 

@@ -1,5 +1,5 @@
 -- A line that is replaced: another is inserted directly after it, and then it is deleted.
-use Rattle.std.proofs.Common.{◌≡◌, ◌∙◌, refl, sym, ap, subst, ℕ, zero, suc, ◌+◌, ◌<◌, ◌≤◌, Bool, true, false, cond, ◌&&◌, ◌||◌, not, nat_eq, nat_lt, List, [], ◌∷◌, ◌++◌, append_assoc, append-nil, length, length-append, take, Option, Some, None, option_map, Result, Err, IfErr, arith}
+use Rattle.std.proofs.Common.{◌≡◌, ◌∙◌, refl, sym, ap, subst, ℕ, ◌+◌, ◌<◌, ◌≤◌, Bool, true, false, cond, ◌&&◌, ◌||◌, not, nat_eq, nat_lt, List, [], ◌∷◌, ◌++◌, append_assoc, append-nil, length, length-append, take, Option, Some, None, option_map, Result, Err, IfErr, arith}
 use Rattle.std.specs.List.{fold, list_any}
 use Rattle.cov_base.specs.Addresses.{line_of, stands_before, placed, with_lines}
 use Rattle.cov_base.specs.declared.error.MemoryOr.{MemoryOr}
@@ -21,7 +21,7 @@ use Rattle.cov_view.specs.Views.{next_by_number}
 use Rattle.cov_view.specs.declared.fault.EditFault.{EditFault}
 use Rattle.cov_view.specs.declared.fault.EditFault.TheVariants as faults
 use Rattle.cov_engine.specs.Laws.{HoldingStands, ReplayStands}
-use Rattle.cov_engine.specs.Sessions.{Session, seen}
+use Rattle.cov_engine.specs.Sessions.{seen}
 use Rattle.cov_engine.proofs.Files.{or_right}
 use Rattle.cov_serve.specs.Additions.{RefusedWith}
 use Rattle.cov_serve.specs.Codes.{edit_code}
