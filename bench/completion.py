@@ -1,11 +1,9 @@
 #!/usr/bin/env python3
 """Times `complete -` of `covstore run` over 64 options with a default each, after 256 random clauses as constraints."""
-import os
-import subprocess
 import sys
-import tempfile
 
-TOP = os.path.dirname(os.path.dirname(os.path.abspath(__file__)))
+from timing import build, served
+
 OPTIONS, CLAUSES, ASKED, REPETITIONS = 64, 256, 100, 5
 
 
@@ -32,28 +30,15 @@ def script(window, asked):
     random = Random()
     lines = ['option o%d' % i for i in range(OPTIONS)] + ['default o%d off' % i for i in range(OPTIONS)]
     lines += ['constraint ' + clause(random, window) for _ in range(CLAUSES)]
-    return ''.join(line + '\n' for line in lines + ['complete -'] * asked).encode()
-
-
-def seconds(text):
-    """Processor seconds of a run, and its last reply."""
-    with tempfile.TemporaryFile() as source, tempfile.TemporaryFile() as out:
-        source.write(text)
-        source.seek(0)
-        files = [(os.POSIX_SPAWN_DUP2, source.fileno(), 0), (os.POSIX_SPAWN_DUP2, out.fileno(), 1)]
-        words = [os.path.join(TOP, 'covstore'), 'run']
-        _, status, usage = os.wait4(os.posix_spawn(words[0], words, os.environ, file_actions=files), 0)
-        assert status == 0
-        out.seek(0)
-        return usage.ru_utime + usage.ru_stime, out.read().splitlines()[-1]
+    return lines + ['complete -'] * asked
 
 
 def main():
-    subprocess.run([os.path.join(TOP, 'covstore'), 'run'], stdin=subprocess.DEVNULL, check=True)
+    build()
     for window in (16, 24):
-        rounds = [(seconds(script(window, 0)), seconds(script(window, ASKED))) for _ in range(REPETITIONS)]
-        assert all(asked[1].startswith(b'ok o0=') for _, asked in rounds)
-        (without, _), (asked, _) = (min(runs) for runs in zip(*rounds))
+        rounds = [(served(script(window, 0)), served(script(window, ASKED))) for _ in range(REPETITIONS)]
+        assert all(asked[2].splitlines()[-1].startswith(b'ok o0=') for _, asked in rounds)
+        without, asked = (min(run[0] for run in runs) for runs in zip(*rounds))
         print('window %d: the rules %.3f s, each completion %.2f ms' % (window, without, 1000 * (asked - without) / ASKED))
 
 

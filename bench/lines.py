@@ -1,11 +1,9 @@
 #!/usr/bin/env python3
 """Times `cat` of `covstore run` over a file of 16,384 lines that 64 commits made and 64 others took a quarter of."""
-import os
 import random
-import subprocess
-import tempfile
 
-TOP = os.path.dirname(os.path.dirname(os.path.abspath(__file__)))
+from timing import build, served
+
 OPTIONS, COMMITS, LINES, REPETITIONS, ASKED = 20, 64, 16384, 5, 10
 ALL_ON = ','.join('o%d=on' % i for i in range(OPTIONS))
 
@@ -51,21 +49,8 @@ def history():
     return script, order, shown
 
 
-def seconds(script):
-    """Processor seconds of a run, and what it wrote."""
-    with tempfile.TemporaryFile() as source, tempfile.TemporaryFile() as out:
-        source.write(''.join(line + '\n' for line in script).encode())
-        source.seek(0)
-        files = [(os.POSIX_SPAWN_DUP2, source.fileno(), 0), (os.POSIX_SPAWN_DUP2, out.fileno(), 1)]
-        words = [os.path.join(TOP, 'covstore'), 'run']
-        _, status, usage = os.wait4(os.posix_spawn(words[0], words, os.environ, file_actions=files), 0)
-        assert status == 0
-        out.seek(0)
-        return usage.ru_utime + usage.ru_stime, usage.ru_maxrss, out.read()
-
-
 def main():
-    subprocess.run([os.path.join(TOP, 'covstore'), 'run'], stdin=subprocess.DEVNULL, check=True)
+    build()
     script, order, shown = history()
     draw = random.Random(8)
     sides = [set(range(OPTIONS)), set()] + [{i for i in range(OPTIONS) if draw.random() < 0.5} for _ in range(2)]
@@ -74,7 +59,7 @@ def main():
         asked.append('cat %s /list' % ','.join('o%d=%s' % (i, 'on' if i in on else 'off') for i in range(OPTIONS)))
         lines = [n for n in order if shown[n][0](on) and not (shown[n][1] and shown[n][1](on))]
         expected += b'ok %d\n' % len(lines) + b''.join(b'%d line %d\n' % (n, n) for n in lines)
-    rounds = [(seconds(script), seconds(script + asked * ASKED)) for _ in range(REPETITIONS)]
+    rounds = [(served(script), served(script + asked * ASKED)) for _ in range(REPETITIONS)]
     assert all(told[2] == made[2] + expected * ASKED for made, told in rounds)
     made = min(made[0] for made, _ in rounds)
     told = min(told[0] for _, told in rounds)
