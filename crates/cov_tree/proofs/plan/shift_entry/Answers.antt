@@ -1,0 +1,15 @@
+use Rattle.std.proofs.Common.{sym, ap, ◌∙◌}
+use Rattle.cov_tree.proofs.Shifting.{shifted_none, shifted_there, nodes_there}
+use Rattle.cov_tree.proofs.plan.shift_entry.Goals as goal
+
+pub returns-in_default-clause-ok : goal.returns-in_default-clause-ok
+returns-in_default-clause-ok c =
+    shifted_none c.args.table.now c.args.node c.args.shift.now c.args.ambition c.args.list.now.items ? c.requires.within
+
+pub returns-clause-ok : goal.returns-clause-ok
+returns-clause-ok c =
+    shifted_there c.args.table.now c.parted.new.table c.in_ok-places.ensures.extends c.args.node c.args.shift.now c.args.ambition c.in_ok-places.places c.as_slice.result.now c.args.list.now.items
+    c.in-Some.at c.index.result.now c.index_mut.result.now ? ? ? c.index_mut.ensures.value ? c.requires.distinct c.requires.within c.in_ok-places.ensures.ok
+
+pub returns-clause-nodes : goal.returns-clause-nodes
+returns-clause-nodes c = nodes_there c.args.list.now.items c.in-Some.at c.index_mut.result.now c.in_ok-places.places c.index_mut.ensures.value
