@@ -12,7 +12,8 @@ use Rattle.cov_dd.specs.Diagrams.{node_count, value_in, Extends}
 use Rattle.cov_tree.specs.declared.entry.Entry.{Entry}
 use Rattle.cov_tree.specs.Entries.{row_at, rows_of, rows_in, nodes_of, has_node, AreDistinct, AllAreWithin}
 use Rattle.cov_tree.specs.Changes.{changed_on, all_changed, planned, Makes}
-use Rattle.cov_tree.specs.Laws.{PlansStay}
+use Rattle.cov_tree.specs.Dated.{nodes_at}
+use Rattle.cov_tree.specs.Laws.{PlansStay, RowsStay}
 use Rattle.cov_tree.specs.Shifts.{place_at, Becomes}
 use Rattle.cov_tree.proofs.Rows.{rows_in-append, rows_in-grown, all_within-grown, all_within-append, row_of_place}
 
@@ -66,6 +67,9 @@ module _ (old new : List Triple) (grows : Extends old new) where
 
 pub plans_grow : PlansStay
 plans_grow = λ old new es plan changes grows m. makes_grown old new grows es plan changes m
+
+pub rows_keep : RowsStay
+rows_keep = λ old new c p d grows within. rows_in-grown old new grows c (nodes_at p d) within
 
 -- a node that is made stands behind the others
 pub created_behind : (table : List Triple) (es fs : List Entry) (node : ℕ) (kind : Kind) (parent : ℕ) (name : List ℕ) (ambition : ℕ) → AllAreWithin table es → ambition < node_count table

@@ -71,7 +71,12 @@ impl Entries {
     }
 
     /// The rows on a choice as they would be with a plan installed. It evaluates each visibility of the plan at most once.
-    pub fn rows_with(&self, plan: &EntryPlan, table: &Table, choice: Choice) -> Result<NodeRows, Memory>
+    pub fn rows_with(
+        &self,
+        plan: &EntryPlan,
+        table: &Table,
+        choice: Choice,
+    ) -> Result<NodeRows, Memory>
         ensures rows { (changes : List (RowChange × ℕ)) → Makes table.now self.now.newest plan.now changes → IfOk result (λ rows. rows ≡ all_changed table.now choice changes (rows_in table.now choice self.now.newest)) }
         ensures planned { IfOk result (λ rows. rows ≡ rows_in table.now choice (planned plan.now self.now.newest)) }
     {
@@ -99,6 +104,8 @@ impl Entries {
         ensures before { (table : List Triple) (c : List Bool) (p : ℕ) → p < at → rows_at table c p self.new ≡ rows_at table c p self.old }
         ensures newest { self.new.newest ≡ planned plan self.old.newest }
         ensures from { self.new.from ≤ at }
+        ensures nodes { (p : ℕ) → at ≤ p → nodes_at p self.new ≡ planned plan self.old.newest }
+        ensures older { (p : ℕ) → p < at → nodes_at p self.new ≡ nodes_at p self.old }
     {
         let Some(entries) = plan.into_entries() else {
             return;
@@ -108,7 +115,10 @@ impl Entries {
             return;
         }
         let from = mem::replace(&mut self.from, at);
-        match self.older.push(OlderEntries { from, entries: newest }) {
+        match self.older.push(OlderEntries {
+            from,
+            entries: newest,
+        }) {
             Ok(()) => (),
             Err(_) => unreachable!(),
         }
@@ -124,8 +134,7 @@ impl Entries {
 
     /// The newest nodes.
     pub(crate) fn newest(&self) -> &[Entry]
-        ensures nodes { result.now ≡ self.now.newest }
-        ensures distinct { AreDistinct (nodes_of self.now.newest) }
+        ensures { result.now ≡ self.now.newest }
     {
         self.newest.as_slice()
     }

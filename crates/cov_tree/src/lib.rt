@@ -12,3 +12,5 @@ pub use entries::Entries;
 pub use plan::EntryPlan;
 pub use row::{NodeRow, NodeRows};
 
+#[cfg(test)]
+mod tests;

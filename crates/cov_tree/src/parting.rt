@@ -71,9 +71,7 @@ fn add_shifted(
     ensures ok { OnOk result (Adds table.old table.new made.old made.new (λ c node kind. if value_in table.old ambition c then shifted table.old c node shift.now ambition (rows_of table.old c node kind (place.now ∷ [])) else [])) }
 {
     match shift {
-        Shift::Renamed(name) => {
-            add_within(table, made, place.parent, name, place.vis, ambition)
-        }
+        Shift::Renamed(name) => { add_within(table, made, place.parent, name, place.vis, ambition) }
         Shift::Moved(parent) => {
             add_within(table, made, *parent, &place.name, place.vis, ambition)
         }

@@ -61,6 +61,7 @@ impl EntryPlan {
         ensures extends { Extends table.old table.new }
         ensures makes { (changes : List (RowChange × ℕ)) → Makes table.old entries.now.newest self.old changes → OnOk result (Makes table.new entries.now.newest self.new (changes ++ (Created node kind parent name.now, ambition) ∷ [])) }
         ensures nodes { OnOk result (nodes_of (planned self.new entries.now.newest) ≡ nodes_of (planned self.old entries.now.newest) ++ node ∷ []) }
+        ensures within { AllAreWithin table.new (planned self.new entries.now.newest) }
         ensures err { OnErr result (planned self.new entries.now.newest ≡ planned self.old entries.now.newest) }
     {
         let _ = table;
@@ -85,6 +86,7 @@ impl EntryPlan {
         ensures extends { Extends table.old table.new }
         ensures makes { (changes : List (RowChange × ℕ)) → Makes table.old entries.now.newest self.old changes → OnOk result (Makes table.new entries.now.newest self.new (changes ++ (Renamed node name.now, ambition) ∷ [])) }
         ensures nodes { OnOk result (nodes_of (planned self.new entries.now.newest) ≡ nodes_of (planned self.old entries.now.newest)) }
+        ensures within { AllAreWithin table.new (planned self.new entries.now.newest) }
         ensures err { OnErr result (planned self.new entries.now.newest ≡ planned self.old entries.now.newest) }
     {
         let shift = Shift::Renamed(name.copy()?);
@@ -105,6 +107,7 @@ impl EntryPlan {
         ensures extends { Extends table.old table.new }
         ensures makes { (changes : List (RowChange × ℕ)) → Makes table.old entries.now.newest self.old changes → OnOk result (Makes table.new entries.now.newest self.new (changes ++ (Moved node parent, ambition) ∷ [])) }
         ensures nodes { OnOk result (nodes_of (planned self.new entries.now.newest) ≡ nodes_of (planned self.old entries.now.newest)) }
+        ensures within { AllAreWithin table.new (planned self.new entries.now.newest) }
         ensures err { OnErr result (planned self.new entries.now.newest ≡ planned self.old entries.now.newest) }
     {
         self.shift(entries, table, node, &Shift::Moved(parent), ambition)
@@ -123,6 +126,7 @@ impl EntryPlan {
         ensures extends { Extends table.old table.new }
         ensures makes { (changes : List (RowChange × ℕ)) → Makes table.old entries.now.newest self.old changes → OnOk result (Makes table.new entries.now.newest self.new (changes ++ (Removed node, ambition) ∷ [])) }
         ensures nodes { OnOk result (nodes_of (planned self.new entries.now.newest) ≡ nodes_of (planned self.old entries.now.newest)) }
+        ensures within { AllAreWithin table.new (planned self.new entries.now.newest) }
         ensures err { OnErr result (planned self.new entries.now.newest ≡ planned self.old entries.now.newest) }
     {
         self.shift(entries, table, node, &Shift::Removed, ambition)
@@ -142,6 +146,7 @@ impl EntryPlan {
         ensures extends { Extends table.old table.new }
         ensures makes { (changes : List (RowChange × ℕ)) → Makes table.old entries.now.newest self.old changes → OnOk result (Makes table.new entries.now.newest self.new (changes ++ (change_of node shift.now, ambition) ∷ [])) }
         ensures nodes { OnOk result (nodes_of (planned self.new entries.now.newest) ≡ nodes_of (planned self.old entries.now.newest)) }
+        ensures within { AllAreWithin table.new (planned self.new entries.now.newest) }
         ensures err { OnErr result (planned self.new entries.now.newest ≡ planned self.old entries.now.newest) }
     {
         self.begin(entries)?;
@@ -214,6 +219,7 @@ fn shift_entry(
     ensures extends { Extends table.old table.new }
     ensures ok { OnOk result (Becomes table.old table.new list.old.items list.new.items (change_of node shift.now) ambition) }
     ensures nodes { OnOk result (nodes_of list.new.items ≡ nodes_of list.old.items) }
+    ensures within { AllAreWithin table.new list.new.items }
     ensures err { OnErr result (list.new.items ≡ list.old.items) }
 {
     let alloc = *list.allocator();
