@@ -1,5 +1,5 @@
 -- Worked rows of entries, plans and positions, by computation.
-use Rattle.std.proofs.Common.{◌≡◌, true, false, [], ◌∷◌, Some, refl}
+use Rattle.std.proofs.Common.{◌≡◌, true, [], ◌∷◌, refl}
 use Rattle.cov_base.specs.Rows.{Created, Renamed, Moved, Removed}
 use Rattle.cov_base.specs.declared.number.Kind.TheVariants as kinds
 use Rattle.cov_tree.specs.Entries.{rows_in}

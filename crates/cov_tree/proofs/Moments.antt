@@ -1,5 +1,5 @@
 -- The nodes at a position.
-use Rattle.std.proofs.Common.{◌≡◌, ℕ, Bool, true, false, cond, nat_le, nat_lt, ◌==◌, List, [], ◌∷◌, Some, None, unwrap_or, refl, sym, ap, ◌∙◌, arith}
+use Rattle.std.proofs.Common.{◌≡◌, ℕ, Bool, true, false, cond, nat_le, nat_lt, ◌==◌, List, [], ◌∷◌, Some, None, unwrap_or, refl, sym, ap, arith}
 use Rattle.std.specs.List.{find}
 use Rattle.std.specs.declared.cmp.Ordering.TheVariants.{Less, Equal, Greater}
 use Rattle.std.specs.Ordering.{is_le, nat_cmp}

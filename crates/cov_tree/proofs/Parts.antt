@@ -6,7 +6,7 @@ use Rattle.std.proofs.lemmas.Bool.Decides.{nat_tests}
 use Rattle.std.proofs.lemmas.List.{map-append}
 use Rattle.std.proofs.lemmas.List.Elements.{filter-append}
 use Rattle.cov_base.specs.Choices.{is_on}
-use Rattle.cov_base.specs.Rows.{Row, RowChange, Created, Renamed, Moved, Removed, changed, with_name, with_parent}
+use Rattle.cov_base.specs.Rows.{Row, Renamed, Moved, Removed, changed, with_name, with_parent}
 use Rattle.cov_base.specs.declared.number.Kind.{Kind}
 use Rattle.cov_dd.specs.declared.triple.Triple.{Triple}
 use Rattle.cov_dd.specs.Diagrams.{node_count, value_in, Extends}

@@ -1,10 +1,9 @@
 -- The rows of places and nodes, piece by piece, and in a table that grows.
 use Rattle.std.specs.Prelude.{Result, Ok, Err, IfOk, OnOk, OnErr, filter}
-use Rattle.std.proofs.Common.{◌≡◌, ℕ, zero, suc, ◌+◌, ◌<◌, ◌≤◌, Bool, true, false, cond, List, [], ◌∷◌, ◌++◌, map, take, length, get_or, append-nil, append_assoc, refl, sym, ap, subst, ◌∙◌, arith}
+use Rattle.std.proofs.Common.{◌≡◌, ℕ, zero, suc, ◌+◌, ◌<◌, Bool, true, false, cond, List, [], ◌∷◌, ◌++◌, map, take, length, get_or, append_assoc, refl, sym, ap, subst, ◌∙◌, arith}
 use Rattle.std.specs.List.{AllByRecursion}
 use Rattle.std.proofs.lemmas.List.{map-append, take_more}
 use Rattle.std.proofs.lemmas.List.Elements.{filter-append}
-use Rattle.cov_base.specs.Rows.{Row}
 use Rattle.cov_base.specs.declared.number.Kind.{Kind}
 use Rattle.cov_base.proofs.Ordered.{all-append}
 use Rattle.cov_dd.specs.declared.triple.Triple.{Triple}

@@ -1,21 +1,19 @@
 -- A node's places shifted among those of all nodes.
-use Rattle.std.proofs.Common.{◌≡◌, ℕ, zero, suc, ◌+◌, ◌<◌, ◌≤◌, Bool, true, false, cond, ◌||◌, not, nat_eq, nat_lt, List, [], ◌∷◌, ◌++◌, map, length, get_or, set, Some, None, position, append-nil, refl, sym, ap, subst, ◌∙◌, arith}
+use Rattle.std.proofs.Common.{◌≡◌, ℕ, zero, suc, ◌+◌, ◌<◌, ◌≤◌, Bool, true, false, cond, ◌||◌, not, nat_eq, nat_lt, List, [], ◌∷◌, ◌++◌, map, length, get_or, set, Some, None, position, refl, sym, ap, subst, ◌∙◌, arith}
 use Rattle.std.specs.List.{filter, position_or_len}
 use Rattle.std.proofs.lemmas.Bool.Decides.{nat_tests}
-use Rattle.std.proofs.lemmas.List.{map-append}
-use Rattle.cov_base.specs.Rows.{Row, RowChange, Created, Renamed, Moved, Removed, changed, with_name, with_parent}
+use Rattle.cov_base.specs.Rows.{changed}
 use Rattle.cov_base.specs.declared.number.Kind.{Kind}
 use Rattle.cov_dd.specs.declared.triple.Triple.{Triple}
-use Rattle.cov_dd.specs.Diagrams.{node_count, value_in, Extends}
-use Rattle.cov_dd.proofs.CallerLemmas.{extends_none}
+use Rattle.cov_dd.specs.Diagrams.{value_in, Extends}
 use Rattle.cov_tree.specs.declared.entry.Place.{Place}
 use Rattle.cov_tree.specs.declared.entry.Entry.{Entry}
 use Rattle.cov_tree.specs.declared.parting.Shift.{Shift}
 use Rattle.cov_tree.specs.declared.parting.Shift.TheVariants as shifts
-use Rattle.cov_tree.specs.Entries.{row_at, rows_of, rows_in, nodes_of, has_node, AreDistinct, AreWithin, AllAreWithin}
+use Rattle.cov_tree.specs.Entries.{row_at, rows_of, rows_in, nodes_of, kinds_of, has_node, AreDistinct, AreWithin, AllAreWithin}
 use Rattle.cov_tree.specs.Shifts.{place_at, change_of, shifted, Adds, Becomes}
-use Rattle.cov_tree.proofs.Rows.{rows_of-grown, rows_in-grown, within-grown, all_within-grown, all_within-append, rows_in-append}
-use Rattle.cov_tree.proofs.Parts.{same_number, shifted-append}
+use Rattle.cov_tree.proofs.Rows.{rows_of-grown, rows_in-grown, within-grown, all_within-grown}
+use Rattle.cov_tree.proofs.Parts.{shifted-append}
 
 -- a change of another node leaves a node's rows alone
 untouched : (node : ℕ) (shift : Shift) (other : ℕ) (kind : Kind) (ps : List Place) → nat_eq other node ≡ false
@@ -176,3 +174,11 @@ shifted_there old new grows node shift ambition ps qs es i a b is here g h same 
 
 pub nodes_there : (es : List Entry) (i : ℕ) (b : Entry) (ps : List Place) → b ≡ get_or es i b → nodes_of (set es i (with_places ps b)) ≡ nodes_of es
 nodes_there es i b ps h = ap (λ e. nodes_of (set es i (with_places ps e))) h ∙ nodes_set es i b ps
+
+kinds_set : (es : List Entry) (i : ℕ) (d : Entry) (ps : List Place) → kinds_of (set es i (with_places ps (get_or es i d))) ≡ kinds_of es
+kinds_set [] i d ps = refl
+kinds_set (x ∷ es) zero d ps = refl
+kinds_set (x ∷ es) (suc i) d ps = ap (λ ns. (x.node, x.kind) ∷ ns) (kinds_set es i d ps)
+
+pub kinds_there : (es : List Entry) (i : ℕ) (b : Entry) (ps : List Place) → b ≡ get_or es i b → kinds_of (set es i (with_places ps b)) ≡ kinds_of es
+kinds_there es i b ps h = ap (λ e. kinds_of (set es i (with_places ps e))) h ∙ kinds_set es i b ps

@@ -1,7 +1,7 @@
 -- Changes of rows, each where its ambition is true.
-use Rattle.std.specs.Prelude.{◌≡◌, ℕ, ◌<◌, Bool, List, [], ◌∷◌, ◌++◌, Option, unwrap_or, if◌then◌else◌}
+use Rattle.std.specs.Prelude.{◌≡◌, ℕ, ◌<◌, Bool, List, [], ◌∷◌, Option, unwrap_or, if◌then◌else◌}
 use Rattle.std.specs.List.{AllByRecursion}
-use Rattle.cov_base.specs.Rows.{Row, RowChange, Created, Renamed, Moved, Removed, changed}
+use Rattle.cov_base.specs.Rows.{Row, RowChange, changed}
 use Rattle.cov_dd.specs.declared.triple.Triple.{Triple}
 use Rattle.cov_dd.specs.Diagrams.{node_count, value_in}
 use Rattle.cov_tree.specs.declared.entry.Entry.{Entry}

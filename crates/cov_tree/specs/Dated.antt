@@ -1,5 +1,5 @@
 -- The nodes of a store at each position.
-use Rattle.std.specs.Prelude.{◌≡◌, ℕ, Bool, nat_le, List, [], ◌∷◌, if◌then◌else◌}
+use Rattle.std.specs.Prelude.{ℕ, Bool, nat_le, List, [], ◌∷◌, if◌then◌else◌}
 use Rattle.cov_base.specs.Rows.{Row}
 use Rattle.cov_dd.specs.declared.triple.Triple.{Triple}
 use Rattle.cov_tree.specs.declared.entry.Entry.{Entry}

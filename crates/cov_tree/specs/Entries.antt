@@ -25,6 +25,10 @@ rows_in table c (e ∷ es) = rows_of table c e.node e.kind e.places ++ rows_in t
 abbrev pub nodes_of : List Entry → List ℕ
 nodes_of es = map (λ e. e.node) es
 
+-- the nodes with their kinds, in order
+abbrev pub kinds_of : List Entry → List (ℕ × Kind)
+kinds_of es = map (λ e. (e.node, e.kind)) es
+
 -- whether a node is among these
 abbrev pub has_node : ℕ → List ℕ → Bool
 has_node node nodes = list_any (λ n. nat_eq n node) nodes

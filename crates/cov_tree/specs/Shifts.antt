@@ -8,7 +8,7 @@ use Rattle.cov_tree.specs.declared.entry.Entry.{Entry}
 use Rattle.cov_tree.specs.declared.parting.Shift.{Shift}
 use Rattle.cov_tree.specs.declared.parting.Shift.TheVariants as shifts
 use Rattle.cov_tree.specs.Changes.{changed_on}
-use Rattle.cov_tree.specs.Entries.{rows_of, rows_in, nodes_of, AreWithin, AllAreWithin}
+use Rattle.cov_tree.specs.Entries.{rows_of, rows_in, AreWithin, AllAreWithin}
 
 -- a place
 abbrev pub place_at : ℕ → List ℕ → ℕ → Place

@@ -4,7 +4,7 @@ ghost use Rattle.cov_base.specs.Rows.{RowChange, Created, Renamed, Moved, Remove
 ghost use Rattle.cov_dd.specs.declared.triple.Triple.{Triple};
 ghost use Rattle.cov_dd.specs.Diagrams.{node_count, Extends};
 ghost use Rattle.cov_tree.specs.declared.entry.Entry.{Entry as EntryValue};
-ghost use Rattle.cov_tree.specs.Entries.{has_node, nodes_of, AreDistinct, AllAreWithin};
+ghost use Rattle.cov_tree.specs.Entries.{has_node, nodes_of, kinds_of, AreDistinct, AllAreWithin};
 ghost use Rattle.cov_tree.specs.Changes.{planned, Makes};
 ghost use Rattle.cov_tree.specs.Shifts.{change_of, place_at, Becomes};
 
@@ -61,6 +61,7 @@ impl EntryPlan {
         ensures extends { Extends table.old table.new }
         ensures makes { (changes : List (RowChange × ℕ)) → Makes table.old entries.now.newest self.old changes → OnOk result (Makes table.new entries.now.newest self.new (changes ++ (Created node kind parent name.now, ambition) ∷ [])) }
         ensures nodes { OnOk result (nodes_of (planned self.new entries.now.newest) ≡ nodes_of (planned self.old entries.now.newest) ++ node ∷ []) }
+        ensures kinds { OnOk result (kinds_of (planned self.new entries.now.newest) ≡ kinds_of (planned self.old entries.now.newest) ++ (node, kind) ∷ []) }
         ensures within { AllAreWithin table.new (planned self.new entries.now.newest) }
         ensures err { OnErr result (planned self.new entries.now.newest ≡ planned self.old entries.now.newest) }
     {
@@ -86,6 +87,7 @@ impl EntryPlan {
         ensures extends { Extends table.old table.new }
         ensures makes { (changes : List (RowChange × ℕ)) → Makes table.old entries.now.newest self.old changes → OnOk result (Makes table.new entries.now.newest self.new (changes ++ (Renamed node name.now, ambition) ∷ [])) }
         ensures nodes { OnOk result (nodes_of (planned self.new entries.now.newest) ≡ nodes_of (planned self.old entries.now.newest)) }
+        ensures kinds { OnOk result (kinds_of (planned self.new entries.now.newest) ≡ kinds_of (planned self.old entries.now.newest)) }
         ensures within { AllAreWithin table.new (planned self.new entries.now.newest) }
         ensures err { OnErr result (planned self.new entries.now.newest ≡ planned self.old entries.now.newest) }
     {
@@ -107,6 +109,7 @@ impl EntryPlan {
         ensures extends { Extends table.old table.new }
         ensures makes { (changes : List (RowChange × ℕ)) → Makes table.old entries.now.newest self.old changes → OnOk result (Makes table.new entries.now.newest self.new (changes ++ (Moved node parent, ambition) ∷ [])) }
         ensures nodes { OnOk result (nodes_of (planned self.new entries.now.newest) ≡ nodes_of (planned self.old entries.now.newest)) }
+        ensures kinds { OnOk result (kinds_of (planned self.new entries.now.newest) ≡ kinds_of (planned self.old entries.now.newest)) }
         ensures within { AllAreWithin table.new (planned self.new entries.now.newest) }
         ensures err { OnErr result (planned self.new entries.now.newest ≡ planned self.old entries.now.newest) }
     {
@@ -126,6 +129,7 @@ impl EntryPlan {
         ensures extends { Extends table.old table.new }
         ensures makes { (changes : List (RowChange × ℕ)) → Makes table.old entries.now.newest self.old changes → OnOk result (Makes table.new entries.now.newest self.new (changes ++ (Removed node, ambition) ∷ [])) }
         ensures nodes { OnOk result (nodes_of (planned self.new entries.now.newest) ≡ nodes_of (planned self.old entries.now.newest)) }
+        ensures kinds { OnOk result (kinds_of (planned self.new entries.now.newest) ≡ kinds_of (planned self.old entries.now.newest)) }
         ensures within { AllAreWithin table.new (planned self.new entries.now.newest) }
         ensures err { OnErr result (planned self.new entries.now.newest ≡ planned self.old entries.now.newest) }
     {
@@ -146,6 +150,7 @@ impl EntryPlan {
         ensures extends { Extends table.old table.new }
         ensures makes { (changes : List (RowChange × ℕ)) → Makes table.old entries.now.newest self.old changes → OnOk result (Makes table.new entries.now.newest self.new (changes ++ (change_of node shift.now, ambition) ∷ [])) }
         ensures nodes { OnOk result (nodes_of (planned self.new entries.now.newest) ≡ nodes_of (planned self.old entries.now.newest)) }
+        ensures kinds { OnOk result (kinds_of (planned self.new entries.now.newest) ≡ kinds_of (planned self.old entries.now.newest)) }
         ensures within { AllAreWithin table.new (planned self.new entries.now.newest) }
         ensures err { OnErr result (planned self.new entries.now.newest ≡ planned self.old entries.now.newest) }
     {
@@ -219,6 +224,7 @@ fn shift_entry(
     ensures extends { Extends table.old table.new }
     ensures ok { OnOk result (Becomes table.old table.new list.old.items list.new.items (change_of node shift.now) ambition) }
     ensures nodes { OnOk result (nodes_of list.new.items ≡ nodes_of list.old.items) }
+    ensures kinds { OnOk result (kinds_of list.new.items ≡ kinds_of list.old.items) }
     ensures within { AllAreWithin table.new list.new.items }
     ensures err { OnErr result (list.new.items ≡ list.old.items) }
 {

@@ -1,8 +1,8 @@
 use Rattle.std.proofs.Common.{◌<◌}
 use Rattle.cov_dd.specs.Diagrams.{node_count}
-use Rattle.cov_dd.proofs.CallerLemmas.{extends_none, extends_trans}
+use Rattle.cov_dd.proofs.CallerLemmas.{extends_trans}
 use Rattle.cov_tree.proofs.Rows.{holds_at}
-use Rattle.cov_tree.proofs.Parts.{parted_none, parted_more}
+use Rattle.cov_tree.proofs.Parts.{parted_more}
 use Rattle.cov_tree.proofs.parting.parted.Goals as goal
 
 pub returns-in_err-add_parts-clause-extends : goal.returns-in_err-add_parts-clause-extends

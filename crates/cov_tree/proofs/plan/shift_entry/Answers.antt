@@ -1,5 +1,5 @@
 use Rattle.std.proofs.Common.{◌<◌, nat_eq, length, position, sym, ap, subst, ◌∙◌}
-use Rattle.cov_tree.proofs.Shifting.{shifted_none, shifted_there, nodes_there}
+use Rattle.cov_tree.proofs.Shifting.{shifted_none, shifted_there, nodes_there, kinds_there}
 use Rattle.cov_tree.proofs.plan.shift_entry.Goals as goal
 
 pub returns-in_default-clause-ok : goal.returns-in_default-clause-ok
@@ -17,3 +17,6 @@ returns-clause-ok c =
 
 pub returns-clause-nodes : goal.returns-clause-nodes
 returns-clause-nodes c = nodes_there c.args.list.now.items c.in-Some.at c.index_mut.result.now c.in_ok-places.places c.index_mut.ensures.value
+
+pub returns-clause-kinds : goal.returns-clause-kinds
+returns-clause-kinds c = kinds_there c.args.list.now.items c.in-Some.at c.index_mut.result.now c.in_ok-places.places c.index_mut.ensures.value

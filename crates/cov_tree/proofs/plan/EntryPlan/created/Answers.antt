@@ -1,4 +1,4 @@
-use Rattle.std.proofs.Common.{◌≡◌, false, Some, IfSome, [], ◌∷◌, ◌++◌, subst, sym, ap, ◌∙◌}
+use Rattle.std.proofs.Common.{◌≡◌, Some, IfSome, [], ◌∷◌, ◌++◌, subst, sym, ap, ◌∙◌}
 use Rattle.cov_dd.proofs.CallerLemmas.{extends_none}
 use Rattle.cov_base.specs.Rows.{Created}
 use Rattle.cov_tree.specs.declared.entry.Entry.{Entry}
