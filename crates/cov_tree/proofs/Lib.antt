@@ -1,0 +1,6 @@
+pub mod Examples
+pub mod Moments
+pub mod Parts
+pub mod Plans
+pub mod Rows
+pub mod Shifting

@@ -1,0 +1,5 @@
+pub mod Changes
+pub mod Dated
+pub mod Entries
+pub mod Laws
+pub mod Shifts

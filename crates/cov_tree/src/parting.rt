@@ -1,0 +1,130 @@
+// Places parted by an ambition.
+ghost use Rattle.std.specs.Prelude.{◌≡◌, ◌<◌, ◌++◌, ◌==◌, [], ◌∷◌, IfOk, OnOk, if◌then◌else◌};
+ghost use Rattle.cov_dd.specs.Diagrams.{node_count, value_in, Extends};
+ghost use Rattle.cov_tree.specs.Entries.{rows_of, AreWithin};
+ghost use Rattle.cov_tree.specs.Shifts.{place_at, shifted, Adds};
+
+use crate::entry::{Place, Places};
+use cov_base::{Memory, Name, NodeNo, Steps, Uncounted};
+use cov_dd::{FALSE, Node, Table};
+use cov_vis::take;
+use std::alloc::Global;
+
+/// What becomes of a place where an ambition is true.
+#[derive(Debug, Drop)]
+pub enum Shift {
+    Renamed(Name),
+    Moved(NodeNo),
+    Removed,
+}
+
+/// Places once they are shifted where the ambition is true. A place with no choice left is dropped.
+pub(crate) fn parted(
+    table: &mut Table,
+    alloc: Global,
+    places: &[Place],
+    ambition: Node,
+    shift: &Shift,
+) -> Result<Places, Memory>
+    requires places { AreWithin table.old places.now }
+    requires ambition { ambition < node_count table.old }
+    ensures extends { Extends table.old table.new }
+    ensures ok { IfOk result (λ made. Adds table.old table.new [] made (λ c node kind. shifted table.old c node shift.now ambition (rows_of table.old c node kind places.now))) }
+{
+    let mut made = Places::new(alloc);
+    'places: for place in places {
+        add_parts(table, &mut made, place, ambition, shift)?;
+    }
+    Ok(made)
+}
+
+// Adds what is left of a place, and what becomes of it.
+fn add_parts(
+    table: &mut Table,
+    made: &mut Places,
+    place: &Place,
+    ambition: Node,
+    shift: &Shift,
+) -> Result<(), Memory>
+    requires made { AreWithin table.old made.old }
+    requires place { place.now.vis < node_count table.old }
+    requires ambition { ambition < node_count table.old }
+    ensures extends { Extends table.old table.new }
+    ensures ok { OnOk result (Adds table.old table.new made.old made.new (λ c node kind. shifted table.old c node shift.now ambition (rows_of table.old c node kind (place.now ∷ [])))) }
+{
+    add_outside(table, made, place, ambition)?;
+    add_shifted(table, made, place, ambition, shift)
+}
+
+// Adds what becomes of a place where the ambition is true.
+fn add_shifted(
+    table: &mut Table,
+    made: &mut Places,
+    place: &Place,
+    ambition: Node,
+    shift: &Shift,
+) -> Result<(), Memory>
+    requires made { AreWithin table.old made.old }
+    requires place { place.now.vis < node_count table.old }
+    requires ambition { ambition < node_count table.old }
+    ensures extends { Extends table.old table.new }
+    ensures ok { OnOk result (Adds table.old table.new made.old made.new (λ c node kind. if value_in table.old ambition c then shifted table.old c node shift.now ambition (rows_of table.old c node kind (place.now ∷ [])) else [])) }
+{
+    match shift {
+        Shift::Renamed(name) => { add_within(table, made, place.parent, name, place.vis, ambition) }
+        Shift::Moved(parent) => {
+            add_within(table, made, *parent, &place.name, place.vis, ambition)
+        }
+        Shift::Removed => Ok(()),
+    }
+}
+
+// Adds a place where the ambition isn't true.
+fn add_outside(
+    table: &mut Table,
+    made: &mut Places,
+    place: &Place,
+    ambition: Node,
+) -> Result<(), Memory>
+    requires made { AreWithin table.old made.old }
+    requires place { place.now.vis < node_count table.old }
+    requires ambition { ambition < node_count table.old }
+    ensures extends { Extends table.old table.new }
+    ensures ok { OnOk result (Adds table.old table.new made.old made.new (λ c node kind. if value_in table.old ambition c then [] else rows_of table.old c node kind (place.now ∷ []))) }
+{
+    let vis = take(table, place.vis, ambition)?;
+    add_place(made, place.parent, &place.name, vis)
+}
+
+// Adds a place of the visibility where the ambition is true.
+fn add_within(
+    table: &mut Table,
+    made: &mut Places,
+    parent: NodeNo,
+    name: &Name,
+    vis: Node,
+    ambition: Node,
+) -> Result<(), Memory>
+    requires made { AreWithin table.old made.old }
+    requires vis { vis < node_count table.old }
+    requires ambition { ambition < node_count table.old }
+    ensures extends { Extends table.old table.new }
+    ensures ok { OnOk result (Adds table.old table.new made.old made.new (λ c node kind. if value_in table.old ambition c then rows_of table.old c node kind (place_at parent name.now vis ∷ []) else [])) }
+{
+    let vis = table.and(vis, ambition, &mut Steps::<Uncounted>::new())?;
+    add_place(made, parent, name, vis)
+}
+
+// Adds a place, unless it is visible on no choice.
+fn add_place(made: &mut Places, parent: NodeNo, name: &Name, vis: Node) -> Result<(), Memory>
+    ensures { OnOk result (made.new ≡ made.old ++ (if vis == 0 then [] else place_at parent name.now vis ∷ [])) }
+{
+    if vis == FALSE {
+        return Ok(());
+    }
+    made.push(Place {
+        parent,
+        name: name.copy()?,
+        vis,
+    })
+}
