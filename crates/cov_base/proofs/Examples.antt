@@ -1,9 +1,12 @@
--- Worked cases of names, paths and addresses.
-use Rattle.std.proofs.Common.{◌≡◌, true, false, [], ◌∷◌, Some, None, refl}
+-- Worked cases of names, paths, addresses and faults of rows.
+use Rattle.std.proofs.Common.{◌≡◌, ℕ, true, false, [], ◌∷◌, Some, None, refl}
 use Rattle.std.specs.Prelude.{codes}
 use Rattle.std.specs.Str.{is_utf8, chars}
 use lib.Utf8.{encode}
 use Rattle.cov_base.specs.Spelling.{is_name, path_of}
+use Rattle.cov_base.specs.Rows.{Row}
+use Rattle.cov_base.specs.Reaching.{has_clash, has_lost}
+use Rattle.cov_base.specs.declared.number.Kind.TheVariants as kinds
 use Rattle.cov_base.specs.Addresses.{address_in, with_lines, placed, after_anchor}
 
 plain_name : is_name (codes "main.c") ≡ true
@@ -55,3 +58,22 @@ newest_first = refl
 
 after_anchors : after_anchor 1 4 (after_anchor 2 3 (after_anchor 1 2 (after_anchor 0 1 []))) ≡ 1 ∷ 4 ∷ 2 ∷ 3 ∷ []
 after_anchors = refl
+
+-- a directory in another, with the name m
+abbrev dir : ℕ → ℕ → Row
+dir node parent = record { node = node; kind = kinds.Dir; parent = parent; name = 109 ∷ [] }
+
+one_name_twice : has_clash (dir 1 0 ∷ dir 2 1 ∷ dir 3 0 ∷ []) ≡ true
+one_name_twice = refl
+
+two_directories : has_clash (dir 1 0 ∷ dir 2 1 ∷ []) ≡ false
+two_directories = refl
+
+before_its_parent : has_lost (dir 2 1 ∷ dir 1 0 ∷ []) ≡ false
+before_its_parent = refl
+
+an_orphan : has_lost (dir 1 0 ∷ dir 3 2 ∷ []) ≡ true
+an_orphan = refl
+
+a_loop : has_lost (dir 1 2 ∷ dir 2 1 ∷ []) ≡ true
+a_loop = refl

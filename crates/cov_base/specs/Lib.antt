@@ -5,5 +5,6 @@ pub mod Causes
 pub mod Choices
 pub mod Faults
 pub mod Lines
+pub mod Reaching
 pub mod Rows
 pub mod Spelling

@@ -1,5 +1,5 @@
 -- The nodes of one variant.
-use Rattle.std.specs.Prelude.{ℕ, Bool, ◌||◌, not, nat_eq, List, [], ◌∷◌, ◌++◌, map, Option, if◌then◌else◌}
+use Rattle.std.specs.Prelude.{◌≡◌, ℕ, Bool, false, ◌||◌, not, nat_eq, List, [], ◌∷◌, ◌++◌, map, Option, if◌then◌else◌}
 use Rattle.std.specs.List.{filter, find, list_any}
 use Rattle.cov_base.specs.declared.number.Kind.{Kind}
 
@@ -39,3 +39,16 @@ row_of rows node = find (λ r. nat_eq r.node node) rows
 -- whether a node is present; the root always is
 abbrev pub is_present : List Row → ℕ → Bool
 is_present rows node = nat_eq node 0 || list_any (λ r. nat_eq r.node node) rows
+
+-- whether a node is among these
+abbrev pub has_node : ℕ → List ℕ → Bool
+has_node node nodes = list_any (λ n. nat_eq n node) nodes
+
+-- no node stands twice
+abbrev pub AreDistinct : List ℕ → Type 0
+AreDistinct [] = Unit {0}
+AreDistinct (node ∷ nodes) = (has_node node nodes ≡ false) × AreDistinct nodes
+
+-- no node has two rows, and the root has none
+abbrev pub AreOnce : List Row → Type 0
+AreOnce rows = AreDistinct (0 ∷ map (λ r. r.node) rows)

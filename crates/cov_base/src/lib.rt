@@ -3,6 +3,7 @@
 
 mod choice;
 mod error;
+pub mod laws;
 mod list;
 mod name;
 mod number;
@@ -16,6 +17,3 @@ pub use name::{Name, Path};
 pub use number::{Kind, LineNo, LineRef, NodeNo, NodeRef, OptionId, Position};
 pub use option_name::{OptionName, is_first_byte, is_word_byte, spells_word};
 pub use steps::{Counted, Ledger, Steps, Uncounted};
-
-#[cfg(test)]
-mod tests;
