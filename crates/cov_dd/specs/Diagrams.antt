@@ -1,6 +1,6 @@
 -- Diagrams as the list of their entries, newest first.
-use Rattle.std.specs.Prelude.{ℕ, suc, ◌+◌, ◌<◌, ◌≤◌, ◌≡◌, ◌≢◌, ◌==◌, ◌⊎◌, max, Bool, cond, List, [], ◌∷◌, ◌++◌, Option, Some, None, length}
-use Rattle.cov_base.specs.Choices.{is_on}
+use Rattle.std.specs.Prelude.{ℕ, suc, ◌+◌, ◌<◌, ◌≤◌, ◌≡◌, ◌≢◌, ◌==◌, ◌⊎◌, max, Bool, true, false, cond, List, [], ◌∷◌, ◌++◌, Option, Some, None, length}
+use Rattle.cov_base.specs.Choices.{is_on, with_option}
 use Rattle.cov_dd.specs.declared.triple.Triple.{Triple}
 
 -- how many nodes there are; the newest has this number less one
@@ -71,6 +71,11 @@ pub record Stands (ts : List Triple) (r least most : ℕ) (f : List Bool → Boo
   pub below : span ts r ≤ most
   pub value : (c : List Bool) → value_in ts r c ≡ f c
 
+-- the node r of a diagram has the values f
+pub record IsNode (ts : List Triple) (r : ℕ) (f : List Bool → Bool) : Type 0 where
+  pub within : r < node_count ts
+  pub value : (c : List Bool) → value_in ts r c ≡ f c
+
 -- the node of the triple t, that was in the old diagram or is now its newest entry
 pub record Placed (old new : List Triple) (t : Triple) (r : ℕ) : Type 0 where
   pub grown : (new ≡ old) ⊎ ((new ≡ t ∷ old) × ((a : ℕ) → entry_in old a ≢ Some t))
@@ -79,3 +84,7 @@ pub record Placed (old new : List Triple) (t : Triple) (r : ℕ) : Type 0 where
 -- the same value on every choice of 128 options
 abbrev pub AgreeIn : List Triple → ℕ → ℕ → Type 0
 AgreeIn ts a b = (c : List Bool) → length c ≡ 128 → value_in ts a c ≡ value_in ts b c
+
+-- from an option on, a node's values on choices of 128 options depend on none
+abbrev pub IsUnread : List Triple → ℕ → ℕ → Type 0
+IsUnread ts a most = (o : ℕ) → most ≤ o → (c : List Bool) → length c ≡ 128 → value_in ts a (with_option c o true) ≡ value_in ts a (with_option c o false)

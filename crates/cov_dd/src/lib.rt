@@ -9,6 +9,3 @@ mod triple;
 
 pub use table::Table;
 pub use triple::{FALSE, Node, TRUE, Triple, constant};
-
-#[cfg(test)]
-mod tests;
