@@ -1,6 +1,14 @@
+pub mod Apart
+pub mod Carried
+pub mod Clashing
 pub mod Examples
+pub mod Losing
 pub mod Moments
+pub mod Once
+pub mod Options
 pub mod Parts
 pub mod Plans
 pub mod Rows
 pub mod Shifting
+pub mod Spreading
+pub mod Turning

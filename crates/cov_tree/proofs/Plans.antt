@@ -4,16 +4,16 @@ use Rattle.std.proofs.Common.{◌≡◌, ℕ, ◌<◌, Bool, true, false, cond, 
 use Rattle.std.specs.List.{AllByRecursion}
 use Rattle.std.proofs.lemmas.Bool.Decides.{nat_tests}
 use Rattle.std.proofs.lemmas.List.{map-append}
-use Rattle.cov_base.specs.Rows.{Row, RowChange, Created, changed}
+use Rattle.cov_base.specs.Rows.{Row, RowChange, Created, changed, has_node, AreDistinct}
 use Rattle.cov_base.specs.declared.number.Kind.{Kind}
 use Rattle.cov_base.proofs.Ordered.{all-append}
 use Rattle.cov_dd.specs.declared.triple.Triple.{Triple}
 use Rattle.cov_dd.specs.Diagrams.{node_count, value_in, Extends}
 use Rattle.cov_tree.specs.declared.entry.Entry.{Entry}
-use Rattle.cov_tree.specs.Entries.{row_at, rows_of, rows_in, nodes_of, has_node, AreDistinct, AllAreWithin}
-use Rattle.cov_tree.specs.Changes.{changed_on, all_changed, planned, Makes}
-use Rattle.cov_tree.specs.Dated.{nodes_at}
-use Rattle.cov_tree.specs.Laws.{PlansStay, RowsStay}
+use Rattle.cov_tree.specs.Entries.{row_at, rows_of, rows_in, nodes_of, AllAreWithin}
+use Rattle.cov_tree.specs.Changes.{changed_on, all_changed, Makes}
+use Rattle.cov_tree.specs.Dated.{Dated, nodes_at, rows_at, planned}
+use Rattle.cov_tree.specs.Laws.{PlansStay}
 use Rattle.cov_tree.specs.Shifts.{place_at, Becomes}
 use Rattle.cov_tree.proofs.Rows.{rows_in-append, rows_in-grown, all_within-grown, all_within-append, row_of_place}
 
@@ -38,38 +38,35 @@ module _ (old new : List Triple) (grows : Extends old new) where
       ap (λ b. all_changed new c xs (cond b (changed rows x.0) rows)) (grows.value x.1 h.0 c)
       ∙ changed_grown c xs (changed_on old c x.0 x.1 rows) h.1
 
-  pub makes_grown : (es : List Entry) (plan : Option (List Entry)) (changes : List (RowChange × ℕ)) → Makes old es plan changes → Makes new es plan changes
-  makes_grown es plan changes m = record {
-    rows = λ c.
-        rows_in-grown old new grows c (planned plan es) m.within ∙ m.rows c
-        ∙ sym (changed_grown c changes (rows_in old c es) m.ambitions)
-        ∙ ap (all_changed new c changes) (sym (rows_in-grown old new grows c es m.over));
-    over = all_within-grown old new grows es m.over;
-    within = all_within-grown old new grows (planned plan es) m.within;
+  pub makes_grown : (d : Dated) (plan : Option (List Entry)) (changes : List (RowChange × ℕ)) → Makes old d plan changes → Makes new d plan changes
+  makes_grown d plan changes m = record {
+    rows = λ c p le.
+        rows_in-grown old new grows c (planned plan d.newest) m.within ∙ m.rows c p le
+        ∙ sym (changed_grown c changes (rows_at old c p d) m.ambitions)
+        ∙ ap (all_changed new c changes) (sym (rows_in-grown old new grows c (nodes_at p d) (m.over p)));
+    over = λ p. all_within-grown old new grows (nodes_at p d) (m.over p);
+    within = all_within-grown old new grows (planned plan d.newest) m.within;
     ambitions = ambitions_grown changes m.ambitions;
   }
 
   -- a plan makes one change more
-  pub makes_more : (es fs : List Entry) (plan : Option (List Entry)) (changes : List (RowChange × ℕ)) (change : RowChange) (ambition : ℕ) → ambition < node_count old
-      → Makes old es plan changes → Becomes old new (planned plan es) fs change ambition → Makes new es (Some fs) (changes ++ (change, ambition) ∷ [])
-  makes_more es fs plan changes change ambition known m b =
+  pub makes_more : (d : Dated) (fs : List Entry) (plan : Option (List Entry)) (changes : List (RowChange × ℕ)) (change : RowChange) (ambition : ℕ) → ambition < node_count old
+      → Makes old d plan changes → Becomes old new (planned plan d.newest) fs change ambition → Makes new d (Some fs) (changes ++ (change, ambition) ∷ [])
+  makes_more d fs plan changes change ambition known m b =
       let all : AreAmbitions old (changes ++ (change, ambition) ∷ []) = all-append (λ x. x.1 < node_count old) changes ((change, ambition) ∷ []) m.ambitions (known, tt) in
       record {
-        rows = λ c.
-            b.rows c ∙ ap (changed_on old c change ambition) (m.rows c)
-            ∙ sym (more_changed old c changes change ambition (rows_in old c es))
-            ∙ sym (changed_grown c (changes ++ (change, ambition) ∷ []) (rows_in old c es) all)
-            ∙ ap (all_changed new c (changes ++ (change, ambition) ∷ [])) (sym (rows_in-grown old new grows c es m.over));
-        over = all_within-grown old new grows es m.over;
+        rows = λ c p le.
+            b.rows c ∙ ap (changed_on old c change ambition) (m.rows c p le)
+            ∙ sym (more_changed old c changes change ambition (rows_at old c p d))
+            ∙ sym (changed_grown c (changes ++ (change, ambition) ∷ []) (rows_at old c p d) all)
+            ∙ ap (all_changed new c (changes ++ (change, ambition) ∷ [])) (sym (rows_in-grown old new grows c (nodes_at p d) (m.over p)));
+        over = λ p. all_within-grown old new grows (nodes_at p d) (m.over p);
         within = b.within;
         ambitions = ambitions_grown (changes ++ (change, ambition) ∷ []) all;
       }
 
 pub plans_grow : PlansStay
-plans_grow = λ old new es plan changes grows m. makes_grown old new grows es plan changes m
-
-pub rows_keep : RowsStay
-rows_keep = λ old new c p d grows within. rows_in-grown old new grows c (nodes_at p d) within
+plans_grow = λ old new d plan changes grows m. makes_grown old new grows d plan changes m
 
 -- a node that is made stands behind the others
 pub created_behind : (table : List Triple) (es fs : List Entry) (node : ℕ) (kind : Kind) (parent : ℕ) (name : List ℕ) (ambition : ℕ) → AllAreWithin table es → ambition < node_count table
@@ -105,7 +102,7 @@ has_behind m n [] h e = ap (λ b. b || false) e
 has_behind m n (k ∷ ns) h e =
     ap (λ b. b || has_node m (ns ++ n ∷ [])) (left (nat_eq k m) (has_node m ns) h) ∙ has_behind m n ns (right (nat_eq k m) (has_node m ns) h) e
 
-distinct_more : (ns : List ℕ) (n : ℕ) → AreDistinct ns → has_node n ns ≡ false → AreDistinct (ns ++ n ∷ [])
+pub distinct_more : (ns : List ℕ) (n : ℕ) → AreDistinct ns → has_node n ns ≡ false → AreDistinct (ns ++ n ∷ [])
 distinct_more [] n d h = (refl, tt)
 distinct_more (m ∷ ns) n d h =
     (has_behind m n ns d.0 (swap n m ∙ left (nat_eq m n) (has_node n ns) h), distinct_more ns n d.1 (right (nat_eq m n) (has_node n ns) h))
@@ -114,8 +111,8 @@ nodes_behind : (es : List Entry) (e : Entry) → nodes_of (es ++ e ∷ []) ≡ n
 nodes_behind es e = map-append (λ (x : Entry). x.node) es (e ∷ [])
 
 -- no node stands twice where a new one is behind the others
-pub distinct_behind : (es fs : List Entry) (e : Entry) → AreDistinct (nodes_of es) → has_node e.node (nodes_of es) ≡ false → fs ≡ es ++ e ∷ [] → AreDistinct (nodes_of fs)
-distinct_behind es fs e d h is = subst AreDistinct (sym (ap nodes_of is ∙ nodes_behind es e)) (distinct_more (nodes_of es) e.node d h)
+pub distinct_behind : (es fs : List Entry) (e : Entry) → AreDistinct (0 ∷ nodes_of es) → has_node e.node (0 ∷ nodes_of es) ≡ false → fs ≡ es ++ e ∷ [] → AreDistinct (0 ∷ nodes_of fs)
+distinct_behind es fs e d h is = subst (λ ns. AreDistinct (0 ∷ ns)) (sym (ap nodes_of is ∙ nodes_behind es e)) (distinct_more (0 ∷ nodes_of es) e.node d h)
 
 -- what follows from either result
 pub by_result : {A E : Type 0} (r : Result A E) (P Q R : Type 0) → OnOk r P → OnErr r Q → (P → R) → (Q → R) → R

@@ -2,7 +2,7 @@
 use Rattle.std.proofs.Common.{◌≡◌, ℕ, zero, suc, ◌+◌, ◌<◌, ◌≤◌, Bool, true, false, cond, ◌||◌, not, nat_eq, nat_lt, List, [], ◌∷◌, ◌++◌, map, length, get_or, set, Some, None, position, refl, sym, ap, subst, ◌∙◌, arith}
 use Rattle.std.specs.List.{filter, position_or_len}
 use Rattle.std.proofs.lemmas.Bool.Decides.{nat_tests}
-use Rattle.cov_base.specs.Rows.{changed}
+use Rattle.cov_base.specs.Rows.{changed, has_node, AreDistinct}
 use Rattle.cov_base.specs.declared.number.Kind.{Kind}
 use Rattle.cov_dd.specs.declared.triple.Triple.{Triple}
 use Rattle.cov_dd.specs.Diagrams.{value_in, Extends}
@@ -10,7 +10,7 @@ use Rattle.cov_tree.specs.declared.entry.Place.{Place}
 use Rattle.cov_tree.specs.declared.entry.Entry.{Entry}
 use Rattle.cov_tree.specs.declared.parting.Shift.{Shift}
 use Rattle.cov_tree.specs.declared.parting.Shift.TheVariants as shifts
-use Rattle.cov_tree.specs.Entries.{row_at, rows_of, rows_in, nodes_of, kinds_of, has_node, AreDistinct, AreWithin, AllAreWithin}
+use Rattle.cov_tree.specs.Entries.{row_at, rows_of, rows_in, nodes_of, kinds_of, AreWithin, AllAreWithin}
 use Rattle.cov_tree.specs.Shifts.{place_at, change_of, shifted, Adds, Becomes}
 use Rattle.cov_tree.proofs.Rows.{rows_of-grown, rows_in-grown, within-grown, all_within-grown}
 use Rattle.cov_tree.proofs.Parts.{shifted-append}
@@ -78,10 +78,10 @@ one_more n = omega arith
 
 module _ (old new : List Triple) (grows : Extends old new) (node : ℕ) (shift : Shift) (ambition : ℕ) (ps : List Place) where
   abbrev Parted : Entry → Type 0
-  Parted e = Adds old new [] ps (λ c n kind. shifted old c n shift ambition (rows_of old c n kind e.places))
+  Parted e = Adds old new [] ps (λ c. true) (λ c n kind. shifted old c n shift ambition (rows_of old c n kind e.places))
 
   own_rows : (c : List Bool) (e : Entry) → e.node ≡ node → Parted e → rows_of new c e.node e.kind ps ≡ shifted old c node shift ambition (rows_of old c e.node e.kind e.places)
-  own_rows c e same parted = parted.rows c e.node e.kind ∙ ap (λ n. shifted old c n shift ambition (rows_of old c e.node e.kind e.places)) same
+  own_rows c e same parted = parted.rows c e.node e.kind (λ k. refl) ∙ ap (λ n. shifted old c n shift ambition (rows_of old c e.node e.kind e.places)) same
 
   rows_set : (c : List Bool) (d : Entry) (es : List Entry) → place node es < length es → AreDistinct (nodes_of es) → AllAreWithin old es → Parted (get_or es (place node es) d)
       → rows_in new c (set es (place node es) (with_places ps (get_or es (place node es) d))) ≡ shifted old c node shift ambition (rows_in old c es)
@@ -123,7 +123,7 @@ found_place n len i false e h = absurd (cc)
 -- the entry that is found gets the places
 pub shifted_found : (old new : List Triple) → Extends old new → (node : ℕ) (shift : Shift) (ambition : ℕ) (ps : List Place) (es : List Entry) (i : ℕ) (d : Entry)
     → position (λ e. nat_eq e.node node) es ≡ Some i → AreDistinct (nodes_of es) → AllAreWithin old es
-    → Adds old new [] ps (λ c n kind. shifted old c n shift ambition (rows_of old c n kind (get_or es i d).places))
+    → Adds old new [] ps (λ c. true) (λ c n kind. shifted old c n shift ambition (rows_of old c n kind (get_or es i d).places))
     → Becomes old new es (set es i (with_places ps (get_or es i d))) (change_of node shift) ambition
 shifted_found old new grows node shift ambition ps es i d is distinct within parted =
     let f = found_place (place node es) (length es) i (nat_lt (place node es) (length es)) refl is in
@@ -132,7 +132,7 @@ shifted_found old new grows node shift ambition ps es i d is distinct within par
       rows = λ c.
           ap (λ k. rows_in new c (set es k (with_places ps (get_or es k d)))) (sym f.0)
           ∙ rows_set old new grows node shift ambition ps c d es f.1 distinct within
-          (subst (λ k. Adds old new [] ps (λ c' n kind. shifted old c' n shift ambition (rows_of old c' n kind (get_or es k d).places))) (sym f.0) parted);
+          (subst (λ k. Adds old new [] ps (λ c. true) (λ c' n kind. shifted old c' n shift ambition (rows_of old c' n kind (get_or es k d).places))) (sym f.0) parted);
     }
 
 missing_in : (node : ℕ) (es : List Entry) → length es ≤ place node es → has_node node (nodes_of es) ≡ false
@@ -164,13 +164,13 @@ entry_there (e ∷ es) (suc i) a b here g h = entry_there es i a b (omega (arith
 -- the entry that stands at the place that is found gets the places
 pub shifted_there : (old new : List Triple) → Extends old new → (node : ℕ) (shift : Shift) (ambition : ℕ) (ps qs : List Place) (es : List Entry) (i : ℕ) (a b : Entry)
     → position (λ e. nat_eq e.node node) es ≡ Some i → i < length es → a ≡ get_or es i a → b ≡ get_or es i b → qs ≡ a.places → AreDistinct (nodes_of es) → AllAreWithin old es
-    → Adds old new [] ps (λ c n kind. shifted old c n shift ambition (rows_of old c n kind qs))
+    → Adds old new [] ps (λ c. true) (λ c n kind. shifted old c n shift ambition (rows_of old c n kind qs))
     → Becomes old new es (set es i (with_places ps b)) (change_of node shift) ambition
 shifted_there old new grows node shift ambition ps qs es i a b is here g h same distinct within parted =
     let whole : qs ≡ (get_or es i b).places = same ∙ ap (λ (e : Entry). e.places) (entry_there es i a b here g h ∙ h) in
     subst (λ e. Becomes old new es (set es i (with_places ps e)) (change_of node shift) ambition) (sym h)
     (shifted_found old new grows node shift ambition ps es i b is distinct within
-    (subst (λ rs. Adds old new [] ps (λ c n kind. shifted old c n shift ambition (rows_of old c n kind rs))) whole parted))
+    (subst (λ rs. Adds old new [] ps (λ c. true) (λ c n kind. shifted old c n shift ambition (rows_of old c n kind rs))) whole parted))
 
 pub nodes_there : (es : List Entry) (i : ℕ) (b : Entry) (ps : List Place) → b ≡ get_or es i b → nodes_of (set es i (with_places ps b)) ≡ nodes_of es
 nodes_there es i b ps h = ap (λ e. nodes_of (set es i (with_places ps e))) h ∙ nodes_set es i b ps

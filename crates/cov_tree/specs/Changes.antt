@@ -1,11 +1,12 @@
 -- Changes of rows, each where its ambition is true.
-use Rattle.std.specs.Prelude.{◌≡◌, ℕ, ◌<◌, Bool, List, [], ◌∷◌, Option, unwrap_or, if◌then◌else◌}
+use Rattle.std.specs.Prelude.{◌≡◌, ℕ, ◌<◌, ◌≤◌, Bool, List, [], ◌∷◌, Option, if◌then◌else◌}
 use Rattle.std.specs.List.{AllByRecursion}
 use Rattle.cov_base.specs.Rows.{Row, RowChange, changed}
 use Rattle.cov_dd.specs.declared.triple.Triple.{Triple}
 use Rattle.cov_dd.specs.Diagrams.{node_count, value_in}
 use Rattle.cov_tree.specs.declared.entry.Entry.{Entry}
-use Rattle.cov_tree.specs.Entries.{rows_in, AllAreWithin}
+use Rattle.cov_tree.specs.Dated.{Dated, rows_at, rows_with, nodes_with, kinds_with}
+use Rattle.cov_tree.specs.Carried.{AreNodesAt, AreNodesWith}
 
 -- the rows on a choice after a change where its ambition is true
 abbrev pub changed_on : List Triple → List Bool → RowChange → ℕ → List Row → List Row
@@ -16,14 +17,17 @@ abbrev pub all_changed : List Triple → List Bool → List (RowChange × ℕ) �
 all_changed table c [] rows = rows
 all_changed table c (change ∷ changes) rows = all_changed table c changes (changed_on table c change.0 change.1 rows)
 
--- the nodes as a plan has them, which before its first change are those that it is made over
-abbrev pub planned : Option (List Entry) → List Entry → List Entry
-planned plan es = unwrap_or plan es
-
--- over these nodes a plan makes these changes in order, each where its ambition is true: on each choice the rows are those after
--- the changes; and all visibilities and ambitions are nodes of the table
-pub record Makes (table : List Triple) (es : List Entry) (plan : Option (List Entry)) (changes : List (RowChange × ℕ)) : Type 0 where
-  pub rows : (c : List Bool) → rows_in table c (planned plan es) ≡ all_changed table c changes (rows_in table c es)
-  pub over : AllAreWithin table es
-  pub within : AllAreWithin table (planned plan es)
+-- over these entries a plan makes these changes in order, each where its ambition is true: on each choice the rows with it are
+-- the newest ones after the changes; and all visibilities and ambitions are nodes of the table
+pub record Makes (table : List Triple) (entries : Dated) (plan : Option (List Entry)) (changes : List (RowChange × ℕ)) : Type 0 where
+  pub rows : (c : List Bool) (p : ℕ) → entries.from ≤ p → rows_with table c plan entries ≡ all_changed table c changes (rows_at table c p entries)
+  pub over : AreNodesAt table entries
+  pub within : AreNodesWith table plan entries
   pub ambitions : AllByRecursion (λ change. change.1 < node_count table) changes
+
+-- a plan is over these entries what another was: it has the same nodes, and on each choice the same rows, in each table
+pub record IsAlike (entries : Dated) (before after : Option (List Entry)) : Type 0 where
+  pub rows : (table : List Triple) (c : List Bool) → rows_with table c after entries ≡ rows_with table c before entries
+  pub nodes : nodes_with after entries ≡ nodes_with before entries
+  pub kinds : kinds_with after entries ≡ kinds_with before entries
+  pub makes : (table : List Triple) (changes : List (RowChange × ℕ)) → Makes table entries before changes → Makes table entries after changes

@@ -1,5 +1,9 @@
+pub mod Carried
 pub mod Changes
 pub mod Dated
 pub mod Entries
+pub mod Grouping
 pub mod Laws
+pub mod Places
 pub mod Shifts
+pub mod Spreading

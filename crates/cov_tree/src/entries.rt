@@ -1,17 +1,21 @@
 // The nodes of a store at each position.
-ghost use Rattle.std.specs.Prelude.{◌≡◌, ◌<◌, ◌≤◌, ℕ, List, Bool, [], ◌∷◌, ◌++◌, nat_le, reverse, IfOk, OnOk};
+ghost use Rattle.std.specs.Prelude.{◌≡◌, ◌<◌, ◌≤◌, ℕ, List, Bool, [], ◌∷◌, ◌++◌, ◌&&◌, nat_le, reverse, IfOk, OnOk};
 ghost use Rattle.std.specs.List.{find};
-ghost use Rattle.std.specs.Option.{option_copied};
-ghost use Rattle.cov_base.specs.Rows.{RowChange};
+ghost use Rattle.std.specs.Option.{is_some, option_copied};
+ghost use Rattle.cov_base.specs.Faults.{fault_of};
+ghost use Rattle.cov_base.specs.Rows.{RowChange, AreDistinct};
+ghost use Rattle.cov_dd.specs.Diagrams.{node_count, span, value_in, Extends, IsNode};
 ghost use Rattle.cov_dd.specs.declared.triple.Triple.{Triple};
-ghost use Rattle.cov_tree.specs.Entries.{rows_of, rows_in, row_at, nodes_of, AreDistinct};
-ghost use Rattle.cov_tree.specs.Changes.{all_changed, planned, Makes};
-ghost use Rattle.cov_tree.specs.Dated.{list_at, nodes_at, rows_at};
+ghost use Rattle.cov_tree.specs.Entries.{rows_of, rows_in, row_at, nodes_of};
+ghost use Rattle.cov_tree.specs.Dated.{nodes_at, rows_at, nodes_in, kinds_in, rows_with, nodes_with, kinds_with, without_room, HasRoom};
+ghost use Rattle.cov_tree.specs.Carried.{AreNodesAt, AreNodesWith, AreOnceAt, AreOnceWith, AreUnreadAt, AreUnreadWith};
+ghost use Rattle.cov_tree.specs.Changes.{all_changed, Makes};
 
 use crate::entry::{Entry, Place, copied};
+use crate::soundness::unsound;
 use crate::{EntryPlan, NodeRow, NodeRows};
 use cov_base::{Choice, Kind, Memory, NodeNo, Position};
-use cov_dd::Table;
+use cov_dd::{Node, Table};
 use std::alloc::Global;
 use std::marker::Model;
 use std::mem;
@@ -35,8 +39,9 @@ impl Model for OlderEntries {
     ghost view = { λ l. (l.from, l.entries.items) };
 }
 
-/// The nodes that a store ever had, by position: a whole list of them for each position that changed one. Contracts see these
-/// lists, each node with its kind and with its places and their visibilities. The root is always there and is in no list.
+/// The nodes that a store ever had, by position: a whole list of them for each position that changed one. Contracts tell of the
+/// rows that they have on each choice, at each position (`rows_at`) and with a plan (`rows_with`). The root is always there and has
+/// no row.
 #[derive(Drop)]
 pub struct Entries {
     from: Position,
@@ -45,23 +50,28 @@ pub struct Entries {
 }
 
 impl Model for Entries {
-    ghost use Rattle.std.specs.Prelude.{◌-◌, reverse, vec_len, vec_capacity};
-    ghost use Rattle.cov_tree.specs.Entries.{nodes_of, AreDistinct};
+    ghost use Rattle.std.specs.Prelude.{◌-◌, ◌∷◌, reverse, vec_len, vec_capacity};
+    ghost use Rattle.cov_base.specs.Rows.{AreDistinct};
+    ghost use Rattle.cov_tree.specs.Entries.{nodes_of};
     ghost use Rattle.cov_tree.specs.Dated.{Dated};
 
     ghost Value = { Dated };
 
     ghost view = { λ e. record { from = e.from; newest = e.newest.items; older = reverse e.older.items; room = vec_capacity e.older - vec_len e.older } };
 
-    ghost invariant = { λ e. AreDistinct (nodes_of e.newest.items) };
+    ghost invariant = { λ e. AreDistinct (0 ∷ nodes_of e.newest.items) };
 }
 
 impl Entries {
     /// The root alone, from the first position on.
     pub fn new(alloc: Global) -> Result<Entries, Memory>
         ensures from { IfOk result (λ entries. entries.from ≡ 0) }
-        ensures newest { IfOk result (λ entries. entries.newest ≡ []) }
-        ensures older { IfOk result (λ entries. entries.older ≡ []) }
+        ensures rows { IfOk result (λ entries. (table : List Triple) (c : List Bool) (p : ℕ) → rows_at table c p entries ≡ []) }
+        ensures nodes { IfOk result (λ entries. nodes_in entries ≡ []) }
+        ensures kinds { IfOk result (λ entries. kinds_in entries ≡ []) }
+        ensures within { IfOk result (λ entries. (table : List Triple) → AreNodesAt table entries) }
+        ensures once { IfOk result (λ entries. (table : List Triple) → AreOnceAt table entries) }
+        ensures options { IfOk result (λ entries. (table : List Triple) (count : ℕ) → AreUnreadAt table entries count) }
     {
         Ok(Entries {
             from: Position::new(0),
@@ -77,19 +87,36 @@ impl Entries {
         table: &Table,
         choice: Choice,
     ) -> Result<NodeRows, Memory>
-        ensures rows { (changes : List (RowChange × ℕ)) → Makes table.now self.now.newest plan.now changes → IfOk result (λ rows. rows ≡ all_changed table.now choice changes (rows_in table.now choice self.now.newest)) }
-        ensures planned { IfOk result (λ rows. rows ≡ rows_in table.now choice (planned plan.now self.now.newest)) }
+        ensures planned { IfOk result (λ rows. rows ≡ rows_with table.now choice plan.now self.now) }
+        ensures rows { (changes : List (RowChange × ℕ)) (p : ℕ) → Makes table.now self.now plan.now changes → self.now.from ≤ p → IfOk result (λ rows. rows ≡ all_changed table.now choice changes (rows_at table.now choice p self.now)) }
     {
         let alloc = *self.newest.allocator();
         visible_rows(alloc, plan.entries_over(self), table, choice)
     }
 
+    /// The node that is true on exactly the choices of `within` on which the rows as they would be with a plan installed have a
+    /// fault. Clashes take a look-up for each directory and name that a node has. The choices on which the root is reached from
+    /// each node grow in rounds over all nodes: two where each node was made after its parents, and one more for each parent on a
+    /// way to the root that was made after its child.
+    pub fn unsound(&self, plan: &EntryPlan, table: &mut Table, within: Node) -> Result<Node, Memory>
+        requires within { within < node_count table.old }
+        requires visible { AreNodesWith table.old plan.now self.now }
+        requires once { AreOnceWith table.old plan.now self.now }
+        ensures extends { Extends table.old table.new }
+        ensures planned { IfOk result (λ r. IsNode table.new r (λ c. value_in table.old within c && is_some (fault_of (rows_with table.old c plan.now self.now)))) }
+        ensures faults { (changes : List (RowChange × ℕ)) (p : ℕ) → Makes table.old self.now plan.now changes → self.now.from ≤ p → IfOk result (λ r. IsNode table.new r (λ c. value_in table.old within c && is_some (fault_of (all_changed table.old c changes (rows_at table.old c p self.now))))) }
+        ensures options { (count : ℕ) → span table.old within ≤ count → AreUnreadWith table.old plan.now self.now count → IfOk result (λ r. span table.new r ≤ count) }
+    {
+        let alloc = *self.newest.allocator();
+        let entries = plan.entries_over(self);
+        unsound(table, alloc, entries, within)
+    }
+
     /// Makes room for a plan.
     pub fn reserve(&mut self, plan: &EntryPlan) -> Result<(), Memory>
+        ensures same { without_room self.new ≡ without_room self.old }
         ensures from { self.new.from ≡ self.old.from }
-        ensures newest { self.new.newest ≡ self.old.newest }
-        ensures older { self.new.older ≡ self.old.older }
-        ensures room { OnOk result (0 < self.new.room) }
+        ensures room { OnOk result (HasRoom plan.now self.new) }
     {
         let _ = plan;
         self.older.reserve(1)?;
@@ -99,17 +126,33 @@ impl Entries {
     /// Makes the changes of a plan from a position on. It takes no memory.
     pub fn install(&mut self, plan: EntryPlan, at: Position)
         requires later { self.old.from ≤ at }
-        requires room { 0 < self.old.room }
-        ensures rows { (table : List Triple) (changes : List (RowChange × ℕ)) → Makes table self.old.newest plan changes → (c : List Bool) (p : ℕ) → at ≤ p → rows_at table c p self.new ≡ all_changed table c changes (rows_at table c p self.old) }
+        requires room { HasRoom plan self.old }
+        ensures planned { (table : List Triple) (c : List Bool) (p : ℕ) → at ≤ p → rows_at table c p self.new ≡ rows_with table c plan self.old }
+        ensures rows { (table : List Triple) (changes : List (RowChange × ℕ)) → Makes table self.old plan changes → (c : List Bool) (p : ℕ) → at ≤ p → rows_at table c p self.new ≡ all_changed table c changes (rows_at table c p self.old) }
         ensures before { (table : List Triple) (c : List Bool) (p : ℕ) → p < at → rows_at table c p self.new ≡ rows_at table c p self.old }
-        ensures newest { self.new.newest ≡ planned plan self.old.newest }
         ensures from { self.new.from ≤ at }
-        ensures nodes { (p : ℕ) → at ≤ p → nodes_at p self.new ≡ planned plan self.old.newest }
-        ensures older { (p : ℕ) → p < at → nodes_at p self.new ≡ nodes_at p self.old }
+        ensures nodes { nodes_in self.new ≡ nodes_with plan self.old }
+        ensures kinds { kinds_in self.new ≡ kinds_with plan self.old }
+        ensures within { (table : List Triple) → AreNodesAt table self.old → AreNodesWith table plan self.old → AreNodesAt table self.new }
+        ensures once { (table : List Triple) → AreOnceAt table self.old → AreOnceWith table plan self.old → AreOnceAt table self.new }
+        ensures options { (table : List Triple) (count : ℕ) → AreUnreadAt table self.old count → AreUnreadWith table plan self.old count → AreUnreadAt table self.new count }
     {
         let Some(entries) = plan.into_entries() else {
             return;
         };
+        self.set(entries, at);
+    }
+
+    // Sets the nodes from a position on. It takes no memory.
+    fn set(&mut self, entries: Vec<Entry>, at: Position)
+        requires later { self.old.from ≤ at }
+        requires room { 0 < self.old.room }
+        requires distinct { AreDistinct (0 ∷ nodes_of entries.items) }
+        ensures newest { self.new.newest ≡ entries.items }
+        ensures from { self.new.from ≤ at }
+        ensures nodes { (p : ℕ) → at ≤ p → nodes_at p self.new ≡ entries.items }
+        ensures older { (p : ℕ) → p < at → nodes_at p self.new ≡ nodes_at p self.old }
+    {
         let newest = mem::replace(&mut self.newest, entries);
         if self.from == at {
             return;
@@ -134,17 +177,18 @@ impl Entries {
 
     /// The newest nodes.
     pub(crate) fn newest(&self) -> &[Entry]
-        ensures { result.now ≡ self.now.newest }
+        ensures nodes { result.now ≡ self.now.newest }
+        ensures distinct { AreDistinct (0 ∷ nodes_of self.now.newest) }
     {
         self.newest.as_slice()
     }
 
     /// The newest nodes, in memory of their own.
-    pub(crate) fn copied(&self) -> Result<Vec<Entry>, Memory>
+    pub(crate) fn copied(&self, alloc: Global) -> Result<Vec<Entry>, Memory>
         ensures nodes { IfOk result (λ copy. copy.items ≡ self.now.newest) }
-        ensures distinct { AreDistinct (nodes_of self.now.newest) }
+        ensures distinct { AreDistinct (0 ∷ nodes_of self.now.newest) }
     {
-        copied(*self.newest.allocator(), self.newest.as_slice())
+        copied(alloc, self.newest.as_slice())
     }
 
     // The nodes at a position.

@@ -1,13 +1,12 @@
 // Places parted by an ambition.
-ghost use Rattle.std.specs.Prelude.{◌≡◌, ◌<◌, ◌++◌, ◌==◌, [], ◌∷◌, IfOk, OnOk, if◌then◌else◌};
+ghost use Rattle.std.specs.Prelude.{◌≡◌, ◌<◌, ◌≤◌, ◌++◌, ◌&&◌, [], ◌∷◌, ℕ, List, Bool, true, length, IfOk, OnOk, if◌then◌else◌};
 ghost use Rattle.cov_dd.specs.Diagrams.{node_count, value_in, Extends};
 ghost use Rattle.cov_tree.specs.Entries.{rows_of, AreWithin};
-ghost use Rattle.cov_tree.specs.Shifts.{place_at, shifted, Adds};
+ghost use Rattle.cov_tree.specs.Shifts.{place_at, shifted, Puts, Adds};
 
 use crate::entry::{Place, Places};
 use cov_base::{Memory, Name, NodeNo, Steps, Uncounted};
 use cov_dd::{FALSE, Node, Table};
-use cov_vis::take;
 use std::alloc::Global;
 
 /// What becomes of a place where an ambition is true.
@@ -28,8 +27,9 @@ pub(crate) fn parted(
 ) -> Result<Places, Memory>
     requires places { AreWithin table.old places.now }
     requires ambition { ambition < node_count table.old }
+    requires once { (c : List Bool) (node : ℕ) (kind : _) → length (rows_of table.old c node kind places.now) ≤ 1 }
     ensures extends { Extends table.old table.new }
-    ensures ok { IfOk result (λ made. Adds table.old table.new [] made (λ c node kind. shifted table.old c node shift.now ambition (rows_of table.old c node kind places.now))) }
+    ensures ok { IfOk result (λ made. Adds table.old table.new [] made (λ c. true) (λ c node kind. shifted table.old c node shift.now ambition (rows_of table.old c node kind places.now))) }
 {
     let mut made = Places::new(alloc);
     'places: for place in places {
@@ -50,7 +50,7 @@ fn add_parts(
     requires place { place.now.vis < node_count table.old }
     requires ambition { ambition < node_count table.old }
     ensures extends { Extends table.old table.new }
-    ensures ok { OnOk result (Adds table.old table.new made.old made.new (λ c node kind. shifted table.old c node shift.now ambition (rows_of table.old c node kind (place.now ∷ [])))) }
+    ensures ok { OnOk result (Adds table.old table.new made.old made.new (λ c. value_in table.old place.now.vis c) (λ c node kind. shifted table.old c node shift.now ambition (rows_of table.old c node kind (place.now ∷ [])))) }
 {
     add_outside(table, made, place, ambition)?;
     add_shifted(table, made, place, ambition, shift)
@@ -68,7 +68,7 @@ fn add_shifted(
     requires place { place.now.vis < node_count table.old }
     requires ambition { ambition < node_count table.old }
     ensures extends { Extends table.old table.new }
-    ensures ok { OnOk result (Adds table.old table.new made.old made.new (λ c node kind. if value_in table.old ambition c then shifted table.old c node shift.now ambition (rows_of table.old c node kind (place.now ∷ [])) else [])) }
+    ensures ok { OnOk result (Adds table.old table.new made.old made.new (λ c. value_in table.old place.now.vis c && value_in table.old ambition c) (λ c node kind. if value_in table.old ambition c then shifted table.old c node shift.now ambition (rows_of table.old c node kind (place.now ∷ [])) else [])) }
 {
     match shift {
         Shift::Renamed(name) => { add_within(table, made, place.parent, name, place.vis, ambition) }
@@ -90,10 +90,10 @@ fn add_outside(
     requires place { place.now.vis < node_count table.old }
     requires ambition { ambition < node_count table.old }
     ensures extends { Extends table.old table.new }
-    ensures ok { OnOk result (Adds table.old table.new made.old made.new (λ c node kind. if value_in table.old ambition c then [] else rows_of table.old c node kind (place.now ∷ []))) }
+    ensures ok { OnOk result (Adds table.old table.new made.old made.new (λ c. value_in table.old place.now.vis c) (λ c node kind. if value_in table.old ambition c then [] else rows_of table.old c node kind (place.now ∷ []))) }
 {
-    let vis = take(table, place.vis, ambition)?;
-    add_place(made, place.parent, &place.name, vis)
+    let vis = table.without(place.vis, ambition)?;
+    add_place(table, made, place.parent, &place.name, vis)
 }
 
 // Adds a place of the visibility where the ambition is true.
@@ -109,22 +109,27 @@ fn add_within(
     requires vis { vis < node_count table.old }
     requires ambition { ambition < node_count table.old }
     ensures extends { Extends table.old table.new }
-    ensures ok { OnOk result (Adds table.old table.new made.old made.new (λ c node kind. if value_in table.old ambition c then rows_of table.old c node kind (place_at parent name.now vis ∷ []) else [])) }
+    ensures ok { OnOk result (Adds table.old table.new made.old made.new (λ c. value_in table.old vis c && value_in table.old ambition c) (λ c node kind. if value_in table.old ambition c then rows_of table.old c node kind (place_at parent name.now vis ∷ []) else [])) }
 {
     let vis = table.and(vis, ambition, &mut Steps::<Uncounted>::new())?;
-    add_place(made, parent, name, vis)
+    add_place(table, made, parent, name, vis)
 }
 
 // Adds a place, unless it is visible on no choice.
-fn add_place(made: &mut Places, parent: NodeNo, name: &Name, vis: Node) -> Result<(), Memory>
-    ensures { OnOk result (made.new ≡ made.old ++ (if vis == 0 then [] else place_at parent name.now vis ∷ [])) }
+fn add_place(
+    table: &mut Table,
+    made: &mut Places,
+    parent: NodeNo,
+    name: &Name,
+    vis: Node,
+) -> Result<(), Memory>
+    requires made { AreWithin table.old made.old }
+    requires vis { vis < node_count table.old }
+    ensures extends { Extends table.old table.new }
+    ensures ok { OnOk result (Puts table.old table.new made.old made.new parent name.now vis) }
 {
     if vis == FALSE {
         return Ok(());
     }
-    made.push(Place {
-        parent,
-        name: name.copy()?,
-        vis,
-    })
+    made.put(table, parent, name, vis)
 }

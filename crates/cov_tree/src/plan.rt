@@ -1,11 +1,12 @@
 // Changes of the nodes of a store that are to come.
-ghost use Rattle.std.specs.Prelude.{◌≡◌, ◌<◌, ◌++◌, ◌∷◌, ℕ, List, [], None, Some, false, option_map, nat_eq, length, position, IfSome, OnOk, OnErr};
-ghost use Rattle.cov_base.specs.Rows.{RowChange, Created, Renamed, Moved, Removed};
+ghost use Rattle.std.specs.Prelude.{◌≡◌, ◌<◌, ◌≤◌, ◌++◌, ◌∷◌, ℕ, List, Bool, [], None, Some, false, option_map, nat_eq, length, position, IfSome, OnOk, OnErr};
+ghost use Rattle.cov_base.specs.Rows.{RowChange, Created, Renamed, Moved, Removed, has_node, AreDistinct, AreOnce};
 ghost use Rattle.cov_dd.specs.declared.triple.Triple.{Triple};
-ghost use Rattle.cov_dd.specs.Diagrams.{node_count, Extends};
-ghost use Rattle.cov_tree.specs.declared.entry.Entry.{Entry as EntryValue};
-ghost use Rattle.cov_tree.specs.Entries.{has_node, nodes_of, kinds_of, AreDistinct, AllAreWithin};
-ghost use Rattle.cov_tree.specs.Changes.{planned, Makes};
+ghost use Rattle.cov_dd.specs.Diagrams.{node_count, span, Extends};
+ghost use Rattle.cov_tree.specs.Entries.{rows_in, nodes_of, kinds_of, AllAreWithin};
+ghost use Rattle.cov_tree.specs.Dated.{Dated, planned, rows_at, rows_with, nodes_in, kinds_in, nodes_with, kinds_with};
+ghost use Rattle.cov_tree.specs.Carried.{AreNodesAt, AreNodesWith, AreOnceAt, AreOnceWith, AreUnreadAt, AreUnreadWith};
+ghost use Rattle.cov_tree.specs.Changes.{Makes, IsAlike};
 ghost use Rattle.cov_tree.specs.Shifts.{change_of, place_at, Becomes};
 
 use crate::Entries;
@@ -16,32 +17,42 @@ use cov_dd::{Node, Table};
 use std::alloc::Global;
 use std::marker::Model;
 
-/// Changes of entries, each where its ambition is true. Contracts see the nodes as they are after the changes, None before the
-/// first, and tell by `Makes` what the changes are. All calls with one plan are over the same entries.
+/// Changes of entries, each where its ambition is true. Contracts tell of the rows that there are with them on each choice
+/// (`rows_with`), and by `Makes` what the changes are. All calls with one plan are over the same entries.
 #[derive(Drop)]
 pub struct EntryPlan {
+    alloc: Global,
     entries: Option<Vec<Entry>>,
 }
 
 impl Model for EntryPlan {
-    ghost use Rattle.std.specs.Prelude.{List, Option, option_map, IfSome};
+    ghost use Rattle.std.specs.Prelude.{List, Option, option_map, IfSome, ◌∷◌};
+    ghost use Rattle.cov_base.specs.Rows.{AreDistinct};
     ghost use Rattle.cov_tree.specs.declared.entry.Entry.{Entry as EntryValue};
-    ghost use Rattle.cov_tree.specs.Entries.{nodes_of, AreDistinct};
+    ghost use Rattle.cov_tree.specs.Entries.{nodes_of};
 
     ghost Value = { Option (List EntryValue) };
 
     ghost view = { λ p. option_map (λ es. es.items) p.entries };
 
-    ghost invariant = { λ p. IfSome p.entries (λ es. AreDistinct (nodes_of es.items)) };
+    ghost invariant = { λ p. IfSome p.entries (λ es. AreDistinct (0 ∷ nodes_of es.items)) };
 }
 
 impl EntryPlan {
     /// It makes no change.
-    pub fn new() -> EntryPlan
-        ensures none { result ≡ None }
-        ensures makes { (table : List Triple) (es : List EntryValue) → AllAreWithin table es → Makes table es result [] }
+    pub fn new(alloc: Global) -> EntryPlan
+        ensures rows { (table : List Triple) (entries : Dated) (c : List Bool) (p : ℕ) → entries.from ≤ p → rows_with table c result entries ≡ rows_at table c p entries }
+        ensures makes { (table : List Triple) (entries : Dated) → AreNodesAt table entries → Makes table entries result [] }
+        ensures nodes { (entries : Dated) → nodes_with result entries ≡ nodes_in entries }
+        ensures kinds { (entries : Dated) → kinds_with result entries ≡ kinds_in entries }
+        ensures within { (table : List Triple) (entries : Dated) → AreNodesAt table entries → AreNodesWith table result entries }
+        ensures once { (table : List Triple) (entries : Dated) → AreOnceAt table entries → AreOnceWith table result entries }
+        ensures options { (table : List Triple) (entries : Dated) (count : ℕ) → AreUnreadAt table entries count → AreUnreadWith table result entries count }
     {
-        EntryPlan { entries: None }
+        EntryPlan {
+            alloc,
+            entries: None,
+        }
     }
 
     /// Makes a node in a directory. The first change takes time in the number of nodes.
@@ -55,15 +66,18 @@ impl EntryPlan {
         name: &Name,
         ambition: Node,
     ) -> Result<(), Memory>
-        requires fresh { has_node node (nodes_of (planned self.old entries.now.newest)) ≡ false }
-        requires within { AllAreWithin table.old (planned self.old entries.now.newest) }
+        requires fresh { has_node node (0 ∷ nodes_with self.old entries.now) ≡ false }
+        requires within { AreNodesWith table.old self.old entries.now }
+        requires once { AreOnceWith table.old self.old entries.now }
         requires ambition { ambition < node_count table.old }
         ensures extends { Extends table.old table.new }
-        ensures makes { (changes : List (RowChange × ℕ)) → Makes table.old entries.now.newest self.old changes → OnOk result (Makes table.new entries.now.newest self.new (changes ++ (Created node kind parent name.now, ambition) ∷ [])) }
-        ensures nodes { OnOk result (nodes_of (planned self.new entries.now.newest) ≡ nodes_of (planned self.old entries.now.newest) ++ node ∷ []) }
-        ensures kinds { OnOk result (kinds_of (planned self.new entries.now.newest) ≡ kinds_of (planned self.old entries.now.newest) ++ (node, kind) ∷ []) }
-        ensures within { AllAreWithin table.new (planned self.new entries.now.newest) }
-        ensures err { OnErr result (planned self.new entries.now.newest ≡ planned self.old entries.now.newest) }
+        ensures makes { (changes : List (RowChange × ℕ)) → Makes table.old entries.now self.old changes → OnOk result (Makes table.new entries.now self.new (changes ++ (Created node kind parent name.now, ambition) ∷ [])) }
+        ensures nodes { OnOk result (nodes_with self.new entries.now ≡ nodes_with self.old entries.now ++ node ∷ []) }
+        ensures kinds { OnOk result (kinds_with self.new entries.now ≡ kinds_with self.old entries.now ++ (node, kind) ∷ []) }
+        ensures within { AreNodesWith table.new self.new entries.now }
+        ensures once { AreOnceWith table.new self.new entries.now }
+        ensures options { (count : ℕ) → span table.old ambition ≤ count → AreUnreadWith table.old self.old entries.now count → AreUnreadWith table.new self.new entries.now count }
+        ensures err { OnErr result (IsAlike entries.now self.old self.new) }
     {
         let _ = table;
         self.begin(entries)?;
@@ -82,14 +96,17 @@ impl EntryPlan {
         name: &Name,
         ambition: Node,
     ) -> Result<(), Memory>
-        requires within { AllAreWithin table.old (planned self.old entries.now.newest) }
+        requires within { AreNodesWith table.old self.old entries.now }
+        requires once { AreOnceWith table.old self.old entries.now }
         requires ambition { ambition < node_count table.old }
         ensures extends { Extends table.old table.new }
-        ensures makes { (changes : List (RowChange × ℕ)) → Makes table.old entries.now.newest self.old changes → OnOk result (Makes table.new entries.now.newest self.new (changes ++ (Renamed node name.now, ambition) ∷ [])) }
-        ensures nodes { OnOk result (nodes_of (planned self.new entries.now.newest) ≡ nodes_of (planned self.old entries.now.newest)) }
-        ensures kinds { OnOk result (kinds_of (planned self.new entries.now.newest) ≡ kinds_of (planned self.old entries.now.newest)) }
-        ensures within { AllAreWithin table.new (planned self.new entries.now.newest) }
-        ensures err { OnErr result (planned self.new entries.now.newest ≡ planned self.old entries.now.newest) }
+        ensures makes { (changes : List (RowChange × ℕ)) → Makes table.old entries.now self.old changes → OnOk result (Makes table.new entries.now self.new (changes ++ (Renamed node name.now, ambition) ∷ [])) }
+        ensures nodes { OnOk result (nodes_with self.new entries.now ≡ nodes_with self.old entries.now) }
+        ensures kinds { OnOk result (kinds_with self.new entries.now ≡ kinds_with self.old entries.now) }
+        ensures within { AreNodesWith table.new self.new entries.now }
+        ensures once { AreOnceWith table.new self.new entries.now }
+        ensures options { (count : ℕ) → span table.old ambition ≤ count → AreUnreadWith table.old self.old entries.now count → AreUnreadWith table.new self.new entries.now count }
+        ensures err { OnErr result (IsAlike entries.now self.old self.new) }
     {
         let shift = Shift::Renamed(name.copy()?);
         self.shift(entries, table, node, &shift, ambition)
@@ -104,14 +121,17 @@ impl EntryPlan {
         parent: NodeNo,
         ambition: Node,
     ) -> Result<(), Memory>
-        requires within { AllAreWithin table.old (planned self.old entries.now.newest) }
+        requires within { AreNodesWith table.old self.old entries.now }
+        requires once { AreOnceWith table.old self.old entries.now }
         requires ambition { ambition < node_count table.old }
         ensures extends { Extends table.old table.new }
-        ensures makes { (changes : List (RowChange × ℕ)) → Makes table.old entries.now.newest self.old changes → OnOk result (Makes table.new entries.now.newest self.new (changes ++ (Moved node parent, ambition) ∷ [])) }
-        ensures nodes { OnOk result (nodes_of (planned self.new entries.now.newest) ≡ nodes_of (planned self.old entries.now.newest)) }
-        ensures kinds { OnOk result (kinds_of (planned self.new entries.now.newest) ≡ kinds_of (planned self.old entries.now.newest)) }
-        ensures within { AllAreWithin table.new (planned self.new entries.now.newest) }
-        ensures err { OnErr result (planned self.new entries.now.newest ≡ planned self.old entries.now.newest) }
+        ensures makes { (changes : List (RowChange × ℕ)) → Makes table.old entries.now self.old changes → OnOk result (Makes table.new entries.now self.new (changes ++ (Moved node parent, ambition) ∷ [])) }
+        ensures nodes { OnOk result (nodes_with self.new entries.now ≡ nodes_with self.old entries.now) }
+        ensures kinds { OnOk result (kinds_with self.new entries.now ≡ kinds_with self.old entries.now) }
+        ensures within { AreNodesWith table.new self.new entries.now }
+        ensures once { AreOnceWith table.new self.new entries.now }
+        ensures options { (count : ℕ) → span table.old ambition ≤ count → AreUnreadWith table.old self.old entries.now count → AreUnreadWith table.new self.new entries.now count }
+        ensures err { OnErr result (IsAlike entries.now self.old self.new) }
     {
         self.shift(entries, table, node, &Shift::Moved(parent), ambition)
     }
@@ -124,14 +144,17 @@ impl EntryPlan {
         node: NodeNo,
         ambition: Node,
     ) -> Result<(), Memory>
-        requires within { AllAreWithin table.old (planned self.old entries.now.newest) }
+        requires within { AreNodesWith table.old self.old entries.now }
+        requires once { AreOnceWith table.old self.old entries.now }
         requires ambition { ambition < node_count table.old }
         ensures extends { Extends table.old table.new }
-        ensures makes { (changes : List (RowChange × ℕ)) → Makes table.old entries.now.newest self.old changes → OnOk result (Makes table.new entries.now.newest self.new (changes ++ (Removed node, ambition) ∷ [])) }
-        ensures nodes { OnOk result (nodes_of (planned self.new entries.now.newest) ≡ nodes_of (planned self.old entries.now.newest)) }
-        ensures kinds { OnOk result (kinds_of (planned self.new entries.now.newest) ≡ kinds_of (planned self.old entries.now.newest)) }
-        ensures within { AllAreWithin table.new (planned self.new entries.now.newest) }
-        ensures err { OnErr result (planned self.new entries.now.newest ≡ planned self.old entries.now.newest) }
+        ensures makes { (changes : List (RowChange × ℕ)) → Makes table.old entries.now self.old changes → OnOk result (Makes table.new entries.now self.new (changes ++ (Removed node, ambition) ∷ [])) }
+        ensures nodes { OnOk result (nodes_with self.new entries.now ≡ nodes_with self.old entries.now) }
+        ensures kinds { OnOk result (kinds_with self.new entries.now ≡ kinds_with self.old entries.now) }
+        ensures within { AreNodesWith table.new self.new entries.now }
+        ensures once { AreOnceWith table.new self.new entries.now }
+        ensures options { (count : ℕ) → span table.old ambition ≤ count → AreUnreadWith table.old self.old entries.now count → AreUnreadWith table.new self.new entries.now count }
+        ensures err { OnErr result (IsAlike entries.now self.old self.new) }
     {
         self.shift(entries, table, node, &Shift::Removed, ambition)
     }
@@ -145,14 +168,17 @@ impl EntryPlan {
         shift: &Shift,
         ambition: Node,
     ) -> Result<(), Memory>
-        requires within { AllAreWithin table.old (planned self.old entries.now.newest) }
+        requires within { AreNodesWith table.old self.old entries.now }
+        requires once { AreOnceWith table.old self.old entries.now }
         requires ambition { ambition < node_count table.old }
         ensures extends { Extends table.old table.new }
-        ensures makes { (changes : List (RowChange × ℕ)) → Makes table.old entries.now.newest self.old changes → OnOk result (Makes table.new entries.now.newest self.new (changes ++ (change_of node shift.now, ambition) ∷ [])) }
-        ensures nodes { OnOk result (nodes_of (planned self.new entries.now.newest) ≡ nodes_of (planned self.old entries.now.newest)) }
-        ensures kinds { OnOk result (kinds_of (planned self.new entries.now.newest) ≡ kinds_of (planned self.old entries.now.newest)) }
-        ensures within { AllAreWithin table.new (planned self.new entries.now.newest) }
-        ensures err { OnErr result (planned self.new entries.now.newest ≡ planned self.old entries.now.newest) }
+        ensures makes { (changes : List (RowChange × ℕ)) → Makes table.old entries.now self.old changes → OnOk result (Makes table.new entries.now self.new (changes ++ (change_of node shift.now, ambition) ∷ [])) }
+        ensures nodes { OnOk result (nodes_with self.new entries.now ≡ nodes_with self.old entries.now) }
+        ensures kinds { OnOk result (kinds_with self.new entries.now ≡ kinds_with self.old entries.now) }
+        ensures within { AreNodesWith table.new self.new entries.now }
+        ensures once { AreOnceWith table.new self.new entries.now }
+        ensures options { (count : ℕ) → span table.old ambition ≤ count → AreUnreadWith table.old self.old entries.now count → AreUnreadWith table.new self.new entries.now count }
+        ensures err { OnErr result (IsAlike entries.now self.old self.new) }
     {
         self.begin(entries)?;
         match &mut self.entries {
@@ -167,14 +193,15 @@ impl EntryPlan {
         ensures err { OnErr result (self.new ≡ self.old) }
     {
         if self.entries.is_none() {
-            self.entries = Some(entries.copied()?);
+            self.entries = Some(entries.copied(self.alloc)?);
         }
         Ok(())
     }
 
     /// The nodes as they are after the changes of these entries.
     pub(crate) fn entries_over<'a>(&'a self, entries: &'a Entries) -> &'a [Entry]
-        ensures { result.now ≡ planned self.now entries.now.newest }
+        ensures nodes { result.now ≡ planned self.now entries.now.newest }
+        ensures distinct { AreDistinct (0 ∷ nodes_of (planned self.now entries.now.newest)) }
     {
         match &self.entries {
             Some(list) => list.as_slice(),
@@ -185,7 +212,7 @@ impl EntryPlan {
     /// The nodes as they are after the changes, None where there is no change. It takes no memory.
     pub(crate) fn into_entries(self) -> Option<Vec<Entry>>
         ensures nodes { option_map (λ es. es.items) result ≡ self }
-        ensures distinct { IfSome result (λ es. AreDistinct (nodes_of es.items)) }
+        ensures distinct { IfSome result (λ es. AreDistinct (0 ∷ nodes_of es.items)) }
     {
         self.entries
     }
@@ -204,8 +231,7 @@ fn add_entry(
     ensures err { OnErr result (list.new.items ≡ list.old.items) }
 {
     let name = name.copy()?;
-    let mut places = Places::new(*list.allocator());
-    places.push(Place { parent, name, vis })?;
+    let places = Places::of(*list.allocator(), Place { parent, name, vis })?;
     list.push(Entry { node, kind, places })?;
     Ok(())
 }
@@ -218,14 +244,14 @@ fn shift_entry(
     shift: &Shift,
     ambition: Node,
 ) -> Result<(), Memory>
-    requires distinct { AreDistinct (nodes_of list.old.items) }
+    requires distinct { AreDistinct (0 ∷ nodes_of list.old.items) }
     requires within { AllAreWithin table.old list.old.items }
+    requires once { (c : List Bool) → AreOnce (rows_in table.old c list.old.items) }
     requires ambition { ambition < node_count table.old }
     ensures extends { Extends table.old table.new }
     ensures ok { OnOk result (Becomes table.old table.new list.old.items list.new.items (change_of node shift.now) ambition) }
     ensures nodes { OnOk result (nodes_of list.new.items ≡ nodes_of list.old.items) }
     ensures kinds { OnOk result (kinds_of list.new.items ≡ kinds_of list.old.items) }
-    ensures within { AllAreWithin table.new list.new.items }
     ensures err { OnErr result (list.new.items ≡ list.old.items) }
 {
     let alloc = *list.allocator();

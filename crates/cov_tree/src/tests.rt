@@ -1,10 +1,11 @@
-ghost use Rattle.std.specs.Prelude.{◌≡◌, ◌≤◌, ◌<◌, [], IfOk};
+ghost use Rattle.std.specs.Prelude.{◌≡◌, ◌≤◌, ◌<◌, ◌∷◌, [], List, IfOk};
+ghost use Rattle.cov_dd.specs.declared.triple.Triple.{Triple};
 ghost use Rattle.cov_dd.specs.Diagrams.{node_count};
-ghost use Rattle.cov_tree.specs.Entries.{AllAreWithin};
-ghost use Rattle.cov_tree.specs.Changes.{planned};
+ghost use Rattle.cov_tree.specs.Carried.{AreNodesAt, AreNodesWith, AreOnceAt, AreOnceWith};
+ghost use Rattle.cov_tree.specs.Dated.{nodes_in, nodes_with};
 
 use crate::{Entries, EntryPlan, NodeRows};
-use cov_base::{Choice, Kind, Name, NodeNo, OptionId, Position};
+use cov_base::{Choice, Kind, Name, NodeNo, OptionId, Position, Steps, Uncounted};
 use cov_dd::{Node, TRUE, Table};
 use std::alloc::Global;
 use std::process::Abort;
@@ -17,9 +18,13 @@ fn create(
     table: &mut Table,
     alloc: Global,
 ) -> Result<(), Fail>
-    requires none { planned plan.old entries.now.newest ≡ [] }
+    requires none { nodes_with plan.old entries.now ≡ [] }
+    requires within { AreNodesWith table.old plan.old entries.now }
+    requires once { AreOnceWith table.old plan.old entries.now }
     requires inner { 2 ≤ node_count table.old }
-    ensures within { AllAreWithin table.new (planned plan.new entries.now.newest) }
+    ensures nodes { IfOk result (λ _. nodes_with plan.new entries.now ≡ 1 ∷ 2 ∷ []) }
+    ensures within { AreNodesWith table.new plan.new entries.now }
+    ensures once { AreOnceWith table.new plan.new entries.now }
     ensures count { node_count table.old ≤ node_count table.new }
 {
     let d = Name::read(alloc, b"d")?;
@@ -31,56 +36,99 @@ fn create(
     Ok(())
 }
 
-// Entries with these from position 3 on.
-fn two_nodes(table: &mut Table, alloc: Global) -> Result<Entries, Fail>
+// Makes these nodes from position 3 on.
+fn two_nodes(entries: &mut Entries, table: &mut Table, alloc: Global) -> Result<(), Fail>
+    requires none { nodes_in entries.old ≡ [] }
+    requires within { (t : List Triple) → AreNodesAt t entries.old }
+    requires once { (t : List Triple) → AreOnceAt t entries.old }
+    requires from { entries.old.from ≤ 3 }
     requires inner { 2 ≤ node_count table.old }
-    ensures within { IfOk result (λ entries. AllAreWithin table.new entries.newest) }
-    ensures from { IfOk result (λ entries. entries.from ≤ 3) }
+    ensures nodes { IfOk result (λ _. nodes_in entries.new ≡ 1 ∷ 2 ∷ []) }
+    ensures within { IfOk result (λ _. AreNodesAt table.new entries.new) }
+    ensures once { IfOk result (λ _. AreOnceAt table.new entries.new) }
+    ensures from { IfOk result (λ _. entries.new.from ≤ 3) }
     ensures count { node_count table.old ≤ node_count table.new }
 {
-    let mut entries = Entries::new(alloc)?;
-    let mut plan = EntryPlan::new();
-    create(&entries, &mut plan, table, alloc)?;
+    let mut plan = EntryPlan::new(alloc);
+    create(entries, &mut plan, table, alloc)?;
     entries.reserve(&plan)?;
     entries.install(plan, Position::new(3));
-    Ok(entries)
+    Ok(())
 }
 
 // The file becomes n in the root, and the directory goes, where the ambition is true.
 fn change(
     entries: &Entries,
+    plan: &mut EntryPlan,
     table: &mut Table,
     alloc: Global,
     ambition: Node,
-) -> Result<EntryPlan, Fail>
-    requires within { AllAreWithin table.old entries.now.newest }
+) -> Result<(), Fail>
+    requires within { AreNodesWith table.old plan.old entries.now }
+    requires once { AreOnceWith table.old plan.old entries.now }
     requires ambition { ambition < node_count table.old }
 {
     let n = Name::read(alloc, b"n")?;
     let file = NodeNo::new(2);
-    let mut plan = EntryPlan::new();
     plan.renamed(entries, table, file, &n, ambition)?;
     plan.moved(entries, table, file, NodeNo::new(0), ambition)?;
     plan.removed(entries, table, NodeNo::new(1), ambition)?;
-    Ok(plan)
+    Ok(())
 }
 
-// The entries, and the plan of that change where option 0 is on.
-fn planned_change(table: &mut Table, alloc: Global) -> Result<(Entries, EntryPlan), Fail>
-    ensures from { IfOk result (λ made. made.0.from ≤ 3) }
+// The rows with that change where option 0 is on, before they are installed at position 5.
+fn change_where_on(
+    rt: &impl Abort,
+    entries: &mut Entries,
+    table: &mut Table,
+    alloc: Global,
+    on: Node,
+) -> Result<(), Fail>
+    requires within { AreNodesAt table.old entries.old }
+    requires once { AreOnceAt table.old entries.old }
+    requires from { entries.old.from ≤ 5 }
+    requires on { on < node_count table.old }
 {
-    let on = table.literal(OptionId::new(0))?;
-    let entries = two_nodes(table, alloc)?;
-    let plan = change(&entries, table, alloc, on)?;
-    Ok((entries, plan))
-}
-
-// The entries with that change from position 5 on.
-fn changed(table: &mut Table, alloc: Global) -> Result<Entries, Fail> {
-    let (mut entries, plan) = planned_change(table, alloc)?;
+    let mut plan = EntryPlan::new(alloc);
+    change(entries, &mut plan, table, alloc, on)?;
+    rows_to_come(rt, entries, &plan, table)?;
     entries.reserve(&plan)?;
     entries.install(plan, Position::new(5));
-    Ok(entries)
+    Ok(())
+}
+
+fn rows_to_come(
+    rt: &impl Abort,
+    entries: &Entries,
+    plan: &EntryPlan,
+    table: &Table,
+) -> Result<(), Fail> {
+    let rows = entries.rows_with(plan, table, Choice::new(1, 1))?;
+    assert_eq!(rt; rows.len(), 1);
+    is_row(rt, &rows, 0, 2, 0, b"n");
+    Ok(())
+}
+
+// The last row on a choice at a position.
+fn last_row(rt: &impl Abort, rows: &NodeRows, index: usize, node: u32, parent: u32, name: &[u8])
+    requires { index < 2 }
+{
+    assert_eq!(rt; rows.len(), index + 1);
+    is_row(rt, rows, index, node, parent, name);
+}
+
+// The rows before the change, and after it where option 0 is off and where it is on.
+fn rows_there(rt: &impl Abort, entries: &Entries, table: &Table) -> Result<(), Fail> {
+    let on = Choice::new(1, 1);
+    let first = entries.rows_at(table, on, Position::new(2))?;
+    assert_eq!(rt; first.len(), 0);
+    let before = entries.rows_at(table, on, Position::new(4))?;
+    last_row(rt, &before, 1, 2, 1, b"m");
+    let off = entries.rows_at(table, Choice::new(0, 1), Position::new(5))?;
+    last_row(rt, &off, 1, 2, 1, b"m");
+    let after = entries.rows_at(table, on, Position::new(5))?;
+    last_row(rt, &after, 0, 2, 0, b"n");
+    Ok(())
 }
 
 // A row has these values.
@@ -96,31 +144,74 @@ fn is_row(rt: &impl Abort, rows: &NodeRows, index: usize, node: u32, parent: u32
 }
 
 #[test]
-fn rows_to_come(rt: HostRuntime) -> Result<(), Fail> {
+fn rows_by_choice_and_position(rt: HostRuntime) -> Result<(), Fail> {
     let mut table = Table::new(rt.alloc())?;
-    let (entries, plan) = planned_change(&mut table, rt.alloc())?;
-    let rows = entries.rows_with(&plan, &table, Choice::new(1, 1))?;
-    assert_eq!(rt; rows.len(), 1);
-    is_row(&rt, &rows, 0, 2, 0, b"n");
-    let now = entries.rows_at(&table, Choice::new(1, 1), Position::new(9))?;
-    assert_eq!(rt; now.len(), 2);
+    let on = table.literal(OptionId::new(0))?;
+    let mut entries = Entries::new(rt.alloc())?;
+    two_nodes(&mut entries, &mut table, rt.alloc())?;
+    change_where_on(&rt, &mut entries, &mut table, rt.alloc(), on)?;
+    rows_there(&rt, &entries, &table)
+}
+
+// The directory goes where one option is on, another node gets its name where a second is, and it moves below its own file where
+// a third is.
+fn unsound_change(
+    entries: &Entries,
+    plan: &mut EntryPlan,
+    table: &mut Table,
+    alloc: Global,
+    gone: Node,
+    taken: Node,
+    below: Node,
+) -> Result<(), Fail>
+    requires nodes { nodes_with plan.old entries.now ≡ 1 ∷ 2 ∷ [] }
+    requires within { AreNodesWith table.old plan.old entries.now }
+    requires once { AreOnceWith table.old plan.old entries.now }
+    requires gone { gone < node_count table.old }
+    requires taken { taken < node_count table.old }
+    requires below { below < node_count table.old }
+    ensures within { AreNodesWith table.new plan.new entries.now }
+    ensures once { AreOnceWith table.new plan.new entries.now }
+    ensures count { node_count table.old ≤ node_count table.new }
+{
+    let d = Name::read(alloc, b"d")?;
+    let dir = NodeNo::new(1);
+    let root = NodeNo::new(0);
+    plan.created(entries, table, NodeNo::new(3), Kind::File, root, &d, taken)?;
+    plan.moved(entries, table, dir, NodeNo::new(2), below)?;
+    plan.removed(entries, table, dir, gone)?;
+    Ok(())
+}
+
+// The choices of a fourth option on which that is unsound.
+fn unsound_where(
+    rt: &impl Abort,
+    entries: &Entries,
+    table: &mut Table,
+    alloc: Global,
+) -> Result<(), Fail>
+    requires nodes { nodes_in entries.now ≡ 1 ∷ 2 ∷ [] }
+    requires within { AreNodesAt table.old entries.now }
+    requires once { AreOnceAt table.old entries.now }
+{
+    let gone = table.literal(OptionId::new(0))?;
+    let taken = table.literal(OptionId::new(1))?;
+    let below = table.literal(OptionId::new(2))?;
+    let within = table.literal(OptionId::new(3))?;
+    let mut plan = EntryPlan::new(alloc);
+    unsound_change(entries, &mut plan, table, alloc, gone, taken, below)?;
+    let unsound = entries.unsound(&plan, table, within)?;
+    let either = table.or(gone, taken)?;
+    let any = table.or(either, below)?;
+    let wanted = table.and(any, within, &mut Steps::<Uncounted>::new())?;
+    assert_eq!(rt; unsound, wanted);
     Ok(())
 }
 
 #[test]
-fn rows_by_choice_and_position(rt: HostRuntime) -> Result<(), Fail> {
+fn unsound_by_orphan_clash_and_loop(rt: HostRuntime) -> Result<(), Fail> {
     let mut table = Table::new(rt.alloc())?;
-    let entries = changed(&mut table, rt.alloc())?;
-    let first = entries.rows_at(&table, Choice::new(1, 1), Position::new(2))?;
-    assert_eq!(rt; first.len(), 0);
-    let before = entries.rows_at(&table, Choice::new(1, 1), Position::new(4))?;
-    assert_eq!(rt; before.len(), 2);
-    is_row(&rt, &before, 0, 1, 0, b"d");
-    let off = entries.rows_at(&table, Choice::new(0, 1), Position::new(5))?;
-    assert_eq!(rt; off.len(), 2);
-    is_row(&rt, &off, 1, 2, 1, b"m");
-    let on = entries.rows_at(&table, Choice::new(1, 1), Position::new(5))?;
-    assert_eq!(rt; on.len(), 1);
-    is_row(&rt, &on, 0, 2, 0, b"n");
-    Ok(())
+    let mut entries = Entries::new(rt.alloc())?;
+    two_nodes(&mut entries, &mut table, rt.alloc())?;
+    unsound_where(&rt, &entries, &mut table, rt.alloc())
 }

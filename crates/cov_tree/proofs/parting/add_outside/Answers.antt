@@ -1,10 +1,17 @@
-use Rattle.cov_tree.proofs.Rows.{on_ok}
+use Rattle.cov_dd.proofs.CallerLemmas.{extends_trans}
+use Rattle.cov_tree.proofs.Rows.{on_ok, within-grown}
 use Rattle.cov_tree.proofs.Parts.{adds_outside}
 use Rattle.cov_tree.proofs.parting.add_outside.Goals as goal
+
+pub add_place-requires-clause-made : goal.add_place-requires-clause-made
+add_place-requires-clause-made c = within-grown c.args.table.now c.without.new.self c.in_ok-vis.ensures.extends c.args.made.now c.requires.made
+
+pub returns-clause-extends : goal.returns-clause-extends
+returns-clause-extends c = extends_trans c.args.table.now c.without.new.self c.add_place.new.table c.in_ok-vis.ensures.extends c.add_place.ensures.extends
 
 pub returns-clause-ok : goal.returns-clause-ok
 returns-clause-ok c =
     on_ok c.add_place.result _ _
-    (adds_outside c.args.table.now c.take.new.table c.in_ok-vis.ensures.extends c.args.made.now c.add_place.new.made c.args.place.now c.in_ok-vis.vis c.args.ambition
-    c.requires.made c.in_ok-vis.ensures.stands.within c.in_ok-vis.ensures.stands.value)
-    c.add_place.ensures
+    (adds_outside c.args.table.now c.without.new.self c.add_place.new.table c.in_ok-vis.ensures.extends c.args.made.now c.add_place.new.made c.args.place.now c.in_ok-vis.vis c.args.ambition
+    c.requires.made c.in_ok-vis.ensures.stands.value)
+    c.add_place.ensures.ok
