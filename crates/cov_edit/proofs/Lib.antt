@@ -1,2 +1,5 @@
+pub mod CallerLemmas
 pub mod Examples
 pub mod Replays
+pub mod Rising
+pub mod TouchedNodes
