@@ -184,7 +184,8 @@ impl View {
         }
     }
 
-    /// Applies an edit, unless each variant that the view shows refuses it; then the view stays as it is.
+    /// Applies an edit, unless the rows of the view refuse it, as then each variant that it shows does; the view then stays
+    /// as it is. `Memory` may come where nothing refuses the edit.
     /// An insertion or deletion takes time in the lines of its file, a new node in its name. A deletion takes no memory.
     pub fn apply(&mut self, edit: &Edit) -> Result<(), EditFault>
         requires nodes { self.old.nodes_made < 2 ^ 32 - 1 }
@@ -192,10 +193,12 @@ impl View {
         ensures accepted { OnOk result ((ns : Numbers) (table : List (List ℕ)) (v : Variant) → Shows ns table self.old v → refusal ns v edit.now ≡ None) }
         ensures applied { OnOk result ((ns : Numbers) (table : List (List ℕ)) (v : Variant) → IsTable table → Shows ns table self.old v →
             Shows ns (table_after ns table edit.now) self.new (fold edited v (next_by_number ns table self.old edit.now))) }
+        ensures accepted_seen { OnOk result (seen_fault self.old.rows edit.now ≡ None) }
         ensures made { OnOk result (self.new ≡ seen_after self.old edit.now) }
         ensures nodes { OnOk result (self.new.nodes_made ≡ self.old.nodes_made + nodes_made (edit.now ∷ [])) }
         ensures lines { OnOk result (self.new.lines_made ≡ self.old.lines_made + length (anchors_of 0 (edit.now ∷ []))) }
         ensures refused { IfErr result (λ f. (ns : Numbers) (table : List (List ℕ)) (v : Variant) → Shows ns table self.old v → FaultBy f (refusal ns v edit.now)) }
+        ensures refused_seen { IfErr result (λ f. FaultBy f (seen_fault self.old.rows edit.now)) }
         ensures memory { IsErrOf result EditFault.Memory → takes_memory edit.now ≡ true }
         ensures same { OnErr result (self.new ≡ self.old) }
     {
@@ -213,13 +216,13 @@ impl View {
         ensures fault { result ≡ seen_fault self.now.rows edit.now }
         ensures once { AreRows self.now.nodes_made self.now.rows }
     {
-        let _ = &self.rows;
+        let rows = &self.rows;
         match edit {
             Edit::New { parent, name, .. } => self.new_fault(parent, name.as_slice()),
             Edit::Insert { file, after, .. } => {
-                self.line_fault(file, has_anchor(&self.rows, file, after))
+                self.line_fault(file, has_anchor(rows, file, after))
             }
-            Edit::Delete { file, line } => self.line_fault(file, has_line(&self.rows, file, line)),
+            Edit::Delete { file, line } => self.line_fault(file, has_line(rows, file, line)),
         }
     }
 

@@ -2,7 +2,7 @@ use Rattle.std.proofs.Common.{◌≡◌, sym, subst, ◌∙◌}
 use Rattle.std.specs.List.{fold}
 use Rattle.cov_edit.specs.Variant.{edited}
 use Rattle.cov_view.specs.Refusals.{refusal}
-use Rattle.cov_view.specs.Seen.{Seen, seen_after}
+use Rattle.cov_view.specs.Seen.{Seen, seen_fault, seen_after}
 use Rattle.cov_view.specs.Views.{Shows, table_after, next_by_number}
 use Rattle.cov_view.proofs.Applying.{shows-after}
 use Rattle.cov_view.proofs.Refusing.{refused-as, fault-by}
@@ -11,6 +11,10 @@ use Rattle.cov_view.proofs.view.View.apply.Goals as goal
 pub returns-in-Some-clause-refused : goal.returns-in-Some-clause-refused
 returns-in-Some-clause-refused c = λ ns table v shows.
     fault-by c.in-Some.fault (refusal ns v c.args.edit.now) (refused-as ns table c.args.self.now v shows c.args.edit.now ∙ sym c.fault.ensures.fault ∙ c.in-Some.is)
+
+pub returns-in-Some-clause-refused_seen : goal.returns-in-Some-clause-refused_seen
+returns-in-Some-clause-refused_seen c =
+    fault-by c.in-Some.fault (seen_fault c.args.self.now.rows c.args.edit.now) (sym c.fault.ensures.fault ∙ c.in-Some.is)
 
 pub returns-in-Ok-clause-accepted : goal.returns-in-Ok-clause-accepted
 returns-in-Ok-clause-accepted c = λ ns table v shows.
