@@ -1,8 +1,14 @@
+pub mod Checking
 pub mod Cutting
 mod Examples
 pub mod Joining
+pub mod Keywords
+pub mod KindLemmas
+mod MistakeExamples
+pub mod Mistaken
 pub mod Numbers
 pub mod Places
+pub mod Refused
 mod ReplyExamples
 pub mod Spelling
 pub mod Unspelling

@@ -1,4 +1,4 @@
--- The places of mistakes in an expression are within it.
+-- The places of mistakes in an expression are within it, and reading it wants no memory.
 use Rattle.std.proofs.Common.{◌≡◌, ℕ, zero, suc, ◌+◌, ◌≤◌, Bool, true, false, List, [], ◌∷◌, length, Option, Some, None, Result, Ok, Err, arith, subst}
 use Rattle.std.specs.Prelude.{if◌then◌else◌, nat_eq, nat_lt}
 use Rattle.std.specs.List.{prefix_len, take_while}
@@ -24,7 +24,7 @@ abbrev FaultWithin : ℕ → Result (Formula (List ℕ)) ExprFault → Type 0
 FaultWithin n (Ok e) = Unit {0}
 FaultWithin n (Err (Syntax at)) = at ≤ n
 FaultWithin n (Err TooLong) = Unit {0}
-FaultWithin n (Err Memory) = Unit {0}
+FaultWithin n (Err Memory) = ⊥
 
 token_then-within : (n : ℕ) (t : ℕ × Token) (lexed : Lexed) → t.0 ≤ n → LexedWithin n lexed → LexedWithin n (token_then t lexed)
 token_then-within n t (Tokens ts) h later = (h, later)
@@ -74,12 +74,18 @@ read_counted-within : (n : ℕ) (counted : Result ℕ ℕ) (r : Result (Formula 
 read_counted-within n (Ok count) r h = too_long-within n (nat_lt 256 count) r h
 read_counted-within n (Err at) r h = h
 
+parsed-within : (bs : List ℕ) → FaultWithin (length bs) (parsed bs)
+parsed-within bs =
+    let n = length bs in
+    read_counted-within n (token_count (tokens_of bs)) (read_lexed (tokens_of bs) n start) (read_lexed-within (tokens_of bs) n (tokens_from-within n 0 0 bs (omega arith)))
+
 -- a mistake in an expression is within it, or at its end
 pub mistake_within : (bs : List ℕ) (at : ℕ) → parsed bs ≡ Err (Syntax at) → at ≤ length bs
-mistake_within bs at e =
-    let n = length bs in
-    let within = read_counted-within n (token_count (tokens_of bs)) (read_lexed (tokens_of bs) n start) (read_lexed-within (tokens_of bs) n (tokens_from-within n 0 0 bs (omega arith))) in
-    subst (FaultWithin n) e within
+mistake_within bs at e = subst (FaultWithin (length bs)) e (parsed-within bs)
+
+-- what an expression is doesn't depend on memory
+pub never_memory : (bs : List ℕ) → parsed bs ≡ Err Memory → ⊥
+never_memory bs e = subst (FaultWithin (length bs)) e (parsed-within bs)
 
 -- the same of a fault that is answered
 pub answered_within : (bs : List ℕ) (fault : ExprFault) (at : ℕ) → IsAnswer (parsed bs) (Err fault) → fault ≡ Syntax at → at ≤ length bs

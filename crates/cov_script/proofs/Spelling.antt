@@ -36,10 +36,10 @@ drop_front : (w tail : List ℕ) → drop (length w) (w ++ tail) ≡ tail
 drop_front [] tail = refl
 drop_front (b ∷ bs) tail = drop_front bs tail
 
-first : (w tail : List ℕ) → list_all is_other w ≡ true → prefix_len is_other tail ≡ 0 → first_field (w ++ tail) ≡ w
+pub first : (w tail : List ℕ) → list_all is_other w ≡ true → prefix_len is_other tail ≡ 0 → first_field (w ++ tail) ≡ w
 first w tail h none = ap (λ n. take n (w ++ tail)) (spaceless_len w tail h none) ∙ take_front w tail
 
-later : (w tail : List ℕ) → list_all is_other w ≡ true → prefix_len is_other tail ≡ 0 → behind_field (w ++ tail) ≡ tail
+pub later : (w tail : List ℕ) → list_all is_other w ≡ true → prefix_len is_other tail ≡ 0 → behind_field (w ++ tail) ≡ tail
 later w tail h none = ap (λ n. drop n (w ++ tail)) (spaceless_len w tail h none) ∙ drop_front w tail
 
 -- a field is read where it stands

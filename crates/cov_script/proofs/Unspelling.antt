@@ -13,6 +13,7 @@ use Rattle.cov_expr.specs.declared.spelling.ExprFault.{ExprFault}
 use Rattle.cov_expr.specs.declared.spelling.ExprFault.TheVariants as faults
 use Rattle.cov_script.specs.Fields.{Rest, Got, go_on, field, taken, place, behind, at_end, expression, expression_at, text, is_text, token_of, name_of, new_path_of, word_of, number_of, line_of, first_field, behind_field}
 use Rattle.cov_script.specs.Forms.{IsField, One, Two, Behind, Only, LineAndText, Ambition, HasForm}
+use Rattle.cov_script.specs.Kinds.{word_for}
 use Rattle.cov_script.specs.Lines.{form_of, spoken, if_keyword, line_behind, keyword_of, looked_up, or_else, rule_words, tree_words, line_words, session_words, two_fields, one, two, three, with_text, line_and_text, ambition, open_line}
 use Rattle.cov_script.specs.declared.keyword.Keyword.{Keyword}
 use Rattle.cov_script.specs.declared.keyword.Keyword.TheVariants as keywords
@@ -22,17 +23,17 @@ use Rattle.cov_script.specs.declared.line.LineField.{LineField}
 use Rattle.cov_script.specs.declared.line.LineSyntax.{LineSyntax}
 use Rattle.cov_script.specs.declared.line.LineSyntax.TheVariants.{Syntax}
 
-abbrev is_other : ℕ → Bool
+abbrev pub is_other : ℕ → Bool
 is_other b = not (nat_eq b 32)
 
-same_bytes : (xs ys : List ℕ) → bytes_eq xs ys ≡ true → xs ≡ ys
+pub same_bytes : (xs ys : List ℕ) → bytes_eq xs ys ≡ true → xs ≡ ys
 same_bytes xs ys h = (bytes_eq-Decides xs ys).0 h
 
 -- nothing, or a space and what follows it
-abbrev Starts : List ℕ → Type 0
+abbrev pub Starts : List ℕ → Type 0
 Starts bs = (bs ≡ []) ⊎ ((r : List ℕ) × (bs ≡ 32 ∷ r))
 
-record IsCut (bs : List ℕ) : Type 0 where
+pub record IsCut (bs : List ℕ) : Type 0 where
   pub spaceless : list_all is_other (first_field bs) ≡ true
   pub whole : bs ≡ first_field bs ++ behind_field bs
   pub starts : Starts (behind_field bs)
@@ -59,7 +60,7 @@ cut_cons b bs false h later =
     }
 
 -- a line is its first field and what stands behind it
-cut : (bs : List ℕ) → IsCut bs
+pub cut : (bs : List ℕ) → IsCut bs
 cut [] = record { spaceless = refl; whole = refl; starts = inl refl }
 cut (b ∷ bs) = cut_cons b bs (is_other b) refl (cut bs)
 
@@ -106,7 +107,7 @@ was_field kind none size bs g (inr more) e =
       starts = parts.starts;
     }
 
-nil_behind : (w : List ℕ) → w ++ [] ≡ w
+pub nil_behind : (w : List ℕ) → w ++ [] ≡ w
 nil_behind [] = refl
 nil_behind (b ∷ bs) = ap (λ xs. b ∷ xs) (nil_behind bs)
 
@@ -318,32 +319,6 @@ was_open word f size bs starts h =
       same,
     )
 
--- the bytes of a keyword
-abbrev word_for : Keyword → List ℕ
-word_for keywords.Option = codes "option"
-word_for keywords.Constraint = codes "constraint"
-word_for keywords.Prefer = codes "prefer"
-word_for keywords.Default = codes "default"
-word_for keywords.Complete = codes "complete"
-word_for keywords.Open = codes "open"
-word_for keywords.MakeDir = codes "mkdir"
-word_for keywords.MakeFile = codes "mkfile"
-word_for keywords.Rename = codes "rename"
-word_for keywords.Move = codes "move"
-word_for keywords.Remove = codes "remove"
-word_for keywords.Insert = codes "insert"
-word_for keywords.Delete = codes "delete"
-word_for keywords.Replace = codes "replace"
-word_for keywords.Show = codes "show"
-word_for keywords.List = codes "list"
-word_for keywords.Refresh = codes "refresh"
-word_for keywords.Commit = codes "commit"
-word_for keywords.Drop = codes "drop"
-word_for keywords.Cat = codes "cat"
-word_for keywords.Checkout = codes "checkout"
-word_for keywords.Alt = codes "alt"
-word_for keywords.Where = codes "where"
-
 -- each word stands for the keyword beside it
 abbrev AreWords : List (List ℕ × Keyword) → Type 0
 AreWords [] = Unit {0}
@@ -363,7 +338,7 @@ was_either : (o other : Option Keyword) (k : Keyword) → or_else o other ≡ So
 was_either None other k h = inr h
 was_either (Some j) other k h = inl h
 
-was_keyword : (bytes : List ℕ) (k : Keyword) → keyword_of bytes ≡ Some k → bytes ≡ word_for k
+pub was_keyword : (bytes : List ℕ) (k : Keyword) → keyword_of bytes ≡ Some k → bytes ≡ word_for k
 was_keyword bytes k h = rule (was_either (looked_up rule_words bytes) (or_else (looked_up tree_words bytes) (or_else (looked_up line_words bytes) (looked_up session_words bytes))) k h) where
   line : (looked_up line_words bytes ≡ Some k) ⊎ (looked_up session_words bytes ≡ Some k) → bytes ≡ word_for k
   line (inl e) = was_looked_up line_words bytes k (refl, (refl, (refl, (refl, (refl, tt))))) e

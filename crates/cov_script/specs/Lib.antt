@@ -1,4 +1,6 @@
 pub mod Fields
 pub mod Forms
+pub mod Kinds
 pub mod Lines
+pub mod Mistakes
 pub mod Replies

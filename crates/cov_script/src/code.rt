@@ -3,7 +3,7 @@ ghost use Rattle.std.specs.Prelude.{◌≡◌, ◌++◌, IfOk, OnOk, codes, leng
 ghost use Rattle.std.specs.Fmt.{decimal};
 ghost use Rattle.cov_script.specs.Replies.{code_detail, code_text, code_word, IsCodeOf};
 
-use cov_base::{Memory, OptionId, Text};
+use cov_base::{Memory, OptionId, Position, Text};
 use cov_expr::Options;
 use std::alloc::Global;
 
@@ -56,6 +56,8 @@ pub enum Code {
     BadOption,
     /// The edit with this number, from 0, is the first that its variant refuses.
     BadRecord { edit: u32 },
+    /// The commit with this position touched a common node and shares a valid choice.
+    Overtaken { position: Position },
     /// The line has a form that isn't served.
     NotBuilt,
 }
@@ -101,6 +103,7 @@ fn word_of(code: &Code) -> &'static [u8]
         Code::BadBase => b"bad-base",
         Code::BadOption => b"bad-option",
         Code::BadRecord { .. } => b"bad-record",
+        Code::Overtaken { .. } => b"overtaken",
         Code::NotBuilt => b"not-built",
     }
 }
@@ -119,6 +122,7 @@ fn append_detail(
         Code::Syntax { at } => append_number(alloc, text, *at),
         Code::Invalid { rule } => append_number(alloc, text, *rule),
         Code::BadRecord { edit } => append_number(alloc, text, *edit),
+        Code::Overtaken { position } => append_number(alloc, text, position.number()),
         Code::UnknownOption { name } => append_word(text, name.as_slice()),
         Code::Repeated { option } | Code::Incomplete { option } => append_word(
             text,

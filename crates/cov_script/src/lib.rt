@@ -13,7 +13,7 @@ mod reply;
 mod unread;
 
 pub use code::{Code, code_text};
-pub use laws::lines_read_as_spelt;
+pub use laws::{lines_read_as_spelt, mistakes_are_placed};
 pub use line::{Line, LineField, LineSyntax};
 pub use read::read_line;
 pub use reply::{
@@ -21,8 +21,3 @@ pub use reply::{
     reply_new_line, reply_open, reply_option, reply_plain, reply_prefer, reply_refused, show_line,
     whole,
 };
-
-#[cfg(test)]
-mod reply_tests;
-#[cfg(test)]
-mod tests;

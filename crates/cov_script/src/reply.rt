@@ -124,10 +124,10 @@ pub fn reply_refused(alloc: Global, options: &Options, code: &Code) -> Result<Te
 }
 
 /// A reply of several lines: the first line and the others in order, in work that is linear in them all.
-pub fn whole(first: Text, lines: &Texts) -> Result<Text, Memory>
-    ensures { IfOk result (λ text. text ≡ first ++ concat lines.now) }
+pub fn whole(first: &Text, lines: &Texts) -> Result<Text, Memory>
+    ensures { IfOk result (λ text. text ≡ first.now ++ concat lines.now) }
 {
-    let mut text = first;
+    let mut text = first.copy()?;
     for index in 0..lines.len() {
         append_line(&mut text, lines, index)?;
     }

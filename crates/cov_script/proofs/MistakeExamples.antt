@@ -1,0 +1,116 @@
+-- Lines with the places at which they are mistaken.
+use Rattle.std.proofs.Common.{◌≡◌, [], ◌∷◌, ◌++◌, replicate, Some, None, refl, ap, sym, ◌∙◌, inl, inr, arith}
+use Rattle.std.specs.Prelude.{codes}
+use Rattle.std.specs.Str.{is_utf8, chars}
+use lib.Utf8.{encode}
+use Rattle.cov_script.specs.Kinds.{Token, Name, Path, Choice, For, EditLine, Expression, Text, word_for}
+use Rattle.cov_script.specs.Lines.{keyword_of}
+use Rattle.cov_script.specs.Mistakes.{IsRight, IsMistaken, IsTooLong}
+use Rattle.cov_script.specs.declared.keyword.Keyword.{Keyword}
+use Rattle.cov_script.specs.declared.keyword.Keyword.TheVariants as keywords
+use Rattle.cov_script.proofs.Keywords.{word_found}
+use Rattle.cov_script.proofs.Mistaken.{not_silent}
+
+-- option TOKEN, with more behind the token: at the space behind it
+more : IsMistaken (codes "option a b") 8
+more =
+    let token : IsRight Token (codes "a") = record { ends = refl; spaceless = refl; of_kind = refl } in
+    inr (inr (inr (record { keyword = keywords.Option; front = codes "option a"; right = (codes " a", refl, (codes "a", [], refl, token, refl)); more = codes "b"; all = refl; place = refl })))
+
+-- no token, behind a space and before one: an empty field is not of its kind
+empty : IsMistaken (codes "option  a") 7
+empty = inr (inl (record {
+  keyword = keywords.Option;
+  before = [];
+  kind = Token;
+  wanted = ([], refl);
+  front = codes "option";
+  right = ([], refl, refl);
+  ahead = codes " a";
+  all = refl;
+  within = 0;
+  wrong = (refl, refl);
+  place = refl;
+}))
+
+-- no expression: at the line's length
+lacking : IsMistaken (codes "constraint") 10
+lacking =
+    inr (inr (inl (record { keyword = keywords.Constraint; before = []; kind = Expression; wanted = ([], refl); needed = λ e. let wrong = e in cc; right = ([], refl, refl); place = refl })))
+
+-- a byte that begins no token, behind the keyword and a space at 11: at its place within the expression behind that
+no_token : IsMistaken (codes "constraint a $") 13
+no_token = inr (inl (record {
+  keyword = keywords.Constraint;
+  before = [];
+  kind = Expression;
+  wanted = ([], refl);
+  front = codes "constraint";
+  right = ([], refl, refl);
+  ahead = codes "a $";
+  all = refl;
+  within = 2;
+  wrong = refl;
+  place = refl;
+}))
+
+-- the third field is not the word for, and what follows it isn't looked at
+third : IsMistaken (codes "open s - fro $") 9
+unfolding is_utf8 chars encode
+third =
+    let name : IsRight Name (codes "s") = record { ends = refl; spaceless = refl; of_kind = refl } in
+    let choice : IsRight Choice (codes "-") = record { ends = refl; spaceless = refl; of_kind = refl } in
+    inr (inl (record {
+      keyword = keywords.Open;
+      before = Name ∷ Choice ∷ [];
+      kind = For;
+      wanted = (Expression ∷ [], refl);
+      front = codes "open s -";
+      right = (codes " s -", refl, (codes "s", codes " -", refl, name, (codes "-", [], refl, choice, refl)));
+      ahead = codes "fro $";
+      all = refl;
+      within = 0;
+      wrong = (refl, refl);
+      place = refl;
+    }))
+
+-- a text of 4,097 bytes: at its first byte
+long_text : IsMistaken (codes "insert s / 0 " ++ replicate 4097 120) 13
+unfolding is_utf8 chars encode
+long_text =
+    let name : IsRight Name (codes "s") = record { ends = refl; spaceless = refl; of_kind = refl } in
+    let path : IsRight Path (codes "/") = record { ends = refl; spaceless = refl; of_kind = refl } in
+    let number : IsRight EditLine (codes "0") = record { ends = refl; spaceless = refl; of_kind = refl } in
+    inr (inl (record {
+      keyword = keywords.Insert;
+      before = Name ∷ Path ∷ EditLine ∷ [];
+      kind = Text;
+      wanted = ([], refl);
+      front = codes "insert s / 0";
+      right = (codes " s / 0", refl, (codes "s", codes " / 0", refl, name, (codes "/", codes " 0", refl, path, (codes "0", [], refl, number, refl))));
+      ahead = replicate 4097 120;
+      all = refl;
+      within = 0;
+      wrong = (refl, refl);
+      place = refl;
+    }))
+
+-- an empty field in the place of the keyword is an unknown one
+unknown : IsMistaken (codes " option a") 0
+unknown = inl (record { speaks = not_silent 32 (codes "option a") refl; unknown = none; place = refl })
+  where
+    none : (keyword : Keyword) → word_for keyword ≡ [] → ⊥
+    none keyword e = let found : Some keyword ≡ None = sym (word_found keyword) ∙ ap keyword_of e in cc
+
+-- 256 tokens are an expression, 257 are too many
+too_long : IsTooLong (codes "prefer " ++ replicate 256 33 ++ codes "a")
+too_long = record {
+  keyword = keywords.Prefer;
+  before = [];
+  wanted = ([], refl);
+  front = codes "prefer";
+  right = ([], refl, refl);
+  ahead = replicate 256 33 ++ codes "a";
+  all = refl;
+  long = omega arith;
+}
