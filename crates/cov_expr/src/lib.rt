@@ -3,8 +3,6 @@
 
 mod binding;
 mod expr;
-#[cfg(test)]
-mod expr_tests;
 mod laws;
 mod naming;
 mod options;
@@ -33,6 +31,3 @@ pub use raw_choice::{ChoiceSyntax, RawChoice};
 pub use raw_expr::RawExpr;
 pub use spelling::{ExprFault, parse};
 pub use token::Token;
-
-#[cfg(test)]
-mod choice_tests;

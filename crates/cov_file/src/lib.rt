@@ -8,6 +8,3 @@ mod row;
 
 pub use lines::FileLines;
 pub use row::{FileRow, FileRows};
-
-#[cfg(test)]
-mod tests;

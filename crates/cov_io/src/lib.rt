@@ -7,8 +7,6 @@ mod device;
 mod in_memory;
 mod reading;
 mod standard;
-#[cfg(test)]
-mod tests;
 
 pub use device::{Sink, Source};
 pub use in_memory::{MemorySink, MemorySource};

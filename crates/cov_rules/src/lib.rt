@@ -7,6 +7,3 @@ mod rules;
 
 pub use completing::CompleteFault;
 pub use rules::{Invalid, Rule, RuleFault, RulePlan, Rules};
-
-#[cfg(test)]
-mod tests;

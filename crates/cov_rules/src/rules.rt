@@ -341,6 +341,13 @@ impl Rules {
         defaulted(table, preferred, self.defaults.as_slice())
     }
 
+    /// The node that is true on exactly the choices that meet all constraints.
+    pub fn conjunction(&self) -> Node
+        ensures { result ≡ self.now.standing.conjunction }
+    {
+        self.conjunction
+    }
+
     /// Names the least of the constraints among the first `at` commands that is false on a choice. It takes no memory.
     pub fn valid(&self, choice: Choice, at: Position) -> Result<(), Invalid>
         requires { reach_of (expressions_at at self.now.standing.constraints) ≤ length choice }

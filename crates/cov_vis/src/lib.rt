@@ -6,6 +6,3 @@ mod compiling;
 
 pub use changing::{add, take};
 pub use compiling::compile;
-
-#[cfg(test)]
-mod tests;

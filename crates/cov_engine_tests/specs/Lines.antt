@@ -1,0 +1,68 @@
+-- A history of a file with lines for all variants, lines for those with an option, and lines that are taken out.
+use Rattle.std.specs.Prelude.{ℕ, Bool, true, false, List, [], ◌∷◌, ◌++◌, codes}
+use Rattle.cov_base.specs.declared.number.Kind.TheVariants as kinds
+use Rattle.cov_base.specs.declared.number.NodeRef.{NodeRef}
+use Rattle.cov_base.specs.declared.number.NodeRef.TheVariants as nodes
+use Rattle.cov_base.specs.declared.number.LineRef.TheVariants as lines
+use Rattle.cov_expr.specs.Formula.{Formula, True, On}
+use Rattle.cov_edit.specs.declared.edit.Edit.{Edit}
+use Rattle.cov_edit.specs.declared.edit.Edit.TheVariants as edits
+use Rattle.cov_edit.specs.declared.command.Command.{Command}
+use Rattle.cov_edit.specs.declared.command.Command.TheVariants as commands
+
+-- the option d
+abbrev pub of_d : Command
+of_d = commands.Option (codes "d")
+
+-- all variants, or those with d
+abbrev pub ambition_of : Bool → Formula ℕ
+ambition_of true = On 0
+ambition_of false = True
+
+-- the file m
+abbrev pub file_m : Edit
+file_m = edits.New kinds.File (nodes.Old 0) (codes "m")
+
+-- a line more of a file, after another
+abbrev pub line_in : NodeRef → ℕ → List ℕ → Edit
+line_in file after text = edits.Insert file (lines.Old after) text
+
+-- the file m with a line
+abbrev pub file_with : List ℕ → List Edit
+file_with text = file_m ∷ line_in (nodes.New 0) 0 text ∷ []
+
+-- a line more of that file
+abbrev pub line_after : ℕ → List ℕ → List Edit
+line_after after text = line_in (nodes.Old 1) after text ∷ []
+
+-- a line less
+abbrev pub without : ℕ → List Edit
+without line = edits.Delete (nodes.Old 1) (lines.Old line) ∷ []
+
+-- a commit of edits on the variant of a choice
+abbrev pub commit_of : ℕ → List Bool → Bool → List Edit → Command
+commit_of base choice for_d es = commands.Commit base choice (ambition_of for_d) es
+
+-- the file m with A, for all variants
+abbrev pub with_A : List Command
+with_A = of_d ∷ commit_of 1 (true ∷ []) false (file_with (codes "A")) ∷ []
+
+-- B after A, for those with d
+abbrev pub with_B : List Command
+with_B = with_A ++ commit_of 2 (true ∷ []) true (line_after 1 (codes "B")) ∷ []
+
+-- C after B, for all
+abbrev pub with_C : List Command
+with_C = with_B ++ commit_of 3 (true ∷ []) false (line_after 2 (codes "C")) ∷ []
+
+-- X after A, for all, from the variant without d
+abbrev pub with_X : List Command
+with_X = with_C ++ commit_of 4 (false ∷ []) false (line_after 1 (codes "X")) ∷ []
+
+-- B is taken out of all
+abbrev pub without_B : List Command
+without_B = with_X ++ commit_of 5 (true ∷ []) false (without 2) ∷ []
+
+-- X is taken out of those with d
+abbrev pub without_X : List Command
+without_X = without_B ++ commit_of 6 (true ∷ []) true (without 4) ∷ []

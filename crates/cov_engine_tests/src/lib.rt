@@ -1,0 +1,10 @@
+//! Tests of the engine by its public calls. A crate with tests is proved twice, so these stand in a crate of their own that has
+//! nothing else.
+#![tactic(auto)]
+
+#[cfg(test)]
+mod declaring;
+#[cfg(test)]
+mod lines;
+#[cfg(test)]
+mod steps;

@@ -1,0 +1,279 @@
+//! A file with lines for all variants, lines for some, and lines that are taken out.
+ghost use Rattle.std.specs.Prelude.{◌≡◌, ◌++◌, [], ◌∷◌, true, codes, IfOk, OnOk};
+ghost use Rattle.cov_edit.specs.EditFits.{is_line_text, has_line_text};
+ghost use Rattle.cov_history.specs.Sessions.{MayCome};
+ghost use Rattle.cov_engine_tests.specs.Lines.{ambition_of, file_m, line_in, file_with, line_after, without, commit_of, with_X, without_X};
+
+use crate::steps::{append, close, declare_d};
+use cov_base::{
+    Choice, Kind, LineNo, LineRef, Memory, Name, NodeNo, NodeRef, OptionId, Position, Text,
+};
+use cov_dd::{FALSE, TRUE};
+use cov_edit::{Command, Edit, Edits};
+use cov_engine::Engine;
+use cov_expr::{Expr, Part};
+use cov_file::FileRows;
+use cov_view::{View, ViewLines};
+use std::alloc::Global;
+use std::process::Abort;
+use std::test::Fail;
+
+// All variants, or those with d.
+fn ambition(for_d: bool) -> Result<Expr, Fail>
+    ensures { IfOk result (λ expr. expr ≡ ambition_of for_d) }
+{
+    match for_d {
+        true => Ok(Expr::new(Part::Option(OptionId::new(0)))?),
+        false => Ok(Expr::new(Part::True)?),
+    }
+}
+
+// Commits edits on the variant of a choice.
+fn commit(
+    engine: &mut Engine,
+    base: u32,
+    choice: Choice,
+    for_d: bool,
+    edits: Edits,
+) -> Result<(), Fail>
+    requires { MayCome engine.old.history (commit_of base choice for_d edits) }
+    ensures { OnOk result (engine.new.history ≡ engine.old.history ++ commit_of base choice for_d edits ∷ []) }
+{
+    let ambition = ambition(for_d)?;
+    let command = Command::Commit {
+        base: Position::new(base),
+        choice,
+        ambition,
+        edits,
+    };
+    append(engine, command)?;
+    Ok(())
+}
+
+// One edit.
+fn one(alloc: Global, edit: Edit) -> Result<Edits, Memory>
+    requires { has_line_text edit ≡ true }
+    ensures { IfOk result (λ edits. edits ≡ edit ∷ []) }
+{
+    let mut edits = Edits::new(alloc);
+    match edits.push(edit) {
+        Ok(()) => Ok(edits),
+        Err(Memory) => Err(Memory),
+    }
+}
+
+fn insertion(alloc: Global, file: NodeRef, after: u32, text: &[u8]) -> Result<Edit, Memory>
+    ensures { IfOk result (λ edit. edit ≡ line_in file after text.now) }
+{
+    let text = Text::from_slice(alloc, text)?;
+    Ok(Edit::Insert {
+        file,
+        after: LineRef::Old(LineNo::new(after)),
+        text,
+    })
+}
+
+// The file m.
+fn new_file(alloc: Global) -> Result<Edits, Fail>
+    ensures { IfOk result (λ edits. edits ≡ file_m ∷ []) }
+{
+    let name = Name::read(alloc, b"m")?;
+    let edit = Edit::New {
+        kind: Kind::File,
+        parent: NodeRef::Old(NodeNo::new(0)),
+        name,
+    };
+    Ok(one(alloc, edit)?)
+}
+
+// The file m with the line A.
+fn file_with_line(alloc: Global) -> Result<Edits, Fail>
+    ensures { IfOk result (λ edits. edits ≡ file_with (codes "A")) }
+{
+    let line = insertion(alloc, NodeRef::New(0), 0, b"A")?;
+    let mut edits = match new_file(alloc) {
+        Ok(edits) => edits,
+        Err(fail) => return Err(fail),
+    };
+    match edits.push(line) {
+        Ok(()) => Ok(edits),
+        Err(_) => Err(Fail::from("no memory")),
+    }
+}
+
+// Puts a line into the file 1, from the variant of a choice.
+fn insert(
+    alloc: Global,
+    engine: &mut Engine,
+    base: u32,
+    choice: Choice,
+    for_d: bool,
+    after: u32,
+    text: &[u8],
+) -> Result<(), Fail>
+    requires text { is_line_text text.now ≡ true }
+    requires may_come { MayCome engine.old.history (commit_of base choice for_d (line_after after text.now)) }
+    ensures { OnOk result (engine.new.history ≡ engine.old.history ++ commit_of base choice for_d (line_after after text.now) ∷ []) }
+{
+    let edit = insertion(alloc, NodeRef::Old(NodeNo::new(1)), after, text)?;
+    let edits = one(alloc, edit)?;
+    commit(engine, base, choice, for_d, edits)
+}
+
+// Takes a line out of the file 1, from the variant of the choice with d.
+fn delete(alloc: Global, engine: &mut Engine, base: u32, for_d: bool, line: u32) -> Result<(), Fail>
+    requires { MayCome engine.old.history (commit_of base (true ∷ []) for_d (without line)) }
+    ensures { OnOk result (engine.new.history ≡ engine.old.history ++ commit_of base (true ∷ []) for_d (without line) ∷ []) }
+{
+    let edit = Edit::Delete {
+        file: NodeRef::Old(NodeNo::new(1)),
+        line: LineRef::Old(LineNo::new(line)),
+    };
+    let edits = one(alloc, edit)?;
+    commit(engine, base, Choice::new(1, 1), for_d, edits)
+}
+
+// Lines for all variants before and after one for those with d.
+fn insert_lines(alloc: Global, engine: &mut Engine) -> Result<(), Fail>
+    requires { engine.old.history ≡ [] }
+    ensures { OnOk result (engine.new.history ≡ with_X) }
+{
+    declare_d(alloc, engine)?;
+    let edits = file_with_line(alloc)?;
+    commit(engine, 1, Choice::new(1, 1), false, edits)?;
+    insert(alloc, engine, 2, Choice::new(1, 1), true, 1, b"B")?;
+    insert(alloc, engine, 3, Choice::new(1, 1), false, 2, b"C")?;
+    insert(alloc, engine, 4, Choice::new(0, 1), false, 1, b"X")
+}
+
+// One line taken out of all variants, and one out of those with d.
+fn delete_lines(alloc: Global, engine: &mut Engine) -> Result<(), Fail>
+    requires { engine.old.history ≡ with_X }
+    ensures { OnOk result (engine.new.history ≡ without_X) }
+{
+    delete(alloc, engine, 5, false, 2)?;
+    delete(alloc, engine, 6, true, 4)
+}
+
+// Whether a line is visible without d and with it.
+fn shown(engine: &Engine, line: u32) -> Option<(bool, bool)> {
+    match engine.vis(LineNo::new(line)) {
+        Some(node) => Some((
+            engine.table().value(node, Choice::new(0, 1)),
+            engine.table().value(node, Choice::new(1, 1)),
+        )),
+        None => None,
+    }
+}
+
+fn check_inserted(rt: &impl Abort, alloc: Global, engine: &mut Engine) -> Result<(), Fail>
+    requires { engine.old.history ≡ [] }
+{
+    insert_lines(alloc, engine)?;
+    assert!(rt; engine.vis(LineNo::new(1)) == Some(TRUE));
+    assert!(rt; engine.vis(LineNo::new(3)) == Some(TRUE));
+    assert!(rt; engine.vis(LineNo::new(4)) == Some(TRUE));
+    assert!(rt; engine.vis(LineNo::new(5)).is_none());
+    assert!(rt; engine.vis(LineNo::new(0)).is_none());
+    assert!(rt; shown(engine, 2) == Some((false, true)));
+    Ok(())
+}
+
+#[test]
+fn inserted_lines_are_visible_where_they_were_meant(rt: HostRuntime) -> Result<(), Fail> {
+    let mut engine = Engine::new(rt.alloc())?;
+    let checked = check_inserted(&rt, rt.alloc(), &mut engine);
+    close(engine);
+    checked
+}
+
+fn check_deleted(rt: &impl Abort, alloc: Global, engine: &mut Engine) -> Result<(), Fail>
+    requires { engine.old.history ≡ [] }
+{
+    insert_lines(alloc, engine)?;
+    delete_lines(alloc, engine)?;
+    assert!(rt; engine.vis(LineNo::new(1)) == Some(TRUE));
+    assert!(rt; engine.vis(LineNo::new(2)) == Some(FALSE));
+    assert!(rt; shown(engine, 4) == Some((true, false)));
+    Ok(())
+}
+
+#[test]
+fn deleted_lines_are_hidden_where_it_was_meant(rt: HostRuntime) -> Result<(), Fail> {
+    let mut engine = Engine::new(rt.alloc())?;
+    let checked = check_deleted(&rt, rt.alloc(), &mut engine);
+    close(engine);
+    checked
+}
+
+// Whether rows have a line with its text at an index.
+fn is_at(rows: &FileRows, index: usize, line: u32, text: &[u8]) -> bool {
+    match rows.get(index) {
+        Some(row) => row.line.number() == line && row.text.as_slice() == text,
+        None => false,
+    }
+}
+
+fn check_listed(rt: &impl Abort, alloc: Global, engine: &mut Engine) -> Result<(), Fail>
+    requires { engine.old.history ≡ [] }
+{
+    insert_lines(alloc, engine)?;
+    delete_lines(alloc, engine)?;
+    let rows = engine.file_lines(NodeNo::new(1))?;
+    assert_eq!(rt; rows.len(), 4);
+    assert!(rt; is_at(&rows, 0, 1, b"A"));
+    assert!(rt; is_at(&rows, 1, 4, b"X"));
+    assert!(rt; is_at(&rows, 2, 2, b"B"));
+    assert!(rt; is_at(&rows, 3, 3, b"C"));
+    drop(rows);
+    Ok(())
+}
+
+#[test]
+fn a_file_lists_what_is_deleted_and_what_no_choice_shows(rt: HostRuntime) -> Result<(), Fail> {
+    let mut engine = Engine::new(rt.alloc())?;
+    let checked = check_listed(&rt, rt.alloc(), &mut engine);
+    close(engine);
+    checked
+}
+
+// Whether lines have a line with its text at an index.
+fn is_line(lines: &ViewLines, index: usize, line: u32, text: &[u8]) -> bool {
+    match lines.get(index) {
+        Some(shown) => {
+            shown.line == LineRef::Old(LineNo::new(line)) && shown.text.as_slice() == text
+        }
+        None => false,
+    }
+}
+
+fn check_lines(rt: &impl Abort, view: &View) -> Result<(), Fail> {
+    let lines = match view.lines(NodeRef::Old(NodeNo::new(1))) {
+        Ok(lines) => lines,
+        Err(_) => return Err(Fail::from("no file")),
+    };
+    assert_eq!(rt; lines.len(), 3);
+    assert!(rt; is_line(&lines, 0, 1, b"A"));
+    assert!(rt; is_line(&lines, 1, 4, b"X"));
+    assert!(rt; is_line(&lines, 2, 3, b"C"));
+    drop(lines);
+    Ok(())
+}
+
+fn check_seen(rt: &impl Abort, alloc: Global, engine: &mut Engine) -> Result<(), Fail>
+    requires { engine.old.history ≡ [] }
+{
+    insert_lines(alloc, engine)?;
+    let view = engine.view(alloc, Choice::new(0, 1), Position::new(5))?;
+    let checked = check_lines(rt, &view);
+    drop(view);
+    checked
+}
+
+#[test]
+fn a_variant_is_shown(rt: HostRuntime) -> Result<(), Fail> {
+    let mut engine = Engine::new(rt.alloc())?;
+    let checked = check_seen(&rt, rt.alloc(), &mut engine);
+    close(engine);
+    checked
+}

@@ -1,0 +1,184 @@
+//! Choices from their texts and back.
+use crate::naming::declare_two;
+use cov_base::{Choice, OptionId, Text};
+use cov_expr::{BindFault, Options, Partial, RawChoice, print_choice};
+use std::alloc::Global;
+use std::process::Abort;
+use std::test::Fail;
+
+// Texts, each with that of its full choice, the empty text where it is none.
+const FULL: [(&str, &str); 7] = [
+    ("a=on,b=off", "a=on,b=off"),
+    ("a=off,b=on", "a=off,b=on"),
+    ("b=off,a=on", ""),
+    ("a=on", ""),
+    ("a=on,b=off,a=on", ""),
+    ("a=on,c=off", ""),
+    ("-", ""),
+];
+
+// Texts, each with the name that is unknown or that of the option that is repeated, the empty text where there is none.
+const FAULTY: [(&str, &str); 4] = [
+    ("-", ""),
+    ("b=on,a=off", ""),
+    ("a=on,a=on,x=on,y=on", "x"),
+    ("a=on,b=on,b=off,a=off", "b"),
+];
+
+const NO_CHOICES: [&str; 11] = [
+    "",
+    "a",
+    "a=",
+    "=on",
+    "a=on,",
+    ",a=on",
+    "a=on,,b=on",
+    "a=yes",
+    "9=on",
+    "a=on b=on",
+    "--",
+];
+
+fn printed(alloc: Global, options: &Options, text: &str) -> Result<Text, Fail> {
+    let raw = RawChoice::parse(alloc, text.as_bytes())?;
+    let choice = raw.bind_full(options);
+    drop(raw);
+    match choice {
+        Some(choice) if choice.count() <= options.count() => {
+            Ok(print_choice(alloc, options, choice)?)
+        }
+        _ => Ok(Text::new(alloc)),
+    }
+}
+
+// The name that a fault tells.
+fn told_name(alloc: Global, options: &Options, fault: BindFault) -> Result<Text, Fail> {
+    match fault {
+        BindFault::UnknownOption { name } => Ok(name),
+        BindFault::Repeated { option } if option.number() < options.count() => {
+            Ok(Text::from_slice(alloc, options.name(option))?)
+        }
+        _ => Err(Fail::from("no memory")),
+    }
+}
+
+fn faulty_name(alloc: Global, options: &Options, text: &str) -> Result<Text, Fail> {
+    let raw = RawChoice::parse(alloc, text.as_bytes())?;
+    let bound = raw.bind(alloc, options);
+    drop(raw);
+    match bound {
+        Ok(partial) => {
+            drop(partial);
+            Ok(Text::new(alloc))
+        }
+        Err(fault) => told_name(alloc, options, fault),
+    }
+}
+
+fn is_printed(
+    rt: &impl Abort,
+    alloc: Global,
+    options: &Options,
+    text: &str,
+    wanted: &str,
+) -> Result<(), Fail> {
+    let found = printed(alloc, options, text)?;
+    assert!(rt; found.as_slice() == wanted.as_bytes(), "of {text}");
+    Ok(())
+}
+
+fn is_told(
+    rt: &impl Abort,
+    alloc: Global,
+    options: &Options,
+    text: &str,
+    wanted: &str,
+) -> Result<(), Fail> {
+    let found = faulty_name(alloc, options, text)?;
+    assert!(rt; found.as_slice() == wanted.as_bytes(), "of {text}");
+    Ok(())
+}
+
+fn check_texts(rt: &impl Abort, alloc: Global, options: &mut Options) -> Result<(), Fail> {
+    declare_two(alloc, options)?;
+    for (text, wanted) in &FULL {
+        is_printed(rt, alloc, options, text, wanted)?;
+    }
+    for (text, wanted) in &FAULTY {
+        is_told(rt, alloc, options, text, wanted)?;
+    }
+    Ok(())
+}
+
+fn is_no_choice(rt: &impl Abort, alloc: Global, text: &str) {
+    let parsed = RawChoice::parse(alloc, text.as_bytes());
+    let refused = parsed.is_err();
+    drop(parsed);
+    assert!(rt; refused, "of {text}");
+}
+
+#[test]
+fn texts_of_no_choice(rt: HostRuntime) -> Result<(), Fail> {
+    for text in &NO_CHOICES {
+        is_no_choice(&rt, rt.alloc(), text);
+    }
+    Ok(())
+}
+
+#[test]
+fn choices_by_their_texts(rt: HostRuntime) -> Result<(), Fail> {
+    let mut options = Options::new(rt.alloc());
+    let checked = check_texts(&rt, rt.alloc(), &mut options);
+    drop(options);
+    checked
+}
+
+fn has_value(partial: &Partial, option: OptionId, on: bool) -> bool {
+    match partial.get(option) {
+        Some(value) => value == on,
+        None => false,
+    }
+}
+
+// A partial choice that turns the first of two options on and the second off.
+fn is_on_and_off(rt: &impl Abort, partial: &Partial) {
+    assert!(rt; has_value(partial, OptionId::new(0), true));
+    assert!(rt; has_value(partial, OptionId::new(1), false));
+    assert!(rt; partial.get(OptionId::new(2)).is_none());
+}
+
+fn check_bound(
+    rt: &impl Abort,
+    alloc: Global,
+    options: &Options,
+    raw: &RawChoice,
+) -> Result<(), Fail> {
+    let partial = raw.bind(alloc, options)?;
+    is_on_and_off(rt, &partial);
+    drop(partial);
+    Ok(())
+}
+
+fn check_partial(rt: &impl Abort, alloc: Global, options: &mut Options) -> Result<(), Fail> {
+    declare_two(alloc, options)?;
+    let raw = RawChoice::parse(alloc, b"b=off,a=on")?;
+    let checked = check_bound(rt, alloc, options, &raw);
+    drop(raw);
+    checked
+}
+
+#[test]
+fn partial_choices_by_option(rt: HostRuntime) -> Result<(), Fail> {
+    let mut options = Options::new(rt.alloc());
+    let checked = check_partial(&rt, rt.alloc(), &mut options);
+    drop(options);
+    checked
+}
+
+#[test]
+fn a_full_choice_as_a_partial_one(rt: HostRuntime) -> Result<(), Fail> {
+    let partial = Partial::of(rt.alloc(), Choice::new(1, 2))?;
+    is_on_and_off(&rt, &partial);
+    drop(partial);
+    Ok(())
+}

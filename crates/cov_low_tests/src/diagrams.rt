@@ -1,0 +1,138 @@
+//! Diagrams and the visibilities that expressions have as nodes of them.
+use cov_base::{Choice, Counted, OptionId, Steps, Uncounted};
+use cov_dd::{FALSE, Node, Table};
+use cov_expr::{Expr, Part};
+use cov_vis::{add, compile, take};
+use std::alloc::Global;
+use std::process::Abort;
+use std::test::Fail;
+
+// The choices of three options in their order: option 0 slowest, off before on.
+fn choice_at(place: u8) -> Choice {
+    Choice::new(
+        u128::from((place / 4 % 2 + place / 2 % 2 * 2 + place % 2 * 4) % 8),
+        3,
+    )
+}
+
+// The values of a node on all choices of three options, the first in the highest bit.
+fn values(table: &Table, node: Node) -> u8 {
+    let mut values = 0;
+    for place in 0u8..8 {
+        if table.value(node, choice_at(place)) {
+            values |= 128 >> place;
+        }
+    }
+    values
+}
+
+// A node has these values.
+fn lists(rt: &impl Abort, table: &Table, node: Node, wanted: u8) {
+    assert!(rt; values(table, node) == wanted);
+}
+
+fn check_values(rt: &impl Abort, table: &mut Table) -> Result<(), Fail> {
+    let a = table.literal(OptionId::new(0))?;
+    let b = table.literal(OptionId::new(1))?;
+    let d = table.literal(OptionId::new(2))?;
+    lists(rt, table, b, 0b0011_0011);
+    let a_or_b = table.or(a, b)?;
+    lists(rt, table, a_or_b, 0b0011_1111);
+    let none = table.not(a_or_b)?;
+    lists(rt, table, none, 0b1100_0000);
+    let two = table.and(a_or_b, d, &mut Steps::<Uncounted>::new())?;
+    lists(rt, table, two, 0b0001_0101);
+    let alone = table.without(d, a)?;
+    lists(rt, table, alone, 0b0101_0000);
+    Ok(())
+}
+
+#[test]
+fn values_on_all_choices(rt: HostRuntime) -> Result<(), Fail> {
+    let mut table = Table::new(rt.alloc())?;
+    let checked = check_values(&rt, &mut table);
+    drop(table);
+    checked
+}
+
+// Not both of two options is the same as either of them not.
+fn check_either(rt: &impl Abort, table: &mut Table) -> Result<(), Fail> {
+    let a = table.literal(OptionId::new(0))?;
+    let b = table.literal(OptionId::new(1))?;
+    let both = table.and(a, b, &mut Steps::<Uncounted>::new())?;
+    let not_both = table.not(both)?;
+    let not_a = table.not(a)?;
+    let not_b = table.not(b)?;
+    let either = table.or(not_a, not_b)?;
+    assert!(rt; either == not_both);
+    Ok(())
+}
+
+// An option and not is never, in one step.
+fn check_never(rt: &impl Abort, table: &mut Table) -> Result<(), Fail> {
+    let a = table.literal(OptionId::new(0))?;
+    let not_a = table.not(a)?;
+    let mut steps = Steps::<Counted>::new();
+    let never = table.and(a, not_a, &mut steps)?;
+    assert!(rt; never == FALSE);
+    assert!(rt; steps.ticks() == 1);
+    Ok(())
+}
+
+fn check_nodes(rt: &impl Abort, table: &mut Table) -> Result<(), Fail> {
+    check_either(rt, table)?;
+    check_never(rt, table)
+}
+
+#[test]
+fn equal_functions_are_equal_nodes(rt: HostRuntime) -> Result<(), Fail> {
+    let mut table = Table::new(rt.alloc())?;
+    let checked = check_nodes(&rt, &mut table);
+    drop(table);
+    checked
+}
+
+// !a & b
+fn expression(alloc: Global) -> Result<Expr, Fail> {
+    let a = Box::new(alloc, Part::Option(OptionId::new(0)))?;
+    let not_a = Box::new(alloc, Part::Not(a))?;
+    let b = Box::new(alloc, Part::Option(OptionId::new(1)))?;
+    Ok(Expr::new(Part::And(not_a, b))?)
+}
+
+fn check_expression(rt: &impl Abort, table: &mut Table, expr: &Expr) -> Result<(), Fail> {
+    let node = compile(table, expr)?;
+    lists(rt, table, node, 0b0011_0000);
+    Ok(())
+}
+
+#[test]
+fn an_expression_has_its_values(rt: HostRuntime) -> Result<(), Fail> {
+    let mut table = Table::new(rt.alloc())?;
+    let checked = match expression(rt.alloc()) {
+        Ok(expr) => check_expression(&rt, &mut table, &expr),
+        Err(fault) => Err(fault),
+    };
+    drop(table);
+    checked
+}
+
+fn check_ambitions(rt: &impl Abort, table: &mut Table) -> Result<(), Fail> {
+    let a = table.literal(OptionId::new(0))?;
+    let b = table.literal(OptionId::new(1))?;
+    let put_in = add(table, FALSE, a)?;
+    lists(rt, table, put_in, 0b0000_1111);
+    let again = add(table, put_in, b)?;
+    lists(rt, table, again, 0b0011_1111);
+    let taken_out = take(table, again, b)?;
+    lists(rt, table, taken_out, 0b0000_1100);
+    Ok(())
+}
+
+#[test]
+fn put_in_and_taken_out(rt: HostRuntime) -> Result<(), Fail> {
+    let mut table = Table::new(rt.alloc())?;
+    let checked = check_ambitions(&rt, &mut table);
+    drop(table);
+    checked
+}

@@ -1,0 +1,117 @@
+//! Replies with their bytes.
+ghost use Rattle.std.specs.Prelude.{length};
+ghost use Rattle.cov_script.specs.Replies.{IsCodeOf};
+
+use crate::naming::declare_two;
+use cov_base::{Choice, LineNo, LineRef, Memory, OptionId, Position, Text, Texts};
+use cov_expr::Options;
+use cov_script::{
+    Code, cat_line, reply_commit, reply_complete, reply_constraint, reply_count, reply_default,
+    reply_new_line, reply_open, reply_option, reply_plain, reply_prefer, reply_refused, show_line,
+    whole,
+};
+use std::alloc::Global;
+use std::test::Fail;
+
+// The accepted replies that tell neither a choice nor a text.
+fn add_numbers(alloc: Global, lines: &mut Texts) -> Result<(), Memory> {
+    lines.push(reply_option(alloc, OptionId::new(63))?)?;
+    lines.push(reply_constraint(alloc, 256)?)?;
+    lines.push(reply_prefer(alloc, 1)?)?;
+    lines.push(reply_default(alloc, 2)?)?;
+    lines.push(reply_plain(alloc)?)?;
+    lines.push(reply_new_line(alloc, 0)?)?;
+    lines.push(reply_commit(alloc, Position::new(7))?)
+}
+
+// The lines that tell a text.
+fn add_lines(alloc: Global, words: &Text, empty: &Text, lines: &mut Texts) -> Result<(), Memory> {
+    lines.push(show_line(alloc, LineRef::Old(LineNo::new(12)), words)?)?;
+    lines.push(show_line(alloc, LineRef::New(3), empty)?)?;
+    lines.push(cat_line(alloc, LineNo::new(13), empty)?)
+}
+
+// The accepted replies that tell no choice.
+fn add_accepted(alloc: Global, lines: &mut Texts) -> Result<(), Memory> {
+    add_numbers(alloc, lines)?;
+    let words = Text::from_slice(alloc, b"one  two")?;
+    let empty = Text::new(alloc);
+    let added = add_lines(alloc, &words, &empty, lines);
+    drop(empty);
+    drop(words);
+    added
+}
+
+fn add_code(alloc: Global, options: &Options, code: &Code, lines: &mut Texts) -> Result<(), Memory>
+    requires { IsCodeOf (length options.now.names) code.now }
+{
+    lines.push(reply_refused(alloc, options, code)?)
+}
+
+// The replies that tell a choice or an option, where there are two.
+fn add_choices(alloc: Global, options: &Options, lines: &mut Texts) -> Result<(), Memory> {
+    if options.count() != 2 {
+        return Ok(());
+    }
+    let choice = Choice::new(1, 2);
+    let repeated = Code::Repeated {
+        option: OptionId::new(1),
+    };
+    let incomplete = Code::Incomplete {
+        option: OptionId::new(0),
+    };
+    lines.push(reply_complete(alloc, options, choice)?)?;
+    lines.push(reply_open(alloc, Position::new(9), options, choice)?)?;
+    add_code(alloc, options, &repeated, lines)?;
+    add_code(alloc, options, &incomplete, lines)
+}
+
+// The other refused replies that tell a number or a name, and one that tells neither.
+fn add_refused(alloc: Global, options: &Options, lines: &mut Texts) -> Result<(), Memory> {
+    add_code(alloc, options, &Code::Syntax { at: 0 }, lines)?;
+    let name = Text::from_slice(alloc, b"for")?;
+    add_code(alloc, options, &Code::UnknownOption { name }, lines)?;
+    add_code(alloc, options, &Code::Invalid { rule: 2 }, lines)?;
+    add_code(alloc, options, &Code::NoVariantLeft, lines)
+}
+
+const REPLIES: &str = "ok 18
+ok option 63
+ok constraint 256
+ok prefer 1
+ok default 2
+ok
+ok +0
+ok commit 7
+12 one  two
++3 \n13 \nok a=on,b=off
+ok open 9 a=on,b=off
+refused repeated b
+refused incomplete a
+refused syntax 0
+refused unknown-option for
+refused invalid 2
+refused no-variant-left
+";
+
+// All these replies as one.
+fn joined(alloc: Global, options: &mut Options, lines: &mut Texts) -> Result<Text, Fail> {
+    declare_two(alloc, options)?;
+    add_accepted(alloc, lines)?;
+    add_choices(alloc, options, lines)?;
+    add_refused(alloc, options, lines)?;
+    let first = reply_count(alloc, lines.len() as u64)?;
+    Ok(whole(&first, lines)?)
+}
+
+#[test]
+fn replies_have_their_bytes(rt: HostRuntime) -> Result<(), Fail> {
+    let alloc = rt.alloc();
+    let mut options = Options::new(alloc);
+    let mut lines = Texts::new(alloc);
+    let reply = joined(alloc, &mut options, &mut lines);
+    drop(lines);
+    drop(options);
+    assert!(rt; reply?.as_slice() == REPLIES.as_bytes());
+    Ok(())
+}

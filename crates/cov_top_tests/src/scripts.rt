@@ -1,0 +1,171 @@
+// Scripts that a whole run serves, with their replies.
+use crate::running::{Case, SERVED, expect};
+use cov_serve::Status;
+use std::test::Fail;
+
+const CASES: [Case; 7] = [
+    (
+        b"option a\noption b\n",
+        b"ok option 0\nok option 1\n",
+        Status::Done,
+    ),
+    (
+        b"option a\ncomplete -",
+        b"ok option 0\nrefused incomplete a\n",
+        Status::SomeRefused,
+    ),
+    (b"", b"", Status::Done),
+    (
+        b"option a\noption b\nconstraint !(a & b)\ncomplete a=on,b=off\n",
+        b"ok option 0\nok option 1\nok constraint 1\nok a=on,b=off\n",
+        Status::Done,
+    ),
+    (
+        b"option a\noption b\nconstraint !(a & b)\ncomplete a=on,b=on\n",
+        b"ok option 0\nok option 1\nok constraint 1\nrefused invalid 1\n",
+        Status::SomeRefused,
+    ),
+    (
+        b"complete -\noption a\noption b\nconstraint a | b\nconstraint a & !b\ncomplete a=off,b=off\ncomplete b=on,a=on\ncomplete a=on\ncomplete a=on,b=off,a=on\ncomplete a=on,c=off\nconstraint c\nconstraint  a&(b|a )\nconstraint a &\ncomplete a=on,b=off",
+        b"ok -\nok option 0\nok option 1\nok constraint 1\nok constraint 2\nrefused invalid 1\nrefused invalid 2\nok a=on,b=off\nrefused repeated a\nrefused unknown-option c\nrefused unknown-option c\nok constraint 3\nrefused syntax 14\nok a=on,b=off\n",
+        Status::SomeRefused,
+    ),
+    (
+        b"\n# note\noptoin a\noption\noption a b\noption 9x\noption a\noption a\r\noption for\n\xff\xfe",
+        b"refused syntax 0\nrefused syntax 6\nrefused syntax 8\nrefused bad-name\nok option 0\nrefused bad-name\nrefused bad-name\nrefused syntax 0\n",
+        Status::SomeRefused,
+    ),
+];
+
+#[test]
+fn scripts_are_served(rt: HostRuntime) -> Result<(), Fail> {
+    for case in &CASES {
+        expect(&rt, rt.alloc(), SERVED, *case)?;
+        expect(&rt, rt.alloc(), (&["run"], 1, &[], &[]), *case)?;
+    }
+    Ok(())
+}
+
+const RULES: [Case; 6] = [
+    (
+        b"option a\nconstraint a\nconstraint !a\ncomplete -\n",
+        b"ok option 0\nok constraint 1\nrefused no-variant-left\nok a=on\n",
+        Status::SomeRefused,
+    ),
+    (
+        b"option a\nprefer a\ndefault a off\ncomplete -\n",
+        b"ok option 0\nok prefer 1\nok default 1\nok a=on\n",
+        Status::Done,
+    ),
+    (
+        b"option a\noption b\nconstraint !a | b\nconstraint !a | !b\ncomplete a=on\n",
+        b"ok option 0\nok option 1\nok constraint 1\nok constraint 2\nrefused invalid 2\n",
+        Status::SomeRefused,
+    ),
+    (
+        b"option a\n\n# note\noptoin a\noption\noption a b\noption 9x\noption a\nconstraint a &\nconstraint a $\nconstraint b\ncomplete a=yes\ncomplete a=on,a=off\nmkfile s m\nmkfile s /m\ninsert s /m 4294967296 one\nwhere 1\n",
+        b"ok option 0\nrefused syntax 0\nrefused syntax 6\nrefused syntax 8\nrefused bad-name\nrefused exists\nrefused syntax 14\nrefused syntax 13\nrefused unknown-option b\nrefused syntax 9\nrefused repeated a\nrefused syntax 9\nrefused no-session\nrefused syntax 12\nrefused not-built\n",
+        Status::SomeRefused,
+    ),
+    (
+        b"option a\noption b\nopen s a=on,c=on,a=on for d\nopen s a=on,b=on,a=on for d\nopen s a=on for d\nopen s a=on for true\nconstraint !a | !b\nopen s a=on,b=on for false\nopen s a=on,b=off for false\ndefault c on\ndefault 9x on\ndefault on off\ndefault b off\nprefer c & on\nopen s a=on for !b\nopen t a=on,c=on for d\ncat c=on /n/x\ncat c=on /m\ncat b=on,b=off /m\ncat a=on,b=on /m\ncat - /m\ncat a=off /m\nmkfile t /m\nmkfile s /m\nmkfile t /m\ninsert t /m/n 0 x\nmkfile t /n/m\n",
+        b"ok option 0\nok option 1\nrefused unknown-option c\nrefused repeated a\nrefused unknown-option d\nrefused incomplete b\nok constraint 1\nrefused invalid 1\nrefused outside-ambition\nrefused unknown-option c\nrefused unknown-option 9x\nrefused unknown-option on\nok default 1\nrefused unknown-option c\nok open 4 a=on,b=off\nrefused not-built\nrefused not-built\nrefused unknown-option c\nrefused repeated b\nrefused invalid 1\nrefused incomplete a\nrefused no-such-path\nrefused no-session\nok\nrefused not-built\nrefused not-built\nrefused not-built\n",
+        Status::SomeRefused,
+    ),
+    (
+        b"mkdir s /d\nrename s /m n\nmove s /m /\nremove s /m\nlist s /\nrefresh s\ncheckout t -\nalt - a /m\nwhere 1\nmkdir s m\nwhere 01\nside s true\nupgrade\n",
+        b"refused not-built\nrefused not-built\nrefused not-built\nrefused not-built\nrefused not-built\nrefused not-built\nrefused not-built\nrefused not-built\nrefused not-built\nrefused syntax 8\nrefused syntax 6\nrefused syntax 0\nrefused syntax 0\n",
+        Status::SomeRefused,
+    ),
+];
+
+#[test]
+fn rules_are_served(rt: HostRuntime) -> Result<(), Fail> {
+    for case in &RULES {
+        expect(&rt, rt.alloc(), SERVED, *case)?;
+    }
+    Ok(())
+}
+
+const SESSIONS: [Case; 5] = [
+    (
+        b"open s - for true\ncommit s\ninsert s /m 0 x\nmkfile s /m\nopen t - for true\ndrop s\ncommit s\n",
+        b"ok open 0 -\nrefused empty\nrefused no-such-path\nok\nrefused not-built\nok\nrefused no-session\n",
+        Status::SomeRefused,
+    ),
+    (
+        b"open s - for true\nmkfile s /m\ninsert s /m 0 one\ncommit s\nopen s - for true\ninsert s /m 1 two\nshow s /m\ncommit s\ncat - /m\n",
+        b"ok open 0 -\nok\nok +0\nok commit 1\nok open 1 -\nok +0\nok 2\n1 one\n+0 two\nok commit 2\nok 2\n1 one\n2 two\n",
+        Status::Done,
+    ),
+    (
+        b"option a\nopen s a=off for a\n",
+        b"ok option 0\nrefused outside-ambition\n",
+        Status::SomeRefused,
+    ),
+    (
+        b"option d\nopen s d=on for true\nmkfile s /m\ninsert s /m 0 A\ncommit s\nopen s d=on for d\ninsert s /m 1 B\ncommit s\nopen s d=on for true\ninsert s /m 2 C\ncommit s\nopen s d=off for true\nshow s /m\ninsert s /m 1 X\ncommit s\ncat d=on /m\ncat d=off /m\n",
+        b"ok option 0\nok open 1 d=on\nok\nok +0\nok commit 2\nok open 2 d=on\nok +0\nok commit 3\nok open 3 d=on\nok +0\nok commit 4\nok open 4 d=off\nok 2\n1 A\n3 C\nok +0\nok commit 5\nok 4\n1 A\n4 X\n2 B\n3 C\nok 3\n1 A\n4 X\n3 C\n",
+        Status::Done,
+    ),
+    (
+        b"option a\nopen s a=on for a\nmkfile s /m\noption b\nconstraint !a\ninsert s /m 0 one\ninsert s /m 7 two\ninsert s /n 0 two\nmkfile s /m\ncommit s\ncat a=on,b=on /m\ncat a=off,b=on /m\nconstraint a | b\ncat a=off,b=off /m\nopen s a=on,b=off for b\n",
+        b"ok option 0\nok open 1 a=on\nok\nok option 1\nok constraint 1\nok +0\nrefused no-such-line\nrefused no-such-path\nrefused not-built\nok commit 4\nrefused invalid 1\nrefused no-such-path\nok constraint 2\nrefused invalid 2\nrefused invalid 1\n",
+        Status::SomeRefused,
+    ),
+];
+
+#[test]
+fn sessions_are_served(rt: HostRuntime) -> Result<(), Fail> {
+    for case in &SESSIONS {
+        expect(&rt, rt.alloc(), SERVED, *case)?;
+    }
+    Ok(())
+}
+
+const EDITING: [Case; 3] = [
+    (
+        b"open s - for true\nmkfile s /m\ninsert s /m 0 one\ncommit s\nopen s - for true\ninsert s /m 1 two\ncommit s\nopen s - for true\ninsert s /m 1 x\ndelete s /m 3\ninsert s /m 3 y\ndelete s /m +0\ndelete s /m +0\nshow s /m\n",
+        b"ok open 0 -\nok\nok +0\nok commit 1\nok open 1 -\nok +0\nok commit 2\nok open 2 -\nok +0\nrefused no-such-line\nrefused no-such-line\nok\nrefused no-such-line\nok 2\n1 one\n2 two\n",
+        Status::SomeRefused,
+    ),
+    (
+        b"open s - for true\nmkfile s /m\ninsert s /m 0 one\ninsert s /m +0 two\ncommit s\nopen s - for true\ndelete s /m 0\nreplace s /m 0 zero\nreplace s /m 3 zero\nreplace s /m 1 uno\nshow s /m\nreplace s /m 1 uno\nreplace s /m +0 eins\ninsert s /m +1 und\nshow s /m\ndelete s /n 1\nreplace s /n 1 x\nshow s /n\ndelete t /m 1\nreplace t /m 1 x\nshow t /m\ndelete s /m/n 1\nreplace s / 1 x\nshow s /m/n\n",
+        b"ok open 0 -\nok\nok +0\nok +1\nok commit 1\nok open 1 -\nrefused no-such-line\nrefused no-such-line\nrefused no-such-line\nok +0\nok 2\n+0 uno\n2 two\nrefused no-such-line\nok +1\nok +2\nok 3\n+1 eins\n+2 und\n2 two\nrefused no-such-path\nrefused no-such-path\nrefused no-such-path\nrefused no-session\nrefused no-session\nrefused no-session\nrefused not-built\nrefused not-built\nrefused not-built\n",
+        Status::SomeRefused,
+    ),
+    (
+        b"option d\nopen s d=on for true\nmkfile s /m\ninsert s /m 0 a\ninsert s /m +0 b\ndelete s /m +0\ninsert s /m +1 c\nreplace s /m +1 d\ndelete s /m 1\ninsert s /m 1 e\nreplace s /m 2 e\ninsert s /m +0 e\nshow s /m\ndrop s\nshow s /m\ndelete s /m +1\nreplace s /m +1 x\ndelete s /m + 1\nshow s\n",
+        b"ok option 0\nok open 1 d=on\nok\nok +0\nok +1\nok\nok +2\nok +3\nrefused no-such-line\nrefused no-such-line\nrefused no-such-line\nrefused no-such-line\nok 2\n+3 d\n+2 c\nok\nrefused no-session\nrefused no-session\nrefused no-session\nrefused syntax 12\nrefused syntax 6\n",
+        Status::SomeRefused,
+    ),
+];
+
+#[test]
+fn lines_are_deleted_and_replaced(rt: HostRuntime) -> Result<(), Fail> {
+    for case in &EDITING {
+        expect(&rt, rt.alloc(), SERVED, *case)?;
+    }
+    Ok(())
+}
+
+const DELETED: [Case; 2] = [
+    (
+        b"option d\nopen s d=on for true\nmkfile s /m\ninsert s /m 0 A\ncommit s\nopen s d=on for d\ninsert s /m 1 B\ncommit s\nopen s d=on for true\ninsert s /m 2 C\ncommit s\nopen s d=off for true\nshow s /m\ninsert s /m 1 X\ncommit s\ncat d=on /m\ncat d=off /m\nopen s d=on for true\ndelete s /m 2\ncommit s\ncat d=on /m\ncat d=off /m\nopen s d=on for d\ndelete s /m 4\ncommit s\ncat d=on /m\ncat d=off /m\n",
+        b"ok option 0\nok open 1 d=on\nok\nok +0\nok commit 2\nok open 2 d=on\nok +0\nok commit 3\nok open 3 d=on\nok +0\nok commit 4\nok open 4 d=off\nok 2\n1 A\n3 C\nok +0\nok commit 5\nok 4\n1 A\n4 X\n2 B\n3 C\nok 3\n1 A\n4 X\n3 C\nok open 5 d=on\nok\nok commit 6\nok 3\n1 A\n4 X\n3 C\nok 3\n1 A\n4 X\n3 C\nok open 6 d=on\nok\nok commit 7\nok 2\n1 A\n3 C\nok 3\n1 A\n4 X\n3 C\n",
+        Status::Done,
+    ),
+    (
+        b"open s - for true\nmkfile s /m\ninsert s /m 0 one\ninsert s /m +0 two\ncommit s\nopen s - for true\nreplace s /m 1 uno\nreplace s /m +0 eins\ninsert s /m +1 und\ncommit s\ncat - /m\n",
+        b"ok open 0 -\nok\nok +0\nok +1\nok commit 1\nok open 1 -\nok +0\nok +1\nok +2\nok commit 2\nok 3\n4 eins\n5 und\n2 two\n",
+        Status::Done,
+    ),
+];
+
+#[test]
+fn deletes_are_committed(rt: HostRuntime) -> Result<(), Fail> {
+    for case in &DELETED {
+        expect(&rt, rt.alloc(), SERVED, *case)?;
+    }
+    Ok(())
+}
