@@ -1,0 +1,177 @@
+-- The edits of a commit, and an insert among them.
+use Rattle.std.proofs.Common.{◌≡◌, ℕ, suc, ◌+◌, ◌<◌, ◌≤◌, true, false, nat_eq, List, [], ◌∷◌, ◌++◌, length, length-append, refl, sym, ap, subst, ◌∙◌, arith}
+use Rattle.std.specs.List.{fold}
+use Rattle.cov_base.specs.Addresses.{address_in, with_line, with_lines, line_of, IsTable, placed, after_anchor_by}
+use Rattle.cov_base.specs.Rows.{Created}
+use Rattle.cov_base.proofs.Tables.{line_of-in, length-with_lines, address_in-next}
+use Rattle.cov_expr.specs.Formula.{Formula}
+use Rattle.cov_edit.specs.declared.edit.Edit.{Edit}
+use Rattle.cov_edit.specs.declared.edit.Edit.TheVariants as edits
+use Rattle.cov_edit.specs.declared.command.Command.{Command}
+use Rattle.cov_edit.specs.Numbering.{Numbers, OnRows, Inserted, Deleted, node_number, line_number, nodes_made, anchors_of, numbers_of, numbered_from}
+use Rattle.cov_edit.specs.Variant.{Line}
+use Rattle.cov_edit.proofs.Replays.{fold-append}
+use Rattle.cov_history.specs.Kept.{Kept, kept_address, kept_number, Holding, held_after, held_by, file_kept, is_kept_anchor, Stands}
+use Rattle.cov_history.specs.Insertions.{Insertion, the_insert, all_edits, lines_before, table_of, numbered_amid, lines_amid, held_amid, lines_begun, table_with, file_of, anchor_of, line_with, held_before, held_behind}
+use Rattle.cov_history.proofs.Standing.{AreNext, numbered-next, numbered-count, stands-edits, stands-opened, table-after, holding-stands}
+use Rattle.cov_history.proofs.Files.{anchor-below, placed-anchor, placed-elsewhere, anchor-stays, anchor-new}
+
+pub anchors-append : (m : ℕ) (es fs : List Edit) → anchors_of m (es ++ fs) ≡ anchors_of m es ++ anchors_of m fs
+anchors-append m [] fs = refl
+anchors-append m (edits.New kind parent name ∷ es) fs = anchors-append m es fs
+anchors-append m (edits.Delete file line ∷ es) fs = anchors-append m es fs
+anchors-append m (edits.Insert file after text ∷ es) fs = ap (λ l. line_number m after ∷ l) (anchors-append m es fs)
+
+with_lines-append : (t : List (List ℕ)) (ms ns : List ℕ) → with_lines t (ms ++ ns) ≡ with_lines (with_lines t ms) ns
+with_lines-append t [] ns = refl
+with_lines-append t (m ∷ ms) ns = with_lines-append (with_line t m) ms ns
+
+-- edits after other edits are numbered after their nodes and lines
+numbered-append : (ns : Numbers) (t : List (List ℕ)) (node line last next m : ℕ) (es fs : List Edit) → last ≡ node + nodes_made es → next ≡ line + length (anchors_of m es)
+    → numbered_from ns t node line (es ++ fs) ≡ numbered_from ns t node line es ++ numbered_from ns t last next fs
+numbered-append ns t node line last next m [] fs d e =
+    let same_node : node ≡ last = omega (arith, d) in
+    let same_line : line ≡ next = omega (arith, e) in
+    ap (λ k. numbered_from ns t k line fs) same_node ∙ ap (λ k. numbered_from ns t last k fs) same_line
+numbered-append ns t node line last next m (edits.New kind parent name ∷ es) fs d e =
+    ap (λ l. OnRows (Created (node + 1) kind (node_number ns.nodes parent) name) ∷ l) (numbered-append ns t (node + 1) line last next m es fs (omega (arith, d)) e)
+numbered-append ns t node line last next m (edits.Insert file after text ∷ es) fs d e =
+    ap (λ l. Inserted (node_number ns.nodes file) (address_in t (line + 1)) text ∷ l) (numbered-append ns t node (line + 1) last next m es fs d (omega (arith, e)))
+numbered-append ns t node line last next m (edits.Delete file which ∷ es) fs d e =
+    ap (λ l. Deleted (node_number ns.nodes file) (address_in t (line_number (length ns.addresses) which)) ∷ l) (numbered-append ns t node line last next m es fs d e)
+
+-- what is held when more of a commit's edits are done
+pub amid-append : (history : List Command) (ambition : Formula ℕ) (es begun more : List Edit)
+    → held_amid history ambition es (begun ++ more)
+    ≡ fold (held_after (length history + 1) ambition) (held_amid history ambition es begun)
+    (numbered_from (numbers_of history) (table_of history es) ((numbers_of history).nodes + nodes_made begun) (lines_amid history begun) more)
+amid-append history ambition es begun more =
+    let ns = numbers_of history in
+    let last = ns.nodes + nodes_made begun in
+    ap (fold (held_after (length history + 1) ambition) (held_by history))
+    (numbered-append ns (table_of history es) ns.nodes (lines_before history) last (lines_amid history begun) (lines_before history) begun more refl refl)
+    ∙ fold-append (held_after (length history + 1) ambition) (held_by history) (numbered_amid history es begun)
+    (numbered_from ns (table_of history es) last (lines_amid history begun) more)
+
+pub is_table-of : (history : List Command) (es : List Edit) → IsTable (table_of history es)
+is_table-of history es = table-after (numbers_of history) es (holding-stands history).0
+
+module _ (history : List Command) (begun later : List Edit) where
+  abbrev m : ℕ
+  m = lines_before history
+
+  -- the lines of the first edits are in the table after all edits
+  pub amid-within : lines_amid history begun ≤ length (table_of history (begun ++ later))
+  amid-within =
+      let e = length-with_lines (numbers_of history).addresses (anchors_of m (begun ++ later)) in
+      let f = ap length (anchors-append m begun later) ∙ length-append (anchors_of m begun) (anchors_of m later) in
+      omega (arith, e, f)
+
+  pub amid-next : AreNext (table_of history (begun ++ later)) m (numbered_amid history (begun ++ later) begun)
+  amid-next = numbered-next (numbers_of history) (table_of history (begun ++ later)) (numbers_of history).nodes m m begun amid-within
+
+  pub amid-opened : Stands (table_of history (begun ++ later)) m (length history + 1) (held_by history)
+  amid-opened = stands-opened (numbers_of history) (begun ++ later) (length history) (held_by history) (holding-stands history).1
+
+  -- what is held when the first edits are done stands
+  pub stands-amid : (ambition : Formula ℕ)
+      → Stands (table_of history (begun ++ later)) (lines_amid history begun) (length history + 1) (held_amid history ambition (begun ++ later) begun)
+  stands-amid ambition =
+      subst (λ n. Stands (table_of history (begun ++ later)) n (length history + 1) (held_amid history ambition (begun ++ later) begun))
+      (numbered-count (numbers_of history) (table_of history (begun ++ later)) (numbers_of history).nodes m m begun)
+      (stands-edits (table_of history (begun ++ later)) m (length history + 1) ambition (held_by history) (numbered_amid history (begun ++ later) begun)
+      (is_table-of history (begun ++ later)) amid-next amid-opened)
+
+module _ (history : List Command) (i : Insertion) where
+  abbrev begun : List ℕ
+  begun = anchors_of (lines_before history) i.begun
+
+  abbrev later : List ℕ
+  later = anchors_of (lines_before history) i.later
+
+  abbrev before : List (List ℕ)
+  before = (numbers_of history).addresses
+
+  anchors : anchors_of (lines_before history) (all_edits i) ≡ begun ++ anchor_of history i ∷ later
+  anchors = anchors-append (lines_before history) i.begun (the_insert i ∷ i.later)
+
+  the_table : table_with history i ≡ with_lines (with_line (with_lines before begun) (anchor_of history i)) later
+  the_table = ap (with_lines before) anchors ∙ with_lines-append before begun (anchor_of history i ∷ later)
+
+  pub in_table : lines_begun history i < length (table_with history i)
+  in_table =
+      let e = length-with_lines before (anchors_of (lines_before history) (all_edits i)) in
+      let f = ap length anchors ∙ length-append begun (anchor_of history i ∷ later) in
+      omega (arith, e, f)
+
+  pub is_table : IsTable (table_with history i)
+  is_table = is_table-of history (all_edits i)
+
+  one_more : lines_begun history i + 1 ≡ suc (lines_begun history i)
+  one_more = omega arith
+
+  -- the new line's address is that of its anchor followed by its number
+  link : anchor_of history i ≤ lines_begun history i
+      → address_in (table_with history i) (suc (lines_begun history i)) ≡ address_in (table_with history i) (anchor_of history i) ++ suc (lines_begun history i) ∷ []
+  link h =
+      let count : length (with_lines before begun) ≡ lines_begun history i = length-with_lines before begun in
+      subst (λ n. address_in (table_with history i) (suc n) ≡ address_in (table_with history i) (anchor_of history i) ++ suc n ∷ []) count
+      (subst (λ t. address_in t (suc (length (with_lines before begun))) ≡ address_in t (anchor_of history i) ++ suc (length (with_lines before begun)) ∷ []) (sym the_table)
+      (address_in-next (with_lines before begun) (anchor_of history i) later (omega (arith, h, count))))
+
+  pub stands_before_insert : (ambition : Formula ℕ) → Stands (table_with history i) (lines_begun history i) (length history + 1) (held_before history ambition i)
+  stands_before_insert ambition = stands-amid history i.begun (the_insert i ∷ i.later) ambition
+
+  -- the insert places its line
+  behind : (ambition : Formula ℕ) → (held_behind history ambition i).lines ≡ placed kept_address (line_with history ambition i) (held_before history ambition i).lines
+  behind ambition = ap (λ (held : Holding). held.lines) (amid-append history ambition (all_edits i) i.begun (the_insert i ∷ []))
+
+-- an anchor that is kept is one of the lines so far
+pub anchor-known : (history : List Command) (ambition : Formula ℕ) (i : Insertion)
+    → is_kept_anchor (file_of history i) (anchor_of history i) (held_before history ambition i).lines ≡ true → anchor_of history i ≤ lines_begun history i
+anchor-known history ambition i h =
+    let below = in_table history i in
+    anchor-below (table_with history i) (lines_begun history i) (length history + 1) (file_of history i) (anchor_of history i) (held_before history ambition i) (is_table history i)
+    (omega (arith, below)) (stands_before_insert history i ambition) h
+
+pub insert-anchor : (history : List Command) (ambition : Formula ℕ) (i : Insertion)
+    → is_kept_anchor (file_of history i) (anchor_of history i) (held_before history ambition i).lines ≡ true
+    → file_kept (file_of history i) (held_behind history ambition i).lines
+    ≡ after_anchor_by kept_number (anchor_of history i) (line_with history ambition i) (file_kept (file_of history i) (held_before history ambition i).lines)
+insert-anchor history ambition i h =
+    let below = in_table history i in
+    let s = stands_before_insert history i ambition in
+    let known = anchor-known history ambition i h in
+    ap (file_kept (file_of history i)) (behind history i ambition)
+    ∙ subst (λ n. file_kept (file_of history i) (placed kept_address (as_new n) (held_before history ambition i).lines)
+    ≡ after_anchor_by kept_number (anchor_of history i) (as_new n) (file_kept (file_of history i) (held_before history ambition i).lines))
+    (sym (one_more history i))
+    (placed-anchor (table_with history i) (lines_begun history i) (length history + 1) (file_of history i) (anchor_of history i) ambition i.text (held_before history ambition i)
+    (is_table history i) below (link history i known) s h)
+  where
+    as_new : ℕ → Kept Line
+    as_new n = record {
+      item = record { file = file_of history i; address = address_in (table_with history i) n; text = i.text };
+      changes = (length history + 1, ambition) ∷ [];
+    }
+
+pub insert-elsewhere : (history : List Command) (ambition : Formula ℕ) (i : Insertion) (file : ℕ)
+    → nat_eq (file_of history i) file ≡ false
+    → file_kept file (held_behind history ambition i).lines ≡ file_kept file (held_before history ambition i).lines
+insert-elsewhere history ambition i file h =
+    ap (file_kept file) (behind history i ambition)
+    ∙ placed-elsewhere (length history + 1) (file_of history i) file ambition (address_in (table_with history i) (lines_begun history i + 1)) i.text (held_before history ambition i).lines
+    (stands_before_insert history i ambition).in_order h
+
+pub insert-number : (history : List Command) (ambition : Formula ℕ) (i : Insertion) → kept_number (line_with history ambition i) ≡ lines_begun history i + 1
+insert-number history ambition i =
+    subst (λ n. line_of (address_in (table_with history i) n) ≡ n) (sym (one_more history i)) (line_of-in (table_with history i) (lines_begun history i) (is_table history i) (in_table history i))
+
+pub anchors-stay : (history : List Command) (ambition : Formula ℕ) (i : Insertion)
+    → ((file line : ℕ) → is_kept_anchor file line (held_before history ambition i).lines ≡ true → is_kept_anchor file line (held_behind history ambition i).lines ≡ true)
+    × (is_kept_anchor (file_of history i) (lines_begun history i + 1) (held_behind history ambition i).lines ≡ true)
+anchors-stay history ambition i = (
+  (λ file line h. ap (is_kept_anchor file line) (behind history i ambition) ∙ anchor-stays file line (line_with history ambition i) (held_before history ambition i).lines h),
+  (ap (is_kept_anchor (file_of history i) (lines_begun history i + 1)) (behind history i ambition)
+      ∙ anchor-new (file_of history i) (lines_begun history i + 1) (line_with history ambition i) (held_before history ambition i).lines refl (insert-number history ambition i)),
+)

@@ -1,0 +1,275 @@
+-- What a commit shows of its files where other commits stand after its base.
+use Rattle.std.proofs.Common.{◌≡◌, ℕ, suc, ◌+◌, ◌<◌, ◌≤◌, Bool, true, false, cond, ◌||◌, ◌&&◌, nat_eq, List, [], ◌∷◌, ◌++◌, length, map, take, drop, Option, Some, None, option_map, refl, sym, ap, subst, ◌∙◌, arith}
+use Rattle.std.specs.List.{filter, list_any, filter_map, cons_option, AllByRecursion}
+use Rattle.std.proofs.Math.Seq.{take-length}
+use Rattle.std.proofs.lemmas.Bool.Decides.{nat_tests}
+use Rattle.cov_base.specs.Addresses.{address_in, with_lines, IsTable, IsLineOf}
+use Rattle.cov_base.specs.declared.number.Kind.TheVariants as kinds
+use Rattle.cov_base.specs.declared.number.NodeRef.{NodeRef}
+use Rattle.cov_base.specs.declared.number.NodeRef.TheVariants as nodes
+use Rattle.cov_base.proofs.Ordered.{all-map, all-filter}
+use Rattle.cov_base.proofs.Tables.{inside, address_in-with_lines, length-with_lines}
+use Rattle.cov_expr.specs.Formula.{Formula, value, reach}
+use Rattle.cov_edit.specs.declared.edit.Edit.{Edit}
+use Rattle.cov_edit.specs.declared.edit.Edit.TheVariants as edits
+use Rattle.cov_edit.specs.declared.command.Command.{Command}
+use Rattle.cov_edit.specs.declared.command.Command.TheVariants as commands
+use Rattle.cov_edit.specs.History.{option_count, is_valid_in}
+use Rattle.cov_edit.specs.Numbering.{Numbers, anchors_of, numbers_after, numbers_of, numbered}
+use Rattle.cov_edit.specs.Touched.{old_node, touched_by, has_number, have_common, touched, touch}
+use Rattle.cov_edit.specs.Variant.{Line, lines_of}
+use Rattle.cov_edit.specs.Replay.{replay}
+use Rattle.cov_edit.proofs.Replays.{replay-commit, all_within}
+use Rattle.cov_edit.proofs.TouchedNodes.{touched-rising}
+use Rattle.cov_rules.proofs.Deciding.{value_same, is_on-take, fails_on_each}
+use Rattle.cov_view.specs.References.{is_known_node}
+use Rattle.cov_view.specs.Paths.{kind_of}
+use Rattle.cov_history.specs.Kept.{Kept, seen_at, is_seen, the_item, items_seen, held_by}
+use Rattle.cov_history.specs.Laws.{text_of}
+use Rattle.cov_history.specs.Overtaking.{share_choice, overtakes, overtaken_from, overtaken}
+use Rattle.cov_history.specs.Reach.{AreReached, IsHeldInReach}
+use Rattle.cov_history.specs.Sessions.{Session, IsGood, seen, commit_of}
+use Rattle.cov_history.specs.Verdict.{IsLegal, verdict, when_full, size_refusals, has_no_edits, as_overtaken}
+use Rattle.cov_history.specs.declared.refusal.Refusal.TheVariants as refusals
+use Rattle.cov_view.specs.Refusals.{when, first_of}
+use Rattle.cov_history.proofs.Alike.{AreKnown, accepted-known, IsInTable, line_renumbered, anchors-renumbered, IsAlike, edits-alike}
+use Rattle.cov_history.proofs.Inserts.{is_table-of}
+use Rattle.cov_history.proofs.Naming.{base-nodes}
+use Rattle.cov_history.proofs.Older.{legal-take}
+use Rattle.cov_history.proofs.Reaching.{seen-reached, legal-reached}
+use Rattle.cov_history.proofs.Renumbering.{renumbered, address_renumbered, renumbered-low, table-start, table-lines, table-grows}
+use Rattle.cov_history.proofs.Replays.{joined, replay-seen}
+use Rattle.cov_history.proofs.Sessions.{good-passes}
+use Rattle.cov_history.proofs.Shown.{replay-stands}
+use Rattle.cov_history.proofs.Touching.{IsSameAt, LeavesOn, replay-left}
+
+-- only the options that a history declares count in its replay
+value-front : (n : ℕ) (c : List Bool) (e : Formula ℕ) → reach e ≤ n → value e c ≡ value e (take n c)
+value-front n c e h = value_same e c (take n c) (λ o lt. sym (is_on-take n c o (omega (arith, lt, h))))
+
+module _ (history : List Command) (c : List Bool) where
+  abbrev count : ℕ
+  count = option_count history
+
+  abbrev p : ℕ
+  p = length history
+
+  items-front : {X : Type 0} (ks : List (Kept X)) → AllByRecursion (AreReached history) ks → items_seen c p ks ≡ items_seen (take count c) p ks
+  items-front [] h = refl
+  items-front (k ∷ ks) h = at (is_seen c p k) (is_seen (take count c) p k) same (items-front ks h.1)
+    where
+      low : reach (seen_at k.changes p) ≤ count
+      low = subst (λ hs. reach (seen_at k.changes p) ≤ option_count hs) (take-length history) (seen-reached history p k.changes h.0)
+
+      same : is_seen c p k ≡ is_seen (take count c) p k
+      same = value-front count c (seen_at k.changes p) low
+
+      at : (a b : Bool) → a ≡ b → items_seen c p ks ≡ items_seen (take count c) p ks
+          → map the_item (cond a (k ∷ filter (is_seen c p) ks) (filter (is_seen c p) ks)) ≡ map the_item (cond b (k ∷ filter (is_seen (take count c) p) ks) (filter (is_seen (take count c) p) ks))
+      at true true e rest = ap (λ l. k.item ∷ l) rest
+      at true false e rest = absurd (cc)
+      at false true e rest = absurd (cc)
+      at false false e rest = rest
+
+  pub replay-front : IsLegal history → replay c history ≡ replay (take count c) history
+  replay-front legal =
+      let reached : IsHeldInReach history (held_by history) = legal-reached history legal in
+      sym (replay-seen c p history ∙ ap (replay c) (take-length history))
+      ∙ joined (items-front (held_by history).rows reached.of_rows) (items-front (held_by history).lines reached.of_lines)
+      ∙ replay-seen (take count c) p history ∙ ap (replay (take count c)) (take-length history)
+
+-- a commit that isn't overtaken shares its nodes with no later commit on a valid choice of its ambition
+any-one : (node : ℕ) (t : ℕ → Bool) (xs : List ℕ) → list_any (λ x. nat_eq x node) xs ≡ true → t node ≡ true → list_any t xs ≡ true
+any-one node t [] h k = absurd (cc)
+any-one node t (x ∷ xs) h k = at (nat_eq x node) refl h (λ j. any-one node t xs j k)
+  where
+    or : (a b : Bool) → b ≡ true → (a || b) ≡ true
+    or true b j = refl
+    or false b j = j
+
+    at : (b : Bool) → nat_eq x node ≡ b → (b || list_any (λ y. nat_eq y node) xs) ≡ true → (list_any (λ y. nat_eq y node) xs ≡ true → list_any t xs ≡ true) → (t x || list_any t xs) ≡ true
+    at true e j rest = let is : node ≡ x = grind (arith, nat_tests, e) in ap (λ b. b || list_any t xs) (subst (λ y. t y ≡ true) is k)
+    at false e j rest = or (t x) (list_any t xs) (rest j)
+
+module _ (history : List Command) (ambition : Formula ℕ) (es : List Edit) (c : List Bool) (node : ℕ)
+    (whole : length c ≡ option_count history) (valid : is_valid_in history c ≡ true) (inside : value ambition c ≡ true) (own : touch node es ≡ true) where
+  left-one : (k : Command) → overtakes history ambition es k ≡ false → LeavesOn node c k
+  left-one (commands.Option name) h = tt
+  left-one (commands.Constraint expr) h = tt
+  left-one (commands.Prefer expr) h = tt
+  left-one (commands.Default option on) h = tt
+  left-one (commands.Commit base choice other fs) h = λ applies. at applies (touch node fs) refl
+    where
+      shared : Bool
+      shared = share_choice history other ambition
+
+      both : (a : Bool) → a ≡ true → (a && shared) ≡ false → shared ≡ false
+      both true e j = j
+      both false e j = absurd (cc)
+
+      fails : shared ≡ false → (is_valid_in history c && (value other c && value ambition c)) ≡ false
+      fails j = fails_on_each (option_count history) (λ d. is_valid_in history d && (value other d && value ambition d)) j c whole
+
+      at : value other c ≡ true → (b : Bool) → touch node fs ≡ b → b ≡ false
+      at applies false e = refl
+      at applies true e =
+          let common : have_common (touched fs) (touched es) ≡ true = any-one node (λ x. touch x es) (touched fs) e own in
+          let none = fails (both (have_common (touched fs) (touched es)) common h) in
+          absurd (let all : (is_valid_in history c && (value other c && value ambition c)) ≡ true = rw (valid, applies, inside) refl in cc)
+
+  left-all : (p : ℕ) (later : List Command) → overtaken_from history ambition es p later ≡ None → AllByRecursion (LeavesOn node c) later
+  left-all p [] h = tt
+  left-all p (k ∷ later) h = at (overtakes history ambition es k) refl h (left-all (p + 1) later)
+    where
+      at : (b : Bool) → overtakes history ambition es k ≡ b → cond b (Some (p + 1)) (overtaken_from history ambition es (p + 1) later) ≡ None
+          → (overtaken_from history ambition es (p + 1) later ≡ None → AllByRecursion (LeavesOn node c) later) → AllByRecursion (LeavesOn node c) (k ∷ later)
+      at true e j rest = absurd (cc)
+      at false e j rest = (left-one k e, rest j)
+
+-- an accepted commit isn't overtaken
+last-none : {F : Type 0} (os : List (Option F)) (o : Option F) → first_of (os ++ o ∷ []) ≡ None → o ≡ None
+last-none [] None h = refl
+last-none [] (Some f) h = absurd (cc)
+last-none (None ∷ os) o h = last-none os o h
+last-none (Some f ∷ os) o h = absurd (cc)
+
+no-position : (o : Option ℕ) → as_overtaken o ≡ None → o ≡ None
+no-position None h = refl
+no-position (Some p) h = absurd (cc)
+
+not-overtaken : (history : List Command) (s : Session) → IsGood history s → verdict history (commit_of s) ≡ None → overtaken history s.base s.ambition s.edits ≡ None
+not-overtaken history s good accepted =
+    no-position (overtaken history s.base s.ambition s.edits)
+    (last-none (when_full history ∷ (size_refusals history s.edits ++ when (has_no_edits s.edits) refusals.Empty ∷ [])) (as_overtaken (overtaken history s.base s.ambition s.edits))
+    (sym (good-passes history s good) ∙ accepted))
+
+-- a touched node of known edits is an old one
+named-low : (n node : ℕ) (file : NodeRef) (es : List Edit) → is_known_node n file ≡ true → has_number node (cons_option (old_node file) (filter_map touched_by es)) ≡ true
+    → (has_number node (filter_map touched_by es) ≡ true → node ≤ n) → node ≤ n
+named-low n node (nodes.Old y) es k j rest = at (nat_eq y node) refl j
+  where
+    at : (b : Bool) → nat_eq y node ≡ b → (b || has_number node (filter_map touched_by es)) ≡ true → node ≤ n
+    at true e i = let is : y ≡ node = grind (arith, nat_tests, e) in let low : y ≤ n = grind (arith, nat_tests, k) in omega (arith, low, is)
+    at false e i = rest i
+named-low n node (nodes.New i) es k j rest = rest j
+
+touched-low : (n m node : ℕ) (es : List Edit) → AreKnown n m es → has_number node (filter_map touched_by es) ≡ true → node ≤ n
+touched-low n m node [] known h = absurd (cc)
+touched-low n m node (edits.New kind parent name ∷ es) known h = touched-low n m node es known h
+touched-low n m node (edits.Insert file after text ∷ es) known h = named-low n node file es known.0 h (touched-low n m node es known.2)
+touched-low n m node (edits.Delete file which ∷ es) known h = named-low n node file es known.0 h (touched-low n m node es known.2)
+
+-- the lines of a replay are of the table with more lines
+replay-in_table : (c : List Bool) (history : List Command) (es : List Edit) → IsInTable (numbers_after (numbers_of history) es).addresses (length (numbers_of history).addresses) (replay c history)
+replay-in_table c history es =
+    let t : List (List ℕ) = (numbers_of history).addresses in
+    let stands = replay-stands c history in
+    record {
+      in_order = stands.0;
+      numbered_lines = all-map (λ l. IsLineOf t (length t) l.address) (λ l. IsLineOf (numbers_after (numbers_of history) es).addresses (length t) l.address)
+          (λ l line. (line.0, line.1, line.2 ∙ sym (address_in-with_lines t (anchors_of (length t) es) (suc line.0) (let less : line.0 < length t = line.1 in omega (arith, less)))))
+          (replay c history).lines stands.1;
+    }
+
+module _ (n m : ℕ) where
+  low-address : (a : List ℕ) → AllByRecursion (λ k. k < suc n) a → address_renumbered n m a ≡ a
+  low-address [] h = refl
+  low-address (k ∷ ks) h = let low = h.0 in λ i. renumbered-low n m k (omega (arith, low)) i ∷ low-address ks h.1 i
+
+  low-lines : (t : List (List ℕ)) → IsTable t → n ≤ length t → (ls : List Line) → AllByRecursion (λ l. IsLineOf t n l.address) ls → map (line_renumbered n m) ls ≡ ls
+  low-lines t table below [] h = refl
+  low-lines t table below (l ∷ ls) h = λ i. record { file = l.file; address = low-address l.address (inside t n l.address table below h.0).1 i; text = l.text } ∷ low-lines t table below ls h.1 i
+
+texts-renumbered : (n m : ℕ) (ls : List Line) → map text_of (map (line_renumbered n m) ls) ≡ map text_of ls
+texts-renumbered n m [] = refl
+texts-renumbered n m (l ∷ ls) = ap (λ ts. l.text ∷ ts) (texts-renumbered n m ls)
+
+module _ (history : List Command) (s : Session) (c : List Bool) (file : ℕ) (legal : IsLegal history) (good : IsGood history s)
+    (accepted : verdict history (commit_of s) ≡ None) (whole : length c ≡ option_count history) (valid : is_valid_in history c ≡ true)
+    (front : take (length s.choice) c ≡ s.choice) (own : touch file s.edits ≡ true) where
+  abbrev before : List Command
+  before = take s.base history
+
+  abbrev nb : Numbers
+  nb = numbers_of before
+
+  abbrev nh : Numbers
+  nh = numbers_of history
+
+  abbrev n : ℕ
+  n = length nb.addresses
+
+  abbrev m : ℕ
+  m = length nh.addresses
+
+  abbrev tb : List (List ℕ)
+  tb = (numbers_after nb s.edits).addresses
+
+  abbrev th : List (List ℕ)
+  th = (numbers_after nh s.edits).addresses
+
+  more : n ≤ m
+  more = (table-grows s.base history).0
+
+  known : AreKnown nb.nodes n s.edits
+  known = accepted-known nb tb nb.nodes n 0 (replay s.choice before) s.edits good.accepted
+
+  alone : overtaken history s.base s.ambition s.edits ≡ None
+  alone = not-overtaken history s good accepted
+
+  old : file ≤ nb.nodes
+  old = touched-low nb.nodes n file s.edits known (sym ((touched-rising s.edits).1 file) ∙ own)
+
+  inside-ambition : value s.ambition c ≡ true
+  inside-ambition =
+      let low : reach s.ambition ≤ length s.choice = subst (λ k. reach s.ambition ≤ k) (sym good.of_all_options) good.in_reach in
+      value-front (length s.choice) c s.ambition low ∙ ap (value s.ambition) front ∙ good.in_ambition
+
+  -- at the base, the choices show the same
+  at-base : replay c before ≡ replay s.choice before
+  at-base =
+      replay-front before c (legal-take s.base [] history legal)
+      ∙ ap (λ k. replay (take k c) before) (sym good.of_all_options) ∙ ap (λ d. replay d before) front
+
+  -- and the file is as it was at the base
+  since-base : IsSameAt file (replay s.choice before) (replay c history)
+  since-base =
+      subst (λ v. IsSameAt file v (replay c history)) at-base
+      (replay-left file c s.base history old (left-all history s.ambition s.edits c file whole valid inside-ambition own s.base (drop s.base history) alone))
+
+  same : (y : ℕ) → address_in th (renumbered n m y) ≡ address_renumbered n m (address_in tb y)
+  same =
+      let start = table-start nb.addresses nh.addresses (is_table-of before []) more (table-grows s.base history).1 in
+      subst (λ anchors. (y : ℕ) → address_in (with_lines nh.addresses anchors) (renumbered n m y) ≡ address_renumbered n m (address_in tb y))
+      (sym (anchors-renumbered n m more nb.nodes s.edits known))
+      (table-lines n m more nb.addresses nh.addresses (anchors_of n s.edits) start).addresses
+
+  start-alike : IsAlike nb nh more tb th (is_table-of before s.edits) (is_table-of history s.edits) same file old (base-nodes s.base history) (replay s.choice before) (replay c history)
+  start-alike = record {
+    kind = ap (λ o. cond (nat_eq file 0) (Some kinds.Dir) (option_map (λ r. r.kind) o)) since-base.row;
+    lines = since-base.lines
+        ∙ sym (low-lines n m nb.addresses (is_table-of before []) (omega arith) (lines_of (replay s.choice before) file)
+        (all-filter (λ l. IsLineOf nb.addresses n l.address) (λ l. nat_eq l.file file) (replay s.choice before).lines (replay-stands s.choice before).1));
+  }
+
+  end-alike : IsAlike nb nh more tb th (is_table-of before s.edits) (is_table-of history s.edits) same file old (base-nodes s.base history)
+      (seen s history) (replay c (history ++ commit_of s ∷ []))
+  end-alike =
+      subst (IsAlike nb nh more tb th (is_table-of before s.edits) (is_table-of history s.edits) same file old (base-nodes s.base history) (seen s history))
+      (sym (replay-commit c history s.base s.choice s.ambition s.edits ∙ all_within c (replay c history) s.ambition (numbered nh s.edits) inside-ambition))
+      (edits-alike nb nh more tb th (is_table-of before s.edits) (is_table-of history s.edits) same file old (base-nodes s.base history)
+      nb.nodes nh.nodes n m 0 (replay s.choice before) (replay c history) s.edits (omega arith) (omega arith) (omega arith) (omega arith)
+      (let count = length-with_lines nb.addresses (anchors_of n s.edits) in omega (arith, count))
+      (let count = length-with_lines nh.addresses (anchors_of m s.edits) in let few = few-anchors m n s.edits in omega (arith, count, few))
+      known (replay-in_table s.choice before s.edits) (replay-in_table c history s.edits) start-alike)
+    where
+      few-anchors : (a b : ℕ) (es : List Edit) → length (anchors_of a es) ≡ length (anchors_of b es)
+      few-anchors a b [] = refl
+      few-anchors a b (edits.New kind parent name ∷ es) = few-anchors a b es
+      few-anchors a b (edits.Delete f which ∷ es) = few-anchors a b es
+      few-anchors a b (edits.Insert f after text ∷ es) = ap suc (few-anchors a b es)
+
+  -- the commit shows of a file that it touches what its session saw
+  pub commit-shows_file : (kind_of (replay c (history ++ commit_of s ∷ [])).rows file ≡ kind_of (seen s history).rows file)
+      × (map text_of (lines_of (replay c (history ++ commit_of s ∷ [])) file) ≡ map text_of (lines_of (seen s history) file))
+  commit-shows_file = (end-alike.kind, ap (map text_of) end-alike.lines ∙ texts-renumbered n m (lines_of (seen s history) file))

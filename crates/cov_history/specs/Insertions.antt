@@ -1,0 +1,82 @@
+-- The edits of a commit, and one insert among them.
+use Rattle.std.specs.Prelude.{ℕ, ◌+◌, List, [], ◌∷◌, ◌++◌, length}
+use Rattle.std.specs.List.{fold}
+use Rattle.cov_base.specs.Addresses.{address_in}
+use Rattle.cov_base.specs.declared.number.NodeRef.{NodeRef}
+use Rattle.cov_base.specs.declared.number.LineRef.{LineRef}
+use Rattle.cov_expr.specs.Formula.{Formula}
+use Rattle.cov_edit.specs.declared.edit.Edit.{Edit}
+use Rattle.cov_edit.specs.declared.edit.Edit.TheVariants as edits
+use Rattle.cov_edit.specs.declared.command.Command.{Command}
+use Rattle.cov_edit.specs.Numbering.{NumberedEdit, node_number, line_number, anchors_of, numbers_after, numbers_of, numbered_from}
+use Rattle.cov_edit.specs.Variant.{Line}
+use Rattle.cov_history.specs.Kept.{Kept, new_line, Holding, held_after, held_by}
+
+-- an insert, the edits of its commit before it, and those after it
+pub record Insertion : Type 0 where
+  pub begun : List Edit
+  pub file : NodeRef
+  pub after : LineRef
+  pub text : List ℕ
+  pub later : List Edit
+
+-- the insert as an edit
+abbrev pub the_insert : Insertion → Edit
+the_insert i = edits.Insert i.file i.after i.text
+
+-- all edits of the commit
+abbrev pub all_edits : Insertion → List Edit
+all_edits i = i.begun ++ the_insert i ∷ i.later
+
+module _ (history : List Command) where
+  -- how many lines the history has
+  abbrev pub lines_before : ℕ
+  lines_before = length (numbers_of history).addresses
+
+  -- the addresses of all lines after a commit with these edits
+  abbrev pub table_of : List Edit → List (List ℕ)
+  table_of es = (numbers_after (numbers_of history) es).addresses
+
+  -- the first of a commit's edits by numbers and addresses
+  abbrev pub numbered_amid : List Edit → List Edit → List NumberedEdit
+  numbered_amid es begun = numbered_from (numbers_of history) (table_of es) (numbers_of history).nodes lines_before begun
+
+  -- how many lines there are when the first edits of a commit are done
+  abbrev pub lines_amid : List Edit → ℕ
+  lines_amid begun = lines_before + length (anchors_of lines_before begun)
+
+  -- what is held when the first of a commit's edits are done
+  abbrev pub held_amid : Formula ℕ → List Edit → List Edit → Holding
+  held_amid ambition es begun = fold (held_after (length history + 1) ambition) (held_by history) (numbered_amid es begun)
+
+  -- how many lines there are when the edits before the insert are done
+  abbrev pub lines_begun : Insertion → ℕ
+  lines_begun i = lines_amid i.begun
+
+  -- the addresses of all lines after the commit
+  abbrev pub table_with : Insertion → List (List ℕ)
+  table_with i = table_of (all_edits i)
+
+  -- the number of the file
+  abbrev pub file_of : Insertion → ℕ
+  file_of i = node_number (numbers_of history).nodes i.file
+
+  -- the number of the anchor
+  abbrev pub anchor_of : Insertion → ℕ
+  anchor_of i = line_number lines_before i.after
+
+  -- the new line, as it is kept
+  abbrev pub line_with : Formula ℕ → Insertion → Kept Line
+  line_with ambition i = new_line (length history + 1) ambition (file_of i) (address_in (table_with i) (lines_begun i + 1)) i.text
+
+  -- what is held when the first edits of the commit are done
+  abbrev pub held_when : Formula ℕ → Insertion → List Edit → Holding
+  held_when ambition i es = held_amid ambition (all_edits i) es
+
+  -- what is held before the insert
+  abbrev pub held_before : Formula ℕ → Insertion → Holding
+  held_before ambition i = held_when ambition i i.begun
+
+  -- what is held after the insert
+  abbrev pub held_behind : Formula ℕ → Insertion → Holding
+  held_behind ambition i = held_when ambition i (i.begun ++ the_insert i ∷ [])

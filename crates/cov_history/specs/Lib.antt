@@ -1,0 +1,12 @@
+pub mod Completing
+pub mod Deletions
+pub mod Files
+pub mod Homes
+pub mod Insertions
+pub mod Kept
+pub mod Laws
+pub mod Naming
+pub mod Overtaking
+pub mod Reach
+pub mod Sessions
+pub mod Verdict

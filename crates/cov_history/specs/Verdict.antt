@@ -1,0 +1,102 @@
+-- Which commands a history accepts.
+use Rattle.std.specs.Prelude.{◌≡◌, ℕ, ◌+◌, Bool, true, false, ◌&&◌, ◌||◌, not, nat_eq, nat_lt, nat_le, List, [], ◌∷◌, ◌++◌, length, take, Option, Some, None}
+use Rattle.std.specs.Str.{bytes_eq}
+use Rattle.std.specs.List.{list_any}
+use Rattle.cov_base.specs.Choices.{all_choices}
+use Rattle.cov_expr.specs.Formula.{Formula, value, reach}
+use Rattle.cov_edit.specs.declared.edit.Edit.{Edit}
+use Rattle.cov_edit.specs.declared.command.Command.{Command}
+use Rattle.cov_edit.specs.declared.command.Command.TheVariants as commands
+use Rattle.cov_edit.specs.Fits.{fits_command}
+use Rattle.cov_edit.specs.History.{options_of, option_count, constraints_of, preferences_of, defaults_of, is_valid_in, first_false_in, text_bytes, byte_count}
+use Rattle.cov_edit.specs.Limits.{limits_of, most_commands, most_edits, most_commit_bytes, most_bytes}
+use Rattle.cov_edit.specs.Numbering.{numbers_of, nodes_made, anchors_of, line_count, node_count}
+use Rattle.cov_edit.specs.Replay.{replay}
+use Rattle.cov_view.specs.Refusals.{when, first_of, first_refused}
+use Rattle.cov_view.specs.declared.fault.EditFault.{EditFault}
+use Rattle.cov_history.specs.Overtaking.{overtaken}
+use Rattle.cov_history.specs.declared.refusal.Refusal.{Refusal}
+use Rattle.cov_history.specs.declared.refusal.Refusal.TheVariants as refusals
+
+-- the refusal for the first constraint that is false on a choice
+abbrev pub as_invalid : Option ℕ → Option Refusal
+as_invalid None = None
+as_invalid (Some rule) = Some (refusals.Invalid rule)
+
+-- the refusal for the first edit that a variant refuses
+abbrev pub as_bad_record : Option (ℕ × EditFault) → Option Refusal
+as_bad_record None = None
+as_bad_record (Some refused) = Some (refusals.BadRecord refused.0)
+
+-- the refusal for the first commit that overtakes
+abbrev pub as_overtaken : Option ℕ → Option Refusal
+as_overtaken None = None
+as_overtaken (Some p) = Some (refusals.Overtaken p)
+
+-- whether there are no edits
+abbrev pub has_no_edits : List Edit → Bool
+has_no_edits [] = true
+has_no_edits (e ∷ es) = false
+
+-- the refusals of a rule that has only options below a count, so many rules of its kind standing
+abbrev pub rule_refusals : List Command → ℕ → ℕ → List (Option Refusal)
+rule_refusals history count standing =
+    when (nat_lt (option_count history) count) refusals.BadOption
+    ∷ when (nat_le (limits_of history).rules standing) refusals.Full
+    ∷ []
+
+-- whether an expression is true on some valid choice of the declared options
+abbrev pub leaves_variant : List Command → Formula ℕ → Bool
+leaves_variant history expr = list_any (λ c. is_valid_in history c && value expr c) (all_choices (option_count history))
+
+-- the refusals of edits that are too many, make too many lines or nodes, or have too much text
+abbrev pub size_refusals : List Command → List Edit → List (Option Refusal)
+size_refusals history es =
+    when (nat_lt most_edits (length es)) refusals.TooManyEdits
+    ∷ when (nat_lt (limits_of history).lines (line_count history + length (anchors_of 0 es))) refusals.TooManyLines
+    ∷ when (nat_lt (limits_of history).nodes (node_count history + nodes_made es)) refusals.TooManyNodes
+    ∷ when (nat_lt most_commit_bytes (text_bytes es) || nat_lt most_bytes (byte_count history + text_bytes es)) refusals.TooManyBytes
+    ∷ []
+
+-- the refusals of a command, in order, but that of a full history
+abbrev pub refusals_of : List Command → Command → List (Option Refusal)
+refusals_of history (commands.Option name) =
+    when (nat_le (limits_of history).options (option_count history)) refusals.Full
+    ∷ when (list_any (bytes_eq name) (options_of history)) refusals.Exists
+    ∷ []
+refusals_of history (commands.Constraint expr) =
+    rule_refusals history (reach expr) (length (constraints_of history)) ++ when (not (leaves_variant history expr)) refusals.NoVariantLeft ∷ []
+refusals_of history (commands.Prefer expr) = rule_refusals history (reach expr) (length (preferences_of history))
+refusals_of history (commands.Default option on) = rule_refusals history (option + 1) (length (defaults_of history))
+refusals_of history (commands.Commit base choice ambition es) =
+    when (nat_lt (length history) base) refusals.BadBase
+    ∷ when (not (nat_eq (length choice) (option_count (take base history))) || nat_lt (option_count (take base history)) (reach ambition)) refusals.BadOption
+    ∷ (size_refusals history es
+    ++ as_invalid (first_false_in (take base history) choice)
+    ∷ when (not (value ambition choice)) refusals.OutsideAmbition
+    ∷ when (has_no_edits es) refusals.Empty
+    ∷ as_bad_record (first_refused (numbers_of (take base history)) (replay choice (take base history)) es)
+    ∷ as_overtaken (overtaken history base ambition es)
+    ∷ [])
+
+-- the refusal of a history that has as many commands as it holds
+abbrev pub when_full : List Command → Option Refusal
+when_full history = when (nat_le most_commands (length history)) refusals.Full
+
+-- the first refusal of a command after a history; none where it is accepted
+abbrev pub verdict : List Command → Command → Option Refusal
+verdict history command = first_of (when_full history ∷ refusals_of history command)
+
+-- each command is what its types keep, and is accepted after those before it
+abbrev pub IsLegalFrom : List Command → List Command → Type 0
+IsLegalFrom before [] = Unit {0}
+IsLegalFrom before (command ∷ later) = (fits_command command ≡ true) × (verdict before command ≡ None) × IsLegalFrom (before ++ command ∷ []) later
+
+-- each command of a history is what its types keep, and is accepted after those before it
+abbrev pub IsLegal : List Command → Type 0
+IsLegal history = IsLegalFrom [] history
+
+-- the refusal is that of a verdict, unless memory is wanting
+abbrev pub RefusedBy : Refusal → Option Refusal → Type 0
+RefusedBy refusals.Memory verdict = Unit {0}
+RefusedBy r verdict = verdict ≡ Some r

@@ -1,0 +1,7 @@
+//! What histories hold and which commands they accept: definitions, and laws that hold of them whatever any code does.
+#![tactic(auto)]
+
+pub mod laws;
+mod refusal;
+
+pub use refusal::Refusal;

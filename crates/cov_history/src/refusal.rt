@@ -1,0 +1,32 @@
+// Refusals of commands.
+use cov_base::Position;
+
+/// Why a history refuses a command, or want of memory.
+#[derive(Clone, Copy, Debug, PartialEq, Eq)]
+pub enum Refusal {
+    /// The history has as many commands, options or rules as it holds.
+    Full,
+    /// An option of that name is declared.
+    Exists,
+    /// No choice would meet all constraints.
+    NoVariantLeft,
+    /// The base is beyond the history.
+    BadBase,
+    /// An option isn't declared, or the choice isn't one of all options of the base.
+    BadOption,
+    TooManyEdits,
+    TooManyLines,
+    TooManyNodes,
+    TooManyBytes,
+    /// The first constraint, from 1, that is false on the choice.
+    Invalid { rule: u32 },
+    /// The ambition is false on the choice.
+    OutsideAmbition,
+    /// There are no edits.
+    Empty,
+    /// The first edit, from 0, that the variant of the choice refuses.
+    BadRecord { edit: u32 },
+    /// The position of the first later commit that touches a common node and shares a valid choice.
+    Overtaken { position: Position },
+    Memory,
+}
