@@ -1,5 +1,5 @@
 -- What entries have when the first edits of a commit are done.
-use Rattle.std.proofs.Common.{◌≡◌, ℕ, zero, suc, ◌+◌, ◌<◌, ◌≤◌, Bool, true, false, cond, ◌&&◌, ◌||◌, not, nat_eq, nat_le, List, [], ◌∷◌, ◌++◌, length, length-append, map, drop, append_assoc, append-nil, refl, sym, ap, subst, ◌∙◌, arith}
+use Rattle.std.proofs.Common.{◌≡◌, ℕ, zero, suc, ◌+◌, ◌<◌, ◌≤◌, Bool, true, false, cond, ◌&&◌, ◌||◌, not, nat_eq, nat_le, List, [], ◌∷◌, ◌++◌, length, length-append, map, append_assoc, append-nil, refl, sym, ap, subst, ◌∙◌, arith}
 use Rattle.std.specs.List.{list_any, AllByRecursion}
 use Rattle.std.proofs.lemmas.Bool.Decides.{nat_tests}
 use Rattle.cov_base.specs.Addresses.{after_first, after_anchor, after_anchor_by}
@@ -21,27 +21,30 @@ use Rattle.cov_file.specs.Dated.{DatedLine as FileLine, numbers_of as file_numbe
 use Rattle.cov_file.specs.Rooms.{DatedFile, is_room_at, IsLeft}
 use Rattle.cov_file.proofs.Changes.{has_after}
 use Rattle.cov_order.specs.Orders.{has_line}
-use Rattle.cov_engine.specs.Deletions.{Deletion, hidden_by}
-use Rattle.cov_engine.specs.Drawing.{Stored, named_line, inserts_into, deletes_from, touches, new_homes}
-use Rattle.cov_engine.specs.Files.{DatedLine, dated_number, dated, file_dated, file_order, Takes}
-use Rattle.cov_engine.specs.Insertions.{Insertion, table_of, lines_amid, held_amid, numbered_amid}
-use Rattle.cov_engine.specs.Kept.{Kept, seen_at, kept_number, kept_of, held_by, file_kept, is_kept_anchor}
-use Rattle.cov_engine.specs.Nodes.{AreDated, AreHomes}
-use Rattle.cov_engine.specs.Sessions.{IsGood, has_commit, session_of}
+use Rattle.cov_history.specs.Deletions.{Deletion, hidden_by}
+use Rattle.cov_history.specs.Homes.{new_homes, AreHomes}
+use Rattle.cov_engine.specs.Drawing.{Stored, named_line, inserts_into, deletes_from, touches}
+use Rattle.cov_history.specs.Files.{DatedLine, dated_number, dated, file_dated, file_order, Takes}
+use Rattle.cov_history.specs.Insertions.{Insertion, table_of, lines_amid, held_amid, numbered_amid}
+use Rattle.cov_history.specs.Kept.{Kept, seen_at, kept_number, kept_of, held_by, file_kept, is_kept_anchor}
+use Rattle.cov_engine.specs.Nodes.{AreDated}
+use Rattle.cov_history.specs.Sessions.{IsGood, session_of}
+use Rattle.cov_history.specs.Verdict.{IsLegal}
 use Rattle.cov_engine.specs.Stepping.{CanInsert, CanDelete, IsStepped, IsChangedIn, AreStepped, CanStepIn, CanStepAll, AreSteppedAll}
 use Rattle.cov_engine.specs.declared.entry.Entry.{Entry}
 use Rattle.cov_engine.specs.declared.step.Step.{Step}
 use Rattle.cov_engine.specs.declared.step.Step.TheVariants as steps
-use Rattle.cov_engine.proofs.Appends.{lines-edits}
+use Rattle.cov_history.proofs.Whole.{homes-stay, home-more}
+use Rattle.cov_history.proofs.Appends.{lines-edits}
 use Rattle.cov_engine.proofs.Committed.{numbers-dated, new-same}
 use Rattle.cov_engine.proofs.Dating.{IsGone, gone, dated-numbers, insert-lines, delete-lines, all-after}
-use Rattle.cov_engine.proofs.Deletes.{delete-dated, delete-elsewhere, delete-order, accepted-there}
+use Rattle.cov_history.proofs.Deletes.{delete-dated, delete-elsewhere, delete-order}
 use Rattle.cov_engine.proofs.Entries.{all-pairs}
-use Rattle.cov_engine.proofs.Files.{anchor-below}
-use Rattle.cov_engine.proofs.Inserts.{anchors-append, anchors-stay, anchor-known, insert-elsewhere, is_table-of, amid-within, stands-amid}
-use Rattle.cov_engine.proofs.Orders.{any-mapped, insert-dated, order-takes}
-use Rattle.cov_engine.proofs.Sessions.{accepted-anchored}
-use Rattle.cov_engine.proofs.Standing.{all-mapped}
+use Rattle.cov_history.proofs.Files.{anchor-below}
+use Rattle.cov_history.proofs.Inserts.{anchors-append, anchors-stay, anchor-known, insert-elsewhere, is_table-of, amid-within, stands-amid}
+use Rattle.cov_history.proofs.Orders.{any-mapped, insert-dated, order-takes}
+use Rattle.cov_history.proofs.Older.{accepted-anchored, accepted-there}
+use Rattle.cov_history.proofs.Standing.{all-mapped}
 use Rattle.cov_engine.proofs.States.{length-one}
 
 alike-numbers : (ls ms : List FileLine) → AreAlike ls ms → file_numbers ls ≡ file_numbers ms
@@ -84,15 +87,6 @@ numbers-changed line vis q (l ∷ ls) = ap (λ n. n ∷ file_numbers (with_chang
     at true = refl
     at false = refl
 
-homes-stay : (ks ks' : List (Kept Line)) → ((file line : ℕ) → is_kept_anchor file line ks ≡ true → is_kept_anchor file line ks' ≡ true) → (k : ℕ) (homes : List ℕ) → AreHomes ks k homes → AreHomes ks' k homes
-homes-stay ks ks' f k [] h = tt
-homes-stay ks ks' f k (file ∷ homes) h = (f file (k + 1) h.0, homes-stay ks ks' f (k + 1) homes h.1)
-
-home-more : (ks : List (Kept Line)) (file k : ℕ) (homes : List ℕ) → AreHomes ks k homes → is_kept_anchor file (k + length homes + 1) ks ≡ true → AreHomes ks k (homes ++ file ∷ [])
-home-more ks file k [] h own = (subst (λ j. is_kept_anchor file j ks ≡ true) (let same : k + 0 + 1 ≡ k + 1 = omega arith in same) own, tt)
-home-more ks file k (x ∷ homes) h own =
-    (h.0, home-more ks file (k + 1) homes h.1 (subst (λ j. is_kept_anchor file j ks ≡ true) (let same : k + suc (length homes) + 1 ≡ k + 1 + length homes + 1 = omega arith in same) own))
-
 or-left : (a b : Bool) → a ≡ true → (a || b) ≡ true
 or-left true b h = refl
 or-left false b h = absurd (cc)
@@ -115,7 +109,7 @@ line-below history ambition begun later file line h =
     (or-right (nat_eq line 0) (list_any (λ k. nat_eq (kept_number k) line) (file_kept file held.lines)) (sym (any-mapped kept_number line (file_kept file held.lines)) ∙ h))
 
 module _ (history : List Command) (base : ℕ) (choice : List Bool) (ambition : Formula ℕ) (es : List Edit)
-    (good : IsGood history (session_of base choice ambition es)) (alone : has_commit (drop base history) ≡ false) where
+    (good : IsGood history (session_of base choice ambition es)) (legal : IsLegal history) where
   abbrev n : ℕ
   n = (numbers_of history).nodes
 
@@ -152,7 +146,7 @@ module _ (history : List Command) (base : ℕ) (choice : List Bool) (ambition : 
     i = record { begun = begun; file = file; after = after; text = text; later = later }
 
     anchored : is_kept_anchor (node_number n file) (line_number m after) (held_amid history ambition (begun ++ edits.Insert file after text ∷ later) begun).lines ≡ true
-    anchored = accepted-anchored history (session_of base choice ambition es) i good alone all
+    anchored = accepted-anchored history (session_of base choice ambition es) legal good i all
 
     insert-before : (held_amid history ambition (begun ++ edits.Insert file after text ∷ later) begun).lines ≡ lines_at begun
     insert-before = ap (λ some. (held_amid history ambition some begun).lines) all
@@ -196,7 +190,7 @@ module _ (history : List Command) (base : ℕ) (choice : List Bool) (ambition : 
     pub delete-there : has_line (line_number m line) (file_order (node_number n file) (lines_at begun)) ≡ true
     delete-there =
         ap (λ ks. has_line (line_number m line) (file_order (node_number n file) ks)) (sym delete-before)
-        ∙ accepted-there history (session_of base choice ambition es) gone_line good alone all
+        ∙ accepted-there history (session_of base choice ambition es) legal good gone_line all
 
     delete-here : file_dated (node_number n file) (lines_at (begun ++ edits.Delete file line ∷ []))
         ≡ map (hidden_by (line_number m line) q ambition) (file_dated (node_number n file) (lines_at begun))

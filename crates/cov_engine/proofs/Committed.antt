@@ -18,12 +18,14 @@ use Rattle.cov_edit.specs.Variant.{Line}
 use Rattle.cov_edit.proofs.Replays.{numbers_from-append}
 use Rattle.cov_engine.specs.declared.kept.Made.{Made}
 use Rattle.cov_engine.specs.declared.entry.Entry.{Entry}
-use Rattle.cov_engine.specs.Kept.{Kept, new_item, kept_address, kept_number, kept_after, entries_after, kept_of, file_kept}
-use Rattle.cov_engine.specs.Files.{dated_number, dated, file_dated}
+use Rattle.cov_history.specs.Kept.{Kept, new_item, kept_address, kept_number, kept_after, entries_after, kept_of, file_kept}
+use Rattle.cov_history.specs.Files.{dated_number, dated, file_dated}
 use Rattle.cov_engine.specs.Showing.{change_in, change_of}
 use Rattle.cov_engine.specs.Holdings.{entry_kept}
-use Rattle.cov_engine.specs.Drawing.{Stored, stored, new_homes, new_entries}
-use Rattle.cov_engine.proofs.Standing.{all-mapped, holding-stands}
+use Rattle.cov_history.specs.Homes.{new_homes}
+use Rattle.cov_engine.specs.Drawing.{Stored, stored, new_entries}
+use Rattle.cov_history.proofs.Standing.{all-mapped, holding-stands}
+use Rattle.cov_history.proofs.Whole.{new-homes-count}
 use Rattle.cov_engine.proofs.Named.{the_file, AreInFiles}
 
 -- lists
@@ -125,12 +127,6 @@ new-entries-all P n commit made (edits.New kind parent name ∷ es) f =
     (f (made + 1) (node_number n parent) kind name (omega arith), new-entries-all P n commit (made + 1) es (λ node parent kind name h. f node parent kind name (omega (arith, h))))
 new-entries-all P n commit made (edits.Insert file after text ∷ es) f = new-entries-all P n commit made es f
 new-entries-all P n commit made (edits.Delete file line ∷ es) f = new-entries-all P n commit made es f
-
-pub new-homes-count : (n m : ℕ) (es : List Edit) → length (new_homes n es) ≡ length (anchors_of m es)
-new-homes-count n m [] = refl
-new-homes-count n m (edits.New kind parent name ∷ es) = new-homes-count n m es
-new-homes-count n m (edits.Delete file line ∷ es) = new-homes-count n m es
-new-homes-count n m (edits.Insert file after text ∷ es) = ap (λ k. suc k) (new-homes-count n m es)
 
 pub homes-after : (history : List Command) (base : ℕ) (choice : List Bool) (ambition : Formula ℕ) (es : List Edit) (homes : List ℕ) (n : ℕ) → length homes ≡ length (numbers_of history).addresses
     → length (homes ++ new_homes n es) ≡ length (numbers_of (history ++ commands.Commit base choice ambition es ∷ [])).addresses

@@ -10,9 +10,9 @@ use Rattle.cov_dd.proofs.Nodes.{constant_stands}
 use Rattle.cov_expr.specs.Formula.{Formula, False, Not, And, value}
 use Rattle.cov_file.specs.Dated.{DatedLine as FileLine, dated_number as file_number, node_at, numbers_of, new_line, with_line, changed, with_change, node_of, IsAlike, AreAlike}
 use Rattle.cov_order.specs.Orders.{has_line}
-use Rattle.cov_engine.specs.Kept.{seen_at}
-use Rattle.cov_engine.specs.Files.{DatedLine, dated_number}
-use Rattle.cov_engine.specs.Deletions.{hidden_by}
+use Rattle.cov_history.specs.Kept.{seen_at}
+use Rattle.cov_history.specs.Files.{DatedLine, dated_number}
+use Rattle.cov_history.specs.Deletions.{hidden_by}
 use Rattle.cov_engine.specs.Nodes.{IsDated, AreDated}
 
 -- FALSE is false and names no option

@@ -26,13 +26,13 @@ use Rattle.cov_view.specs.Views.{ShowsLines, line_by_number, by_number}
 use Rattle.cov_view.proofs.Changes.{not_there}
 use Rattle.cov_engine.specs.declared.kept.Made.{Made}
 use Rattle.cov_engine.specs.declared.entry.Entry.{Entry}
-use Rattle.cov_engine.specs.Kept.{kept_of}
-use Rattle.cov_engine.specs.Files.{DatedLine, ShownLine, as_shown, dated_as_shown, dated_shown, is_dated_seen, file_dated}
+use Rattle.cov_history.specs.Kept.{kept_of}
+use Rattle.cov_history.specs.Files.{DatedLine, ShownLine, as_shown, dated_as_shown, dated_shown, is_dated_seen, file_dated}
 use Rattle.cov_engine.specs.Nodes.{AreDated}
 use Rattle.cov_engine.specs.Showing.{with_row, with_lines, with_entry, AreFresh}
 use Rattle.cov_engine.specs.Holdings.{IsFileOf}
-use Rattle.cov_engine.proofs.Standing.{all-mapped}
-use Rattle.cov_engine.proofs.Orders.{file-shows}
+use Rattle.cov_history.proofs.Standing.{all-mapped}
+use Rattle.cov_history.proofs.Orders.{file-shows}
 
 last-changed : (rows : List ViewRow) (r : ViewRow) (file : NodeRef) (f : ViewRow → ViewRow) → has_row rows file ≡ false → same_node r.node file ≡ true → at_row file f (rows ++ r ∷ []) ≡ rows ++ f r ∷ []
 last-changed [] r file f h same = ap (λ b. cond b (f r ∷ []) (r ∷ [])) same

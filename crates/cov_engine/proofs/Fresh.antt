@@ -20,10 +20,10 @@ use Rattle.cov_view.specs.Views.{row_by_number}
 use Rattle.cov_view.specs.declared.row.ViewRow.{ViewRow}
 use Rattle.cov_engine.specs.declared.kept.Made.{Made}
 use Rattle.cov_engine.specs.declared.entry.Entry.{Entry}
-use Rattle.cov_engine.specs.Kept.{Kept, new_item, is_seen, the_item, Holding, nothing_held, held_after, held_from, entries_of, rows_seen}
+use Rattle.cov_history.specs.Kept.{Kept, new_item, is_seen, the_item, Holding, nothing_held, held_after, held_from, entries_of, rows_seen}
 use Rattle.cov_engine.specs.Showing.{with_entry, AreFresh}
 use Rattle.cov_engine.specs.Holdings.{entry_kept}
-use Rattle.cov_engine.proofs.Standing.{all-mapped}
+use Rattle.cov_history.proofs.Standing.{all-mapped}
 use Rattle.cov_engine.proofs.Holdings.{entries-rows}
 
 -- rows of the nodes after the first so many, in order and up to a last

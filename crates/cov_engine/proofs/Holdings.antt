@@ -1,5 +1,5 @@
 -- What is kept of rows and lines, and the views of it.
-use Rattle.std.proofs.Common.{◌≡◌, refl, ap, sym, subst, ◌∙◌, ℕ, zero, suc, ◌<◌, ◌≤◌, Bool, true, false, cond, List, [], ◌∷◌, ◌++◌, length, map, take, append-nil, append_assoc, arith, Ok, Err}
+use Rattle.std.proofs.Common.{◌≡◌, refl, ap, sym, subst, ◌∙◌, ℕ, zero, suc, ◌≤◌, Bool, true, false, cond, List, [], ◌∷◌, ◌++◌, length, map, take, append-nil, append_assoc, arith, Ok, Err}
 use Rattle.std.specs.Prelude.{Result, IfOk}
 use Rattle.std.specs.List.{fold}
 use Rattle.cov_base.specs.declared.number.Kind.{Kind}
@@ -8,7 +8,7 @@ use Rattle.cov_base.specs.declared.number.NodeRef.{NodeRef}
 use Rattle.cov_base.specs.Rows.{Row}
 use Rattle.cov_base.proofs.Ordered.{all-map}
 use Rattle.cov_dd.specs.declared.triple.Triple.{Triple}
-use Rattle.cov_dd.specs.Diagrams.{node_count, span, Extends, Stands}
+use Rattle.cov_dd.specs.Diagrams.{Extends}
 use Rattle.cov_expr.specs.Formula.{value}
 use Rattle.cov_file.specs.declared.row.FileRow.{FileRow}
 use Rattle.cov_file.specs.Dated.{DatedLine as FileLine, node_at, rows_at}
@@ -25,15 +25,18 @@ use Rattle.cov_view.specs.Seen.{at_row, with_lines_by}
 use Rattle.cov_view.specs.Views.{row_by_number}
 use Rattle.cov_engine.specs.declared.kept.Made.{Made}
 use Rattle.cov_engine.specs.declared.entry.Entry.{Entry}
-use Rattle.cov_engine.specs.Kept.{seen_at, Holding, held_by, kept_of, rows_seen}
-use Rattle.cov_engine.specs.Files.{DatedLine, file_dated}
-use Rattle.cov_engine.specs.Nodes.{AreDated, AreHomes}
+use Rattle.cov_history.specs.Kept.{seen_at, Holding, held_by, kept_of, rows_seen}
+use Rattle.cov_history.specs.Files.{DatedLine, file_dated}
+use Rattle.cov_history.specs.Homes.{AreHomes}
+use Rattle.cov_engine.specs.Nodes.{AreDated}
 use Rattle.cov_engine.specs.Showing.{change_of, AreInReach, with_row, with_lines, with_entry}
 use Rattle.cov_engine.specs.Holdings.{entry_kept, IsFileOf, IsHeldBy}
-use Rattle.cov_engine.specs.Sessions.{has_commit}
-use Rattle.cov_engine.proofs.Appends.{holding-goes_on}
-use Rattle.cov_engine.proofs.Seen.{seen-cons}
-use Rattle.cov_engine.proofs.Replays.{replay-seen}
+use Rattle.cov_history.specs.Sessions.{has_commit}
+use Rattle.cov_engine.proofs.Marking.{marks-grown, marks-declared}
+use Rattle.cov_engine.proofs.Nodes.{stands-on}
+use Rattle.cov_history.proofs.Appends.{holding-goes_on}
+use Rattle.cov_history.proofs.Seen.{seen-cons}
+use Rattle.cov_history.proofs.Replays.{replay-seen}
 use Rattle.cov_engine.proofs.States.{numbers-kept, length-one}
 
 map-one : {A B : Type 0} (f : A → B) (xs : List A) (x : A) → map f (xs ++ x ∷ []) ≡ map f xs ++ f x ∷ []
@@ -117,20 +120,6 @@ as-many-options (commands.Prefer expr ∷ history) later = as-many-options histo
 as-many-options (commands.Default option on ∷ history) later = as-many-options history later
 as-many-options (commands.Commit base choice ambition es ∷ history) later = as-many-options history later
 
--- a node stands in a table with more entries, below more options
-pub stands-on : (old new : List Triple) (a count more : ℕ) (f : List Bool → Bool) → Extends old new → count ≤ more → Stands old a 0 count f → Stands new a 0 more f
-stands-on old new a count more f grown few s =
-    let within : a < node_count old = s.within in
-    let counts : node_count old ≤ node_count new = grown.count in
-    let below : span old a ≤ count = s.below in
-    let spans : span new a ≡ span old a = grown.most a within in
-    record {
-      within = omega (arith, within, counts);
-      above = omega arith;
-      below = omega (arith, below, spans, few);
-      value = λ c. grown.value a within c ∙ s.value c;
-    }
-
 -- so do the lines of a file
 pub dated-on : (old new : List Triple) (count more : ℕ) (ds : List DatedLine) (ls : List FileLine) → Extends old new → count ≤ more → AreDated old count ds ls → AreDated new more ds ls
 dated-on old new count more [] [] grown few h = tt
@@ -145,7 +134,7 @@ dated-on old new count more (d ∷ ds) (l ∷ ls) grown few h = (
   dated-on old new count more ds ls grown few h.1,
 )
 
-itself : (ts : List Triple) → Extends ts ts
+pub itself : (ts : List Triple) → Extends ts ts
 itself ts = record { more = []; is = refl; count = omega arith; least = λ a within. refl; most = λ a within. refl; value = λ a within c. refl }
 
 -- what is held is so with a table that has more entries
@@ -164,6 +153,7 @@ held-grown history old new commits homes entries held grown = record {
   homes = held.homes;
   made_entries = held.made_entries;
   few = held.few;
+  marks = marks-grown old new (option_count history) (option_count history) grown (omega arith) 0 history commits held.marks;
 }
 
 -- a declaration leaves what is held as it is
@@ -183,6 +173,8 @@ held-declared history longer k ts commits homes entries held h e = rw e (record 
   homes = subst (λ (held : Holding). AreHomes held.lines 0 homes) (sym (held-same history k h)) held.homes;
   made_entries = held.made_entries;
   few = let one = length-one history k in let few = held.few in omega (arith, one, few);
+  marks = marks-declared ts (option_count (history ++ k ∷ [])) 0 history k commits h
+      (marks-grown ts ts (option_count history) (option_count (history ++ k ∷ [])) (itself ts) (as-many-options history (k ∷ [])) 0 history commits held.marks);
 })
 
 pub if_ok : {A E : Type 0} (r : Result A E) (P Q : A → Type 0) → ((a : A) → P a → Q a) → IfOk r P → IfOk r Q
@@ -201,4 +193,5 @@ held-none history ts commits homes entries he ce le ee =
       homes = tt;
       made_entries = tt;
       few = omega arith;
+      marks = refl;
     })

@@ -21,20 +21,20 @@ use Rattle.cov_view.specs.References.{is_root}
 use Rattle.cov_view.specs.declared.fault.EditFault.TheVariants as faults
 use Rattle.cov_engine.specs.declared.entry.Entry.{Entry}
 use Rattle.cov_engine.specs.declared.kept.Made.{Made}
-use Rattle.cov_engine.specs.Kept.{Kept, hidden, hidden_where, kept_address, kept_number, new_line, kept_after, nothing_held, Holding, kept_of, file_kept, is_kept_anchor}
+use Rattle.cov_history.specs.Kept.{Kept, hidden, hidden_where, kept_address, kept_number, new_line, kept_after, nothing_held, Holding, kept_of, file_kept, is_kept_anchor}
 use Rattle.cov_engine.specs.Holdings.{entry_kept, IsFileOf, IsHeldBy}
-use Rattle.cov_engine.specs.Nodes.{AreHomes}
-use Rattle.cov_engine.specs.Sessions.{has_commit}
-use Rattle.cov_engine.specs.Verdict.{verdict, IsLegalFrom, IsLegal}
+use Rattle.cov_history.specs.Sessions.{has_commit}
+use Rattle.cov_history.specs.Verdict.{verdict, IsLegalFrom, IsLegal}
 use Rattle.cov_engine.specs.Visibility.{item_of, entry_of}
-use Rattle.cov_engine.proofs.Appends.{commit-lines}
-use Rattle.cov_engine.proofs.Files.{anchor-case}
+use Rattle.cov_history.proofs.Appends.{commit-lines}
+use Rattle.cov_history.proofs.Files.{anchor-case}
 use Rattle.cov_engine.proofs.Fresh.{NodesFrom, history-nodes}
 use Rattle.cov_engine.proofs.Named.{the_file, legal-files}
-use Rattle.cov_engine.proofs.Naming.{edits-accepted}
-use Rattle.cov_engine.proofs.Orders.{no_commit-holds}
-use Rattle.cov_engine.proofs.Sessions.{edit-accepted, rest-accepted}
-use Rattle.cov_engine.proofs.Standing.{all-mapped}
+use Rattle.cov_history.proofs.Naming.{edits-accepted}
+use Rattle.cov_history.proofs.Orders.{no_commit-holds}
+use Rattle.cov_history.proofs.Sessions.{edit-accepted, rest-accepted}
+use Rattle.cov_history.proofs.Standing.{all-mapped}
+use Rattle.cov_history.proofs.Whole.{home-has}
 
 -- no edit inserts into the root
 abbrev NoneAtRoot : List Edit → Type 0
@@ -148,17 +148,6 @@ none-kept P file (k ∷ ks) h never = at (nat_eq k.item.file file) refl (none-ke
     at true e rest = absurd (never (subst P (equal k.item.file file e) h.0))
     at false e rest = rest
 
--- the file that is noted of a line has it
-home-has : (ks : List (Kept Line)) (n i : ℕ) (homes : List ℕ) (file : ℕ) → AreHomes ks n homes → slice_get homes i ≡ Some file → is_kept_anchor file (n + i + 1) ks ≡ true
-home-has ks n i [] file h e = absurd (cc)
-home-has ks n zero (f ∷ homes) file h e =
-    let same : f ≡ file = cc in
-    let first : n + 1 ≡ n + 0 + 1 = omega arith in
-    subst (λ m. is_kept_anchor file m ks ≡ true) first (subst (λ g. is_kept_anchor g (n + 1) ks ≡ true) same h.0)
-home-has ks n (suc i) (f ∷ homes) file h e =
-    let next : n + 1 + i + 1 ≡ n + suc i + 1 = omega arith in
-    subst (λ m. is_kept_anchor file m ks ≡ true) next (home-has ks (n + 1) i homes file h.1 e)
-
 -- the entries are of the next nodes, in order
 module _ (commits : List Made) where
   entry-at : (n m i : ℕ) (es : List Entry) → NodesFrom n m (map (entry_kept commits) es) → n + i < m → (e : Entry) × (slice_get es i ≡ Some e)
@@ -180,7 +169,7 @@ module _ (commits : List Made) where
 
 -- items by their numbers
 module _ {X : Type 0} where
-  item-suc : (xs : List X) (n : ℕ) → item_of xs (suc n) ≡ slice_get xs n
+  pub item-suc : (xs : List X) (n : ℕ) → item_of xs (suc n) ≡ slice_get xs n
   item-suc xs n =
       let above : nat_eq (suc n) 0 ≡ false = grind (arith, nat_tests) in
       let place : suc n - 1 ≡ n = omega arith in

@@ -14,34 +14,38 @@ use Rattle.cov_edit.specs.Numbering.{nodes_made, anchors_of, no_numbers, numbers
 use Rattle.cov_view.specs.Refusals.{when, first_of}
 use Rattle.cov_engine.specs.declared.kept.Made.{Made}
 use Rattle.cov_engine.specs.declared.entry.Entry.{Entry}
-use Rattle.cov_engine.specs.declared.refusal.Refusal.{Refusal}
-use Rattle.cov_engine.specs.declared.refusal.Refusal.TheVariants as refusals
-use Rattle.cov_engine.specs.Kept.{nothing_held, held_by, kept_of, entries_of}
-use Rattle.cov_engine.specs.Files.{dated, file_dated}
+use Rattle.cov_history.specs.declared.refusal.Refusal.{Refusal}
+use Rattle.cov_history.specs.declared.refusal.Refusal.TheVariants as refusals
+use Rattle.cov_engine.specs.Marks.{AreMarks}
+use Rattle.cov_history.specs.Kept.{nothing_held, held_by, kept_of, entries_of}
+use Rattle.cov_history.specs.Files.{dated, file_dated}
 use Rattle.cov_engine.specs.Showing.{change_in, change_of, AreInReach}
 use Rattle.cov_engine.specs.Holdings.{entry_kept, IsFileOf, IsHeldBy}
-use Rattle.cov_engine.specs.Sessions.{IsGood, has_commit, session_of}
-use Rattle.cov_engine.specs.Verdict.{IsLegal, verdict, when_full, refusals_of}
-use Rattle.cov_engine.specs.Drawing.{Stored, stored, new_homes, new_entries, AreNear, AreLow, AreNumbered, HasRoom, named_line}
+use Rattle.cov_history.specs.Sessions.{IsGood, session_of}
+use Rattle.cov_history.specs.Verdict.{IsLegal, verdict, when_full, refusals_of}
+use Rattle.cov_history.specs.Homes.{new_homes, AreHomes}
+use Rattle.cov_engine.specs.Drawing.{Stored, stored, new_entries, AreNear, AreLow, AreNumbered, HasRoom, named_line}
 use Rattle.cov_engine.specs.Drawn.{IsDrawn}
-use Rattle.cov_engine.specs.Insertions.{numbered_amid, held_amid}
-use Rattle.cov_engine.specs.Nodes.{AreDated, AreHomes}
+use Rattle.cov_history.specs.Insertions.{numbered_amid, held_amid}
+use Rattle.cov_engine.specs.Nodes.{AreDated}
 use Rattle.cov_file.specs.Dated.{DatedLine as FileLine}
 use Rattle.cov_dd.specs.declared.triple.Triple.{Triple}
 use Rattle.cov_engine.specs.Stepping.{IsChangedIn, IsStepped, AreStepped, CanStepAll, AreSteppedAll, AreInstalled, step_file, restored}
 use Rattle.cov_engine.specs.declared.step.Step.{Step}
 use Rattle.cov_engine.specs.declared.step.Step.TheVariants as steps
-use Rattle.cov_engine.proofs.Appends.{commit-lines, commit-rows, lines-edits}
-use Rattle.cov_engine.proofs.Standing.{all-mapped}
+use Rattle.cov_history.proofs.Appends.{commit-lines, commit-rows, lines-edits}
+use Rattle.cov_history.proofs.Standing.{all-mapped}
 use Rattle.cov_engine.proofs.FileLines.{all-unmapped}
 use Rattle.cov_engine.proofs.Fresh.{NodesFrom, history-nodes}
 use Rattle.cov_engine.proofs.Holdings.{as-many-options, more-options, in-reach}
 use Rattle.cov_engine.proofs.States.{length-one, not-below, options-append}
-use Rattle.cov_engine.proofs.Naming.{base-nodes, edits-accepted}
+use Rattle.cov_history.proofs.Naming.{base-nodes, edits-accepted}
+use Rattle.cov_engine.proofs.Marking.{marks-committed}
 use Rattle.cov_engine.proofs.Named.{edits-named, named-near, legal-files}
 use Rattle.cov_engine.proofs.Amid.{IsHere, AreHere, stepped, homes-along, named-low}
 use Rattle.cov_engine.proofs.Started.{planned-right}
-use Rattle.cov_engine.proofs.Committed.{stored_kept, kept-stored, map-append, rows-behind, old-rows, new-homes-count, new-entries-all, homes-after, file-empty, change-front, change-last, get-behind}
+use Rattle.cov_history.proofs.Whole.{new-homes-count}
+use Rattle.cov_engine.proofs.Committed.{stored_kept, kept-stored, map-append, rows-behind, old-rows, new-entries-all, homes-after, file-empty, change-front, change-last, get-behind}
 
 numbers-in : (k m : ℕ) (commits : List Made) (entries : List Entry) → NodesFrom k m (map (entry_kept commits) entries) → AreNumbered k entries
 numbers-in k m commits [] h = tt
@@ -128,10 +132,10 @@ module _ (history : List Command) (base : ℕ) (choice : List Bool) (ambition : 
       (edits-named history base choice es (edits-accepted history base choice ambition es accepted))
 
   -- the lines that they name have small numbers
-  pub edits-low : IsGood history (session_of base choice ambition es) → has_commit (drop base history) ≡ false → AreLow (line_count history) es
-  edits-low good alone =
+  pub edits-low : IsGood history (session_of base choice ambition es) → IsLegal history → AreLow (line_count history) es
+  edits-low good legal =
       all-map (λ e. named_line (line_count history) e ≤ 2 ^ 20) (λ e. named_line (line_count history) e < 2 ^ 32) (λ e low. omega (arith, low)) es
-      (named-low history base choice ambition es good alone (2 ^ 20) es [] refl
+      (named-low history base choice ambition es good legal (2 ^ 20) es [] refl
       (let few = lines-few in let same = sym (new-homes-count 0 (line_count history) es) ∙ new-homes-count 0 0 es in omega (arith, few, same)))
 
 take-all : (at : ℕ) (history : List Command) → length history ≤ at → take at history ≡ history
@@ -144,7 +148,7 @@ take-all (suc at) (k ∷ history) h = ap (λ l. k ∷ l) (take-all at history (o
 pub declared-less : (base : ℕ) (history : List Command) → option_count (take base history) ≤ option_count history
 declared-less base history = subst (λ h. option_count (take base history) ≤ option_count h) (take-append-drop base history) (as-many-options (take base history) (drop base history))
 
-in-reach-more : (history : List Command) (k : Command) (ambition : Formula ℕ) (commits : List Made) (made : Made) → made ≡ record { position = length history + 1; ambition = ambition } → reach ambition ≤ option_count history
+in-reach-more : (history : List Command) (k : Command) (ambition : Formula ℕ) (commits : List Made) (made : Made) → ◌≡◌ {A = ℕ × Formula ℕ} (made.position, made.ambition) (length history + 1, ambition) → reach ambition ≤ option_count history
     → ((at : ℕ) → AreInReach (option_count (take at history)) at commits) → (at : ℕ) → AreInReach (option_count (take at (history ++ k ∷ []))) at (commits ++ made ∷ [])
 in-reach-more history k ambition commits made is low old at commit seen = by commit (nat_lt commit (length commits)) refl seen
   where
@@ -154,7 +158,7 @@ in-reach-more history k ambition commits made is low old at commit seen = by com
     here : (commit : ℕ) → commit ≡ length commits → (change_of (commits ++ made ∷ []) commit).0 ≤ at → reach (change_of (commits ++ made ∷ []) commit).1 ≤ more
     here commit e seen =
         let change : change_of (commits ++ made ∷ []) commit ≡ (length history + 1, ambition) =
-        ap (change_of (commits ++ made ∷ [])) e ∙ change-last commits made ∙ ap (λ (m : Made). (m.position, m.ambition)) is in
+        ap (change_of (commits ++ made ∷ [])) e ∙ change-last commits made ∙ is in
         let late : length history + 1 ≤ at = subst (λ (c : ℕ × Formula ℕ). c.0 ≤ at) change seen in
         let all : take at history ≡ history = take-all at history (omega (arith, late)) in
         let grows : option_count (take at history) ≤ more = more-options at history (k ∷ []) in
@@ -232,7 +236,7 @@ any-position q None h = refl
 any-position q (Some p) h = absurd (cc)
 
 module _ (history : List Command) (base : ℕ) (choice : List Bool) (ambition : Formula ℕ) (es : List Edit) (legal : IsLegal history)
-    (good : IsGood history (session_of base choice ambition es)) (alone : has_commit (drop base history) ≡ false)
+    (good : IsGood history (session_of base choice ambition es))
     (accepted : verdict history (commands.Commit base choice ambition es) ≡ None)
     (ts : List Triple) (commits : List Made) (made : Made) (ss : List Step) (homes : List ℕ) (entries : List Entry) (drawn : IsDrawn history ts ambition es commits made ss homes entries) where
   abbrev n : ℕ
@@ -250,8 +254,11 @@ module _ (history : List Command) (base : ℕ) (choice : List Bool) (ambition : 
   abbrev all_commits : List Made
   all_commits = commits ++ made ∷ []
 
+  made-is : ◌≡◌ {A = ℕ × Formula ℕ} (made.position, made.ambition) (length history + 1, ambition)
+  made-is = λ i. (drawn.at i, drawn.within i)
+
   last-change : change_of all_commits (length commits) ≡ (length history + 1, ambition)
-  last-change = change-last commits made ∙ ap (λ (k : Made). (k.position, k.ambition)) drawn.made_is
+  last-change = change-last commits made ∙ made-is
 
   rows : entries_of (history ++ commit ∷ []) ≡ map (entry_kept all_commits) entries
   rows =
@@ -285,11 +292,11 @@ module _ (history : List Command) (base : ℕ) (choice : List Bool) (ambition : 
   above-zero k (e ∷ xs) h = (let own : e.node ≡ k + 1 = h.0 in omega (arith, own), above-zero (k + 1) xs h.1)
 
   abbrev AreHereNow : List Edit → List Edit → List Entry → Type 0
-  AreHereNow begun left xs = AreHere history base choice ambition es good alone ts drawn.node drawn.stands begun left xs
+  AreHereNow begun left xs = AreHere history base choice ambition es good legal ts made.node drawn.stands begun left xs
 
   start : AreHereNow [] es entries
   start =
-      all-both (λ e. (0 < e.node) × HasRoom n m es e) (λ e. IsKeptFile (stored e)) (λ e. IsHere history base choice ambition es good alone ts drawn.node drawn.stands e.node [] es e.file)
+      all-both (λ e. (0 < e.node) × HasRoom n m es e) (λ e. IsKeptFile (stored e)) (λ e. IsHere history base choice ambition es good legal ts made.node drawn.stands e.node [] es e.file)
       (λ e h file. record {
         above = h.0;
         are_dated = file.0;
@@ -303,8 +310,8 @@ module _ (history : List Command) (base : ℕ) (choice : List Bool) (ambition : 
 
   all-stepped : CanStepAll q ss entries × ((after : List Entry) → AreSteppedAll q ss entries after → AreHereNow es [] after)
   all-stepped =
-      stepped history base choice ambition es good alone ts drawn.node drawn.stands es [] m entries ss refl (omega arith)
-      (planned-right history base choice ambition es good alone ts drawn.node drawn.stands legal drawn.old_entries old-numbered (held-count history commits drawn.old_entries drawn.held.rows) drawn.held.files m es ss drawn.planned)
+      stepped history base choice ambition es good legal ts made.node drawn.stands es [] m entries ss refl (omega arith)
+      (planned-right history base choice ambition es good legal ts made.node drawn.stands drawn.old_entries old-numbered (held-count history commits drawn.old_entries drawn.held.rows) drawn.held.files m es ss drawn.planned)
       start
 
   pub drawn-steps : CanStepAll q ss entries
@@ -339,17 +346,17 @@ module _ (history : List Command) (base : ℕ) (choice : List Bool) (ambition : 
         rows = rows ∙ sym (installed-rows (entry_kept all_commits)
             (λ e f same. ap (stored_kept all_commits) same) (λ e ls newest f same. ap (stored_kept all_commits) same) q ss entries after installed);
         files = files-stored (history ++ commit ∷ []) ts installed.0 after installed.2
-            (all-map (λ e. IsHere history base choice ambition es good alone ts drawn.node drawn.stands e.node es [] e.file) (IsFileOf (history ++ commit ∷ []) ts)
+            (all-map (λ e. IsHere history base choice ambition es good legal ts made.node drawn.stands e.node es [] e.file) (IsFileOf (history ++ commit ∷ []) ts)
             (λ e h. record {
               lines = subst (λ ks. AreDated ts (option_count (history ++ commit ∷ [])) (file_dated e.node ks) e.file.lines) lines-now
                   (subst (λ c. AreDated ts c (file_dated e.node (held_amid history ambition es es).lines) e.file.lines) (sym options-now) h.are_dated);
               newest = let low = h.newest in omega (arith, low, longer);
             }) installed.0 (all-stepped.1 installed.0 installed.1));
-        in_reach = in-reach-more history commit ambition commits made drawn.made_is base-reach drawn.held.in_reach;
+        in_reach = in-reach-more history commit ambition commits made made-is base-reach drawn.held.in_reach;
         lines = ap length drawn.homes_are ∙ homes-after history base choice ambition es drawn.old_homes n drawn.held.lines;
         homes = subst (AreHomes (kept_of (history ++ commit ∷ [])) 0) (sym drawn.homes_are)
             (subst (λ ks. AreHomes ks 0 (drawn.old_homes ++ new_homes n es)) lines-now
-            (homes-along history base choice ambition es good alone es [] drawn.old_homes refl (let old = drawn.held.lines in omega (arith, old)) drawn.held.homes));
+            (homes-along history base choice ambition es good legal es [] drawn.old_homes refl (let old = drawn.held.lines in omega (arith, old)) drawn.held.homes));
         made_entries = subst (λ k. AllByRecursion (λ e. e.commit < k) after) count
             (all-unmapped (λ (k : ℕ). k < length commits + 1) (λ (e : Entry). e.commit) after
             (subst (AllByRecursion (λ k. k < length commits + 1))
@@ -357,4 +364,7 @@ module _ (history : List Command) (base : ℕ) (choice : List Bool) (ambition : 
             (all-mapped (λ (e : Entry). e.commit < length commits + 1) (λ k. k < length commits + 1) (λ (e : Entry). e.commit) (λ e h. h) entries
             (all-unmapped (λ (s : Stored). s.commit < length commits + 1) stored entries stored-made))));
         few = let old = drawn.held.few in omega (arith, old, longer, one);
+        marks = subst (λ c. AreMarks ts c 0 (history ++ commit ∷ []) all_commits) (sym options-now)
+            (marks-committed ts (option_count history) (length history + 1) 0 base history choice ambition es made commits (omega arith)
+            (record { position = drawn.at; touches = drawn.touches; stands = drawn.stands; named = base-reach }) drawn.held.marks);
       }

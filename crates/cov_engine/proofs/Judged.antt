@@ -12,9 +12,9 @@ use Rattle.cov_edit.specs.declared.edit.Edit.TheVariants as edits
 use Rattle.cov_edit.specs.declared.command.Command.{Command}
 use Rattle.cov_edit.specs.declared.command.Command.TheVariants as commands
 use Rattle.cov_rules.specs.Completion.{Complete, Invalid, Incomplete}
-use Rattle.cov_engine.specs.declared.refusal.Refusal.TheVariants as refusals
-use Rattle.cov_engine.specs.Ruling.{completed_in}
-use Rattle.cov_engine.specs.Verdict.{verdict, IsLegal}
+use Rattle.cov_history.specs.declared.refusal.Refusal.TheVariants as refusals
+use Rattle.cov_history.specs.Completing.{completed_in}
+use Rattle.cov_history.specs.Verdict.{verdict, IsLegal}
 
 -- a file with a line, the options d and e, and a constraint that d is on
 abbrev history : List Command

@@ -12,16 +12,16 @@ use Rattle.cov_edit.specs.Numbering.{Numbers, Inserted, Deleted, node_number, li
 use Rattle.cov_edit.specs.Replay.{replay}
 use Rattle.cov_edit.proofs.Replays.{numbers_from-append}
 use Rattle.cov_view.specs.Refusals.{first_refused}
-use Rattle.cov_engine.specs.Kept.{Kept, hidden, hidden_where, kept_address, new_line, kept_after, Holding, kept_of}
-use Rattle.cov_engine.specs.Sessions.{has_commit}
+use Rattle.cov_history.specs.Kept.{Kept, hidden, hidden_where, kept_address, new_line, kept_after, Holding, kept_of}
+use Rattle.cov_history.specs.Sessions.{has_commit}
 use Rattle.cov_edit.specs.Variant.{Line, is_line}
 use Rattle.cov_engine.specs.Drawing.{AreNear}
-use Rattle.cov_engine.specs.Verdict.{verdict, IsLegalFrom, IsLegal}
-use Rattle.cov_engine.proofs.Appends.{commit-lines}
-use Rattle.cov_engine.proofs.Standing.{all-mapped}
-use Rattle.cov_engine.proofs.Orders.{no_commit-holds}
+use Rattle.cov_history.specs.Verdict.{verdict, IsLegalFrom, IsLegal}
+use Rattle.cov_history.proofs.Appends.{commit-lines}
+use Rattle.cov_history.proofs.Standing.{all-mapped}
+use Rattle.cov_history.proofs.Orders.{no_commit-holds}
 use Rattle.cov_engine.proofs.States.{numbers-kept}
-use Rattle.cov_engine.proofs.Naming.{the_node, AreNamed, made-number, nodes-replay, base-nodes, edits-accepted, further, accepted-named}
+use Rattle.cov_history.proofs.Naming.{the_node, AreNamed, made-number, nodes-replay, base-nodes, edits-accepted, further, accepted-named}
 
 -- an accepted commit's edits name nodes of its base, or nodes that they make
 pub edits-named : (history : List Command) (base : ℕ) (choice : List Bool) (es : List Edit)

@@ -1,11 +1,12 @@
 -- What is ready for a command, drawn, installed or given up.
-use Rattle.std.proofs.Common.{◌≡◌, ℕ, zero, suc, ◌+◌, ◌-◌, ◌<◌, ◌≤◌, ◌^◌, Bool, true, false, nat_le, List, [], ◌∷◌, ◌++◌, length, map, take, drop, None, Result, Ok, Err, OnErr, append-nil, refl, sym, ap, subst, ◌∙◌, arith}
+use Rattle.std.proofs.Common.{◌≡◌, ℕ, zero, suc, ◌+◌, ◌-◌, ◌<◌, ◌≤◌, ◌^◌, Bool, true, false, nat_le, List, [], Option, ◌∷◌, ◌++◌, length, map, take, Some, None, Result, Ok, Err, OnErr, append-nil, refl, sym, ap, subst, ◌∙◌, arith}
 use Rattle.std.specs.List.{AllByRecursion}
 use Rattle.std.proofs.lemmas.Bool.Decides.{nat_tests}
 use Rattle.cov_base.proofs.Tables.{length-with_lines}
 use Rattle.cov_dd.specs.declared.triple.Triple.{Triple}
 use Rattle.cov_base.proofs.Ordered.{all-map}
-use Rattle.cov_expr.specs.Formula.{Formula, value}
+use Rattle.cov_expr.specs.Formula.{Formula, value, reach}
+use Rattle.cov_expr.specs.Validity.{is_valid}
 use Rattle.cov_edit.specs.declared.edit.Edit.{Edit}
 use Rattle.cov_edit.specs.declared.command.Command.{Command}
 use Rattle.cov_edit.specs.declared.command.Command.TheVariants as commands
@@ -14,55 +15,95 @@ use Rattle.cov_edit.specs.History.{options_of, option_count, text_bytes, command
 use Rattle.cov_edit.specs.Limits.{most_commands}
 use Rattle.cov_edit.specs.Numbering.{Numbers, nodes_made, anchors_of, no_numbers, numbers_after, numbers_of, line_count}
 use Rattle.cov_edit.proofs.Replays.{numbers_from-append}
-use Rattle.cov_rules.specs.Installing.{Standing}
+use Rattle.cov_rules.specs.Installing.{Standing, reach_of}
 use Rattle.cov_view.specs.Refusals.{when, first_of}
 use Rattle.cov_engine.specs.declared.counts.Counts.{Counts}
 use Rattle.cov_engine.specs.declared.entry.Entry.{Entry}
 use Rattle.cov_engine.specs.declared.kept.Made.{Made}
 use Rattle.cov_engine.specs.declared.step.Step.{Step}
 use Rattle.cov_engine.specs.declared.sizes.Sizes.{Sizes}
-use Rattle.cov_engine.specs.declared.refusal.Refusal.TheVariants as refusals
-use Rattle.cov_engine.specs.Kept.{kept_of}
-use Rattle.cov_engine.specs.Files.{file_dated}
+use Rattle.cov_history.specs.declared.refusal.Refusal.{Refusal}
+use Rattle.cov_history.specs.declared.refusal.Refusal.TheVariants as refusals
+use Rattle.cov_history.specs.Kept.{kept_of}
+use Rattle.cov_history.specs.Files.{file_dated}
 use Rattle.cov_engine.specs.Nodes.{HasNodesIn}
 use Rattle.cov_engine.proofs.Dating.{dated-nodes}
 use Rattle.cov_engine.specs.Holdings.{IsFileOf, IsHeldBy}
-use Rattle.cov_engine.specs.Sessions.{IsGood, has_commit, session_of}
+use Rattle.cov_history.specs.Sessions.{IsGood, session_of}
 use Rattle.cov_engine.specs.States.{AreCountsOf, IsStateOf}
-use Rattle.cov_engine.specs.Verdict.{verdict, refusals_of, size_refusals, has_no_edits}
-use Rattle.cov_engine.specs.Drawing.{Stored, stored, sizes_of, sizes_refusal, new_homes, new_entries, AreNumbered, AreNear, AreLow, HasRoom}
+use Rattle.cov_engine.specs.Marks.{AreMarks}
+use Rattle.cov_engine.specs.Overtakers.{IsOvertaker}
+use Rattle.cov_history.specs.Overtaking.{overtaken}
+use Rattle.cov_history.specs.Verdict.{IsLegal, as_overtaken, verdict, refusals_of, size_refusals, has_no_edits}
+use Rattle.cov_edit.specs.Touched.{touched}
+use Rattle.cov_history.specs.Homes.{new_homes}
+use Rattle.cov_engine.specs.Drawing.{Stored, stored, sizes_of, sizes_refusal, new_entries, AreNumbered, AreNear, AreLow, HasRoom}
 use Rattle.cov_engine.specs.Drawn.{IsDrawn}
 use Rattle.cov_engine.specs.Stepping.{ArePlanned, CanStepAll, AreInstalled}
-use Rattle.cov_dd.specs.Diagrams.{Stands}
+use Rattle.cov_dd.specs.Diagrams.{value_in, Stands}
 use Rattle.cov_engine.specs.Ready.{IsNext, IsInBounds, AreCountsWith, IsCommitReady, edits_in}
-use Rattle.cov_engine.proofs.Standing.{all-mapped}
+use Rattle.cov_history.proofs.Standing.{all-mapped}
 use Rattle.cov_engine.proofs.FileLines.{all-unmapped}
-use Rattle.cov_engine.proofs.Sessions.{good-passes}
+use Rattle.cov_history.proofs.Sessions.{good-passes}
 use Rattle.cov_engine.proofs.States.{legal-one, length-one, sum-one, options-append, below, first-none}
-use Rattle.cov_engine.proofs.Committed.{stored_kept, kept-stored, new-homes-count}
+use Rattle.cov_history.proofs.Whole.{new-homes-count}
+use Rattle.cov_engine.proofs.Committed.{stored_kept, kept-stored}
 use Rattle.cov_engine.proofs.Rooms.{map-length}
 use Rattle.cov_engine.proofs.Ruling.{rules-same}
 use Rattle.cov_engine.proofs.Installed.{held-count, lines-few, nodes-few, edits-few, bytes-few, edits-near, edits-low, drawn-numbered, drawn-steps, held-committed, files-stored}
 
--- the verdict on the commit of a good session is that of its sizes
-pub sized-verdict : (history : List Command) (counts : Counts) (base : ℕ) (choice : List Bool) (ambition : Formula ℕ) (es : List Edit)
-    → AreCountsOf history counts → IsGood history (session_of base choice ambition es) → length history < 2 ^ 20 → sizes_refusal counts es ≡ verdict history (commands.Commit base choice ambition es)
-sized-verdict history counts base choice ambition es are good h =
-    sized ∙ ap (λ b. first_of (when b refusals.Full ∷ (size_refusals history es ++ when (has_no_edits es) refusals.Empty ∷ []))) (sym not-full)
+-- a refusal before the last, or the last
+last-alone : {F : Type 0} (os : List (Option F)) (o : Option F) → first_of (os ++ o ∷ []) ≡ first_of (first_of os ∷ o ∷ [])
+last-alone [] o = refl
+last-alone (None ∷ os) o = last-alone os o
+last-alone (Some f ∷ os) o = refl
+
+-- the verdict on the commit of a good session is that of its sizes, or else of what overtakes it
+pub good-verdict : (history : List Command) (counts : Counts) (base : ℕ) (choice : List Bool) (ambition : Formula ℕ) (es : List Edit)
+    → AreCountsOf history counts → IsGood history (session_of base choice ambition es) → length history < 2 ^ 20
+    → first_of (sizes_refusal counts es ∷ as_overtaken (overtaken history base ambition es) ∷ []) ≡ verdict history (commands.Commit base choice ambition es)
+good-verdict history counts base choice ambition es are good h =
+    ap (λ o. first_of (o ∷ last ∷ [])) sized
+    ∙ sym (last-alone (size_refusals history es ++ when (has_no_edits es) refusals.Empty ∷ []) last)
+    ∙ ap (λ b. first_of (when b refusals.Full ∷ (size_refusals history es ++ when (has_no_edits es) refusals.Empty ∷ last ∷ []))) (sym not-full)
     ∙ sym (good-passes history (session_of base choice ambition es) good)
   where
+    last : Option Refusal
+    last = as_overtaken (overtaken history base ambition es)
+
     sized : sizes_refusal counts es ≡ first_of (size_refusals history es ++ when (has_no_edits es) refusals.Empty ∷ [])
     sized = rw (are.lines, are.nodes, are.bytes) refl
 
     not-full : nat_le most_commands (length history) ≡ false
     not-full = grind (arith, nat_tests, h)
 
+-- a commit that is refused by its sizes
+pub refused-sized : (o : Option Refusal) (last : Option Refusal) (r : Refusal) → o ≡ Some r → first_of (o ∷ last ∷ []) ≡ Some r
+refused-sized o last r e = ap (λ p. first_of (p ∷ last ∷ [])) e
+
+-- a commit that isn't, with another that overtakes it, or none
+pub refused-late : (o : Option Refusal) (p found : Option ℕ) (r : Option Refusal) → o ≡ None → found ≡ p → as_overtaken found ≡ r → first_of (o ∷ as_overtaken p ∷ []) ≡ r
+refused-late o p found r e f g = ap (λ q. first_of (q ∷ as_overtaken p ∷ [])) e ∙ ap (λ q. first_of (as_overtaken q ∷ [])) (sym f) ∙ one (as_overtaken found) ∙ g
+  where
+    one : (q : Option Refusal) → first_of (q ∷ []) ≡ q
+    one None = refl
+    one (Some x) = refl
+
+-- what is found among the commits is what overtakes in the history
+pub overtaken-found : (history : List Command) (names : List (List ℕ)) (ts : List Triple) (standing : Standing) (counts : Counts) (commits some : List Made) (homes : List ℕ) (entries : List Entry) (valid base : ℕ)
+    (ambition : Formula ℕ) (es : List Edit) (found : Option ℕ) → IsStateOf history names ts standing counts → IsHeldBy history ts commits homes entries → reach ambition ≤ option_count history
+    → valid ≡ standing.conjunction → some ≡ commits → IsOvertaker ts valid some base ambition es found → found ≡ overtaken history base ambition es
+overtaken-found history names ts standing counts commits some homes entries valid base ambition es found state held low is same first =
+    first history state.rules.below.few (subst (λ fs. reach_of fs ≤ option_count history) state.rules.constraints state.rules.below.constraints) low
+    (subst (AreMarks ts (option_count history) 0 history) (sym same) held.marks)
+    (λ c. ap (λ a. value_in ts a c) is ∙ state.rules.holds.conjunction.value c ∙ ap (λ fs. is_valid fs c) state.rules.constraints)
+
 -- an accepted commit is within the limits
-pub in-bounds : (history : List Command) (base : ℕ) (choice : List Bool) (ambition : Formula ℕ) (es : List Edit) → IsGood history (session_of base choice ambition es) → has_commit (drop base history) ≡ false
+pub in-bounds : (history : List Command) (base : ℕ) (choice : List Bool) (ambition : Formula ℕ) (es : List Edit) → IsGood history (session_of base choice ambition es) → IsLegal history
     → verdict history (commands.Commit base choice ambition es) ≡ None → IsInBounds history es
-in-bounds history base choice ambition es good alone accepted = record {
+in-bounds history base choice ambition es good legal accepted = record {
   near = edits-near history base choice ambition es accepted;
-  low = edits-low history base choice ambition es accepted good alone;
+  low = edits-low history base choice ambition es accepted good legal;
   edits = edits-few history base choice ambition es accepted;
   lines = lines-few history base choice ambition es accepted;
   nodes = nodes-few history base choice ambition es accepted;
@@ -82,6 +123,7 @@ held-stored history ts commits homes old now same held = record {
       (subst (AllByRecursion (λ (s : Stored). s.commit < length commits)) (sym same)
       (all-mapped (λ (e : Entry). e.commit < length commits) (λ (s : Stored). s.commit < length commits) stored (λ e h. h) old held.made_entries));
   few = held.few;
+  marks = held.marks;
 }
 
 take-front : {X : Type 0} (n : ℕ) (xs ys : List X) → n ≡ length xs → take n (xs ++ ys) ≡ xs
@@ -178,7 +220,7 @@ module _ (history : List Command) (names : List (List ℕ)) (ts : List Triple) (
   ready-numbered (commands.Prefer expr) spare next r = absurd r
   ready-numbered (commands.Default option on) spare next r = absurd r
   ready-numbered (commands.Commit base choice ambition es) spare next r =
-      drawn-numbered history base choice ambition es state.legal r.0.0 r.0.1 next.accepted ts commits made ss homes entries r.1
+      drawn-numbered history base choice ambition es state.legal r.0 next.accepted ts commits made ss homes entries r.1
 
   pub ready-steps : (command : Command) (spare : ℕ) → IsNext history command spare → IsThat command → CanStepAll made.position ss entries
   ready-steps (commands.Option name) spare next r = absurd r
@@ -186,8 +228,8 @@ module _ (history : List Command) (names : List (List ℕ)) (ts : List Triple) (
   ready-steps (commands.Prefer expr) spare next r = absurd r
   ready-steps (commands.Default option on) spare next r = absurd r
   ready-steps (commands.Commit base choice ambition es) spare next r =
-      subst (λ q. CanStepAll q ss entries) (sym (ap (λ (k : Made). k.position) r.1.made_is))
-      (drawn-steps history base choice ambition es state.legal r.0.0 r.0.1 next.accepted ts commits made ss homes entries r.1)
+      subst (λ q. CanStepAll q ss entries) (sym r.1.at)
+      (drawn-steps history base choice ambition es state.legal r.0 next.accepted ts commits made ss homes entries r.1)
 
   pub ready-state : (command : Command) (spare : ℕ) → IsNext history command spare → IsThat command → IsStateOf (history ++ command ∷ []) names ts standing new
   ready-state (commands.Option name) spare next r = absurd r
@@ -205,8 +247,8 @@ module _ (history : List Command) (names : List (List ℕ)) (ts : List Triple) (
   ready-held (commands.Commit base choice ambition es) spare commits' homes' entries' next r ce he installed =
       subst (λ cs. IsHeldBy (history ++ commands.Commit base choice ambition es ∷ []) ts cs homes' entries') (sym ce)
       (subst (λ xs. IsHeldBy (history ++ commands.Commit base choice ambition es ∷ []) ts (commits ++ made ∷ []) xs entries') (sym he)
-      (held-committed history base choice ambition es state.legal r.0.0 r.0.1 next.accepted ts commits made ss homes entries r.1 entries'
-      (subst (λ q. AreInstalled q ss entries entries') (ap (λ (k : Made). k.position) r.1.made_is) installed)))
+      (held-committed history base choice ambition es state.legal r.0 next.accepted ts commits made ss homes entries r.1 entries'
+      (subst (λ q. AreInstalled q ss entries entries') r.1.at installed)))
 
   -- given up, it leaves what is held
   pub ready-given-up : (command : Command) (commits' : List Made) (homes' : List ℕ) (entries' : List Entry) → IsThat command
@@ -256,32 +298,33 @@ module _ (history : List Command) (ambition : Formula ℕ) (es : List Edit) (cou
 
   -- what is drawn of them is ready
   pub is-ready : (spare : ℕ) (made : Made) (new : Counts) (node : ℕ) (steps : List Step) (commits' : List Made) (homes' : List ℕ) (entries' : List Entry) (some : List Edit) → some ≡ es
-      → made.position ≡ length history + 1 → made.ambition ≡ ambition
+      → made.position ≡ length history + 1 → made.ambition ≡ ambition → made.node ≡ node → made.touched.items ≡ touched es
       → new ≡ record { lines = counts.lines + length (anchors_of 0 es); nodes = counts.nodes + nodes_made es; bytes = counts.bytes + text_bytes es }
       → Stands ts node 0 (option_count history) (value ambition) → ArePlanned made.position entries (counts.nodes - 1) counts.lines node ts counts.lines some steps
       → commits' ≡ commits → homes' ≡ homes ++ new_homes (length entries) some
       → map stored entries' ≡ map stored entries ++ new_entries (length entries) (length commits) (length entries) some → AllByRecursion (HasRoom (length entries) counts.lines some) entries' → 0 < spare
       → IsDrawn history ts ambition es commits' made steps homes' entries' × AreCountsWith history es new × (0 < spare)
-  is-ready spare made new node steps commits' homes' entries' some e at amb ne stands planned ce he ee room free =
+  is-ready spare made new node steps commits' homes' entries' some e at amb own touching ne stands planned ce he ee room free =
       let count = held-count history commits entries held.rows in
       let nodes : counts.nodes - 1 ≡ (numbers_of history).nodes = first-nodes history counts are in (
         record {
           old_homes = homes;
           old_entries = entries;
           held = subst (λ cs. IsHeldBy history ts cs homes entries) (sym ce) held;
-          made_is = λ j. record { position = at j; ambition = amb j };
+          at = at;
+          within = amb;
+          touches = touching;
           homes_are = he ∙ ap (λ k. homes ++ new_homes k some) count ∙ ap (λ x. homes ++ new_homes (numbers_of history).nodes x) e;
           rows = ee ∙ ap (λ n. map stored entries ++ new_entries n (length commits) n some) count
               ∙ ap (λ k. map stored entries ++ new_entries (numbers_of history).nodes k (numbers_of history).nodes some) (ap length (sym ce))
               ∙ ap (λ x. map stored entries ++ new_entries (numbers_of history).nodes (length commits') (numbers_of history).nodes x) e;
           room = subst (λ x. AllByRecursion (HasRoom (numbers_of history).nodes (line_count history) x) entries') e
               (subst (λ m. AllByRecursion (HasRoom (numbers_of history).nodes m some) entries') are.lines (subst (λ n. AllByRecursion (HasRoom n counts.lines some) entries') count room));
-          node = node;
-          stands = stands;
-          planned = subst (λ x. ArePlanned (length history + 1) entries (numbers_of history).nodes (line_count history) node ts (line_count history) x steps) e
+          stands = subst (λ a. Stands ts a 0 (option_count history) (value ambition)) (sym own) stands;
+          planned = subst (λ a. ArePlanned (length history + 1) entries (numbers_of history).nodes (line_count history) a ts (line_count history) es steps) (sym own) (subst (λ x. ArePlanned (length history + 1) entries (numbers_of history).nodes (line_count history) node ts (line_count history) x steps) e
               (subst (λ m. ArePlanned (length history + 1) entries (numbers_of history).nodes m node ts m some steps) are.lines
               (subst (λ n. ArePlanned (length history + 1) entries n counts.lines node ts counts.lines some steps) nodes
-              (subst (λ q. ArePlanned q entries (counts.nodes - 1) counts.lines node ts counts.lines some steps) at planned)));
+              (subst (λ q. ArePlanned q entries (counts.nodes - 1) counts.lines node ts counts.lines some steps) at planned))));
         },
         record {
           lines = ap (λ (k : Counts). k.lines) ne ∙ ap (λ n. n + length (anchors_of 0 es)) are.lines;

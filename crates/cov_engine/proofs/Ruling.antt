@@ -26,13 +26,14 @@ use Rattle.cov_engine.specs.declared.entry.Entry.{Entry}
 use Rattle.cov_engine.specs.declared.kept.Made.{Made}
 use Rattle.cov_engine.specs.declared.ready.Ready.{Ready}
 use Rattle.cov_engine.specs.declared.ready.Ready.TheVariants as ready
-use Rattle.cov_engine.specs.declared.refusal.Refusal.{Refusal}
-use Rattle.cov_engine.specs.declared.refusal.Refusal.TheVariants as refusals
-use Rattle.cov_engine.specs.Ruling.{AreRulesOf, IsRefusalOf, IsRuleReady, as_refusal, completed_in, rule_in}
+use Rattle.cov_history.specs.declared.refusal.Refusal.{Refusal}
+use Rattle.cov_history.specs.declared.refusal.Refusal.TheVariants as refusals
+use Rattle.cov_history.specs.Completing.{completed_in}
+use Rattle.cov_engine.specs.Ruling.{AreRulesOf, IsRefusalOf, IsRuleReady, as_refusal, rule_in}
 use Rattle.cov_engine.specs.Holdings.{IsHeldBy}
 use Rattle.cov_engine.specs.Ready.{IsReady}
-use Rattle.cov_engine.specs.Sessions.{MayCome}
-use Rattle.cov_engine.specs.Verdict.{RefusedBy, leaves_variant, verdict}
+use Rattle.cov_history.specs.Sessions.{MayCome}
+use Rattle.cov_history.specs.Verdict.{RefusedBy, leaves_variant, verdict}
 
 -- the rules of a longer history
 pub constraints-append : (history later : List Command) → constraints_of (history ++ later) ≡ constraints_of history ++ constraints_of later
@@ -253,6 +254,7 @@ refused-by (refusals.Invalid rule) verdict is = is
 refused-by refusals.OutsideAmbition verdict is = is
 refused-by refusals.Empty verdict is = is
 refused-by (refusals.BadRecord edit) verdict is = is
+refused-by (refusals.Overtaken edit) verdict is = is
 refused-by refusals.Memory verdict is = tt
 
 -- the rule of a command that is neither an option nor a commit

@@ -1,5 +1,5 @@
 -- What a commit's steps start from: the nodes of the lines that are kept before it.
-use Rattle.std.proofs.Common.{◌≡◌, ℕ, ◌+◌, ◌<◌, ◌≤◌, Bool, true, false, cond, ◌&&◌, not, nat_eq, nat_le, List, [], ◌∷◌, length, map, drop, unwrap_or, refl, sym, ap, subst, ◌∙◌, arith}
+use Rattle.std.proofs.Common.{◌≡◌, ℕ, ◌+◌, ◌<◌, ◌≤◌, Bool, true, false, cond, ◌&&◌, not, nat_eq, nat_le, List, [], ◌∷◌, length, map, unwrap_or, refl, sym, ap, subst, ◌∙◌, arith}
 use Rattle.std.specs.List.{AllByRecursion}
 use Rattle.std.proofs.lemmas.Bool.Decides.{nat_tests}
 use Rattle.cov_base.proofs.Ordered.{all-map}
@@ -17,21 +17,21 @@ use Rattle.cov_edit.specs.Variant.{Line}
 use Rattle.cov_file.specs.Dated.{node_of}
 use Rattle.cov_order.specs.Orders.{has_line, AreLines}
 use Rattle.cov_engine.specs.Drawing.{AreNumbered}
-use Rattle.cov_engine.specs.Files.{DatedLine, dated_number, dated, file_dated, file_order}
+use Rattle.cov_history.specs.Files.{DatedLine, dated_number, dated, file_dated, file_order}
 use Rattle.cov_engine.specs.Holdings.{IsFileOf}
-use Rattle.cov_engine.specs.Kept.{Kept, seen_at, kept_number, kept_of, file_kept}
+use Rattle.cov_history.specs.Kept.{Kept, seen_at, kept_number, kept_of, file_kept}
 use Rattle.cov_engine.specs.Nodes.{old_node, IsTaken}
-use Rattle.cov_engine.specs.Sessions.{IsGood, has_commit, session_of}
+use Rattle.cov_history.specs.Sessions.{IsGood, session_of}
 use Rattle.cov_engine.specs.Stepping.{ArePlanned}
-use Rattle.cov_engine.specs.Verdict.{IsLegal}
+use Rattle.cov_history.specs.Verdict.{IsLegal}
 use Rattle.cov_engine.specs.declared.entry.Entry.{Entry}
 use Rattle.cov_engine.specs.declared.step.Step.{Step}
 use Rattle.cov_engine.proofs.Amid.{IsRight, AreRight}
 use Rattle.cov_engine.proofs.Committed.{numbers-dated, file-empty, in-range}
 use Rattle.cov_engine.proofs.Dating.{AreOnce, false-stands, gone, dated-numbers, node-right, node-low, node-none, IsGone}
-use Rattle.cov_engine.proofs.Deletes.{lines-held}
+use Rattle.cov_history.proofs.Deletes.{lines-held}
 use Rattle.cov_engine.proofs.Named.{legal-files}
-use Rattle.cov_engine.proofs.Orders.{any-none, any-mapped}
+use Rattle.cov_history.proofs.Orders.{any-none, any-mapped}
 
 -- lines with distinct numbers
 once-of : (ks : List (Kept Line)) → AreLines (map kept_number ks) → AreOnce (map dated ks)
@@ -93,8 +93,8 @@ module _ (history : List Command) (ts : List Triple) (q line : ℕ) where
       by false rest = rest
 
 module _ (history : List Command) (base : ℕ) (choice : List Bool) (ambition : Formula ℕ) (es : List Edit)
-    (good : IsGood history (session_of base choice ambition es)) (alone : has_commit (drop base history) ≡ false)
-    (ts : List Triple) (a : ℕ) (stands : Stands ts a 0 (option_count history) (value ambition)) (legal : IsLegal history) (entries : List Entry)
+    (good : IsGood history (session_of base choice ambition es)) (legal : IsLegal history)
+    (ts : List Triple) (a : ℕ) (stands : Stands ts a 0 (option_count history) (value ambition)) (entries : List Entry)
     (numbered : AreNumbered 0 entries) (counted : length entries ≡ (numbers_of history).nodes) (files : AllByRecursion (IsFileOf history ts) entries) where
   abbrev n : ℕ
   n = (numbers_of history).nodes
@@ -105,7 +105,7 @@ module _ (history : List Command) (base : ℕ) (choice : List Bool) (ambition : 
   abbrev q : ℕ
   q = length history + 1
 
-  taken-right : (file line vis : ℕ) → IsTaken ts q entries a file line vis → IsRight history base choice ambition es good alone ts a stands (kept_of history) file line vis
+  taken-right : (file line vis : ℕ) → IsTaken ts q entries a file line vis → IsRight history base choice ambition es good legal ts a stands (kept_of history) file line vis
   taken-right file line vis h = record {
     taken = λ above. all above (nat_le file n) refl;
     fresh = λ unmade. stands_weaker 0 (option_count history) (λ c. false) (omega arith) below
@@ -135,7 +135,7 @@ module _ (history : List Command) (base : ℕ) (choice : List Bool) (ambition : 
           (sym (file-empty n file (kept_of history) (grind (arith, nat_tests, is)) (legal-files history legal))) tt
 
   -- what is planned is right
-  pub planned-right : (made : ℕ) (later : List Edit) (ss : List Step) → ArePlanned q entries n m a ts made later ss → AreRight history base choice ambition es good alone ts a stands (kept_of history) made later ss
+  pub planned-right : (made : ℕ) (later : List Edit) (ss : List Step) → ArePlanned q entries n m a ts made later ss → AreRight history base choice ambition es good legal ts a stands (kept_of history) made later ss
   planned-right made [] ss h = h
   planned-right made (edits.New kind parent name ∷ later) ss h = planned-right made later ss h
   planned-right made (edits.Insert file after text ∷ later) ss h = (h.0, h.1, planned-right (made + 1) later h.0 h.2)

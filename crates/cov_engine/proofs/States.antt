@@ -21,12 +21,12 @@ use Rattle.cov_rules.specs.declared.rules.Rule.TheVariants as rules
 use Rattle.cov_rules.specs.declared.rules.RulePlan.{RulePlan}
 use Rattle.cov_view.specs.Refusals.{when, first_of}
 use Rattle.cov_engine.specs.declared.counts.Counts.{Counts}
-use Rattle.cov_engine.specs.declared.refusal.Refusal.{Refusal}
-use Rattle.cov_engine.specs.declared.refusal.Refusal.TheVariants as refusals
+use Rattle.cov_history.specs.declared.refusal.Refusal.{Refusal}
+use Rattle.cov_history.specs.declared.refusal.Refusal.TheVariants as refusals
 use Rattle.cov_engine.specs.Ruling.{AreRulesOf, rule_in}
-use Rattle.cov_engine.specs.Sessions.{has_commit}
+use Rattle.cov_history.specs.Sessions.{has_commit}
 use Rattle.cov_engine.specs.States.{AreCountsOf, IsStateOf}
-use Rattle.cov_engine.specs.Verdict.{IsLegalFrom, verdict, refusals_of}
+use Rattle.cov_history.specs.Verdict.{IsLegalFrom, verdict, refusals_of}
 use Rattle.cov_engine.proofs.Ruling.{rules-grown, rules-same, rules-with}
 
 pub options-append : (history later : List Command) → options_of (history ++ later) ≡ options_of history ++ options_of later

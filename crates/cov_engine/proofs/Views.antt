@@ -22,11 +22,11 @@ use Rattle.cov_engine.specs.declared.kept.Made.{Made}
 use Rattle.cov_engine.specs.declared.entry.Entry.{Entry}
 use Rattle.cov_engine.specs.Showing.{with_entry}
 use Rattle.cov_engine.specs.Holdings.{IsHeldBy}
-use Rattle.cov_engine.specs.Naming.{NamesOnlyMade}
-use Rattle.cov_engine.specs.Verdict.{IsLegalFrom, IsLegal}
-use Rattle.cov_engine.proofs.Standing.{holding-stands}
-use Rattle.cov_engine.proofs.Shown.{replay-stands}
-use Rattle.cov_engine.proofs.Naming.{legal-named}
+use Rattle.cov_history.specs.Naming.{NamesOnlyMade}
+use Rattle.cov_history.specs.Verdict.{IsLegalFrom, IsLegal}
+use Rattle.cov_history.proofs.Standing.{holding-stands}
+use Rattle.cov_history.proofs.Shown.{replay-stands}
+use Rattle.cov_history.proofs.Naming.{legal-named}
 use Rattle.cov_engine.proofs.Holdings.{view-rows, if_ok}
 use Rattle.cov_engine.proofs.Fresh.{held-fresh}
 use Rattle.cov_engine.proofs.FileLines.{all-unmapped, Shown, entries-lines}

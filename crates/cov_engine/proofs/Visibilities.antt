@@ -19,17 +19,17 @@ use Rattle.cov_edit.specs.Variant.{Variant, Line}
 use Rattle.cov_file.specs.Dated.{DatedLine as FileLine, node_at, node_of, all_rows}
 use Rattle.cov_engine.specs.declared.entry.Entry.{Entry}
 use Rattle.cov_engine.specs.declared.kept.Made.{Made}
-use Rattle.cov_engine.specs.Files.{DatedLine, dated, file_dated}
+use Rattle.cov_history.specs.Files.{DatedLine, dated, file_dated}
 use Rattle.cov_engine.specs.Holdings.{IsFileOf, IsHeldBy}
-use Rattle.cov_engine.specs.Kept.{Kept, seen_at, is_seen, kept_address, kept_number, kept_of, lines_seen, file_kept}
+use Rattle.cov_history.specs.Kept.{Kept, seen_at, is_seen, kept_address, kept_number, kept_of, lines_seen, file_kept}
 use Rattle.cov_engine.specs.Nodes.{IsDated, AreDated}
-use Rattle.cov_engine.specs.Verdict.{IsLegal}
+use Rattle.cov_history.specs.Verdict.{IsLegal}
 use Rattle.cov_engine.specs.Visibility.{has_line_number, IsVisibilityOf, is_no_line, as_row, item_of, entry_of}
-use Rattle.cov_engine.proofs.Files.{any-seen}
+use Rattle.cov_history.proofs.Files.{any-seen}
 use Rattle.cov_engine.proofs.Homes.{entry-held, no-entry, home-entry, no-home}
-use Rattle.cov_engine.proofs.Replays.{replay-seen}
-use Rattle.cov_engine.proofs.Seen.{seen-cons}
-use Rattle.cov_engine.proofs.Standing.{holding-stands}
+use Rattle.cov_history.proofs.Replays.{replay-seen}
+use Rattle.cov_history.proofs.Seen.{seen-cons}
+use Rattle.cov_history.proofs.Standing.{holding-stands}
 
 -- the first item that passes a test
 any-found : {X : Type 0} (t : X → Bool) (xs : List X) → list_any t xs ≡ true → (x : X) × (find t xs ≡ Some x)

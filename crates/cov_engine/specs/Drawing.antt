@@ -11,10 +11,10 @@ use Rattle.cov_edit.specs.History.{text_bytes}
 use Rattle.cov_edit.specs.Numbering.{node_number, line_number, nodes_made, anchors_of}
 use Rattle.cov_edit.specs.Limits.{most_edits, most_commit_bytes, most_bytes}
 use Rattle.cov_view.specs.Refusals.{when, first_of}
-use Rattle.cov_engine.specs.Verdict.{has_no_edits}
+use Rattle.cov_history.specs.Verdict.{has_no_edits}
 use Rattle.cov_engine.specs.declared.counts.Counts.{Counts}
-use Rattle.cov_engine.specs.declared.refusal.Refusal.{Refusal}
-use Rattle.cov_engine.specs.declared.refusal.Refusal.TheVariants as refusals
+use Rattle.cov_history.specs.declared.refusal.Refusal.{Refusal}
+use Rattle.cov_history.specs.declared.refusal.Refusal.TheVariants as refusals
 use Rattle.cov_engine.specs.declared.entry.Entry.{Entry}
 use Rattle.cov_engine.specs.declared.sizes.Sizes.{Sizes}
 
@@ -44,13 +44,6 @@ pub record Stored : Type 0 where
 
 abbrev pub stored : Entry → Stored
 stored e = record { node = e.node; kind = e.kind; parent = e.parent; name = e.name; commit = e.commit; lines = e.file.lines; newest = e.file.newest }
-
--- the files of the lines that edits insert, n nodes having been made before
-abbrev pub new_homes : ℕ → List Edit → List ℕ
-new_homes n [] = []
-new_homes n (edits.New kind parent name ∷ es) = new_homes n es
-new_homes n (edits.Insert file after text ∷ es) = node_number n file ∷ new_homes n es
-new_homes n (edits.Delete file line ∷ es) = new_homes n es
 
 -- the rows that a commit's edits make, n nodes having been made before the commit and so many before these edits
 abbrev pub new_entries : ℕ → ℕ → ℕ → List Edit → List Stored

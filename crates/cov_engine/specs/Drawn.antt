@@ -8,7 +8,9 @@ use Rattle.cov_edit.specs.declared.command.Command.{Command}
 use Rattle.cov_edit.specs.declared.edit.Edit.{Edit}
 use Rattle.cov_edit.specs.History.{option_count}
 use Rattle.cov_edit.specs.Numbering.{numbers_of, line_count}
-use Rattle.cov_engine.specs.Drawing.{stored, new_homes, new_entries, HasRoom}
+use Rattle.cov_edit.specs.Touched.{touched}
+use Rattle.cov_history.specs.Homes.{new_homes}
+use Rattle.cov_engine.specs.Drawing.{stored, new_entries, HasRoom}
 use Rattle.cov_engine.specs.Holdings.{IsHeldBy}
 use Rattle.cov_engine.specs.Stepping.{ArePlanned}
 use Rattle.cov_engine.specs.declared.entry.Entry.{Entry}
@@ -21,10 +23,11 @@ pub record IsDrawn (history : List Command) (ts : List Triple) (ambition : Formu
   pub old_homes : List ℕ
   pub old_entries : List Entry
   pub held : IsHeldBy history ts commits old_homes old_entries
-  pub made_is : made ≡ record { position = length history + 1; ambition = ambition }
+  pub at : made.position ≡ length history + 1
+  pub within : made.ambition ≡ ambition
+  pub touches : made.touched.items ≡ touched es
   pub homes_are : homes ≡ old_homes ++ new_homes (numbers_of history).nodes es
   pub rows : map stored entries ≡ map stored old_entries ++ new_entries (numbers_of history).nodes (length commits) (numbers_of history).nodes es
   pub room : AllByRecursion (HasRoom (numbers_of history).nodes (line_count history) es) entries
-  pub node : ℕ
-  pub stands : Stands ts node 0 (option_count history) (value ambition)
-  pub planned : ArePlanned (length history + 1) old_entries (numbers_of history).nodes (line_count history) node ts (line_count history) es steps
+  pub stands : Stands ts made.node 0 (option_count history) (value ambition)
+  pub planned : ArePlanned (length history + 1) old_entries (numbers_of history).nodes (line_count history) made.node ts (line_count history) es steps

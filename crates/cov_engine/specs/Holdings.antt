@@ -6,9 +6,11 @@ use Rattle.cov_dd.specs.declared.triple.Triple.{Triple}
 use Rattle.cov_edit.specs.declared.command.Command.{Command}
 use Rattle.cov_edit.specs.History.{option_count}
 use Rattle.cov_edit.specs.Numbering.{line_count}
-use Rattle.cov_engine.specs.Kept.{Kept, kept_of, entries_of}
-use Rattle.cov_engine.specs.Files.{file_dated}
-use Rattle.cov_engine.specs.Nodes.{AreDated, AreHomes}
+use Rattle.cov_history.specs.Kept.{Kept, kept_of, entries_of}
+use Rattle.cov_history.specs.Files.{file_dated}
+use Rattle.cov_engine.specs.Marks.{AreMarks}
+use Rattle.cov_history.specs.Homes.{AreHomes}
+use Rattle.cov_engine.specs.Nodes.{AreDated}
 use Rattle.cov_engine.specs.Showing.{change_of, AreInReach}
 use Rattle.cov_engine.specs.declared.kept.Made.{Made}
 use Rattle.cov_engine.specs.declared.entry.Entry.{Entry}
@@ -32,3 +34,4 @@ pub record IsHeldBy (history : List Command) (ts : List Triple) (commits : List 
   pub homes : AreHomes (kept_of history) 0 line_files
   pub made_entries : AllByRecursion (λ e. e.commit < length commits) entries
   pub few : length commits ≤ length history
+  pub marks : AreMarks ts (option_count history) 0 history commits

@@ -1,14 +1,13 @@
 -- The lines of a file, whose visibilities are nodes of a table.
-use Rattle.std.specs.Prelude.{◌≡◌, ℕ, ◌+◌, ◌<◌, ◌≤◌, true, ◌&&◌, not, nat_eq, List, [], ◌∷◌, unwrap_or, if◌then◌else◌}
+use Rattle.std.specs.Prelude.{◌≡◌, ℕ, ◌<◌, ◌≤◌, ◌&&◌, not, nat_eq, List, [], ◌∷◌, unwrap_or, if◌then◌else◌}
 use Rattle.cov_dd.specs.declared.triple.Triple.{Triple}
 use Rattle.std.specs.List.{AllByRecursion}
 use Rattle.cov_dd.specs.Diagrams.{node_count, value_in, Stands}
 use Rattle.cov_dd.specs.Combinations.{joint_span}
 use Rattle.cov_expr.specs.Formula.{value}
 use Rattle.cov_file.specs.Dated.{DatedLine as FileLine, node_at, node_of}
-use Rattle.cov_engine.specs.Kept.{Kept, seen_at, is_kept_anchor}
-use Rattle.cov_edit.specs.Variant.{Line}
-use Rattle.cov_engine.specs.Files.{DatedLine}
+use Rattle.cov_history.specs.Kept.{seen_at}
+use Rattle.cov_history.specs.Files.{DatedLine}
 use Rattle.cov_engine.specs.declared.entry.Entry.{Entry}
 
 -- a line of a file is a dated one: at each position its node names only the first so many options and is true where the
@@ -24,11 +23,6 @@ AreDated ts count [] [] = Unit {0}
 AreDated ts count [] (l ∷ ls) = ⊥
 AreDated ts count (d ∷ ds) [] = ⊥
 AreDated ts count (d ∷ ds) (l ∷ ls) = IsDated ts count d l × AreDated ts count ds ls
-
--- the lines after the first so many are among the kept ones of these files, in order
-abbrev pub AreHomes : List (Kept Line) → ℕ → List ℕ → Type 0
-AreHomes kept n [] = Unit {0}
-AreHomes kept n (file ∷ files) = (is_kept_anchor file (n + 1) kept ≡ true) × AreHomes kept (n + 1) files
 
 -- the node at a position of a line in a file, FALSE where the file has no such line
 abbrev pub old_node : ℕ → List Entry → ℕ → ℕ → ℕ

@@ -13,8 +13,8 @@ use Rattle.cov_engine.specs.Drawing.{AreNear, AreLow}
 use Rattle.cov_engine.specs.Drawn.{IsDrawn}
 use Rattle.cov_engine.specs.Holdings.{IsHeldBy}
 use Rattle.cov_engine.specs.Ruling.{rule_in}
-use Rattle.cov_engine.specs.Sessions.{MayCome}
-use Rattle.cov_engine.specs.Verdict.{verdict}
+use Rattle.cov_history.specs.Sessions.{MayCome}
+use Rattle.cov_history.specs.Verdict.{verdict}
 use Rattle.cov_engine.specs.declared.counts.Counts.{Counts}
 use Rattle.cov_engine.specs.declared.entry.Entry.{Entry}
 use Rattle.cov_engine.specs.declared.kept.Made.{Made}

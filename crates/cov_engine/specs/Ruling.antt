@@ -1,26 +1,21 @@
 -- The rules that a history declares, as an engine keeps them.
-use Rattle.std.specs.Prelude.{◌≡◌, ℕ, Bool, List, take, Option, Some, None}
+use Rattle.std.specs.Prelude.{◌≡◌, ℕ, List, take, Option, Some, None}
 use Rattle.cov_dd.specs.declared.triple.Triple.{Triple}
 use Rattle.cov_edit.specs.declared.command.Command.{Command}
 use Rattle.cov_edit.specs.declared.command.Command.TheVariants as commands
 use Rattle.cov_edit.specs.History.{option_count, constraints_of, preferences_of, defaults_of}
-use Rattle.cov_rules.specs.Completion.{Completion, AreBelow, completed_by, fallbacks, literals}
+use Rattle.cov_rules.specs.Completion.{AreBelow, fallbacks, literals}
 use Rattle.cov_rules.specs.Installing.{Standing, Holds, RulesValue, IsPlan, expressions, expressions_at}
 use Rattle.cov_rules.specs.Refusals.{AreOptions, refusal}
 use Rattle.cov_rules.specs.declared.rules.Rule.{Rule}
 use Rattle.cov_rules.specs.declared.rules.Rule.TheVariants as rules
 use Rattle.cov_rules.specs.declared.rules.RuleFault.{RuleFault}
 use Rattle.cov_rules.specs.declared.rules.RuleFault.TheVariants as faults
-use Rattle.cov_engine.specs.Verdict.{RefusedBy}
+use Rattle.cov_history.specs.Verdict.{RefusedBy}
 use Rattle.cov_engine.specs.declared.ready.Ready.{Ready}
 use Rattle.cov_engine.specs.declared.ready.Ready.TheVariants as ready
-use Rattle.cov_engine.specs.declared.refusal.Refusal.{Refusal}
-use Rattle.cov_engine.specs.declared.refusal.Refusal.TheVariants as refusals
-
--- the completion of a partial choice by the constraints, preferences and defaults of a history
-abbrev pub completed_in : List Command → List (ℕ × Bool) → Completion
-completed_in history partial =
-    completed_by (option_count history) (constraints_of history) (preferences_of history) (literals (defaults_of history)) partial
+use Rattle.cov_history.specs.declared.refusal.Refusal.{Refusal}
+use Rattle.cov_history.specs.declared.refusal.Refusal.TheVariants as refusals
 
 -- the rules that stand are those of a history, each constraint with its position; their nodes are those of a table, and
 -- they speak of declared options alone

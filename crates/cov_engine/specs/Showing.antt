@@ -11,7 +11,7 @@ use Rattle.cov_file.specs.declared.row.FileRow.{FileRow}
 use Rattle.cov_file.specs.Dated.{rows_at}
 use Rattle.cov_view.specs.declared.row.ViewRow.{ViewRow}
 use Rattle.cov_view.specs.Seen.{kind_in, at_row, with_lines_by}
-use Rattle.cov_engine.specs.Kept.{seen_at}
+use Rattle.cov_history.specs.Kept.{seen_at}
 use Rattle.cov_engine.specs.declared.kept.Made.{Made}
 use Rattle.cov_engine.specs.declared.entry.Entry.{Entry}
 

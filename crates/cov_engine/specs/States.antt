@@ -10,14 +10,20 @@ use Rattle.cov_edit.specs.Numbering.{line_count, node_count}
 use Rattle.cov_rules.specs.Installing.{Standing}
 use Rattle.cov_view.specs.Refusals.{when, first_of}
 use Rattle.cov_engine.specs.Ruling.{AreRulesOf}
-use Rattle.cov_engine.specs.Verdict.{IsLegal}
+use Rattle.cov_history.specs.Verdict.{IsLegal}
 use Rattle.cov_engine.specs.declared.counts.Counts.{Counts}
-use Rattle.cov_engine.specs.declared.refusal.Refusal.{Refusal}
-use Rattle.cov_engine.specs.declared.refusal.Refusal.TheVariants as refusals
+use Rattle.cov_history.specs.declared.refusal.Refusal.{Refusal}
+use Rattle.cov_history.specs.declared.refusal.Refusal.TheVariants as refusals
 
 -- a history, and the table of the visibilities and rules that an engine keeps of it
 pub record EngineValue : Type 0 where
   pub history : List Command
+  pub table : List Triple
+
+-- a history with its table, and a command that it accepted and doesn't have yet
+pub record Pending : Type 0 where
+  pub history : List Command
+  pub command : Command
   pub table : List Triple
 
 -- the counts are those of a history

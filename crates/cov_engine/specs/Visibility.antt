@@ -10,7 +10,7 @@ use Rattle.cov_edit.specs.Numbering.{line_count}
 use Rattle.cov_edit.specs.Variant.{Variant}
 use Rattle.cov_edit.specs.Replay.{replay}
 use Rattle.cov_file.specs.declared.row.FileRow.{FileRow}
-use Rattle.cov_engine.specs.Files.{DatedLine}
+use Rattle.cov_history.specs.Files.{DatedLine}
 use Rattle.cov_engine.specs.declared.entry.Entry.{Entry}
 
 -- whether a variant has the line with a number, its file present or not

@@ -4,7 +4,8 @@ ghost use Rattle.std.specs.Prelude.{◌≡◌, ◌<◌, ◌≤◌, ◌+◌, ◌-
 ghost use Rattle.std.specs.List.{AllByRecursion};
 ghost use Rattle.cov_edit.specs.Numbering.{nodes_made};
 ghost use Rattle.cov_edit.specs.declared.edit.Edit.{Edit as AnyEdit};
-ghost use Rattle.cov_engine.specs.Drawing.{stored, new_homes, new_entries, AreNumbered, AreNear, AreLow, HasRoom, IsReadyBut};
+ghost use Rattle.cov_history.specs.Homes.{new_homes};
+ghost use Rattle.cov_engine.specs.Drawing.{stored, new_entries, AreNumbered, AreNear, AreLow, HasRoom, IsReadyBut};
 ghost use Rattle.cov_engine.specs.Stepping.{CanStepAll, AreInstalled, ExpectsInsert, ExpectsDelete};
 
 use crate::entry::{Coming, Entry, index_of, settle};

@@ -1,5 +1,5 @@
 // A history in use.
-ghost use Rattle.std.specs.Prelude.{◌≡◌, ◌≤◌, [], true, nat_lt, length, map, take, None, Some, is_none, IfOk, IfErr, IfSome, OnOk};
+ghost use Rattle.std.specs.Prelude.{◌≡◌, ◌≤◌, ◌+◌, ◌++◌, ◌∷◌, [], true, nat_lt, length, map, take, None, Some, is_none, IfOk, IfErr, IfSome, OnOk, OnErr};
 ghost use Rattle.std.specs.List.{list_all};
 ghost use Rattle.cov_dd.specs.Diagrams.{Extends};
 ghost use Rattle.cov_edit.specs.History.{options_of, option_count, constraints_of, first_false_in};
@@ -7,18 +7,19 @@ ghost use Rattle.cov_edit.specs.Numbering.{numbers_of};
 ghost use Rattle.cov_edit.specs.Replay.{replay};
 ghost use Rattle.cov_rules.specs.Completion.{Complete, IsAnswer, IsRefusalBy};
 ghost use Rattle.cov_view.specs.Views.{Shows};
-ghost use Rattle.cov_engine.specs.Files.{file_dated};
+ghost use Rattle.cov_history.specs.Files.{file_dated};
 ghost use Rattle.cov_engine.specs.Holdings.{IsHeldBy};
-ghost use Rattle.cov_engine.specs.Kept.{kept_of};
-ghost use Rattle.cov_engine.specs.Ruling.{completed_in};
-ghost use Rattle.cov_engine.specs.Sessions.{MayCome};
-ghost use Rattle.cov_engine.specs.States.{AreCountsOf, IsStateOf};
-ghost use Rattle.cov_engine.specs.Verdict.{verdict, RefusedBy};
+ghost use Rattle.cov_history.specs.Kept.{kept_of};
+ghost use Rattle.cov_history.specs.Completing.{completed_in};
+ghost use Rattle.cov_history.specs.Sessions.{MayCome};
+ghost use Rattle.cov_engine.specs.States.{AreCountsOf, IsStateOf, receipt_number};
+ghost use Rattle.cov_history.specs.Verdict.{IsLegal, verdict, RefusedBy};
 ghost use Rattle.cov_engine.specs.Visibility.{IsVisibilityOf, is_no_line, as_row};
 
+use crate::installing::add_ready;
 use crate::kept::{Kept, entry_of, file_of, show};
 use crate::state::{State, make_ready};
-use crate::{Counts, Prepared, Refusal};
+use crate::{Counts, Prepared, Receipt, Refusal};
 use cov_base::{Choice, LineNo, Memory, NodeNo, Position};
 use cov_dd::{Node, Table};
 use cov_edit::{Command, Commands};
@@ -97,6 +98,13 @@ impl Engine {
         state.options
     }
 
+    /// Does nothing; it tells that each command of the history is what its types keep and was accepted after those before it.
+    pub fn history_is_legal(&self)
+        ensures { IsLegal self.now.history }
+    {
+        let _state = &self.state;
+    }
+
     pub fn counts(&self) -> Counts
         ensures { AreCountsOf self.now.history result }
     {
@@ -170,13 +178,15 @@ impl Engine {
         show(alloc, &self.state.table, &self.state.kept, choice, at)
     }
 
-    /// Makes everything ready for a command, so that its installation can't fail. A refusal hands the engine back. A
-    /// commit takes for each edit at most time in the lines of its file.
+    /// Makes everything ready for a command, so that its installation can't fail. A refusal hands the engine back. Every
+    /// node keeps its value, refused or not. A commit takes for each edit at most time in the lines of its file.
     pub fn prepare(self, command: Command) -> Result<Prepared, (Engine, Refusal)>
         requires { MayCome self.history command }
         ensures prepared { IfOk result (λ prepared. (prepared.history ≡ self.history) × (prepared.command ≡ command)) }
         ensures accepted { OnOk result (verdict self.history command ≡ None) }
+        ensures extends { IfOk result (λ prepared. Extends self.table prepared.table) }
         ensures back { IfErr result (λ refused. refused.0.history ≡ self.history) }
+        ensures extends_back { IfErr result (λ refused. Extends self.table refused.0.table) }
         ensures refused { IfErr result (λ refused. RefusedBy refused.1 (verdict self.history command)) }
     {
         let Engine { mut state } = self;
@@ -185,6 +195,32 @@ impl Engine {
             Ok(ready) => Ok(Prepared::new(state, command, ready)),
             Err(refusal) => Err((Engine { state }, refusal)),
         }
+    }
+
+    /// Appends a command, unless the history refuses it; then it is as before. Every node keeps its value, refused or not. A
+    /// commit takes for each edit at most time in the lines of its file.
+    pub fn append(&mut self, command: Command) -> Result<Receipt, Refusal>
+        requires { MayCome self.old.history command }
+        ensures appended { OnOk result (self.new.history ≡ self.old.history ++ command ∷ []) }
+        ensures accepted { OnOk result (verdict self.old.history command ≡ None) }
+        ensures position { IfOk result (λ receipt. receipt.position ≡ length self.old.history + 1) }
+        ensures number { IfOk result (λ receipt. receipt.number ≡ receipt_number self.old.history command) }
+        ensures same { OnErr result (self.new.history ≡ self.old.history) }
+        ensures extends { Extends self.old.table self.new.table }
+        ensures refused { IfErr result (λ refusal. RefusedBy refusal (verdict self.old.history command)) }
+    {
+        command.bounds_are_kept();
+        let ready = match make_ready(&mut self.state, &command) {
+            Ok(ready) => ready,
+            Err(refusal) => return Err(refusal),
+        };
+        let number = add_ready(&mut self.state, &command, ready);
+        match self.state.commands.push(command) {
+            Ok(()) => (),
+            Err(_) => unreachable!(),
+        }
+        let position = Position::new(self.state.commands.len() as u32);
+        Ok(Receipt { position, number })
     }
 
     pub(crate) fn of_state(state: State) -> Engine

@@ -23,6 +23,7 @@ pub(crate) fn add_ready(state: &mut State, command: &Command, ready: Ready) -> u
     requires ready { IsReady state.old.commands.commands command.now state.old.options.spare state.old.table state.old.rules
         (vec_capacity state.old.kept.commits - vec_len state.old.kept.commits) state.old.kept.commits.items state.old.kept.homes.items state.old.kept.entries.items ready }
     ensures commands { state.new.commands ≡ state.old.commands }
+    ensures table { state.new.table ≡ state.old.table }
     ensures state { IsStateOf (state.old.commands.commands ++ command.now ∷ []) state.new.options.names state.new.table state.new.rules.standing state.new.counts }
     ensures held { IsHeldBy (state.old.commands.commands ++ command.now ∷ []) state.new.table state.new.kept.commits.items state.new.kept.homes.items state.new.kept.entries.items }
     ensures number { result ≡ receipt_number state.old.commands.commands command.now }
@@ -44,6 +45,7 @@ fn add_option(state: &mut State, command: &Command, name: OptionName) -> u32
     requires ready { IsReady state.old.commands.commands command.now state.old.options.spare state.old.table state.old.rules
         (vec_capacity state.old.kept.commits - vec_len state.old.kept.commits) state.old.kept.commits.items state.old.kept.homes.items state.old.kept.entries.items (ready.Option name) }
     ensures commands { state.new.commands ≡ state.old.commands }
+    ensures table { state.new.table ≡ state.old.table }
     ensures state { IsStateOf (state.old.commands.commands ++ command.now ∷ []) state.new.options.names state.new.table state.new.rules.standing state.new.counts }
     ensures held { IsHeldBy (state.old.commands.commands ++ command.now ∷ []) state.new.table state.new.kept.commits.items state.new.kept.homes.items state.new.kept.entries.items }
     ensures number { result ≡ receipt_number state.old.commands.commands command.now }
@@ -57,6 +59,7 @@ fn add_rule(state: &mut State, command: &Command, rule: Rule, plan: RulePlan) ->
     requires ready { IsReady state.old.commands.commands command.now state.old.options.spare state.old.table state.old.rules
         (vec_capacity state.old.kept.commits - vec_len state.old.kept.commits) state.old.kept.commits.items state.old.kept.homes.items state.old.kept.entries.items (ready.Rule rule plan) }
     ensures commands { state.new.commands ≡ state.old.commands }
+    ensures table { state.new.table ≡ state.old.table }
     ensures state { IsStateOf (state.old.commands.commands ++ command.now ∷ []) state.new.options.names state.new.table state.new.rules.standing state.new.counts }
     ensures held { IsHeldBy (state.old.commands.commands ++ command.now ∷ []) state.new.table state.new.kept.commits.items state.new.kept.homes.items state.new.kept.entries.items }
     ensures number { result ≡ receipt_number state.old.commands.commands command.now }
@@ -77,6 +80,7 @@ fn add_commit(
     requires ready { IsReady state.old.commands.commands command.now state.old.options.spare state.old.table state.old.rules
         (vec_capacity state.old.kept.commits - vec_len state.old.kept.commits) state.old.kept.commits.items state.old.kept.homes.items state.old.kept.entries.items (ready.Commit made counts steps) }
     ensures commands { state.new.commands ≡ state.old.commands }
+    ensures table { state.new.table ≡ state.old.table }
     ensures state { IsStateOf (state.old.commands.commands ++ command.now ∷ []) state.new.options.names state.new.table state.new.rules.standing state.new.counts }
     ensures held { IsHeldBy (state.old.commands.commands ++ command.now ∷ []) state.new.table state.new.kept.commits.items state.new.kept.homes.items state.new.kept.entries.items }
     ensures number { result ≡ receipt_number state.old.commands.commands command.now }
@@ -99,6 +103,7 @@ pub(crate) fn give_up(state: &mut State, command: &Command, ready: &Ready)
     requires ready { IsReady state.old.commands.commands command.now state.old.options.spare state.old.table state.old.rules
         (vec_capacity state.old.kept.commits - vec_len state.old.kept.commits) state.old.kept.commits.items state.old.kept.homes.items state.old.kept.entries.items ready.now }
     ensures commands { state.new.commands ≡ state.old.commands }
+    ensures table { state.new.table ≡ state.old.table }
     ensures state { IsStateOf state.new.commands.commands state.new.options.names state.new.table state.new.rules.standing state.new.counts }
     ensures held { IsHeldBy state.new.commands.commands state.new.table state.new.kept.commits.items state.new.kept.homes.items state.new.kept.entries.items }
 {

@@ -7,23 +7,25 @@ ghost use Rattle.cov_base.specs.declared.number.NodeRef.TheVariants.{Old};
 ghost use Rattle.cov_expr.specs.Formula.{value};
 ghost use Rattle.cov_file.specs.Dated.{rows_at};
 ghost use Rattle.cov_view.specs.Seen.{kind_in};
-ghost use Rattle.cov_engine.specs.Kept.{seen_at};
+ghost use Rattle.cov_history.specs.Kept.{seen_at};
 ghost use Rattle.cov_engine.specs.Showing.{change_of, AreInReach, with_row, with_entry, AreFresh};
 ghost use Rattle.cov_engine.specs.Visibility.{item_of, entry_of};
 
 use crate::entry::Entry;
 use cov_base::{Choice, Kind, LineNo, Memory, NodeNo, Position};
-use cov_dd::Table;
+use cov_dd::{Node, Table};
 use cov_expr::Expr;
 use cov_file::FileRows;
 use cov_view::View;
 use std::alloc::Global;
 
-/// A commit: the position after it and its ambition.
+/// A commit: the position after it, its ambition with its node, and the old nodes that it touches, rising.
 #[derive(Drop)]
 pub(crate) struct Made {
     pub(crate) position: Position,
     pub(crate) ambition: Expr,
+    pub(crate) node: Node,
+    pub(crate) touched: Vec<NodeNo>,
 }
 
 /// The commits, the file of each line by number, and the rows in the order in which they were made.

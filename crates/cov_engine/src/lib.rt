@@ -9,19 +9,16 @@ mod installing;
 mod kept;
 pub mod laws;
 mod number;
+mod overtaking;
 mod planning;
 mod prepared;
 mod ready;
-mod refusal;
 mod rule;
 mod sizes;
 mod state;
 mod step;
 
 pub use counts::Counts;
+pub use cov_history::Refusal;
 pub use engine::Engine;
 pub use prepared::{Prepared, Receipt};
-pub use refusal::Refusal;
-
-#[cfg(test)]
-mod tests;

@@ -1,5 +1,6 @@
 // Commands that a history has accepted, and doesn't have yet.
 ghost use Rattle.std.specs.Prelude.{◌≡◌, ◌+◌, ◌-◌, ◌++◌, [], ◌∷◌, length, vec_len, vec_capacity};
+ghost use Rattle.cov_dd.specs.Diagrams.{Extends};
 ghost use Rattle.cov_engine.specs.Ready.{IsNext, IsReady};
 ghost use Rattle.cov_engine.specs.States.{IsStateOf, receipt_number};
 
@@ -22,16 +23,18 @@ pub struct Prepared {
 impl Model for Prepared {
     ghost use Rattle.std.specs.Prelude.{◌-◌, vec_len, vec_capacity};
     ghost use Rattle.std.specs.Coded.{codes};
+    ghost use Rattle.cov_dd.specs.contracts.triple.Triple as triples;
     ghost use Rattle.cov_edit.specs.contracts.command.Command as row;
     ghost use Rattle.cov_engine.specs.States.{IsStateOf};
+    ghost use Rattle.cov_dd.specs.Diagrams.{Extends};
     ghost use Rattle.cov_engine.specs.Ready.{IsNext, IsReady};
-    ghost use Rattle.cov_engine.specs.Verdict.{Pending};
+    ghost use Rattle.cov_engine.specs.States.{Pending};
 
     ghost Value = { Pending };
 
-    ghost coded = { Prim.hlevel (codes, row.the_row.coded) };
+    ghost coded = { Prim.hlevel (codes, row.the_row.coded, triples.the_row.coded) };
 
-    ghost view = { λ p. record { history = p.state.commands.commands; command = p.command } };
+    ghost view = { λ p. record { history = p.state.commands.commands; command = p.command; table = p.state.table } };
 
     ghost invariant = { λ p. IsStateOf p.state.commands.commands p.state.options.names p.state.table p.state.rules.standing p.state.counts
         × IsNext p.state.commands.commands p.command p.state.commands.spare
@@ -52,7 +55,7 @@ impl Prepared {
         requires next { IsNext state.commands.commands command state.commands.spare }
         requires ready { IsReady state.commands.commands command state.options.spare state.table state.rules
             (vec_capacity state.kept.commits - vec_len state.kept.commits) state.kept.commits.items state.kept.homes.items state.kept.entries.items ready }
-        ensures { result ≡ record { history = state.commands.commands; command = command } }
+        ensures { result ≡ record { history = state.commands.commands; command = command; table = state.table } }
     {
         Prepared {
             state,
@@ -68,9 +71,10 @@ impl Prepared {
         &self.command
     }
 
-    /// The history without the command.
+    /// The history without the command. Every node keeps its value.
     pub fn cancel(self) -> Engine
-        ensures { result.history ≡ self.history }
+        ensures same { result.history ≡ self.history }
+        ensures extends { Extends self.table result.table }
     {
         let Prepared {
             mut state,
@@ -81,11 +85,12 @@ impl Prepared {
         Engine::of_state(state)
     }
 
-    /// The history with the command. Takes no memory.
+    /// The history with the command. Takes no memory. Every node keeps its value.
     pub fn install(self) -> (Engine, Receipt)
         ensures history { result.0.history ≡ self.history ++ self.command ∷ [] }
         ensures position { result.1.position ≡ length self.history + 1 }
         ensures number { result.1.number ≡ receipt_number self.history self.command }
+        ensures extends { Extends self.table result.0.table }
     {
         let Prepared {
             mut state,

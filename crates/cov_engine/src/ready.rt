@@ -2,7 +2,8 @@
 ghost use Rattle.std.specs.Prelude.{◌≡◌, ◌<◌, ◌≤◌, ◌+◌, ◌-◌, ◌++◌, ◌^◌, length, map, vec_len, vec_capacity, IfOk, OnOk, OnErr};
 ghost use Rattle.std.specs.List.{AllByRecursion};
 ghost use Rattle.cov_edit.specs.Numbering.{nodes_made};
-ghost use Rattle.cov_engine.specs.Drawing.{stored, new_homes, new_entries, AreNumbered, AreNear, AreLow, HasRoom};
+ghost use Rattle.cov_history.specs.Homes.{new_homes};
+ghost use Rattle.cov_engine.specs.Drawing.{stored, new_entries, AreNumbered, AreNear, AreLow, HasRoom};
 
 use crate::Counts;
 use crate::drawing::{draw, undraw};

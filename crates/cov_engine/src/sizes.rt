@@ -5,7 +5,7 @@ ghost use Rattle.cov_edit.specs.EditFits.{fits_edit};
 ghost use Rattle.cov_edit.specs.History.{edit_bytes};
 ghost use Rattle.cov_edit.specs.Numbering.{nodes_made, anchors_of};
 ghost use Rattle.cov_engine.specs.Drawing.{sizes_of, sizes_refusal};
-ghost use Rattle.cov_engine.specs.declared.refusal.Refusal.TheVariants as refusals;
+ghost use Rattle.cov_history.specs.declared.refusal.Refusal.TheVariants as refusals;
 ghost use Rattle.cov_view.specs.Refusals.{when, first_of};
 
 use crate::{Counts, Refusal};

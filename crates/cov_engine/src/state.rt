@@ -1,15 +1,17 @@
 // What an engine keeps.
 ghost use Rattle.std.specs.Prelude.{◌≡◌, ◌<◌, ◌≤◌, ◌^◌, ◌-◌, length, None, IfOk, IfErr, OnOk, OnErr, vec_len, vec_capacity};
+ghost use Rattle.cov_dd.specs.Diagrams.{Extends};
 ghost use Rattle.cov_expr.specs.Formula.{reach};
 ghost use Rattle.cov_edit.specs.History.{option_count};
 ghost use Rattle.cov_engine.specs.Holdings.{IsHeldBy};
-ghost use Rattle.cov_engine.specs.Sessions.{MayCome};
+ghost use Rattle.cov_history.specs.Sessions.{MayCome};
 ghost use Rattle.cov_engine.specs.States.{IsStateOf, name_refusal};
 ghost use Rattle.cov_engine.specs.Ready.{IsReady, IsInBounds, IsDrawnReady};
-ghost use Rattle.cov_engine.specs.Verdict.{verdict, RefusedBy};
+ghost use Rattle.cov_history.specs.Verdict.{verdict, RefusedBy};
 ghost use Rattle.cov_engine.specs.declared.ready.Ready.TheVariants as ready;
 
 use crate::kept::{Kept, Made};
+use crate::overtaking::overtaken;
 use crate::planning::{Site, plan_steps};
 use crate::ready::{Ready, draw_commit};
 use crate::rule::rule_ready;
@@ -17,7 +19,7 @@ use crate::sizes::{measure, with_sizes};
 use crate::{Counts, Refusal, sizes};
 use cov_base::{Memory, OptionName, Position};
 use cov_dd::Table;
-use cov_edit::{Command, Commands, Edits};
+use cov_edit::{Command, Commands, Edits, touched};
 use cov_expr::{Expr, Options};
 use cov_rules::Rules;
 use cov_vis::compile;
@@ -46,6 +48,7 @@ pub(crate) fn make_ready(state: &mut State, command: &Command) -> Result<Ready, 
     requires held { IsHeldBy state.old.commands.commands state.old.table state.old.kept.commits.items state.old.kept.homes.items state.old.kept.entries.items }
     requires may_come { MayCome state.old.commands.commands command.now }
     ensures history { state.new.commands.commands ≡ state.old.commands.commands }
+    ensures extends { Extends state.old.table state.new.table }
     ensures state { IsStateOf state.new.commands.commands state.new.options.names state.new.table state.new.rules.standing state.new.counts }
     ensures room { OnOk result (0 < state.new.commands.spare) }
     ensures accepted { OnOk result (verdict state.old.commands.commands command.now ≡ None) }
@@ -70,6 +73,7 @@ fn ready_for(state: &mut State, command: &Command) -> Result<Ready, Refusal>
     requires may_come { MayCome state.old.commands.commands command.now }
     requires few { length state.old.commands.commands < 2 ^ 20 }
     ensures commands { state.new.commands ≡ state.old.commands }
+    ensures extends { Extends state.old.table state.new.table }
     ensures state { IsStateOf state.new.commands.commands state.new.options.names state.new.table state.new.rules.standing state.new.counts }
     ensures accepted { OnOk result (verdict state.old.commands.commands command.now ≡ None) }
     ensures ready { IfOk result (IsReady state.new.commands.commands command.now state.new.options.spare state.new.table state.new.rules
@@ -81,13 +85,26 @@ fn ready_for(state: &mut State, command: &Command) -> Result<Ready, Refusal>
     match command {
         Command::Option { name } => option_ready(&mut state.options, name),
         Command::Commit {
+            base,
             ambition,
             edits,
             ..
         } => match sizes::refusal(state.counts, edits) {
             Some(refusal) => Err(refusal),
-            None => match commit_ready(state, ambition, edits) {
-                Ok(ready) => Ok(ready),
+            None => match overtaken(
+                &mut state.table,
+                state.rules.conjunction(),
+                &state.kept.commits,
+                *base,
+                ambition,
+                edits,
+                alloc,
+            ) {
+                Ok(Some(position)) => Err(Refusal::Overtaken { position }),
+                Ok(None) => match commit_ready(state, ambition, edits) {
+                    Ok(ready) => Ok(ready),
+                    Err(Memory) => Err(Refusal::Memory),
+                },
                 Err(Memory) => Err(Refusal::Memory),
             },
         },
@@ -141,22 +158,26 @@ fn commit_ready(state: &mut State, ambition: &Expr, edits: &Edits) -> Result<Rea
     requires reach { reach ambition.now ≤ option_count state.old.commands.commands }
     requires fits { IsInBounds state.old.commands.commands edits.now }
     ensures commands { state.new.commands ≡ state.old.commands }
+    ensures extends { Extends state.old.table state.new.table }
     ensures state { IsStateOf state.new.commands.commands state.new.options.names state.new.table state.new.rules.standing state.new.counts }
     ensures ready { IfOk result (IsDrawnReady state.new.commands.commands state.new.table ambition.now edits.now (vec_capacity state.new.kept.commits - vec_len state.new.kept.commits)
         state.new.kept.commits.items state.new.kept.homes.items state.new.kept.entries.items) }
     ensures held { OnErr result (IsHeldBy state.new.commands.commands state.new.table state.new.kept.commits.items state.new.kept.homes.items state.new.kept.entries.items) }
 {
     let alloc = *state.kept.commits.allocator();
+    let nodes = touched(alloc, edits.as_slice())?;
     let made = Made {
         position: Position::new(state.commands.len() as u32 + 1),
         ambition: ambition.copy(alloc)?,
+        node: compile(&mut state.table, ambition)?,
+        touched: nodes,
     };
     let counts = with_sizes(state.counts, measure(edits.as_slice()));
     let site = Site {
         at: made.position,
         nodes: state.counts.nodes - 1,
         lines: state.counts.lines,
-        ambition: compile(&mut state.table, ambition)?,
+        ambition: made.node,
     };
     let mut steps = VecDeque::new(alloc);
     plan_steps(

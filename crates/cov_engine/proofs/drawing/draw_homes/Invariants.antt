@@ -1,5 +1,6 @@
 use Rattle.std.proofs.Common.{◌≡◌, ◌++◌, length, take}
-use Rattle.cov_engine.specs.Drawing.{new_homes, AreNear}
+use Rattle.cov_history.specs.Homes.{new_homes}
+use Rattle.cov_engine.specs.Drawing.{AreNear}
 use Rattle.cov_engine.proofs.drawing.draw_homes.Given as goal
 
 abbrev pub invariant-loop-ahead : goal.invariant-loop-ahead

@@ -1,5 +1,5 @@
 use Rattle.std.proofs.Common.{[], ◌∷◌, refl, ap}
-use Rattle.cov_engine.specs.Sessions.{has_commit}
+use Rattle.cov_history.specs.Sessions.{has_commit}
 use Rattle.cov_engine.proofs.States.{option-installed}
 use Rattle.cov_engine.proofs.Holdings.{held-declared}
 use Rattle.cov_engine.proofs.installing.add_option.Goals as goal

@@ -1,8 +1,9 @@
-use Rattle.std.proofs.Common.{◌-◌, sym, refl, subst, ◌∙◌, arith}
+use Rattle.std.proofs.Common.{◌-◌, sym, ap, refl, subst, ◌∙◌, arith}
 use Rattle.std.specs.List.{AllByRecursion}
 use Rattle.cov_dd.proofs.CallerLemmas.{extends_trans, stands_later, stands_weaker}
 use Rattle.cov_engine.specs.Drawing.{AreNumbered}
 use Rattle.cov_edit.specs.History.{option_count}
+use Rattle.cov_edit.specs.Touched.{touched}
 use Rattle.cov_expr.specs.Formula.{value}
 use Rattle.cov_engine.specs.Nodes.{HasNodesIn}
 use Rattle.cov_engine.specs.Stepping.{ArePlanned}
@@ -35,6 +36,9 @@ plan_steps-requires-clause-nodes c =
     (held-grown c.args.state.now.commands.commands c.args.state.now.table c.compile.new.table c.args.state.now.kept.commits.items c.args.state.now.kept.homes.items c.args.state.now.kept.entries.items
     c.requires.held c.compile.ensures.extends).files)
 
+pub returns-in_err-plan_steps-clause-extends : goal.returns-in_err-plan_steps-clause-extends
+returns-in_err-plan_steps-clause-extends c = extends_trans c.args.state.now.table c.compile.new.table c.plan_steps.new.table c.compile.ensures.extends c.plan_steps.ensures.extends
+
 pub returns-in_err-plan_steps-clause-state : goal.returns-in_err-plan_steps-clause-state
 returns-in_err-plan_steps-clause-state c =
     state-grown c.args.state.now.commands.commands _ c.args.state.now.options.names _ c.args.state.now.table c.plan_steps.new.table c.args.state.now.rules.standing _ c.args.state.now.counts
@@ -57,12 +61,15 @@ draw_commit-requires-clause-numbered c = held-numbered c.args.state.now.commands
 pub draw_commit-requires-clause-near : goal.draw_commit-requires-clause-near
 draw_commit-requires-clause-near c =
     held-near c.args.state.now.commands.commands c.args.ambition.now c.args.edits.now c.args.state.now.counts c.args.state.now.table c.args.state.now.kept.commits.items c.args.state.now.kept.homes.items
-    c.args.state.now.kept.entries.items c.requires.state.counted c.requires.held c.requires.fits c.as_slice-3.result.now c.as_slice-3.ensures.items
+    c.args.state.now.kept.entries.items c.requires.state.counted c.requires.held c.requires.fits c.as_slice-4.result.now c.as_slice-4.ensures.items
 
 pub draw_commit-requires-clause-few_nodes : goal.draw_commit-requires-clause-few_nodes
 draw_commit-requires-clause-few_nodes c =
     held-few c.args.state.now.commands.commands c.args.ambition.now c.args.edits.now c.args.state.now.counts c.args.state.now.table c.args.state.now.kept.commits.items c.args.state.now.kept.homes.items
-    c.args.state.now.kept.entries.items c.requires.state.counted c.requires.held c.requires.fits c.as_slice-3.result.now c.as_slice-3.ensures.items
+    c.args.state.now.kept.entries.items c.requires.state.counted c.requires.held c.requires.fits c.as_slice-4.result.now c.as_slice-4.ensures.items
+
+pub returns-in_err-draw_commit-clause-extends : goal.returns-in_err-draw_commit-clause-extends
+returns-in_err-draw_commit-clause-extends c = extends_trans c.args.state.now.table c.compile.new.table c.plan_steps.new.table c.compile.ensures.extends c.plan_steps.ensures.extends
 
 pub returns-in_err-draw_commit-clause-state : goal.returns-in_err-draw_commit-clause-state
 returns-in_err-draw_commit-clause-state c =
@@ -78,6 +85,9 @@ returns-in_err-draw_commit-clause-held c =
     c.requires.held (extends_trans c.args.state.now.table c.compile.new.table c.plan_steps.new.table c.compile.ensures.extends c.plan_steps.ensures.extends))
     c.draw_commit.ensures.commits c.in_err-draw_commit.ensures.same_homes c.in_err-draw_commit.ensures.same_rows)
 
+pub returns-clause-extends : goal.returns-clause-extends
+returns-clause-extends c = extends_trans c.args.state.now.table c.compile.new.table c.plan_steps.new.table c.compile.ensures.extends c.plan_steps.ensures.extends
+
 pub returns-clause-state : goal.returns-clause-state
 returns-clause-state c =
     state-grown c.args.state.now.commands.commands _ c.args.state.now.options.names _ c.args.state.now.table c.plan_steps.new.table c.args.state.now.rules.standing _ c.args.state.now.counts
@@ -90,12 +100,12 @@ returns-clause-ready c =
     (held-grown c.args.state.now.commands.commands c.args.state.now.table c.plan_steps.new.table c.args.state.now.kept.commits.items c.args.state.now.kept.homes.items c.args.state.now.kept.entries.items
     c.requires.held (extends_trans c.args.state.now.table c.compile.new.table c.plan_steps.new.table c.compile.ensures.extends c.plan_steps.ensures.extends))
     c.requires.fits _ _ c.with_sizes-counts.result c.in_ok-compile.field-0 c.plan_steps.new.steps.items
-    c.draw_commit.new.kept.commits.items c.draw_commit.new.kept.homes.items c.draw_commit.new.kept.entries.items c.as_slice-3.result.now c.as_slice-3.ensures.items
-    (let a = c.new.ensures in let b = c.len.ensures in let most = c.requires.state.most in omega (arith, a, b, most)) c.in_ok-copy.ensures
-    (counted c.args.state.now.counts c.measure.result c.as_slice.result.now c.args.edits.now c.with_sizes-counts.result c.with_sizes-counts.ensures c.measure.ensures.sizes c.as_slice.ensures.items)
+    c.draw_commit.new.kept.commits.items c.draw_commit.new.kept.homes.items c.draw_commit.new.kept.entries.items c.as_slice-4.result.now c.as_slice-4.ensures.items
+    (let a = c.new.ensures in let b = c.len.ensures in let most = c.requires.state.most in omega (arith, a, b, most)) c.in_ok-copy.ensures refl (c.in_ok-nodes.ensures ∙ ap touched c.as_slice.ensures.items)
+    (counted c.args.state.now.counts c.measure.result c.as_slice-2.result.now c.args.edits.now c.with_sizes-counts.result c.with_sizes-counts.ensures c.measure.ensures.sizes c.as_slice-2.ensures.items)
     (stands_weaker 0 (option_count c.args.state.now.commands.commands) (value c.args.ambition.now) (omega arith) c.requires.reach (λ d. refl) (stands_later c.plan_steps.ensures.extends c.in_ok-compile.ensures.stands))
     (subst (λ es. ArePlanned c.new.result c.args.state.now.kept.entries.items (c.args.state.now.counts.nodes - 1) c.args.state.now.counts.lines c.in_ok-compile.field-0 c.plan_steps.new.table c.args.state.now.counts.lines es c.plan_steps.new.steps.items)
-    (c.as_slice-2.ensures.items ∙ sym c.as_slice-3.ensures.items)
-    (subst (λ xs. ArePlanned c.new.result xs (c.args.state.now.counts.nodes - 1) c.args.state.now.counts.lines c.in_ok-compile.field-0 c.plan_steps.new.table c.args.state.now.counts.lines c.as_slice-2.result.now c.plan_steps.new.steps.items)
+    (c.as_slice-3.ensures.items ∙ sym c.as_slice-4.ensures.items)
+    (subst (λ xs. ArePlanned c.new.result xs (c.args.state.now.counts.nodes - 1) c.args.state.now.counts.lines c.in_ok-compile.field-0 c.plan_steps.new.table c.args.state.now.counts.lines c.as_slice-3.result.now c.plan_steps.new.steps.items)
     c.deref.ensures.value (c.in_ok-plan_steps.ensures.steps c.new-steps.ensures.items)))
     c.draw_commit.ensures.commits c.in_ok-draw_commit.ensures.homes c.in_ok-draw_commit.ensures.rows c.in_ok-draw_commit.ensures.room c.in_ok-draw_commit.ensures.commit_room

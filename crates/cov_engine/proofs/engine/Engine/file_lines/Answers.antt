@@ -1,7 +1,7 @@
 use Rattle.std.proofs.Common.{map, sym, ap, ◌∙◌}
 use Rattle.std.specs.Option.{option_copied}
-use Rattle.cov_engine.specs.Files.{file_dated}
-use Rattle.cov_engine.specs.Kept.{kept_of}
+use Rattle.cov_history.specs.Files.{file_dated}
+use Rattle.cov_history.specs.Kept.{kept_of}
 use Rattle.cov_engine.specs.States.{EngineValue}
 use Rattle.cov_engine.specs.Visibility.{as_row, item_of}
 use Rattle.cov_engine.proofs.Holdings.{if_ok}

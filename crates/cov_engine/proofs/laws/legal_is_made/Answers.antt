@@ -1,5 +1,0 @@
-use Rattle.cov_engine.proofs.Naming.{legal-named}
-use Rattle.cov_engine.proofs.laws.legal_is_made.Goals as goal
-
-pub returns : goal.returns
-returns c = legal-named
