@@ -1,0 +1,278 @@
+-- One edit more in a session.
+use Rattle.std.proofs.Common.{◌≡◌, ◌∙◌, refl, sym, ap, subst, ℕ, ◌+◌, ◌<◌, ◌≤◌, Bool, true, false, nat_lt, List, [], ◌∷◌, ◌++◌, length, length-append, take, Option, Some, None, arith}
+use Rattle.std.proofs.lemmas.Bool.Decides.{nat_tests}
+use Rattle.std.specs.List.{fold}
+use Rattle.cov_base.specs.Addresses.{address_in, with_lines, IsTable}
+use Rattle.cov_base.specs.Rows.{Created}
+use Rattle.cov_base.proofs.Tables.{length-with_lines, address_in-with_lines}
+use Rattle.cov_edit.specs.declared.edit.Edit.{Edit}
+use Rattle.cov_edit.specs.declared.edit.Edit.TheVariants as edits
+use Rattle.cov_edit.specs.declared.command.Command.{Command}
+use Rattle.cov_edit.specs.declared.command.Command.TheVariants as commands
+use Rattle.cov_edit.specs.History.{text_bytes}
+use Rattle.cov_edit.specs.Limits.{most_edits, most_commit_bytes}
+use Rattle.cov_edit.specs.Numbering.{Numbers, NumberedEdit, OnRows, Inserted, Deleted, no_numbers, node_number, line_number, nodes_made, anchors_of, numbers_after, numbered_from, numbered}
+use Rattle.cov_edit.specs.Variant.{Variant, edited}
+use Rattle.cov_edit.specs.Replay.{replay}
+use Rattle.cov_edit.proofs.CallerLemmas.{anchors-append, nodes-append, with_lines-append, numbered-append, bytes-append}
+use Rattle.cov_edit.proofs.Replays.{fold-append, numbers_from-append}
+use Rattle.cov_expr.specs.Formula.{False}
+use Rattle.cov_view.specs.Refusals.{when, first_of, refusal, refused_at, refused_from, first_refused}
+use Rattle.cov_view.specs.Seen.{Seen}
+use Rattle.cov_view.specs.Views.{Shows, table_after, next_by_number, FaultBy}
+use Rattle.cov_view.specs.declared.fault.EditFault.{EditFault}
+use Rattle.cov_view.specs.declared.fault.EditFault.TheVariants as edit_faults
+use Rattle.cov_history.specs.Laws.{HoldingStands, ReplayStands}
+use Rattle.cov_history.specs.Sessions.{Session, seen}
+use Rattle.cov_history.proofs.Sessions.{edit-accepted, rest-accepted}
+use Rattle.cov_session.specs.Adding.{with_edits, as_fault, addition_fault, IsAdditionFault}
+use Rattle.cov_session.specs.Faults.{by_edit}
+use Rattle.cov_session.specs.Open.{SessionValue, IsOpen, numbers_at_base, table_of}
+use Rattle.cov_session.specs.declared.fault.SessionFault.{SessionFault}
+use Rattle.cov_session.specs.declared.fault.SessionFault.TheVariants as faults
+use Rattle.cov_session.proofs.Made.{DeletesWithin, deletes-within, replay-within}
+
+-- they are the same by another table in which their lines have the same addresses
+numbered-same : (ns : Numbers) (t u : List (List ℕ)) (node line m most : ℕ) (es : List Edit) → ((x : ℕ) → x ≤ most → address_in u x ≡ address_in t x)
+    → line + length (anchors_of m es) ≤ most → DeletesWithin (length ns.addresses) most es → numbered_from ns u node line es ≡ numbered_from ns t node line es
+numbered-same ns t u node line m most [] same h made = refl
+numbered-same ns t u node line m most (edits.New kind parent name ∷ es) same h made =
+    ap (λ ds. OnRows (Created (node + 1) kind (node_number ns.nodes parent) name) ∷ ds) (numbered-same ns t u (node + 1) line m most es same h made)
+numbered-same ns t u node line m most (edits.Insert file after text ∷ es) same h made =
+    ap (λ a. Inserted (node_number ns.nodes file) a text ∷ numbered_from ns u node (line + 1) es) (same (line + 1) (omega (arith, h)))
+    ∙ ap (λ ds. Inserted (node_number ns.nodes file) (address_in t (line + 1)) text ∷ ds) (numbered-same ns t u node (line + 1) m most es same (omega (arith, h)) made)
+numbered-same ns t u node line m most (edits.Delete file which ∷ es) same h made =
+    ap (λ a. Deleted (node_number ns.nodes file) a ∷ numbered_from ns u node line es) (same (line_number (length ns.addresses) which) made.0)
+    ∙ ap (λ ds. Deleted (node_number ns.nodes file) (address_in t (line_number (length ns.addresses) which)) ∷ ds) (numbered-same ns t u node line m most es same h made.1)
+
+module _ (ns : Numbers) (es : List Edit) (e : Edit) where
+  abbrev n : ℕ
+  n = length ns.addresses
+
+  abbrev table : List (List ℕ)
+  table = (numbers_after ns es).addresses
+
+  abbrev longer : List (List ℕ)
+  longer = (numbers_after ns (es ++ e ∷ [])).addresses
+
+  one-anchor : (t : List (List ℕ)) (f : Edit) → with_lines t (anchors_of n (f ∷ [])) ≡ table_after ns t f
+  one-anchor t (edits.New kind parent name) = refl
+  one-anchor t (edits.Insert file after text) = refl
+  one-anchor t (edits.Delete file line) = refl
+
+  longer-split : longer ≡ with_lines table (anchors_of n (e ∷ []))
+  longer-split = ap (with_lines ns.addresses) (anchors-append n es (e ∷ [])) ∙ with_lines-append ns.addresses (anchors_of n es) (anchors_of n (e ∷ []))
+
+  pub longer-is : longer ≡ table_after ns table e
+  longer-is = longer-split ∙ one-anchor table e
+
+  pub table-length : length table ≡ n + length (anchors_of n es)
+  table-length = length-with_lines ns.addresses (anchors_of n es)
+
+  -- the edits with one more are those before and the next
+  pub numbered-next : (s : Seen) → s.nodes_made ≡ nodes_made es → DeletesWithin n (length table) es → numbered ns (es ++ e ∷ []) ≡ numbered ns es ++ next_by_number ns table s e
+  numbered-next s made within =
+      let k : ns.nodes + s.nodes_made ≡ ns.nodes + nodes_made es = omega (arith, made) in
+      numbered-append ns longer ns.nodes n (ns.nodes + s.nodes_made) (length table) n es (e ∷ []) k table-length
+      ∙ ap (λ ds. ds ++ numbered_from ns longer (ns.nodes + s.nodes_made) (length table) (e ∷ []))
+      (numbered-same ns table longer ns.nodes n n (length table) es
+      (λ x h. ap (λ t. address_in t x) longer-split ∙ address_in-with_lines table (anchors_of n (e ∷ [])) x h)
+      (omega (arith, table-length)) within)
+      ∙ ap (λ t. numbered ns es ++ numbered_from ns t (ns.nodes + s.nodes_made) (length table) (e ∷ [])) longer-is
+
+-- after an accepted edit, the first refused is among those after it
+skip-accepted : (k : ℕ) (o : Option EditFault) (later : Option (ℕ × EditFault)) → o ≡ None → refused_at k o later ≡ later
+skip-accepted k o later h = ap (λ x. refused_at k x later) h
+
+one-refused : (ns : Numbers) (v : Variant) (k : ℕ) (t : List (List ℕ)) (node line : ℕ) (e : Edit)
+    → refused_from ns v k (e ∷ []) (numbered_from ns t node line (e ∷ [])) ≡ refused_at k (refusal ns v e) None
+one-refused ns v k t node line (edits.New kind parent name) = refl
+one-refused ns v k t node line (edits.Insert file after text) = refl
+one-refused ns v k t node line (edits.Delete file which) = refl
+
+-- after accepted edits, the first refused is the last, if it is refused
+pub refused-append : (ns : Numbers) (v : Variant) (k : ℕ) (t u : List (List ℕ)) (node line a b : ℕ) (es : List Edit) (e : Edit)
+    → refused_from ns v k es (numbered_from ns t node line es) ≡ None
+    → (i : ℕ) × (refused_from ns v k (es ++ e ∷ []) (numbered_from ns t node line es ++ numbered_from ns u a b (e ∷ []))
+    ≡ refused_at i (refusal ns (fold edited v (numbered_from ns t node line es)) e) None)
+refused-append ns v k t u node line a b [] e h = (k, one-refused ns v k u a b e)
+refused-append ns v k t u node line a b (edits.New kind parent name ∷ es) e h =
+    let d : NumberedEdit = OnRows (Created (node + 1) kind (node_number ns.nodes parent) name) in
+    let ih = refused-append ns (edited v d) (k + 1) t u (node + 1) line a b es e (rest-accepted k (refusal ns v (edits.New kind parent name)) _ h) in
+    (ih.0, skip-accepted k (refusal ns v (edits.New kind parent name)) _ (edit-accepted k (refusal ns v (edits.New kind parent name)) _ h) ∙ ih.1)
+refused-append ns v k t u node line a b (edits.Insert file after text ∷ es) e h =
+    let d : NumberedEdit = Inserted (node_number ns.nodes file) (address_in t (line + 1)) text in
+    let ih = refused-append ns (edited v d) (k + 1) t u node (line + 1) a b es e (rest-accepted k (refusal ns v (edits.Insert file after text)) _ h) in
+    (ih.0, skip-accepted k (refusal ns v (edits.Insert file after text)) _ (edit-accepted k (refusal ns v (edits.Insert file after text)) _ h) ∙ ih.1)
+refused-append ns v k t u node line a b (edits.Delete file which ∷ es) e h =
+    let d : NumberedEdit = Deleted (node_number ns.nodes file) (address_in t (line_number (length ns.addresses) which)) in
+    let ih = refused-append ns (edited v d) (k + 1) t u node line a b es e (rest-accepted k (refusal ns v (edits.Delete file which)) _ h) in
+    (ih.0, skip-accepted k (refusal ns v (edits.Delete file which)) _ (edit-accepted k (refusal ns v (edits.Delete file which)) _ h) ∙ ih.1)
+
+-- the table of a session is one
+pub is-table : (history : List Command) (s : Session) → HoldingStands → IsTable (table_of history s)
+is-table history s stands =
+    subst (λ ns. IsTable ns.addresses) (numbers_from-append no_numbers (take s.base history) (commands.Commit 0 [] False s.edits ∷ []))
+    (stands (take s.base history ++ commands.Commit 0 [] False s.edits ∷ [])).0
+
+-- the lines that a session deletes are made
+pub session-deletes : (history : List Command) (s : SessionValue) → HoldingStands → ReplayStands → IsOpen history s
+    → DeletesWithin (length (numbers_at_base history s.session).addresses) (length (table_of history s.session)) s.session.edits
+session-deletes history s stands replays here =
+    let ns : Numbers = numbers_at_base history s.session in
+    let made = length-with_lines ns.addresses (anchors_of (length ns.addresses) s.session.edits) in
+    deletes-within ns (table_of history s.session) ns.nodes (length ns.addresses) 0 (length ns.addresses) (replay s.session.choice (take s.session.base history)) s.session.edits
+    (is-table history s.session stands) (omega (arith, made))
+    (replay-within s.session.choice (take s.session.base history) (length (table_of history s.session)) stands replays (omega (arith, made))) here.good.accepted
+
+-- the first refused edit of a session with one more
+pub first-refused : (history : List Command) (s : SessionValue) (e : Edit) → HoldingStands → ReplayStands → IsOpen history s
+    → (i : ℕ) × (first_refused (numbers_at_base history s.session) (replay s.session.choice (take s.session.base history)) (s.session.edits ++ e ∷ [])
+    ≡ refused_at i (refusal (numbers_at_base history s.session) (seen s.session history) e) None)
+first-refused history s e stands replays here =
+    let ns : Numbers = numbers_at_base history s.session in
+    let v : Variant = replay s.session.choice (take s.session.base history) in
+    let t : List (List ℕ) = (numbers_after ns s.session.edits).addresses in
+    let found = refused-append ns v 0 t (table_after ns t e) ns.nodes (length ns.addresses) (ns.nodes + s.view.nodes_made) (length t) s.session.edits e here.good.accepted in (
+      found.0,
+      ap (refused_from ns v 0 (s.session.edits ++ e ∷ [])) (numbered-next ns s.session.edits e s.view here.nodes (session-deletes history s stands replays here)) ∙ found.1,
+    )
+
+not_when : {F : Type 0} (b : Bool) (f : F) (os : List (Option F)) → b ≡ false → first_of (when b f ∷ os) ≡ first_of os
+not_when true f os h = absurd (cc)
+not_when false f os h = refl
+
+is_when : {F : Type 0} (b : Bool) (f : F) (os : List (Option F)) → b ≡ true → first_of (when b f ∷ os) ≡ Some f
+is_when true f os h = refl
+is_when false f os h = absurd (cc)
+
+last-of : {F : Type 0} (o : Option F) → first_of (o ∷ []) ≡ o
+last-of None = refl
+last-of (Some f) = refl
+
+pub fault-at : (i : ℕ) (o : Option EditFault) (f : EditFault) → o ≡ Some f → as_fault (refused_at i o None) ≡ Some (faults.Edit f)
+fault-at i None f h = absurd (cc)
+fault-at i (Some g) f h = ap (λ x. as_fault (refused_at i x None)) h
+
+pub no-fault-at : (i : ℕ) (o : Option EditFault) → o ≡ None → as_fault (refused_at i o None) ≡ None
+no-fault-at i o h = ap (λ x. as_fault (refused_at i x None)) h
+
+-- what a view refuses is the fault that is wanted
+pub by-edit : (f : EditFault) (wanted : Option SessionFault) → wanted ≡ Some (faults.Edit f) → IsAdditionFault (by_edit f) wanted
+by-edit edit_faults.NoSuchNode wanted h = h
+by-edit edit_faults.NotFile wanted h = h
+by-edit edit_faults.NotDirectory wanted h = h
+by-edit edit_faults.NameTaken wanted h = h
+by-edit edit_faults.NoSuchLine wanted h = h
+by-edit edit_faults.Memory wanted h = tt
+
+length-one : (es : List Edit) (e : Edit) → length (es ++ e ∷ []) ≡ length es + 1
+length-one es e = length-append es (e ∷ [])
+
+-- too many edits
+pub refused-many : (history : List Command) (s : Session) (es : List Edit) (k : ℕ) → length es ≡ k → most_edits < length s.edits + k → addition_fault history s es ≡ Some faults.TooManyEdits
+refused-many history s es k is h =
+    let l = length-append s.edits es in
+    let more : nat_lt most_edits (length (s.edits ++ es)) ≡ true = grind (arith, nat_tests, l, is, h) in
+    is_when (nat_lt most_edits (length (s.edits ++ es))) faults.TooManyEdits _ more
+
+-- too much text
+pub refused-heavy : (history : List Command) (s : Session) (es : List Edit) (k b : ℕ) → length es ≡ k → text_bytes es ≡ b → length s.edits + k ≤ most_edits → most_commit_bytes < text_bytes s.edits + b
+    → addition_fault history s es ≡ Some faults.TooManyBytes
+refused-heavy history s es k b is said h heavy =
+    let l = length-append s.edits es in
+    let sum = bytes-append s.edits es in
+    let few : nat_lt most_edits (length (s.edits ++ es)) ≡ false = grind (arith, nat_tests, l, is, h) in
+    let more : nat_lt most_commit_bytes (text_bytes (s.edits ++ es)) ≡ true = grind (arith, nat_tests, sum, said, heavy) in
+    not_when (nat_lt most_edits (length (s.edits ++ es))) faults.TooManyEdits _ few
+    ∙ is_when (nat_lt most_commit_bytes (text_bytes (s.edits ++ es))) faults.TooManyBytes _ more
+
+-- within the limits, the first refused edit decides
+pub by-first : (history : List Command) (s : Session) (es : List Edit) → length (s.edits ++ es) ≤ most_edits → text_bytes (s.edits ++ es) ≤ most_commit_bytes
+    → addition_fault history s es ≡ as_fault (first_refused (numbers_at_base history s) (replay s.choice (take s.base history)) (s.edits ++ es))
+by-first history s es room light =
+    let few : nat_lt most_edits (length (s.edits ++ es)) ≡ false = grind (arith, nat_tests, room) in
+    let less : nat_lt most_commit_bytes (text_bytes (s.edits ++ es)) ≡ false = grind (arith, nat_tests, light) in
+    not_when (nat_lt most_edits (length (s.edits ++ es))) faults.TooManyEdits _ few
+    ∙ not_when (nat_lt most_commit_bytes (text_bytes (s.edits ++ es))) faults.TooManyBytes _ less
+    ∙ last-of (as_fault (first_refused (numbers_at_base history s) (replay s.choice (take s.base history)) (s.edits ++ es)))
+
+-- an edit is refused by no variant that a view shows
+abbrev pub Accepts : Seen → Edit → Type 0
+Accepts view e = (ns : Numbers) (table : List (List ℕ)) (v : Variant) → Shows ns table view v → refusal ns v e ≡ None
+
+-- an edit is refused with a fault by each variant that a view shows, unless memory is wanting
+abbrev pub Refuses : EditFault → Seen → Edit → Type 0
+Refuses f view e = (ns : Numbers) (table : List (List ℕ)) (v : Variant) → Shows ns table view v → FaultBy f (refusal ns v e)
+
+-- after an edit a view shows what it showed with this edit
+abbrev pub Applies : Seen → Edit → Seen → Type 0
+Applies old e new = (ns : Numbers) (table : List (List ℕ)) (v : Variant) → IsTable table → Shows ns table old v → Shows ns (table_after ns table e) new (fold edited v (next_by_number ns table old e))
+
+module _ (history : List Command) (s : SessionValue) (e : Edit) (stands : HoldingStands) (replays : ReplayStands) (here : IsOpen history s) where
+  -- a session with one edit more sees its variant after this edit
+  pub seen-after : seen (with_edits s.session (e ∷ [])) history
+      ≡ fold edited (seen s.session history) (next_by_number (numbers_at_base history s.session) (table_of history s.session) s.view e)
+  seen-after =
+      let ns : Numbers = numbers_at_base history s.session in
+      ap (fold edited (replay s.session.choice (take s.session.base history))) (numbered-next ns s.session.edits e s.view here.nodes (session-deletes history s stands replays here))
+      ∙ fold-append edited (replay s.session.choice (take s.session.base history)) (numbered ns s.session.edits) (next_by_number ns (table_of history s.session) s.view e)
+
+  -- a session that took an edit is open
+  pub open-after : (view : Seen) → Accepts s.view e → Applies s.view e view
+      → view.nodes_made ≡ s.view.nodes_made + nodes_made (e ∷ []) → view.lines_made ≡ s.view.lines_made + length (anchors_of 0 (e ∷ []))
+      → IsOpen history (record { name = s.name; session = with_edits s.session (e ∷ []); view = view })
+  open-after view accepts applies nodes lines = record {
+    good = record {
+      within = here.good.within;
+      of_all_options = here.good.of_all_options;
+      valid = here.good.valid;
+      in_ambition = here.good.in_ambition;
+      in_reach = here.good.in_reach;
+      accepted = passes;
+    };
+    shows = shown;
+    nodes = nodes ∙ ap (λ k. k + nodes_made (e ∷ [])) here.nodes ∙ sym (nodes-append s.session.edits (e ∷ []));
+    lines = lines ∙ ap (λ k. k + length (anchors_of 0 (e ∷ []))) here.lines
+        ∙ sym (ap length (anchors-append 0 s.session.edits (e ∷ [])) ∙ length-append (anchors_of 0 s.session.edits) (anchors_of 0 (e ∷ [])));
+  }
+    where
+      longer : Session
+      longer = with_edits s.session (e ∷ [])
+
+      ns : Numbers
+      ns = numbers_at_base history s.session
+
+      none : refusal ns (seen s.session history) e ≡ None
+      none = accepts ns (table_of history s.session) (seen s.session history) here.shows
+
+      passes : first_refused ns (replay s.session.choice (take s.session.base history)) (s.session.edits ++ e ∷ []) ≡ None
+      passes = let found = first-refused history s e stands replays here in found.1 ∙ ap (λ o. refused_at found.0 o None) none
+
+      shown : Shows ns (table_of history longer) view (seen longer history)
+      shown =
+          subst (λ t. Shows ns t view (seen longer history)) (sym (longer-is ns s.session.edits e))
+          (subst (Shows ns (table_after ns (table_of history s.session) e) view) (sym seen-after)
+          (applies ns (table_of history s.session) (seen s.session history) (is-table history s.session stands) here.shows))
+
+  module _ (room : length s.session.edits < most_edits) (light : text_bytes (s.session.edits ++ e ∷ []) ≤ most_commit_bytes) where
+    -- within the limits, what the session sees decides
+    by-view : (i : ℕ) × (addition_fault history s.session (e ∷ []) ≡ as_fault (refused_at i (refusal (numbers_at_base history s.session) (seen s.session history) e) None))
+    by-view =
+        let found = first-refused history s e stands replays here in
+        (found.0, by-first history s.session (e ∷ []) (let l = length-one s.session.edits e in omega (arith, l, room)) light ∙ ap as_fault found.1)
+
+    pub accepted-by : refusal (numbers_at_base history s.session) (seen s.session history) e ≡ None → addition_fault history s.session (e ∷ []) ≡ None
+    accepted-by h = by-view.1 ∙ no-fault-at by-view.0 (refusal (numbers_at_base history s.session) (seen s.session history) e) h
+
+    pub refused-as : (f : EditFault) → refusal (numbers_at_base history s.session) (seen s.session history) e ≡ Some f → addition_fault history s.session (e ∷ []) ≡ Some (faults.Edit f)
+    refused-as f h = by-view.1 ∙ fault-at by-view.0 (refusal (numbers_at_base history s.session) (seen s.session history) e) f h
+
+    pub refused-by : (f : EditFault) → FaultBy f (refusal (numbers_at_base history s.session) (seen s.session history) e)
+        → IsAdditionFault (by_edit f) (addition_fault history s.session (e ∷ []))
+    refused-by edit_faults.NoSuchNode h = refused-as edit_faults.NoSuchNode h
+    refused-by edit_faults.NotFile h = refused-as edit_faults.NotFile h
+    refused-by edit_faults.NotDirectory h = refused-as edit_faults.NotDirectory h
+    refused-by edit_faults.NameTaken h = refused-as edit_faults.NameTaken h
+    refused-by edit_faults.NoSuchLine h = refused-as edit_faults.NoSuchLine h
+    refused-by edit_faults.Memory h = tt

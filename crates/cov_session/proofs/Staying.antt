@@ -1,0 +1,74 @@
+-- Sessions as their history grows, and as they begin.
+use Rattle.std.proofs.Common.{◌≡◌, ◌∙◌, refl, sym, ap, subst, ℕ, suc, ◌+◌, ◌≤◌, Bool, true, false, cond, ◌&&◌, not, nat_lt, List, [], ◌∷◌, ◌++◌, length, take, Some, None, option_map, arith}
+use Rattle.std.specs.List.{fold, position_or_len}
+use Rattle.std.proofs.lemmas.Bool.Decides.{nat_tests}
+use Rattle.std.proofs.lemmas.List.{take-append-le}
+use Rattle.std.proofs.Math.Seq.{take-length}
+use Rattle.cov_expr.specs.Formula.{Formula, value, reach}
+use Rattle.cov_expr.specs.Validity.{first_false, is_valid}
+use Rattle.cov_edit.specs.declared.command.Command.{Command}
+use Rattle.cov_edit.specs.declared.edit.Edit.{Edit}
+use Rattle.cov_edit.specs.History.{constraints_of, option_count, first_false_in, is_valid_in}
+use Rattle.cov_edit.specs.Numbering.{numbers_of, numbers_after, numbered}
+use Rattle.cov_edit.specs.Variant.{edited}
+use Rattle.cov_edit.specs.Replay.{replay}
+use Rattle.cov_view.specs.Seen.{Seen}
+use Rattle.cov_view.specs.Views.{Shows}
+use Rattle.cov_history.specs.Laws.{GoodSessionsStay}
+use Rattle.cov_history.specs.Sessions.{IsGood}
+use Rattle.cov_session.specs.Laws.{OpenSessionsStay}
+use Rattle.cov_session.specs.Open.{IsOpen}
+use Rattle.cov_session.specs.Opening.{new_session}
+
+pub open-stays : GoodSessionsStay → OpenSessionsStay
+open-stays stays history later s here =
+    let within : s.session.base ≤ length history = here.good.within in
+    let e : take s.session.base history ≡ take s.session.base (history ++ later) = sym (take-append-le s.session.base history later within) in
+    record {
+      good = stays history later s.session here.good;
+      shows = subst (λ h. Shows (numbers_of h) (numbers_after (numbers_of h) s.session.edits).addresses s.view (fold edited (replay s.session.choice h) (numbered (numbers_of h) s.session.edits))) e here.shows;
+      nodes = here.nodes;
+      lines = here.lines;
+    }
+
+full-prefix : (c : List Bool) (es : List (Formula ℕ)) → length es ≤ position_or_len (λ f. not (value f c)) es → is_valid es c ≡ true
+full-prefix c [] h = refl
+full-prefix c (e ∷ es) h = at (value e c) h (λ k. full-prefix c es k)
+  where
+    at : (b : Bool) → suc (length es) ≤ cond (not (not b)) (1 + position_or_len (λ f. not (value f c)) es) 0
+        → (length es ≤ position_or_len (λ f. not (value f c)) es → is_valid es c ≡ true) → (b && is_valid es c) ≡ true
+    at true k rest = rest (omega (arith, k))
+    at false k rest = absurd (omega (arith, k))
+
+-- where no constraint is false, the choice is valid
+all-valid : (es : List (Formula ℕ)) (c : List Bool) → first_false es c ≡ None → is_valid es c ≡ true
+all-valid es c h = full-prefix c es (at (nat_lt (position_or_len (λ f. not (value f c)) es) (length es)) refl h)
+  where
+    at : (b : Bool) → nat_lt (position_or_len (λ f. not (value f c)) es) (length es) ≡ b
+        → option_map (λ n. n + 1) (cond b (Some (position_or_len (λ f. not (value f c)) es)) None) ≡ None → length es ≤ position_or_len (λ f. not (value f c)) es
+    at true e k = absurd (cc)
+    at false e k = grind (arith, nat_tests, e)
+
+-- a session that begins is open
+pub open-first : (history : List Command) (name : List ℕ) (base : ℕ) (c : List Bool) (ambition : Formula ℕ) (es : List Edit) (view : Seen)
+    → base ≡ length history → es ≡ [] → view.nodes_made ≡ 0 → view.lines_made ≡ 0
+    → length c ≡ option_count history → reach ambition ≤ option_count history → first_false_in history c ≡ None → value ambition c ≡ true
+    → Shows (numbers_of (take base history)) (numbers_of (take base history)).addresses view (replay c (take base history))
+    → IsOpen history (record { name = name; session = record { base = base; choice = c; ambition = ambition; edits = es }; view = view })
+open-first history name base c ambition es view now none nodes lines count within valid inside shows =
+    subst (λ b. IsOpen history (record { name = name; session = record { base = b; choice = c; ambition = ambition; edits = es }; view = view })) (sym now)
+    (subst (λ fs. IsOpen history (record { name = name; session = record { base = length history; choice = c; ambition = ambition; edits = fs }; view = view })) (sym none)
+    (record { good = good; shows = subst (λ b. Shows (numbers_of (take b history)) (numbers_of (take b history)).addresses view (replay c (take b history))) now shows; nodes = nodes; lines = lines }))
+  where
+    whole : take (length history) history ≡ history
+    whole = take-length history
+
+    good : IsGood history (new_session history ambition c)
+    good = record {
+      within = omega arith;
+      of_all_options = count ∙ sym (ap option_count whole);
+      valid = ap (λ h. is_valid_in h c) whole ∙ all-valid (constraints_of history) c valid;
+      in_ambition = inside;
+      in_reach = subst (λ h. reach ambition ≤ option_count h) (sym whole) within;
+      accepted = refl;
+    }

@@ -1,0 +1,5 @@
+use Rattle.std.proofs.Common.{◌∙◌, sym, [], ◌∷◌, ◌++◌, append_assoc}
+use Rattle.cov_session.proofs.session.pop_both.Goals as goal
+
+pub returns : goal.returns
+returns c = λ first insert delete is. c.pop-2.ensures first insert (c.pop.ensures (first ++ insert ∷ []) delete (is ∙ sym (append_assoc first (insert ∷ []) (delete ∷ []))))

@@ -1,0 +1,22 @@
+-- Faults of sessions that come from others.
+use Rattle.cov_rules.specs.declared.completing.CompleteFault.{CompleteFault}
+use Rattle.cov_rules.specs.declared.completing.CompleteFault.TheVariants as completions
+use Rattle.cov_view.specs.declared.fault.EditFault.{EditFault}
+use Rattle.cov_view.specs.declared.fault.EditFault.TheVariants as edit_faults
+use Rattle.cov_session.specs.declared.fault.SessionFault.{SessionFault}
+use Rattle.cov_session.specs.declared.fault.SessionFault.TheVariants as faults
+
+-- the fault of a session whose edit its view refuses
+abbrev pub by_edit : EditFault → SessionFault
+by_edit edit_faults.NoSuchNode = faults.Edit edit_faults.NoSuchNode
+by_edit edit_faults.NotFile = faults.Edit edit_faults.NotFile
+by_edit edit_faults.NotDirectory = faults.Edit edit_faults.NotDirectory
+by_edit edit_faults.NameTaken = faults.Edit edit_faults.NameTaken
+by_edit edit_faults.NoSuchLine = faults.Edit edit_faults.NoSuchLine
+by_edit edit_faults.Memory = faults.Memory
+
+-- the fault of a session whose choice the rules don't complete
+abbrev pub by_completion : CompleteFault → SessionFault
+by_completion completions.Memory = faults.Memory
+by_completion (completions.Invalid rule) = faults.Invalid rule
+by_completion (completions.Incomplete option) = faults.Incomplete option

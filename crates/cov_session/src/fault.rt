@@ -1,0 +1,62 @@
+// Faults of sessions.
+ghost use Rattle.std.specs.Prelude.{◌≡◌};
+ghost use Rattle.cov_session.specs.Faults.{by_edit, by_completion};
+
+use cov_base::{Memory, OptionId};
+use cov_rules::CompleteFault;
+use cov_view::EditFault;
+
+/// Why a session isn't opened or doesn't take edits, or want of memory.
+#[derive(Clone, Copy, Debug, PartialEq, Eq)]
+pub enum SessionFault {
+    /// No choice agrees with the partial one and meets the constraints up to this one, from 1.
+    Invalid { rule: u32 },
+    /// The least option that the rules leave open.
+    Incomplete { option: OptionId },
+    /// The ambition is false on the completed choice.
+    OutsideAmbition,
+    /// The commit would have more than 16,384 edits.
+    TooManyEdits,
+    /// The commit would have more than 2^24 bytes of text.
+    TooManyBytes,
+    /// What the session sees refuses an edit. The fault is never `EditFault::Memory`.
+    Edit { fault: EditFault },
+    Memory,
+}
+
+impl From<Memory> for SessionFault {
+    ghost use Rattle.cov_session.specs.declared.fault.SessionFault.TheVariants.{Memory as wanting};
+
+    ghost from_gives = { λ _ fault. fault ≡ wanting };
+
+    fn from(_: Memory) -> Self {
+        SessionFault::Memory
+    }
+}
+
+impl From<EditFault> for SessionFault {
+    ghost from_gives = { λ fault own. own ≡ by_edit fault };
+
+    fn from(fault: EditFault) -> Self {
+        match fault {
+            EditFault::Memory => SessionFault::Memory,
+            EditFault::NoSuchNode
+            | EditFault::NotFile
+            | EditFault::NotDirectory
+            | EditFault::NameTaken
+            | EditFault::NoSuchLine => SessionFault::Edit { fault },
+        }
+    }
+}
+
+impl From<CompleteFault> for SessionFault {
+    ghost from_gives = { λ fault own. own ≡ by_completion fault };
+
+    fn from(fault: CompleteFault) -> Self {
+        match fault {
+            CompleteFault::Memory => SessionFault::Memory,
+            CompleteFault::Invalid { rule } => SessionFault::Invalid { rule },
+            CompleteFault::Incomplete { option } => SessionFault::Incomplete { option },
+        }
+    }
+}
