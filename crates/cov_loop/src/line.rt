@@ -1,0 +1,74 @@
+// One line: what it does and its reply.
+ghost use Rattle.std.specs.Prelude.{◌≡◌, ◌≤◌, ◌<◌, ℕ, List, length, IfOk, OnOk, OnErr, IfErr};
+ghost use Rattle.cov_base.specs.Causes.{HasCause};
+ghost use Rattle.cov_io.specs.Devices.{AppendsAll, AppendsSome};
+ghost use Rattle.cov_loop.specs.Answers.{IsServed, StopsLine};
+
+use crate::answer::{Answer, Reply};
+use crate::line_server::LineServer;
+use crate::status::Status;
+use cov_base::{Failed, Memory};
+use cov_io::Sink;
+
+/// Serves one line, and puts its reply in one call. At an `Err` the run ends.
+pub fn serve_line<V: LineServer, K: Sink>(
+    server: &mut V,
+    line: &[u8],
+    out: &mut K,
+) -> Result<Answer, Status>
+    ensures served { IfOk result (IsServed (V.step server.old line.now) server.new) }
+    ensures all { OnOk result (AppendsAll (V.step server.old line.now).reply (K.written out.old) (K.written out.new)) }
+    ensures some { OnErr result (AppendsSome (V.step server.old line.now).reply (K.written out.old) (K.written out.new)) }
+    ensures stopped { IfErr result (λ status. StopsLine status (K.faults out.old) (K.faults out.new)) }
+    ensures later { K.faults out.old ≤ K.faults out.new }
+{
+    match server.answer(line) {
+        Ok(reply) => put_reply(&reply, out),
+        Err(Memory) => Err(Status::NoMemory),
+    }
+}
+
+// Serves a line of more than 8,192 bytes, which was skipped.
+pub(crate) fn serve_long<V: LineServer, K: Sink>(
+    server: &mut V,
+    out: &mut K,
+) -> Result<Answer, Status>
+    ensures served { (line : List ℕ) → 8192 < length line →
+        IfOk result (IsServed (V.step server.old line) server.new) }
+    ensures all { (line : List ℕ) → 8192 < length line →
+        OnOk result (AppendsAll (V.step server.old line).reply (K.written out.old) (K.written out.new)) }
+    ensures some { (line : List ℕ) → 8192 < length line →
+        OnErr result (AppendsSome (V.step server.old line).reply (K.written out.old) (K.written out.new)) }
+    ensures stopped { IfErr result (λ status. StopsLine status (K.faults out.old) (K.faults out.new)) }
+    ensures later { K.faults out.old ≤ K.faults out.new }
+{
+    match server.answer_long() {
+        Ok(reply) => put_reply(&reply, out),
+        Err(Memory) => Err(Status::NoMemory),
+    }
+}
+
+fn put_reply<K: Sink>(reply: &Reply, out: &mut K) -> Result<Answer, Status>
+    ensures served { IfOk result (λ answer. answer ≡ reply.now.answer) }
+    ensures all { OnOk result (AppendsAll reply.now.text (K.written out.old) (K.written out.new)) }
+    ensures some { OnErr result (AppendsSome reply.now.text (K.written out.old) (K.written out.new)) }
+    ensures stopped { IfErr result (λ status. StopsLine status (K.faults out.old) (K.faults out.new)) }
+    ensures later { K.faults out.old ≤ K.faults out.new }
+{
+    match put_text(reply.text.as_slice(), out) {
+        Ok(()) => Ok(reply.answer),
+        Err(Failed) => Err(Status::WriteFault),
+    }
+}
+
+// Where there is no text, the sink isn't called.
+fn put_text<K: Sink>(text: &[u8], out: &mut K) -> Result<(), Failed>
+    ensures all { OnOk result (AppendsAll text.now (K.written out.old) (K.written out.new)) }
+    ensures some { OnErr result (AppendsSome text.now (K.written out.old) (K.written out.new)) }
+    ensures cause { HasCause (K.faults out.old) (K.faults out.new) result }
+{
+    match text {
+        [] => Ok(()),
+        _ => out.put(text),
+    }
+}
