@@ -3,7 +3,8 @@
 
 use cov_base::{Memory, Text, Texts};
 use cov_io::{StdSink, StdSource};
-use cov_serve::{Status, run};
+use cov_loop::Status;
+use cov_serve::run;
 use std::alloc::Global;
 use std::env::{self, Args};
 use std::io::ErrorKind;

@@ -1,52 +1,34 @@
 -- Files that are told, and sessions that end.
-use Rattle.std.proofs.Common.{◌≡◌, ℕ, Bool, true, false, cond, ◌&&◌, not, List, map, Option, length, take, Some, None, is_some, option_map, Result, Ok, Err, IfOk, sym, ap, subst, ◌∙◌}
+use Rattle.std.proofs.Common.{◌≡◌, ℕ, Bool, true, false, ◌&&◌, List, map, length, take, Result, Ok, Err, IfOk, sym, ap, subst, ◌∙◌, refl}
+use Rattle.std.specs.Prelude.{IsErrOf, Option, Some, None, is_some, ok_or, if◌then◌else◌}
+use Rattle.std.specs.List.{AllByRecursion}
 use Rattle.cov_base.specs.declared.number.NodeRef.{NodeRef}
-use Rattle.cov_edit.specs.Numbering.{Numbers, node_number, numbers_of}
+use Rattle.cov_edit.specs.Numbering.{Numbers, node_number, numbers_of, line_count}
 use Rattle.cov_edit.specs.Variant.{Variant, lines_of}
-use Rattle.cov_view.specs.Paths.{path_node, AreLinesOf}
+use Rattle.cov_view.specs.Paths.{AreLinesOf, path_node}
+use Rattle.cov_view.specs.References.{is_made_line}
 use Rattle.cov_view.specs.Refusals.{is_dir}
 use Rattle.cov_view.specs.Views.{by_number}
 use Rattle.cov_view.specs.declared.line.ViewLine.{ViewLine}
-use Rattle.cov_engine.specs.Sessions.{Session, seen}
-use Rattle.cov_serve.specs.Keeping.{as_session}
-use Rattle.cov_serve.specs.Seeing.{IsSeen}
-use Rattle.cov_serve.specs.Listing.{told_line, session_line, lines_reply}
+use Rattle.cov_history.specs.Sessions.{Session, seen}
+use Rattle.cov_view.specs.Refusals.{has_node}
+use Rattle.cov_view.specs.declared.fault.ReadFaultOfView.{ReadFaultOfView}
+use Rattle.cov_view.specs.declared.fault.ReadFaultOfView.TheVariants as reads
+use Rattle.cov_script.specs.declared.code.Code.TheVariants.{NotFile, NoSuchPath}
+use Rattle.cov_serve.specs.Acting.{Stops}
+use Rattle.cov_serve.specs.Finding.{◌>>=◌}
+use Rattle.cov_serve.specs.Seeing.{IsSeen, IsFileAt}
+use Rattle.cov_serve.specs.Step.{file_told, shown, shown_in, told_in}
+use Rattle.cov_serve.specs.Stops.{read_stop}
+use Rattle.cov_session.specs.Open.{SessionValue, NamedSession}
+use Rattle.cov_serve.specs.Listing.{session_line, told_line, lines_reply}
 use Rattle.cov_serve.specs.Replies.{file_reply, seen_reply}
-use Rattle.cov_serve.specs.States.{State, with_session}
-use Rattle.cov_serve.specs.Step.{accepted, refused, dropped_in, file_told, shown_in}
-use Rattle.cov_serve.specs.Turns.{Gives}
-use Rattle.cov_serve.specs.declared.answer.Reply.{Reply}
-use Rattle.cov_script.specs.Replies.{plain_reply}
-use Rattle.cov_script.specs.declared.code.Code.TheVariants.{NotFile}
-use Rattle.cov_serve.specs.declared.session.OpenSession.{OpenSession}
+use Rattle.cov_serve.specs.States.{State}
 use Rattle.cov_serve.proofs.ToldLines.{by-number, by-reference}
 
 pub if-ok : {A E : Type 0} (r : Result A E) (P Q : A → Type 0) → ((a : A) → P a → Q a) → IfOk r P → IfOk r Q
 if-ok (Ok a) P Q f h = f a h
 if-ok (Err e) P Q f h = tt
-
--- the session that is open ends
-pub ended : (st : State) (kept : Option OpenSession) (next : State) (reply : Reply) → st.session ≡ option_map as_session kept → (b : Bool) → is_some kept ≡ not b → b ≡ false
-    → Gives (accepted (with_session st None) plain_reply) next reply → Gives (dropped_in st st.session) next reply
-ended st None next reply live b some none gives = absurd (let not_b : not b ≡ true = ap not none in cc)
-ended st (Some s) next reply live b some none gives = subst (λ o. Gives (dropped_in st o) next reply) (sym live) gives
-
-module _ (st : State) (ns : Numbers) (v : Variant) (file : NodeRef) (path : List (List ℕ)) (found : Some (node_number ns.nodes file) ≡ path_node v.rows 0 path) where
-  -- the lines of a file are told
-  pub file-shown : (ls : List ViewLine) (text : List ℕ) (next : State) (reply : Reply) → AreLinesOf ns 0 v file ls → text ≡ lines_reply told_line ls
-      → Gives (accepted st text) next reply → Gives (file_told st v (path_node v.rows 0 path)) next reply
-  file-shown ls text next reply lines is gives =
-      subst (λ o. Gives (file_told st v o) next reply) found
-      (subst (λ b. Gives (cond b (refused st NotFile) (accepted st (file_reply (map by_number (lines_of v (node_number ns.nodes file)))))) next reply) (sym lines.is_file)
-      (subst (λ t. Gives (accepted st t) next reply) (is ∙ by-number ns ls lines.made ∙ ap file_reply lines.lines) gives))
-
-  -- a directory is no file
-  pub dir-shown : (there : Bool) (next : State) (reply : Reply) → (there && is_dir v.rows (node_number ns.nodes file)) ≡ true
-      → Gives (refused st NotFile) next reply → Gives (file_told st v (path_node v.rows 0 path)) next reply
-  dir-shown true next reply dir gives =
-      subst (λ o. Gives (file_told st v o) next reply) found
-      (subst (λ b. Gives (cond b (refused st NotFile) (accepted st (file_reply (map by_number (lines_of v (node_number ns.nodes file)))))) next reply) (sym dir) gives)
-  dir-shown false next reply dir gives = absurd (cc)
 
 module _ (st : State) (s : Session) (node : ℕ) (file : NodeRef) (is_seen : IsSeen st s node file) where
   abbrev numbers : Numbers
@@ -56,17 +38,77 @@ module _ (st : State) (s : Session) (node : ℕ) (file : NodeRef) (is_seen : IsS
   there = seen s st.history
 
   -- the lines of a file are told as the session sees them
-  pub lines-shown : (made : ℕ) (ls : List ViewLine) (text : List ℕ) (next : State) (reply : Reply) → AreLinesOf numbers made there file ls → text ≡ lines_reply session_line ls
-      → Gives (accepted st text) next reply → Gives (shown_in st s node) next reply
-  lines-shown made ls text next reply lines is gives =
-      subst (λ n. Gives (shown_in st s n) next reply) is_seen.number
-      (subst (λ b. Gives (cond b (refused st NotFile) (accepted st (seen_reply (length numbers.addresses) (map by_number (lines_of there (node_number numbers.nodes file)))))) next reply) (sym lines.is_file)
-      (subst (λ t. Gives (accepted st t) next reply) (is ∙ by-reference numbers made ls lines.made ∙ ap (seen_reply (length numbers.addresses)) lines.lines) gives))
+  pub lines-shown : (made : ℕ) (ls : List ViewLine) (text : List ℕ) → AreLinesOf numbers made there file ls → text ≡ lines_reply session_line ls
+      → (is_dir there.rows node ≡ false) × (text ≡ seen_reply (line_count (take s.base st.history)) (map by_number (lines_of there node)))
+  lines-shown made ls text lines is =
+      subst (λ n. (is_dir there.rows n ≡ false) × (text ≡ seen_reply (line_count (take s.base st.history)) (map by_number (lines_of there n)))) is_seen.number
+      (lines.is_file, is ∙ by-reference numbers made ls lines.made ∙ ap (seen_reply (length numbers.addresses)) lines.lines)
 
   -- a directory has none
-  pub dir-seen : (has : Bool) (next : State) (reply : Reply) → (has && is_dir there.rows (node_number numbers.nodes file)) ≡ true
-      → Gives (refused st NotFile) next reply → Gives (shown_in st s node) next reply
-  dir-seen true next reply dir gives =
-      subst (λ n. Gives (shown_in st s n) next reply) is_seen.number
-      (subst (λ b. Gives (cond b (refused st NotFile) (accepted st (seen_reply (length numbers.addresses) (map by_number (lines_of there (node_number numbers.nodes file)))))) next reply) (sym dir) gives)
-  dir-seen false next reply dir gives = absurd (cc)
+  pub dir-seen : (has : Bool) → (has && is_dir there.rows (node_number numbers.nodes file)) ≡ true → is_dir there.rows node ≡ true
+  dir-seen true dir = subst (λ n. is_dir there.rows n ≡ true) is_seen.number dir
+  dir-seen false dir = absurd (cc)
+
+module _ (st : State) (name : List ℕ) (path : List (List ℕ)) (s : SessionValue) (file : NodeRef) (found : IsFileAt st name path s file) where
+  at_node : shown st name path ≡ shown_in st s.session found.node
+  unfolding shown
+  at_node = ap (λ f. f >>= (λ (at : NamedSession × ℕ). shown_in st at.0.session at.1)) found.found
+
+  -- a file is shown
+  pub shown-lines : (made : ℕ) (ls : List ViewLine) (text : List ℕ) → AreLinesOf (numbers_of (take s.session.base st.history)) made (seen s.session st.history) file ls
+      → text ≡ lines_reply session_line ls → shown st name path ≡ Ok (st, text)
+  shown-lines made ls text lines is =
+      let told = lines-shown st s.session found.node file found.is_seen made ls text lines is in
+      at_node
+      ∙ ap (λ b. if b then Err NotFile else Ok (st, seen_reply (line_count (take s.session.base st.history)) (map by_number (lines_of (seen s.session st.history) found.node)))) told.0
+      ∙ ap (λ t. Ok (st, t)) (sym told.1)
+
+  -- what can't be read is refused
+  pub read-stops : (fault : ReadFaultOfView)
+      → (IsErrOf {T = List ViewLine} (Err fault) reads.NoSuchNode → has_node (numbers_of (take s.session.base st.history)) (seen s.session st.history) file ≡ false)
+      → (IsErrOf {T = List ViewLine} (Err fault) reads.NotFile → (has_node (numbers_of (take s.session.base st.history)) (seen s.session st.history) file
+      && is_dir (seen s.session st.history).rows (node_number (numbers_of (take s.session.base st.history)).nodes file)) ≡ true)
+      → Stops (shown st name path) st st (read_stop fault)
+  read-stops reads.NoSuchNode absent dir = absurd (let none = absent refl in let there = found.is_seen.there in cc)
+  read-stops reads.NotFile absent dir = record {
+    is = at_node
+        ∙ ap (λ b. if b then Err NotFile else Ok (st, seen_reply (line_count (take s.session.base st.history)) (map by_number (lines_of (seen s.session st.history) found.node))))
+        (dir-seen st s.session found.node file found.is_seen (has_node (numbers_of (take s.session.base st.history)) (seen s.session st.history) file) (dir refl));
+    same = refl;
+    told = tt;
+  }
+  read-stops reads.Memory absent dir = tt
+
+pub none-there : {X : Type 0} (found : Option X) → found ≡ None → is_some found ≡ true → ⊥
+none-there None e h = absurd (cc)
+none-there (Some x) e h = absurd (cc)
+
+module _ (st : State) (ns : Numbers) (v : Variant) (file : NodeRef) (path : List (List ℕ)) (found : Some (node_number ns.nodes file) ≡ path_node v.rows 0 path) where
+  told-at : file_told st v path ≡ told_in st v (node_number ns.nodes file)
+  unfolding file_told
+  told-at = ap (λ o. ok_or o NoSuchPath >>= (λ (node : ℕ). told_in st v node)) (sym found)
+
+  -- the lines of a file are told
+  pub told-lines : (made : ℕ) (ls : List ViewLine) (text : List ℕ) → made ≡ 0 → AreLinesOf ns made v file ls → text ≡ lines_reply told_line ls → file_told st v path ≡ Ok (st, text)
+  told-lines made ls text none lines is =
+      told-at
+      ∙ ap (λ b. if b then Err NotFile else Ok (st, file_reply (map by_number (lines_of v (node_number ns.nodes file))))) lines.is_file
+      ∙ ap (λ t. Ok (st, t)) (sym (is ∙ by-number ns ls (subst (λ n. AllByRecursion (λ l. is_made_line (length ns.addresses) n l.line ≡ true) ls) none lines.made) ∙ ap file_reply lines.lines))
+
+  -- what can't be read is refused
+  pub told-stops : (fault : ReadFaultOfView)
+      → (IsErrOf {T = List ViewLine} (Err fault) reads.NoSuchNode → ⊥)
+      → (IsErrOf {T = List ViewLine} (Err fault) reads.NotFile → (has_node ns v file && is_dir v.rows (node_number ns.nodes file)) ≡ true)
+      → Stops (file_told st v path) st st (read_stop fault)
+  told-stops reads.NoSuchNode absent dir = absurd (absent refl)
+  told-stops reads.NotFile absent dir = record {
+    is = told-at
+        ∙ ap (λ b. if b then Err NotFile else Ok (st, file_reply (map by_number (lines_of v (node_number ns.nodes file))))) (second (has_node ns v file) (is_dir v.rows (node_number ns.nodes file)) (dir refl));
+    same = refl;
+    told = tt;
+  }
+    where
+      second : (a b : Bool) → (a && b) ≡ true → b ≡ true
+      second true b h = h
+      second false b h = absurd (cc)
+  told-stops reads.Memory absent dir = tt

@@ -9,7 +9,7 @@ use Rattle.cov_script.specs.declared.code.Code.{Code}
 use Rattle.cov_script.specs.declared.code.Code.TheVariants as codes
 use Rattle.cov_edit.specs.declared.command.Command.{Command}
 use Rattle.cov_edit.specs.History.{options_of}
-use Rattle.cov_engine.specs.Ruling.{completed_in}
+use Rattle.cov_history.specs.Completing.{completed_in}
 use Rattle.cov_serve.specs.Codes.{name_code, bind_code}
 
 -- what is found, or the code by which the line is refused
@@ -22,9 +22,15 @@ by_code code (Ok x) = Ok x
 by_code code (Err fault) = Err (code fault)
 
 -- what is found further on, if the line isn't refused so far
-abbrev pub and_then : {X Y : Type 0} → Found X → (X → Found Y) → Found Y
-and_then (Ok x) later = later x
-and_then (Err code) later = Err code
+infixl 10 ◌>>=◌
+abbrev pub ◌>>=◌ : {X Y : Type 0} → Found X → (X → Found Y) → Found Y
+(Ok x) >>= later = later x
+(Err code) >>= later = Err code
+
+-- what is there, unless a code refuses it
+abbrev pub unless : {X : Type 0} → Option Code → X → Found X
+unless None x = Ok x
+unless (Some code) x = Err code
 
 -- an option, unless there is none of that name
 abbrev pub option_if : List ℕ → Option ℕ → Found ℕ
@@ -55,4 +61,4 @@ completed_choice history partial = as_found (completed_in history partial)
 
 -- the choice to which the rules complete bindings
 abbrev pub found_choice : List Command → List (List ℕ × Bool) → Found (List Bool)
-found_choice history bindings = and_then (found_partial history bindings) (completed_choice history)
+found_choice history bindings = found_partial history bindings >>= completed_choice history

@@ -3,18 +3,8 @@ use Rattle.std.specs.Prelude.{ℕ, Bool, false, List, [], ◌∷◌, codes}
 use Rattle.std.specs.Str.{bytes_eq}
 use Rattle.cov_base.specs.Causes.{Rose}
 use Rattle.cov_io.specs.Progress.{Progress}
-use Rattle.cov_serve.specs.declared.status.Status.{Status}
-use Rattle.cov_serve.specs.declared.status.Status.TheVariants.{Done, SomeRefused, Usage, NoMemory, ReadFault, WriteFault, TooMuch}
-
--- the exit status of each ending
-abbrev pub code_of : Status → ℕ
-code_of Done = 0
-code_of SomeRefused = 1
-code_of Usage = 2
-code_of NoMemory = 3
-code_of ReadFault = 4
-code_of WriteFault = 5
-code_of TooMuch = 10
+use Rattle.cov_loop.specs.declared.status.Status.{Status}
+use Rattle.cov_loop.specs.declared.status.Status.TheVariants.{Done, SomeRefused, Usage, WriteFault}
 
 -- the words with which a script is served
 abbrev pub run_words : List (List ℕ)

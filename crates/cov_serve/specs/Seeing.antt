@@ -1,31 +1,29 @@
 -- What a session sees of what a line names.
-use Rattle.std.specs.Prelude.{◌≡◌, ℕ, true, List, take, Some}
+use Rattle.std.specs.Prelude.{◌≡◌, ℕ, true, List, take, Some, Ok}
 use Rattle.cov_base.specs.declared.number.NodeRef.{NodeRef}
 use Rattle.cov_edit.specs.Numbering.{numbers_of, node_number}
 use Rattle.cov_view.specs.Refusals.{has_node}
-use Rattle.cov_engine.specs.Sessions.{Session, seen}
+use Rattle.cov_history.specs.Sessions.{Session, seen}
+use Rattle.cov_session.specs.Open.{SessionValue, IsOpen, as_named}
 use Rattle.cov_serve.specs.Editing.{ref_in}
-use Rattle.cov_serve.specs.Outcome.{Outcome}
-use Rattle.cov_serve.specs.States.{State}
-use Rattle.cov_serve.specs.Step.{in_session, at_file}
+use Rattle.cov_serve.specs.States.{State, named}
+use Rattle.cov_serve.specs.Step.{file_at}
+
+-- a session is the one that is open, and has the name
+pub record IsNamed (st : State) (name : List ℕ) (s : SessionValue) : Type 0 where
+  pub live : st.session ≡ Some (as_named s)
+  pub has : named st.session name ≡ Some (as_named s)
+  pub is_open : IsOpen st.history s
 
 -- a node that a session sees, by its number and by reference
 pub record IsSeen (st : State) (s : Session) (node : ℕ) (file : NodeRef) : Type 0 where
-  pub live : st.session ≡ Some s
   pub reference : ref_in st.history s node ≡ file
   pub number : node_number (numbers_of (take s.base st.history)).nodes file ≡ node
   pub there : has_node (numbers_of (take s.base st.history)) (seen s st.history) file ≡ true
 
--- a node is the one that the session sees at a path, so that a line goes on with it
-pub record IsNodeAt (st : State) (path : List (List ℕ)) (file : NodeRef) : Type 0 where
-  pub session : Session
+-- a node is the one that the session of a name sees at a path of one name
+pub record IsFileAt (st : State) (name : List ℕ) (path : List (List ℕ)) (s : SessionValue) (file : NodeRef) : Type 0 where
+  pub named_so : IsNamed st name s
   pub node : ℕ
-  pub seen_there : IsSeen st session node file
-  pub goes_on : (go : Session → ℕ → Outcome State) → in_session st path go st.session ≡ go session node
-
--- a node is the one that the session of a name sees at a path of one name, so that a line goes on with it
-pub record IsFileAt (st : State) (name : List ℕ) (path : List (List ℕ)) (file : NodeRef) : Type 0 where
-  pub session : Session
-  pub node : ℕ
-  pub seen_there : IsSeen st session node file
-  pub goes_on : (go : Session → ℕ → Outcome State) → at_file st name path go ≡ go session node
+  pub is_seen : IsSeen st s.session node file
+  pub found : file_at st name path ≡ Ok (as_named s, node)

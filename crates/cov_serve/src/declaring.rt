@@ -1,96 +1,66 @@
 // How options and rules are declared.
 ghost use Rattle.std.specs.Prelude.{◌≡◌, ◌∷◌, [], false, IfOk};
-ghost use Rattle.cov_engine.specs.Sessions.{MayCome, has_commit};
 ghost use Rattle.cov_engine.specs.States.{receipt_number};
-ghost use Rattle.cov_serve.specs.Finding.{found_option, found_expression};
-ghost use Rattle.cov_serve.specs.Replies.{declared_reply};
-ghost use Rattle.cov_serve.specs.Step.{appended, declared_in, constrained, preferred, defaulted, with_found};
-ghost use Rattle.cov_serve.specs.Turns.{Gives};
+ghost use Rattle.cov_history.specs.Sessions.{MayCome, has_commit};
+ghost use Rattle.cov_serve.specs.Acting.{Acts, Changes};
+ghost use Rattle.cov_serve.specs.Step.{appended, declared, constrained, preferred, defaulted};
 
-use crate::finding::{find_expression, find_option};
-use crate::reply::{Declared, reply_declared};
-use crate::server::{Served, Server};
-use cov_base::{BadName, Memory, MemoryOr, OptionId, OptionName, Text};
+use crate::server::Server;
+use crate::stop::Stop;
+use cov_base::{OptionId, OptionName, Text};
 use cov_edit::Command;
+use cov_engine::Receipt;
 use cov_expr::RawExpr;
-use cov_script::Code;
+use cov_script::{reply_constraint, reply_default, reply_option, reply_prefer};
+use cov_session::laws::open_sessions_stay;
 
 impl Server {
-    pub(crate) fn declare(self, token: Text) -> Served
-        ensures { IfOk result (λ next. Gives (declared_in self token) next.0 next.1) }
+    #[tactic(auto, unfolding(crate::specs::Step::declared))]
+    pub(crate) fn declare(&mut self, token: &Text) -> Result<Text, Stop>
+        ensures { Acts (declared self.old token.now) self.old self.new result }
     {
-        match OptionName::read(self.alloc, token.as_slice()) {
-            Ok(name) => {
-                let id = OptionId::new(self.engine.options().count());
-                self.append(Command::Option { name }, Declared::Option(id))
-            }
-            Err(MemoryOr::Refused(BadName)) => self.refuse(Code::BadName),
-            Err(MemoryOr::Memory) => Err(Memory),
-        }
+        let name = OptionName::read(self.alloc, token.as_slice())?;
+        let reply = reply_option(self.alloc, OptionId::new(self.engine.options().count()))?;
+        self.append(Command::Option { name })?;
+        Ok(reply)
     }
 
-    pub(crate) fn constrain(self, expr: RawExpr) -> Served
-        ensures { IfOk result (λ next. Gives (with_found self (found_expression self.history expr) (constrained self)) next.0 next.1) }
+    #[tactic(auto, unfolding(crate::specs::Step::constrained))]
+    pub(crate) fn constrain(&mut self, expr: &RawExpr) -> Result<Text, Stop>
+        ensures { Acts (constrained self.old expr.now) self.old self.new result }
     {
-        match find_expression(self.alloc, &self.engine, &expr)? {
-            Ok(expr) => self.append(Command::Constraint { expr }, Declared::Constraint),
-            Err(code) => self.refuse(code),
-        }
+        let expr = self.find_expression(expr)?;
+        let receipt = self.append(Command::Constraint { expr })?;
+        Ok(reply_constraint(self.alloc, receipt.number)?)
     }
 
-    pub(crate) fn prefer(self, expr: RawExpr) -> Served
-        ensures { IfOk result (λ next. Gives (with_found self (found_expression self.history expr) (preferred self)) next.0 next.1) }
+    #[tactic(auto, unfolding(crate::specs::Step::preferred))]
+    pub(crate) fn prefer(&mut self, expr: &RawExpr) -> Result<Text, Stop>
+        ensures { Acts (preferred self.old expr.now) self.old self.new result }
     {
-        match find_expression(self.alloc, &self.engine, &expr)? {
-            Ok(expr) => self.append(Command::Prefer { expr }, Declared::Preference),
-            Err(code) => self.refuse(code),
-        }
+        let expr = self.find_expression(expr)?;
+        let receipt = self.append(Command::Prefer { expr })?;
+        Ok(reply_prefer(self.alloc, receipt.number)?)
     }
 
     /// Adds the default of an option.
-    pub(crate) fn fall_back(self, token: Text, on: bool) -> Served
-        ensures { IfOk result (λ next. Gives (with_found self (found_option self.history token) (defaulted self on)) next.0 next.1) }
+    #[tactic(auto, unfolding(crate::specs::Step::defaulted))]
+    pub(crate) fn set_default(&mut self, token: Text, on: bool) -> Result<Text, Stop>
+        ensures { Acts (defaulted self.old token on) self.old self.new result }
     {
-        match find_option(&self.engine, token) {
-            Ok(option) => self.append(Command::Default { option, on }, Declared::Default),
-            Err(code) => self.refuse(code),
-        }
+        let option = self.find_option(token)?;
+        let receipt = self.append(Command::Default { option, on })?;
+        Ok(reply_default(self.alloc, receipt.number)?)
     }
 
-    // Appends a command that declares something, unless the history refuses it. The reply tells the number of what is
-    // declared.
-    fn append(self, command: Command, declared: Declared) -> Served
-        requires may { MayCome self.history command }
+    // Appends a command that declares something, unless the history refuses it.
+    fn append(&mut self, command: Command) -> Result<Receipt, Stop>
+        requires may { MayCome self.old.history command }
         requires declares { has_commit (command ∷ []) ≡ false }
-        ensures { IfOk result (λ next. Gives (appended self command (declared_reply declared (receipt_number self.history command))) next.0 next.1) }
+        ensures appended { Changes (appended self.old command) self.old self.new result }
+        ensures number { IfOk result (λ receipt. receipt.number ≡ receipt_number self.old.history command) }
     {
-        let Server {
-            alloc,
-            engine,
-            used,
-            session,
-        } = self;
-        match engine.prepare(command) {
-            Ok(prepared) => {
-                let (engine, receipt) = prepared.install();
-                let server = Server {
-                    alloc,
-                    engine,
-                    used,
-                    session,
-                };
-                let text = reply_declared(alloc, declared, receipt.number)?;
-                Ok(server.accept(text))
-            }
-            Err((engine, refusal)) => {
-                let server = Server {
-                    alloc,
-                    engine,
-                    used,
-                    session,
-                };
-                server.refuse_for(refusal)
-            }
-        }
+        open_sessions_stay();
+        Ok(self.engine.append(command)?)
     }
 }

@@ -1,24 +1,26 @@
 // How the session that is open is edited, committed and given up.
-ghost use Rattle.std.specs.Prelude.{◌≡◌, ℕ, true, if◌then◌else◌, None, Some, option_map, IfOk, IfErr, [], ◌∷◌};
+ghost use Rattle.std.specs.Prelude.{◌≡◌, ◌+◌, length, option_map, true, false, is_some, if◌then◌else◌, None, Some, Ok, Err, ok_or, IfOk, IfErr, [], ◌∷◌};
 ghost use Rattle.cov_base.specs.declared.number.Kind.TheVariants.{File};
 ghost use Rattle.cov_base.specs.declared.number.NodeRef.TheVariants.{Old};
-ghost use Rattle.cov_script.specs.Replies.{plain_reply, IsCodeOf};
+ghost use Rattle.cov_script.specs.declared.code.Code.TheVariants.{NoSession, NotBuilt};
 ghost use Rattle.cov_edit.specs.EditFits.{has_line_text, is_line_text};
 ghost use Rattle.cov_edit.specs.declared.edit.Edit.TheVariants as edits;
-ghost use Rattle.cov_engine.specs.Sessions.{Session, commit_of};
-ghost use Rattle.cov_engine.specs.Verdict.{verdict};
-ghost use Rattle.cov_serve.specs.Editing.{line_ref, own_lines};
-ghost use Rattle.cov_serve.specs.Outcome.{Outcome};
-ghost use Rattle.cov_serve.specs.Seeing.{IsFileAt, IsNodeAt, IsSeen};
-ghost use Rattle.cov_serve.specs.States.{State, is_used, named};
-ghost use Rattle.cov_serve.specs.Step.{refused, added, file_made, with_file, in_session, at_file, inserted_in, deleted_in, replaced_in, committed_in, committed_if, dropped_in};
-ghost use Rattle.cov_serve.specs.Texts.{is_said};
-ghost use Rattle.cov_serve.specs.Turns.{Gives};
+ghost use Rattle.cov_history.specs.Sessions.{commit_of};
+ghost use Rattle.cov_session.specs.Open.{NamedSession};
+ghost use Rattle.cov_serve.specs.Acting.{Acts, Changes, Stops};
+ghost use Rattle.cov_serve.specs.Editing.{line_ref};
+ghost use Rattle.cov_serve.specs.Seeing.{IsFileAt, IsNamed};
+ghost use Rattle.cov_serve.specs.States.{is_used, named, names_made, with_session};
+ghost use Rattle.cov_serve.specs.Step.{added, appended, committed, deleted, dropped, ended, file_at, inserted, made, only_name, replaced};
+ghost use Rattle.cov_serve.specs.declared.stop.Stop.TheVariants.{Refused};
 
-use crate::server::{Served, Server};
-use cov_base::{Kind, LineNo, LineRef, Memory, MemoryOr, Name, NodeNo, NodeRef, Path, Text};
+use crate::server::{Server, leave};
+use crate::stop::Stop;
+use cov_base::{Kind, LineNo, LineRef, Name, NodeNo, NodeRef, Path, Text};
 use cov_edit::{Command, Edit};
+use cov_engine::Receipt;
 use cov_script::{Code, LineField, reply_commit, reply_new_line, reply_plain};
+use cov_session::OpenSession;
 
 impl Server {
     // Whether the session that is open has the name.
@@ -26,310 +28,210 @@ impl Server {
         ensures { named self.now.session name.now ≡ (if result then self.now.session else None) }
     {
         match &self.session {
-            Some(session) => session.name.as_slice() == name.as_slice(),
+            Some(session) => session.name().as_slice() == name.as_slice(),
             None => false,
         }
     }
 
-    // Whether the history or the session that is open makes a node of that name.
-    fn is_used(&self, name: &Name) -> bool
-        ensures { result ≡ is_used self.now name.now }
+    /// The session that is open, if it has the name.
+    pub(crate) fn session(&self, name: &Name) -> Result<&OpenSession, Stop>
+        ensures found { IfOk result (λ session. IsNamed self.now name.now session.now) }
+        ensures stopped { IfErr result (Stops (ok_or (named self.now.session name.now) NoSession) self.now self.now) }
     {
+        if !self.has_session(name) {
+            return Err(Stop::Refused(Code::NoSession));
+        }
         match &self.session {
-            Some(session) => self.used.has(name.as_slice()) || session.names.has(name.as_slice()),
-            None => self.used.has(name.as_slice()),
+            Some(session) => Ok(session),
+            None => Err(Stop::Refused(Code::NoSession)),
+        }
+    }
+
+    /// The session of a name, and the file that it sees at a path of the root.
+    #[tactic(auto, unfolding(crate::specs::Step::file_at))]
+    pub(crate) fn file_at(&self, name: &Name, path: &Path) -> Result<(&OpenSession, NodeRef), Stop>
+        ensures found { IfOk result (λ found. IsFileAt self.now name.now path.now found.0.now found.1) }
+        ensures stopped { IfErr result (Stops (file_at self.now name.now path.now) self.now self.now) }
+    {
+        if path.len() != 1 {
+            return Err(Stop::Refused(Code::NotBuilt));
+        }
+        let session = self.session(name)?;
+        match session.view().resolve(path) {
+            Some(file) => Ok((session, file)),
+            None => Err(Stop::Refused(Code::NoSuchPath)),
         }
     }
 
     /// Makes a file in the root.
-    pub(crate) fn make_file(self, name: Name, path: Path) -> Served
-        ensures { IfOk result (λ next. Gives (with_file self path (λ file. file_made self name file)) next.0 next.1) }
+    #[tactic(auto, unfolding(crate::specs::Step::made))]
+    pub(crate) fn make_file(&mut self, name: &Name, path: &Path) -> Result<Text, Stop>
+        ensures { Acts (made self.old name.now path.now) self.old self.new result }
     {
-        if path.len() != 1 {
-            return self.refuse(Code::NotBuilt);
+        let file = only_name(path)?;
+        if self.names.has(file.as_slice()) {
+            return Err(Stop::Refused(Code::NotBuilt));
         }
-        match path.get(0) {
-            Some(file) => self.make_named(&name, file),
-            None => unreachable!(),
-        }
+        self.session(name)?;
+        let reply = reply_plain(self.alloc)?;
+        self.make_named(file)?;
+        Ok(reply)
     }
 
-    fn make_named(self, name: &Name, file: &Name) -> Served
-        ensures { IfOk result (λ next. Gives (file_made self name.now file.now) next.0 next.1) }
+    // Adds the edit that makes a file of a name that wasn't used.
+    fn make_named(&mut self, file: &Name) -> Result<(), Stop>
+        requires fresh { is_used self.old file.now ≡ false }
+        requires open { is_some self.old.session ≡ true }
+        ensures { (s : NamedSession) → self.old.session ≡ Some s → Changes (added self.old s (edits.New File (Old 0) file.now ∷ [])) self.old self.new result }
     {
-        if self.is_used(file) {
-            return self.refuse(Code::NotBuilt);
-        }
-        if !self.has_session(name) {
-            return self.refuse(Code::NoSession);
-        }
-        self.make_new(file)
-    }
-
-    // Makes a file of a name that wasn't used.
-    fn make_new(self, file: &Name) -> Served
-        ensures { IfOk result (λ next. Gives (added self self.session (edits.New File (Old 0) file.now ∷ []) plain_reply) next.0 next.1) }
-    {
-        let name = file.copy()?;
-        let text = reply_plain(self.alloc)?;
+        let Some(session) = &mut self.session else {
+            unreachable!()
+        };
         let edit = Edit::New {
             kind: Kind::File,
             parent: NodeRef::Old(NodeNo::new(0)),
-            name,
+            name: file.copy()?,
         };
-        self.edit(edit, text)
-    }
-
-    // The file that the session of a name sees at a path of the root, or the code by which a line that names it is
-    // refused.
-    pub(crate) fn file_at(&self, name: &Name, path: &Path) -> Result<NodeRef, Code>
-        ensures found { IfOk result (IsFileAt self.now name.now path.now) }
-        ensures refused { IfErr result (λ code. (go : Session → ℕ → Outcome State) → at_file self.now name.now path.now go ≡ refused self.now code) }
-        ensures named { (count : ℕ) → IfErr result (IsCodeOf count) }
-    {
-        if path.len() != 1 {
-            return Err(Code::NotBuilt);
-        }
-        if !self.has_session(name) {
-            return Err(Code::NoSession);
-        }
-        self.node_at(path)
-    }
-
-    fn node_at(&self, path: &Path) -> Result<NodeRef, Code>
-        ensures found { IfOk result (IsNodeAt self.now path.now) }
-        ensures refused { IfErr result (λ code. (go : Session → ℕ → Outcome State) → in_session self.now path.now go self.now.session ≡ refused self.now code) }
-        ensures named { (count : ℕ) → IfErr result (IsCodeOf count) }
-    {
-        let Some(session) = &self.session else {
-            return Err(Code::NoSession);
-        };
-        match session.view.resolve(path) {
-            Some(node) => Ok(node),
-            None => Err(Code::NoSuchPath),
-        }
-    }
-
-    // How many lines the session has inserted.
-    fn own_lines(&self) -> u32
-        ensures { (s : Session) → self.now.session ≡ Some s → result ≡ own_lines s }
-    {
-        match &self.session {
-            Some(session) => session.view.lines_made(),
-            None => 0,
+        self.names.add(self.alloc, file.as_slice())?;
+        match session.edit(edit) {
+            Ok(()) => Ok(()),
+            Err(fault) => {
+                self.names.pop();
+                Err(Stop::from(fault))
+            }
         }
     }
 
     /// Inserts a line into a file that the session sees in the root.
-    pub(crate) fn insert(self, name: Name, path: Path, line: LineField, text: Text) -> Served
+    #[tactic(auto, unfolding(crate::specs::Step::inserted))]
+    pub(crate) fn insert(
+        &mut self,
+        name: &Name,
+        path: &Path,
+        line: LineField,
+        text: Text,
+    ) -> Result<Text, Stop>
         requires { is_line_text text ≡ true }
-        ensures { IfOk result (λ next. Gives (at_file self name path (inserted_in self line text)) next.0 next.1) }
+        ensures { Acts (inserted self.old name.now path.now line text) self.old self.new result }
     {
-        match self.file_at(&name, &path) {
-            Ok(file) => self.insert_in(file, line, text),
-            Err(code) => self.refuse(code),
-        }
-    }
-
-    fn insert_in(self, file: NodeRef, line: LineField, text: Text) -> Served
-        requires { is_line_text text ≡ true }
-        ensures { IfOk result (λ next. (s : Session) (node : ℕ) → IsSeen self s node file → Gives (inserted_in self line text s node) next.0 next.1) }
-    {
-        let reply = reply_new_line(self.alloc, self.own_lines())?;
+        let (session, file) = self.file_at(name, path)?;
+        let reply = reply_new_line(self.alloc, session.view().lines_made())?;
         let after = line_ref(line);
-        self.edit(Edit::Insert { file, after, text }, reply)
+        self.edit(Edit::Insert { file, after, text })?;
+        Ok(reply)
     }
 
     /// Deletes a line of a file that the session sees in the root.
-    pub(crate) fn delete(self, name: Name, path: Path, line: LineField) -> Served
-        ensures { IfOk result (λ next. Gives (at_file self name path (deleted_in self line)) next.0 next.1) }
+    #[tactic(auto, unfolding(crate::specs::Step::deleted))]
+    pub(crate) fn delete(&mut self, name: &Name, path: &Path, line: LineField) -> Result<Text, Stop>
+        ensures { Acts (deleted self.old name.now path.now line) self.old self.new result }
     {
-        match self.file_at(&name, &path) {
-            Ok(file) => self.delete_in(file, line),
-            Err(code) => self.refuse(code),
-        }
-    }
-
-    fn delete_in(self, file: NodeRef, line: LineField) -> Served
-        ensures { IfOk result (λ next. (s : Session) (node : ℕ) → IsSeen self s node file → Gives (deleted_in self line s node) next.0 next.1) }
-    {
+        let (_, file) = self.file_at(name, path)?;
         let reply = reply_plain(self.alloc)?;
         let line = line_ref(line);
-        self.edit(Edit::Delete { file, line }, reply)
+        self.edit(Edit::Delete { file, line })?;
+        Ok(reply)
     }
 
     /// Replaces a line of a file that the session sees in the root.
-    pub(crate) fn replace(self, name: Name, path: Path, line: LineField, text: Text) -> Served
+    #[tactic(auto, unfolding(crate::specs::Step::replaced))]
+    pub(crate) fn replace(
+        &mut self,
+        name: &Name,
+        path: &Path,
+        line: LineField,
+        text: Text,
+    ) -> Result<Text, Stop>
         requires { is_line_text text ≡ true }
-        ensures { IfOk result (λ next. Gives (at_file self name path (replaced_in self line text)) next.0 next.1) }
+        ensures { Acts (replaced self.old name.now path.now line text) self.old self.new result }
     {
-        match self.file_at(&name, &path) {
-            Ok(file) => self.replace_in(file, line, text),
-            Err(code) => self.refuse(code),
-        }
+        let (session, file) = self.file_at(name, path)?;
+        let reply = reply_new_line(self.alloc, session.view().lines_made())?;
+        self.exchange(file, line_ref(line), text)?;
+        Ok(reply)
     }
 
-    fn replace_in(self, file: NodeRef, line: LineField, text: Text) -> Served
-        requires { is_line_text text ≡ true }
-        ensures { IfOk result (λ next. (s : Session) (node : ℕ) → IsSeen self s node file → Gives (replaced_in self line text s node) next.0 next.1) }
-    {
-        let reply = reply_new_line(self.alloc, self.own_lines())?;
-        let line = line_ref(line);
-        self.exchange(file, line, text, reply)
-    }
-
-    // Replaces a line in the session.
-    fn exchange(self, file: NodeRef, line: LineRef, text: Text, reply: Text) -> Served
-        requires text { is_line_text text ≡ true }
-        requires said { is_said reply ≡ true }
-        ensures { IfOk result (λ next. Gives (added self self.session (edits.Insert file line text ∷ edits.Delete file line ∷ []) reply) next.0 next.1) }
-    {
-        let Server {
-            alloc,
-            engine,
-            used,
-            session,
-        } = self;
-        let Some(mut session) = session else {
-            let server = Server {
-                alloc,
-                engine,
-                used,
-                session: None,
-            };
-            return server.refuse(Code::NoSession);
-        };
-        let replaced = session.replace(alloc, file, line, text);
-        let server = Server {
-            alloc,
-            engine,
-            used,
-            session: Some(session),
-        };
-        match replaced {
-            Ok(()) => Ok(server.accept(reply)),
-            Err(MemoryOr::Refused(code)) => server.refuse(code),
-            Err(MemoryOr::Memory) => Err(Memory),
-        }
-    }
-
-    // Adds an edit to the session.
-    fn edit(self, edit: Edit, text: Text) -> Served
+    // Adds an edit that makes no node to the session that is open.
+    fn edit(&mut self, edit: Edit) -> Result<(), Stop>
         requires text { has_line_text edit ≡ true }
-        requires said { is_said text ≡ true }
-        ensures { IfOk result (λ next. Gives (added self self.session (edit ∷ []) text) next.0 next.1) }
+        requires nameless { names_made (edit ∷ []) ≡ [] }
+        requires open { is_some self.old.session ≡ true }
+        ensures { (s : NamedSession) → self.old.session ≡ Some s → Changes (added self.old s (edit ∷ [])) self.old self.new result }
     {
-        let Server {
-            alloc,
-            engine,
-            used,
-            session,
-        } = self;
-        let Some(mut session) = session else {
-            let server = Server {
-                alloc,
-                engine,
-                used,
-                session: None,
-            };
-            return server.refuse(Code::NoSession);
-        };
-        let added = session.add(alloc, edit);
-        let server = Server {
-            alloc,
-            engine,
-            used,
-            session: Some(session),
-        };
-        match added {
-            Ok(()) => Ok(server.accept(text)),
-            Err(MemoryOr::Refused(code)) => server.refuse(code),
-            Err(MemoryOr::Memory) => Err(Memory),
-        }
-    }
-
-    /// Appends the commit of the session, which ends with it, unless the history refuses it.
-    pub(crate) fn commit(self, name: Name) -> Served
-        ensures { IfOk result (λ next. Gives (committed_in self (named self.session name)) next.0 next.1) }
-    {
-        if !self.has_session(&name) {
-            return self.refuse(Code::NoSession);
-        }
-        let Some(session) = &self.session else {
-            return self.refuse(Code::NoSession);
-        };
-        let command = session.command(self.alloc)?;
-        self.append_commit(command)
-    }
-
-    fn append_commit(self, command: Command) -> Served
-        requires { option_map commit_of self.session ≡ Some command }
-        ensures { IfOk result (λ next. Gives (committed_if self command (verdict self.history command)) next.0 next.1) }
-    {
-        let Server {
-            alloc,
-            engine,
-            mut used,
-            session,
-        } = self;
-        let Some(session) = session else {
+        let Some(session) = &mut self.session else {
             unreachable!()
         };
-        match engine.prepare(command) {
-            Ok(prepared) => {
-                used.add_all(alloc, &session.names)?;
-                let (engine, receipt) = prepared.install();
-                let server = Server {
-                    alloc,
-                    engine,
-                    used,
-                    session: None,
-                };
-                let text = reply_commit(alloc, receipt.position)?;
-                Ok(server.accept(text))
-            }
-            Err((engine, refusal)) => {
-                let server = Server {
-                    alloc,
-                    engine,
-                    used,
-                    session: Some(session),
-                };
-                server.refuse_for(refusal)
-            }
-        }
+        session.edit(edit)?;
+        Ok(())
+    }
+
+    // Replaces a line in the session that is open.
+    fn exchange(&mut self, file: NodeRef, line: LineRef, text: Text) -> Result<(), Stop>
+        requires text { is_line_text text ≡ true }
+        requires open { is_some self.old.session ≡ true }
+        ensures { (s : NamedSession) → self.old.session ≡ Some s → Changes (added self.old s (edits.Insert file line text ∷ edits.Delete file line ∷ [])) self.old self.new result }
+    {
+        let Some(session) = &mut self.session else {
+            unreachable!()
+        };
+        session.replace(file, line, text)?;
+        Ok(())
+    }
+
+    /// Appends the commit of the session, which ends with it.
+    #[tactic(auto, unfolding(crate::specs::Step::committed))]
+    pub(crate) fn commit(&mut self, name: &Name) -> Result<Text, Stop>
+        ensures { Acts (committed self.old name.now) self.old self.new result }
+    {
+        let command = self.session(name)?.command(self.alloc)?;
+        let receipt = self.append_commit(command)?;
+        Ok(reply_commit(self.alloc, receipt.position)?)
+    }
+
+    // Appends the commit of the session that is open.
+    fn append_commit(&mut self, command: Command) -> Result<Receipt, Stop>
+        requires commit { (s : NamedSession) → self.old.session ≡ Some s → commit_of s.session ≡ command }
+        requires open { is_some self.old.session ≡ true }
+        ensures changes { Changes (ended (appended self.old command)) self.old self.new result }
+        ensures position { IfOk result (λ receipt. receipt.position ≡ length self.old.history + 1) }
+    {
+        let receipt = self.engine.append(command)?;
+        self.names.settle();
+        leave(self.session.take());
+        Ok(receipt)
     }
 
     /// Gives the session up.
-    pub(crate) fn discard(self, name: Name) -> Served
-        ensures { IfOk result (λ next. Gives (dropped_in self (named self.session name)) next.0 next.1) }
+    #[tactic(auto, unfolding(crate::specs::Step::dropped))]
+    pub(crate) fn discard(&mut self, name: &Name) -> Result<Text, Stop>
+        ensures { Acts (dropped self.old name.now) self.old self.new result }
     {
-        if !self.has_session(&name) {
-            return self.refuse(Code::NoSession);
-        }
-        self.end_session()
+        self.session(name)?;
+        let reply = reply_plain(self.alloc)?;
+        self.end();
+        Ok(reply)
     }
 
-    fn end_session(self) -> Served
-        ensures { IfOk result (λ next. Gives (dropped_in self self.session) next.0 next.1) }
+    // From now on no session is open.
+    fn end(&mut self)
+        ensures { self.new ≡ with_session self.old None }
     {
-        if self.session.is_none() {
-            return self.refuse(Code::NoSession);
-        }
-        let text = reply_plain(self.alloc)?;
-        let Server {
-            alloc,
-            engine,
-            used,
-            ..
-        } = self;
-        let server = Server {
-            alloc,
-            engine,
-            used,
-            session: None,
-        };
-        Ok(server.accept(text))
+        self.names.free();
+        leave(self.session.take());
+    }
+}
+
+// The name of a path of one name; longer ones aren't served.
+fn only_name(path: &Path) -> Result<&Name, Stop>
+    ensures found { IfOk result (λ name. only_name path.now ≡ Ok name.now) }
+    ensures unserved { IfErr result (λ stop. (stop ≡ Refused NotBuilt) × (only_name path.now ≡ Err NotBuilt)) }
+{
+    if path.len() != 1 {
+        return Err(Stop::Refused(Code::NotBuilt));
+    }
+    match path.get(0) {
+        Some(name) => Ok(name),
+        None => Err(Stop::Refused(Code::NotBuilt)),
     }
 }
 

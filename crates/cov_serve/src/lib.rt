@@ -1,7 +1,6 @@
 //! Serves the lines of a script, one after another, and is the whole program but for its real devices.
 #![tactic(auto)]
 
-mod answer;
 mod declaring;
 mod editing;
 mod finding;
@@ -12,18 +11,10 @@ mod program;
 mod reply;
 mod server;
 mod serving;
-mod session;
-mod status;
+mod stop;
 mod telling;
-mod turn;
 
-pub use answer::Answer;
+pub use cov_loop::{Answer, Status};
 pub use line::serve_line;
 pub use program::run;
 pub use server::Server;
-pub use status::Status;
-
-#[cfg(test)]
-mod tests;
-#[cfg(test)]
-mod visibilities;

@@ -1,73 +1,82 @@
 // Names that were used.
-ghost use Rattle.std.specs.Prelude.{◌≡◌, ◌||◌, List, ℕ, [], ◌∷◌, ◌++◌, false, OnOk};
-ghost use Rattle.std.specs.Str.{bytes_eq};
-ghost use Rattle.cov_serve.specs.States.{has_name};
+ghost use Rattle.std.specs.Prelude.{List, ℕ, ◌≡◌, ◌||◌, [], ◌∷◌, ◌++◌, false, OnErr, OnOk};
+ghost use Rattle.cov_serve.specs.Naming.{has_name};
 
 use cov_base::Memory;
 use indexmap::IndexSet;
 use std::alloc::Global;
 use std::marker::Model;
 
-/// A set of names. To seek a name is one look-up.
+/// Names of nodes: those of the history, and behind them those that the open session has made. To seek a name is one
+/// look-up; what a session leaves or gives up takes no memory.
 #[derive(Drop)]
 pub struct Names {
     names: IndexSet<Vec<u8>>,
+    settled: usize,
 }
 
 impl Model for Names {
-    ghost use Rattle.std.specs.Prelude.{List, ℕ, map};
+    ghost use Rattle.std.specs.Prelude.{◌≤◌, drop, length, map, take};
+    ghost use Rattle.cov_serve.specs.Naming.{UsedNames};
 
-    ghost Value = { List (List ℕ) };
+    ghost Value = { UsedNames };
 
-    ghost view = { λ n. map (λ name. name.items) n.names.keys };
+    ghost view = { λ n. record { settled = take n.settled (map (λ name. name.items) n.names.keys); own = drop n.settled (map (λ name. name.items) n.names.keys) } };
+
+    ghost invariant = { λ n. n.settled ≤ length n.names.keys };
 }
 
 impl Names {
     pub fn new(alloc: Global) -> Names
-        ensures { result ≡ [] }
+        ensures settled { result.settled ≡ [] }
+        ensures own { result.own ≡ [] }
     {
         Names {
             names: IndexSet::new(alloc),
+            settled: 0,
         }
     }
 
     pub fn has(&self, name: &[u8]) -> bool
-        ensures { result ≡ has_name self.now name.now }
+        ensures { result ≡ (has_name self.now.settled name.now || has_name self.now.own name.now) }
     {
-        match self.names.get_index_of(name) {
-            Some(_) => true,
-            None => false,
-        }
+        self.names.get_index_of(name).is_some()
     }
 
-    /// Adds a name, which may be there.
-    #[tactic(auto, using(crate::proofs::Naming::there_already, crate::proofs::Naming::one_more))]
+    /// Adds a name of the session.
     pub fn add(&mut self, alloc: Global, name: &[u8]) -> Result<(), Memory>
-        ensures { OnOk result ((other : List ℕ) → has_name self.new other ≡ (has_name self.old other || bytes_eq other name.now)) }
+        requires { (has_name self.old.settled name.now || has_name self.old.own name.now) ≡ false }
+        ensures settled { self.new.settled ≡ self.old.settled }
+        ensures own { OnOk result (self.new.own ≡ self.old.own ++ name.now ∷ []) }
+        ensures same { OnErr result (self.new.own ≡ self.old.own) }
     {
-        match self.has(name) {
-            true => Ok(()),
-            false => self.add_new(Vec::from_slice(alloc, name)?),
-        }
-    }
-
-    fn add_new(&mut self, name: Vec<u8>) -> Result<(), Memory>
-        requires { has_name self.old name.items ≡ false }
-        ensures { OnOk result (self.new ≡ self.old ++ name.items ∷ []) }
-    {
-        self.names.insert(name)?;
+        self.names.insert(Vec::from_slice(alloc, name)?)?;
         Ok(())
     }
 
-    /// Adds all of these names.
-    pub fn add_all(&mut self, alloc: Global, others: &Names) -> Result<(), Memory>
-        ensures { OnOk result ((other : List ℕ) → has_name self.new other ≡ (has_name self.old other || has_name others.now other)) }
+    /// Takes the session's last name away, if it has one.
+    pub fn pop(&mut self)
+        ensures settled { self.new.settled ≡ self.old.settled }
+        ensures own { (first : List (List ℕ)) (last : List ℕ) → self.old.own ≡ first ++ last ∷ [] → self.new.own ≡ first }
     {
-        let mut ahead = others.names.as_slice();
-        while let [name, rest @ ..] = ahead {
-            self.add(alloc, name.as_slice())?;
-            ahead = rest;
+        if self.names.len() > self.settled {
+            self.names.truncate(self.names.len() - 1);
         }
-        Ok(())
+    }
+
+    /// The session's names become the history's.
+    pub fn settle(&mut self)
+        ensures settled { self.new.settled ≡ self.old.settled ++ self.old.own }
+        ensures own { self.new.own ≡ [] }
+    {
+        self.settled = self.names.len();
+    }
+
+    /// The session's names are free again.
+    pub fn free(&mut self)
+        ensures settled { self.new.settled ≡ self.old.settled }
+        ensures own { self.new.own ≡ [] }
+    {
+        self.names.truncate(self.settled);
     }
 }

@@ -1,106 +1,48 @@
 // How a session is opened.
-ghost use Rattle.std.specs.Prelude.{◌≡◌, ◌≤◌, None, true, nat_lt, IfOk, length};
-ghost use Rattle.std.specs.List.{list_all};
-ghost use Rattle.cov_expr.specs.Formula.{reach, value};
-ghost use Rattle.cov_edit.specs.History.{option_count, first_false_in};
-ghost use Rattle.cov_serve.specs.Finding.{found_partial};
-ghost use Rattle.cov_serve.specs.Step.{opened, opened_on, opened_for, opened_within, begun, with_found};
-ghost use Rattle.cov_serve.specs.Turns.{Gives};
+ghost use Rattle.std.specs.Prelude.{◌≡◌, [], None, Some};
+ghost use Rattle.cov_session.specs.Open.{IsOpen, as_named};
+ghost use Rattle.cov_serve.specs.Acting.{Acts};
+ghost use Rattle.cov_serve.specs.States.{with_session};
+ghost use Rattle.cov_serve.specs.Step.{begun};
 
-use crate::finding::{complete, find_expression, find_partial};
-use crate::names::Names;
-use crate::server::{Served, Server};
-use crate::session::OpenSession;
-use cov_base::{Choice, Name};
-use cov_edit::Edits;
-use cov_expr::{Expr, Partial, RawChoice, RawExpr};
+use crate::server::{Server, leave};
+use crate::stop::Stop;
+use cov_base::{Name, Text};
+use cov_expr::{RawChoice, RawExpr};
 use cov_script::{Code, reply_open};
+use cov_session::OpenSession;
+use std::mem;
 
 impl Server {
     /// Opens a session while none is open.
-    pub(crate) fn open(self, name: Name, choice: RawChoice, ambition: RawExpr) -> Served
-        ensures { IfOk result (λ next. Gives (opened self name choice ambition) next.0 next.1) }
+    #[tactic(auto, unfolding(crate::specs::Step::begun))]
+    pub(crate) fn open(
+        &mut self,
+        name: Name,
+        choice: &RawChoice,
+        ambition: &RawExpr,
+    ) -> Result<Text, Stop>
+        ensures { Acts (begun self.old name choice.now ambition.now) self.old self.new result }
     {
         if self.session.is_some() {
-            return self.refuse(Code::NotBuilt);
+            return Err(Stop::Refused(Code::NotBuilt));
         }
-        self.open_named(name, &choice, &ambition)
+        let partial = self.find_partial(choice)?;
+        let ambition = self.find_expression(ambition)?;
+        let session = OpenSession::open(self.alloc, &mut self.engine, name, &partial, ambition)?;
+        let base = session.base();
+        let choice = session.choice();
+        self.begin(session);
+        Ok(reply_open(self.alloc, base, self.engine.options(), choice)?)
     }
 
-    fn open_named(self, name: Name, choice: &RawChoice, ambition: &RawExpr) -> Served
-        ensures { IfOk result (λ next. Gives (with_found self (found_partial self.history choice.now) (opened_on self name ambition.now)) next.0 next.1) }
+    // From now on a session is open.
+    fn begin(&mut self, session: OpenSession)
+        requires none { self.old.session ≡ None }
+        requires open { IsOpen self.old.history session }
+        requires new { session.session.edits ≡ [] }
+        ensures { self.new ≡ with_session self.old (Some (as_named session)) }
     {
-        match find_partial(self.alloc, &self.engine, choice)? {
-            Ok(partial) => self.open_on(name, ambition, &partial),
-            Err(code) => self.refuse(code),
-        }
-    }
-
-    fn open_on(self, name: Name, ambition: &RawExpr, partial: &Partial) -> Served
-        requires { list_all (λ b. nat_lt b.0 (option_count self.history)) partial.now ≡ true }
-        ensures { IfOk result (λ next. Gives (opened_on self name ambition.now partial.now) next.0 next.1) }
-    {
-        match find_expression(self.alloc, &self.engine, ambition)? {
-            Ok(ambition) => self.open_for(name, partial, ambition),
-            Err(code) => self.refuse(code),
-        }
-    }
-
-    fn open_for(mut self, name: Name, partial: &Partial, ambition: Expr) -> Served
-        requires bound { list_all (λ b. nat_lt b.0 (option_count self.history)) partial.now ≡ true }
-        requires within { reach ambition ≤ option_count self.history }
-        ensures { IfOk result (λ next. Gives (opened_for self name partial.now ambition) next.0 next.1) }
-    {
-        match complete(&mut self.engine, partial)? {
-            Ok(choice) => self.open_within(name, ambition, choice),
-            Err(code) => self.refuse(code),
-        }
-    }
-
-    fn open_within(self, name: Name, ambition: Expr, choice: Choice) -> Served
-        requires count { length choice ≡ option_count self.history }
-        requires within { reach ambition ≤ option_count self.history }
-        requires valid { first_false_in self.history choice ≡ None }
-        ensures { IfOk result (λ next. Gives (opened_within self name ambition choice) next.0 next.1) }
-    {
-        if !ambition.value(choice) {
-            return self.refuse(Code::OutsideAmbition);
-        }
-        self.begin(name, choice, ambition)
-    }
-
-    fn begin(self, name: Name, choice: Choice, ambition: Expr) -> Served
-        requires count { length choice ≡ option_count self.history }
-        requires within { reach ambition ≤ option_count self.history }
-        requires valid { first_false_in self.history choice ≡ None }
-        requires inside { value ambition choice ≡ true }
-        ensures { IfOk result (λ next. Gives (begun self name choice ambition) next.0 next.1) }
-    {
-        let base = self.engine.position();
-        let text = reply_open(self.alloc, base, self.engine.options(), choice)?;
-        let view = self.engine.view(self.alloc, choice, base)?;
-        let Server {
-            alloc,
-            engine,
-            used,
-            ..
-        } = self;
-        let session = OpenSession {
-            name,
-            base,
-            choice,
-            ambition,
-            edits: Edits::new(alloc),
-            view,
-            names: Names::new(alloc),
-            bytes: 0,
-        };
-        let server = Server {
-            alloc,
-            engine,
-            used,
-            session: Some(session),
-        };
-        Ok(server.accept(text))
+        leave(mem::replace(&mut self.session, Some(session)));
     }
 }

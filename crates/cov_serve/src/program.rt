@@ -2,17 +2,17 @@
 ghost use Rattle.std.specs.Prelude.{◌≡◌, ◌≢◌, ◌⊎◌, ◌<◌, ◌≤◌, ◌+◌, ◌^◌, ◌++◌, List, ℕ, Some, IfOk, length};
 ghost use Rattle.cov_base.specs.Causes.{Rose};
 ghost use Rattle.cov_io.specs.Progress.{CountsGiven};
+ghost use Rattle.cov_loop.specs.Counts.{Later, counts};
+ghost use Rattle.cov_loop.specs.Turns.{IsWhole, StopsScript, WritesFront};
+ghost use Rattle.cov_loop.specs.declared.status.Status.TheVariants.{Usage, NoMemory, ReadFault, WriteFault, TooMuch};
+ghost use Rattle.cov_serve.specs.Program.{run_words, usage_line, EndsServed, StopsUsage, at_first, is_run_words};
 ghost use Rattle.cov_serve.specs.States.{at_start};
 ghost use Rattle.cov_serve.specs.Step.{model};
-ghost use Rattle.cov_serve.specs.Turns.{IsWhole, Later, StopsScript, WritesFront, counts};
-ghost use Rattle.cov_serve.specs.Program.{run_words, usage_line, EndsServed, StopsUsage, at_first, is_run_words};
-ghost use Rattle.cov_serve.specs.declared.status.Status.TheVariants.{Usage, NoMemory, ReadFault, WriteFault, TooMuch};
 
-use crate::server::Server;
-use crate::status::Status;
-use crate::turn::serve_all;
+use crate::server::{Server, close};
 use cov_base::{Failed, Memory, Texts};
 use cov_io::{Lines, Sink, Source};
+use cov_loop::{Status, serve_all};
 use std::alloc::Global;
 
 /// The line that tells the words.
@@ -89,7 +89,11 @@ fn serve_script<S: Source, K: Sink>(alloc: Global, script: &mut S, out: &mut K) 
         (counts (S.faults script.new) (K.faults out.new) (S.given script.new) (S.ends script.new)) }
 {
     match make(alloc) {
-        Ok((server, lines)) => serve_all(server, lines, script, out),
+        Ok((mut server, mut lines)) => {
+            let status = serve_all(&mut server, &mut lines, script, out);
+            close(server);
+            status
+        }
         Err(Memory) => Status::NoMemory,
     }
 }

@@ -1,36 +1,11 @@
 // The texts of replies that aren't one line of a form alone.
 ghost use Rattle.std.specs.Prelude.{◌≡◌, IfOk};
 ghost use Rattle.cov_serve.specs.Listing.{number_within, told_line, session_line, lines_reply};
-ghost use Rattle.cov_serve.specs.Replies.{declared_reply};
 
-use cov_base::{LineNo, LineRef, Memory, OptionId, Text, Texts};
-use cov_script::{
-    cat_line, reply_constraint, reply_count, reply_default, reply_option, reply_prefer, show_line,
-    whole,
-};
+use cov_base::{LineNo, LineRef, Memory, Text, Texts};
+use cov_script::{cat_line, reply_count, show_line, whole};
 use cov_view::ViewLines;
 use std::alloc::Global;
-
-/// What a line declares.
-#[derive(Clone, Copy, Debug, PartialEq, Eq)]
-pub enum Declared {
-    Option(OptionId),
-    Constraint,
-    Preference,
-    Default,
-}
-
-/// The reply to what is declared, with its number among those of its kind.
-pub fn reply_declared(alloc: Global, declared: Declared, number: u32) -> Result<Text, Memory>
-    ensures { IfOk result (λ text. text ≡ declared_reply declared number) }
-{
-    match declared {
-        Declared::Option(id) => reply_option(alloc, id),
-        Declared::Constraint => reply_constraint(alloc, number),
-        Declared::Preference => reply_prefer(alloc, number),
-        Declared::Default => reply_default(alloc, number),
-    }
-}
 
 /// The reply that tells the lines of a file.
 pub fn file_text(alloc: Global, lines: &ViewLines) -> Result<Text, Memory>
@@ -43,7 +18,7 @@ pub fn file_text(alloc: Global, lines: &ViewLines) -> Result<Text, Memory>
         rows.push(cat_line(alloc, number_within(line.line), &line.text)?)?;
         index += 1;
     }
-    whole(first, &rows)
+    whole(&first, &rows)
 }
 
 /// The reply that tells the lines of a file as a session sees them.
@@ -57,7 +32,7 @@ pub fn session_text(alloc: Global, lines: &ViewLines) -> Result<Text, Memory>
         rows.push(show_line(alloc, line.line, &line.text)?)?;
         index += 1;
     }
-    whole(first, &rows)
+    whole(&first, &rows)
 }
 
 // The number of a line in the history or, of one that edits made, among theirs.

@@ -1,112 +1,123 @@
-// What a line does, by its form.
-ghost use Rattle.std.specs.Prelude.{◌≡◌, ◌≤◌, IfOk, length};
-ghost use Rattle.cov_script.specs.Lines.{form_of};
+// What a line does, by its form, and its reply.
+ghost use Rattle.std.specs.Prelude.{◌≡◌, ◌≤◌, IfOk, Err};
+ghost use Rattle.cov_edit.specs.History.{option_count};
+ghost use Rattle.cov_loop.specs.Answers.{Gives};
+ghost use Rattle.cov_script.specs.Replies.{IsCodeOf};
 ghost use Rattle.cov_script.specs.declared.code.Code.TheVariants.{NotBuilt};
-ghost use Rattle.cov_serve.specs.Finding.{found_choice};
-ghost use Rattle.cov_serve.specs.Step.{step, refused, served_if, served, with_found, told_choice};
+ghost use Rattle.cov_serve.specs.Acting.{Acts};
+ghost use Rattle.cov_serve.specs.Step.{acted, refused, served};
 ghost use Rattle.cov_serve.specs.Texts.{HasText};
-ghost use Rattle.cov_serve.specs.Turns.{Gives};
+ghost use Rattle.cov_serve.specs.declared.stop.Stop.TheVariants.{Refused};
 
-use crate::finding::find_choice;
-use crate::server::{Served, Server};
-use cov_base::Memory;
-use cov_expr::RawChoice;
-use cov_script::{Code, Line, LineSyntax, lines_read_as_spelt, read_line, reply_complete};
+use crate::server::Server;
+use crate::stop::Stop;
+use cov_base::{Memory, Text};
+use cov_loop::{Answer, LineServer, Reply};
+use cov_script::{Code, Line, lines_read_as_spelt, read_line, reply_refused};
 
 /// The greatest number of bytes of a line.
 const MOST_BYTES: usize = 8192;
 
+impl LineServer for Server {
+    ghost use Rattle.cov_serve.specs.Laws.{refusal_told};
+    ghost use Rattle.cov_serve.specs.Step.{step};
+
+    ghost step = { step };
+
+    #[tactic(auto, unfolding(crate::specs::Step::step))]
+    fn answer(&mut self, line: &[u8]) -> Result<Reply, Memory> {
+        match self.act(line) {
+            Ok(text) => Ok(Reply::to_done(text)),
+            Err(Stop::Refused(code)) => self.refuse(&code),
+            Err(Stop::Memory) => Err(Memory),
+        }
+    }
+
+    fn answer_long(&mut self) -> Result<Reply, Memory> {
+        self.refuse(&Code::Long)
+    }
+
+    ghost refusal_told = { refusal_told };
+}
+
 impl Server {
-    /// Does what a line says, and makes its reply. At want of memory the server is gone.
-    pub fn answer(self, line: &[u8]) -> Served
-        ensures { IfOk result (λ next. Gives (step self line.now) next.0 next.1) }
+    // The reply that refuses a line.
+    fn refuse(&self, code: &Code) -> Result<Reply, Memory>
+        requires { IsCodeOf (option_count self.now.history) code.now }
+        ensures { IfOk result (Gives (refused self.now code.now) self.now) }
+    {
+        let text = reply_refused(self.alloc, self.engine.options(), code)?;
+        let answer = Answer::Refused;
+        Ok(Reply { text, answer })
+    }
+
+    #[tactic(auto, unfolding(crate::specs::Step::acted))]
+    fn act(&mut self, line: &[u8]) -> Result<Text, Stop>
+        ensures { Acts (acted self.old line.now) self.old self.new result }
     {
         if line.len() > MOST_BYTES {
-            return self.refuse(Code::Long);
+            return Err(Stop::Refused(Code::Long));
         }
-        self.answer_short(line)
-    }
-
-    fn answer_short(self, line: &[u8]) -> Served
-        requires { length line.now ≤ 8192 }
-        ensures { IfOk result (λ next. Gives (served_if self (form_of line.now)) next.0 next.1) }
-    {
         lines_read_as_spelt();
-        match read_line(self.alloc, line) {
-            Ok(form) => self.serve(form),
-            Err(LineSyntax::Syntax { at }) => self.refuse(Code::Syntax { at }),
-            Err(LineSyntax::TooLong) => self.refuse(Code::TooLong),
-            Err(LineSyntax::Memory) => Err(Memory),
-        }
+        let form = read_line(self.alloc, line)?;
+        self.serve(form)
     }
 
-    // Refuses a form that isn't served, with its parts.
-    fn leave<X: Drop>(self, _: X) -> Served
-        ensures { IfOk result (λ next. Gives (refused self NotBuilt) next.0 next.1) }
-    {
-        self.refuse(Code::NotBuilt)
-    }
-
-    fn serve(self, line: Line) -> Served
+    #[tactic(auto, unfolding(crate::specs::Step::served))]
+    fn serve(&mut self, line: Line) -> Result<Text, Stop>
         requires { HasText line }
-        ensures { IfOk result (λ next. Gives (served self line) next.0 next.1) }
+        ensures { Acts (served self.old line) self.old self.new result }
     {
         match line {
-            Line::Nothing => Ok(self.pass_over()),
-            Line::Option { token } => self.declare(token),
-            Line::Constraint { expr } => self.constrain(expr),
-            Line::Prefer { expr } => self.prefer(expr),
-            Line::Default { token, on } => self.fall_back(token, on),
-            Line::Complete { choice } => self.complete(choice),
+            Line::Nothing => Ok(Text::new(self.alloc)),
+            Line::Option { token } => self.declare(&token),
+            Line::Constraint { expr } => self.constrain(&expr),
+            Line::Prefer { expr } => self.prefer(&expr),
+            Line::Default { token, on } => self.set_default(token, on),
+            Line::Complete { choice } => self.complete(&choice),
             Line::OpenSession {
                 name,
                 choice,
                 ambition,
-            } => self.open(name, choice, ambition),
-            Line::MakeFile { name, path } => self.make_file(name, path),
+            } => self.open(name, &choice, &ambition),
+            Line::MakeFile { name, path } => self.make_file(&name, &path),
             Line::Insert {
                 name,
                 path,
                 line,
                 text,
-            } => self.insert(name, path, line, text),
-            Line::Commit { name } => self.commit(name),
-            Line::Discard { name } => self.discard(name),
-            Line::Cat { choice, path } => self.tell(choice, path),
-            Line::MakeDir { name, path } => self.leave((name, path)),
-            Line::Rename { name, path, to } => self.leave((name, path, to)),
-            Line::Move { name, path, target } => self.leave((name, path, target)),
-            Line::Remove { name, path } => self.leave((name, path)),
-            Line::Delete { name, path, line } => self.delete(name, path, line),
+            } => self.insert(&name, &path, line, text),
+            Line::Delete { name, path, line } => self.delete(&name, &path, line),
             Line::Replace {
                 name,
                 path,
                 line,
                 text,
-            } => self.replace(name, path, line, text),
-            Line::Show { name, path } => self.show(name, path),
-            Line::List { name, path } => self.leave((name, path)),
-            Line::Refresh { name } => self.leave(name),
-            Line::Checkout { tree, choice } => self.leave((tree, choice)),
+            } => self.replace(&name, &path, line, text),
+            Line::Show { name, path } => self.show(&name, &path),
+            Line::Commit { name } => self.commit(&name),
+            Line::Discard { name } => self.discard(&name),
+            Line::Cat { choice, path } => self.tell(&choice, &path),
+            Line::MakeDir { name, path } => refuse_unserved((name, path)),
+            Line::Rename { name, path, to } => refuse_unserved((name, path, to)),
+            Line::Move { name, path, target } => refuse_unserved((name, path, target)),
+            Line::Remove { name, path } => refuse_unserved((name, path)),
+            Line::List { name, path } => refuse_unserved((name, path)),
+            Line::Refresh { name } => refuse_unserved(name),
+            Line::Checkout { tree, choice } => refuse_unserved((tree, choice)),
             Line::Alt {
                 choice,
                 token,
                 path,
-            } => self.leave((choice, token, path)),
-            Line::Presence { .. } => self.refuse(Code::NotBuilt),
+            } => refuse_unserved((choice, token, path)),
+            Line::Presence { .. } => Err(Stop::Refused(Code::NotBuilt)),
         }
     }
+}
 
-    /// Tells the choice to which the rules complete bindings.
-    fn complete(mut self, choice: RawChoice) -> Served
-        ensures { IfOk result (λ next. Gives (with_found self (found_choice self.history choice) (told_choice self)) next.0 next.1) }
-    {
-        match find_choice(self.alloc, &mut self.engine, &choice)? {
-            Ok(choice) => {
-                let text = reply_complete(self.alloc, self.engine.options(), choice)?;
-                Ok(self.accept(text))
-            }
-            Err(code) => self.refuse(code),
-        }
-    }
+// Refuses a form that isn't served, with its parts.
+fn refuse_unserved<X: Drop>(_: X) -> Result<Text, Stop>
+    ensures { result ≡ Err (Refused NotBuilt) }
+{
+    Err(Stop::Refused(Code::NotBuilt))
 }

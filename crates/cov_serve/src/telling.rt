@@ -1,95 +1,78 @@
-// How a file is told: in the variant of a choice, or as the session sees it.
-ghost use Rattle.std.specs.Prelude.{◌≡◌, List, ℕ, IfOk, length};
+// How a choice and a file are told: a file in the variant of a choice, or as the session sees it.
+ghost use Rattle.std.specs.Prelude.{List, ℕ, ◌≡◌, length};
 ghost use Rattle.cov_edit.specs.History.{option_count};
 ghost use Rattle.cov_edit.specs.Numbering.{Numbers};
+ghost use Rattle.cov_edit.specs.Replay.{replay};
 ghost use Rattle.cov_edit.specs.Variant.{Variant};
 ghost use Rattle.cov_view.specs.Views.{Shows};
-ghost use Rattle.cov_view.specs.Paths.{path_node};
-ghost use Rattle.cov_engine.specs.Sessions.{Session};
-ghost use Rattle.cov_serve.specs.Seeing.{IsSeen};
-ghost use Rattle.cov_serve.specs.Step.{with_file, told_for, told, file_told, at_file, shown_in};
-ghost use Rattle.cov_serve.specs.Turns.{Gives};
+ghost use Rattle.cov_serve.specs.Acting.{Acts};
+ghost use Rattle.cov_serve.specs.Step.{completed, file_told, shown, told};
 
-use crate::finding::find_choice;
 use crate::reply::{file_text, session_text};
-use crate::server::{Served, Server};
-use cov_base::{Choice, Memory, Name, NodeRef, Path};
+use crate::server::Server;
+use crate::stop::Stop;
+use cov_base::{Choice, Name, Path, Text};
 use cov_expr::RawChoice;
-use cov_script::Code;
-use cov_view::{ReadFaultOfView, View};
+use cov_script::{Code, reply_complete};
+use cov_view::View;
 
 impl Server {
+    /// Tells the choice to which the rules complete bindings.
+    #[tactic(auto, unfolding(crate::specs::Step::completed))]
+    pub(crate) fn complete(&mut self, choice: &RawChoice) -> Result<Text, Stop>
+        ensures { Acts (completed self.old choice.now) self.old self.new result }
+    {
+        let choice = self.find_choice(choice)?;
+        Ok(reply_complete(self.alloc, self.engine.options(), choice)?)
+    }
+
     /// Tells the lines of a file in the root of the variant of a choice.
-    pub(crate) fn tell(self, choice: RawChoice, path: Path) -> Served
-        ensures { IfOk result (λ next. Gives (with_file self path (λ file. told_for self path choice)) next.0 next.1) }
+    #[tactic(auto, unfolding(crate::specs::Step::told))]
+    pub(crate) fn tell(&mut self, choice: &RawChoice, path: &Path) -> Result<Text, Stop>
+        ensures { Acts (told self.old choice.now path.now) self.old self.new result }
     {
         if path.len() != 1 {
-            return self.refuse(Code::NotBuilt);
+            return Err(Stop::Refused(Code::NotBuilt));
         }
-        self.tell_for(&choice, &path)
+        let choice = self.find_choice(choice)?;
+        self.tell_at(choice, path)
     }
 
-    fn tell_for(mut self, choice: &RawChoice, path: &Path) -> Served
-        ensures { IfOk result (λ next. Gives (told_for self path.now choice.now) next.0 next.1) }
-    {
-        match find_choice(self.alloc, &mut self.engine, choice)? {
-            Ok(choice) => self.tell_at(choice, path),
-            Err(code) => self.refuse(code),
-        }
-    }
-
-    fn tell_at(self, choice: Choice, path: &Path) -> Served
-        requires { length choice ≡ option_count self.history }
-        ensures { IfOk result (λ next. Gives (told self path.now choice) next.0 next.1) }
+    fn tell_at(&self, choice: Choice, path: &Path) -> Result<Text, Stop>
+        requires { length choice ≡ option_count self.now.history }
+        ensures { Acts (file_told self.now (replay choice self.now.history) path.now) self.now self.now result }
     {
         let view = self
             .engine
             .view(self.alloc, choice, self.engine.position())?;
-        self.tell_file(&view, path)
+        let told = self.tell_file(&view, path);
+        close_view(view);
+        told
     }
 
-    fn tell_file(self, view: &View, path: &Path) -> Served
+    // Tells the lines of the file at a path of a view.
+    #[tactic(auto, unfolding(crate::specs::Step::file_told))]
+    fn tell_file(&self, view: &View, path: &Path) -> Result<Text, Stop>
         requires { view.now.lines_made ≡ 0 }
-        ensures { IfOk result (λ next. (ns : Numbers) (table : List (List ℕ)) (v : Variant) → Shows ns table view.now v → Gives (file_told self v (path_node v.rows 0 path.now)) next.0 next.1) }
+        ensures { (ns : Numbers) (table : List (List ℕ)) (v : Variant) → Shows ns table view.now v → Acts (file_told self.now v path.now) self.now self.now result }
     {
         let Some(file) = view.resolve(path) else {
-            return self.refuse(Code::NoSuchPath);
+            return Err(Stop::Refused(Code::NoSuchPath));
         };
-        match view.lines(file) {
-            Ok(lines) => {
-                let text = file_text(self.alloc, &lines)?;
-                Ok(self.accept(text))
-            }
-            Err(ReadFaultOfView::NoSuchNode) => self.refuse(Code::NoSuchPath),
-            Err(ReadFaultOfView::NotFile) => self.refuse(Code::NotFile),
-            Err(ReadFaultOfView::Memory) => Err(Memory),
-        }
+        let lines = view.lines(file)?;
+        Ok(file_text(self.alloc, &lines)?)
     }
 
     /// Tells the lines of a file in the root as the session sees them.
-    pub(crate) fn show(self, name: Name, path: Path) -> Served
-        ensures { IfOk result (λ next. Gives (at_file self name path (shown_in self)) next.0 next.1) }
+    #[tactic(auto, unfolding(crate::specs::Step::shown))]
+    pub(crate) fn show(&self, name: &Name, path: &Path) -> Result<Text, Stop>
+        ensures { Acts (shown self.now name.now path.now) self.now self.now result }
     {
-        match self.file_at(&name, &path) {
-            Ok(file) => self.show_file(file),
-            Err(code) => self.refuse(code),
-        }
-    }
-
-    fn show_file(self, file: NodeRef) -> Served
-        ensures { IfOk result (λ next. (s : Session) (node : ℕ) → IsSeen self s node file → Gives (shown_in self s node) next.0 next.1) }
-    {
-        let Some(session) = &self.session else {
-            return self.refuse(Code::NoSession);
-        };
-        match session.view.lines(file) {
-            Ok(lines) => {
-                let text = session_text(self.alloc, &lines)?;
-                Ok(self.accept(text))
-            }
-            Err(ReadFaultOfView::NoSuchNode) => self.refuse(Code::NoSuchPath),
-            Err(ReadFaultOfView::NotFile) => self.refuse(Code::NotFile),
-            Err(ReadFaultOfView::Memory) => Err(Memory),
-        }
+        let (session, file) = self.file_at(name, path)?;
+        let lines = session.view().lines(file)?;
+        Ok(session_text(self.alloc, &lines)?)
     }
 }
+
+// Drops a view, in the one place where that is done.
+fn close_view(_: View) {}

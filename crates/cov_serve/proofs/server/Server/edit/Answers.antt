@@ -1,7 +1,11 @@
-use Rattle.std.proofs.Common.{subst}
-use Rattle.cov_edit.specs.History.{option_count}
-use Rattle.cov_serve.specs.Additions.{IsRefusalOf}
+use Rattle.std.proofs.Common.{subst, ◌∷◌, []}
+use Rattle.cov_serve.specs.Keeping.{Keeps}
+use Rattle.cov_serve.proofs.Growing.{keeps-edited}
 use Rattle.cov_serve.proofs.server.Server.edit.Goals as goal
 
-pub refuse-requires-in-Err-Refused : goal.refuse-requires-in-Err-Refused
-refuse-requires-in-Err-Refused c = subst (IsRefusalOf (option_count c.self.inside.engine.history)) c.in-Err-Refused.field-0-is (c.in-Err-Refused.ensures.named (option_count c.self.inside.engine.history))
+pub invariant_of-self-2 : goal.invariant_of-self-2
+invariant_of-self-2 c =
+    let history = c.self.inside.engine.history in
+    let keeps = subst (Keeps history c.self.inside.names) c.in-Some.is c.self.invariant in
+    keeps-edited history c.self.inside.names c.in-Some.session c.edit.new.self (c.args.edit ∷ []) c.requires.nameless c.in_ok-edit.ensures.grown
+    (c.in_ok-edit.ensures.open history keeps.session) keeps

@@ -1,13 +1,32 @@
-use Rattle.cov_edit.specs.History.{option_count}
-use Rattle.cov_serve.specs.Step.{shown_in}
-use Rattle.cov_serve.proofs.Spoken.{goes-on-at, refused-at-file}
+use Rattle.std.proofs.Common.{sym, subst}
+use Rattle.cov_history.specs.Sessions.{seen}
+use Rattle.cov_session.specs.Open.{numbers_at_base, table_of}
+use Rattle.cov_view.specs.Views.{Shows}
+use Rattle.cov_serve.proofs.Acted.{acts-stopped}
+use Rattle.cov_serve.proofs.ToldFiles.{shown-lines, read-stops}
 use Rattle.cov_serve.proofs.server.Server.show.Goals as goal
 
-pub returns-in-Ok : goal.returns-in-Ok
-returns-in-Ok c = goes-on-at c.show_file.result c.args.self c.args.name c.args.path c.in-Ok.file (shown_in c.args.self) c.in-Ok.ensures.found c.show_file.ensures
+pub returns-in_err-lines : goal.returns-in_err-lines
+returns-in_err-lines c =
+    let st = c.args.self.now in
+    let s = c.in_ok-session.session.now in
+    let found = c.in_ok-session.ensures.found in
+    let ns = numbers_at_base st.history s.session in
+    let table = table_of st.history s.session in
+    let v = seen s.session st.history in
+    let shows = subst (λ view. Shows ns table view v) (sym c.view.ensures) found.named_so.is_open.shows in
+    acts-stopped _ st st c.from_residual-in_err-lines.result _ c.from_residual-in_err-lines.ensures.1
+    (read-stops st c.args.name.now c.args.path.now s c.in_ok-session.file found _ (λ e. c.in_err-lines.ensures.absent_shown e ns table v shows)
+    (λ e. c.in_err-lines.ensures.not_file_shown e ns table v shows))
 
 pub returns : goal.returns
-returns c = refused-at-file c.refuse.result c.args.self c.args.name c.args.path c.in-Err.code (shown_in c.args.self) (c.in-Err.ensures.refused (shown_in c.args.self)) c.refuse.ensures
-
-pub refuse-requires : goal.refuse-requires
-refuse-requires c = c.in-Err.ensures.named (option_count c.args.self.history)
+returns c =
+    let st = c.args.self.now in
+    let s = c.in_ok-session.session.now in
+    let found = c.in_ok-session.ensures.found in
+    let ns = numbers_at_base st.history s.session in
+    let table = table_of st.history s.session in
+    let v = seen s.session st.history in
+    let shows = subst (λ view. Shows ns table view v) (sym c.view.ensures) found.named_so.is_open.shows in
+    shown-lines st c.args.name.now c.args.path.now s c.in_ok-session.file found c.view.result.now.lines_made c.in_ok-lines.lines c.in_ok-session_text.field-0
+    (c.in_ok-lines.ensures.shown ns table v shows) c.in_ok-session_text.ensures

@@ -1,20 +1,19 @@
-use Rattle.std.proofs.Common.{◌∙◌, ap, sym, subst, option_map, refl}
+use Rattle.std.proofs.Common.{◌∙◌, ap, sym, option_map}
 use Rattle.cov_edit.specs.Numbering.{node_number}
-use Rattle.cov_view.specs.Paths.{AreLinesOf}
-use Rattle.cov_view.specs.Refusals.{has_node}
-use Rattle.cov_serve.proofs.ToldFiles.{if-ok, file-shown, dir-shown}
+use Rattle.cov_view.specs.Seen.{kind_in}
+use Rattle.cov_serve.proofs.Acted.{acts-stopped}
+use Rattle.cov_serve.proofs.ToldFiles.{none-there, told-lines, told-stops}
 use Rattle.cov_serve.proofs.server.Server.tell_file.Goals as goal
 
-pub returns-in_ok-text-in-Ok : goal.returns-in_ok-text-in-Ok
-returns-in_ok-text-in-Ok c ns table v shows =
-    file-shown c.args.self ns v c.in-Some.file c.args.path.now (ap (option_map (node_number ns.nodes)) (sym c.in-Some.is) ∙ c.resolve.ensures.shown ns table v shows)
-    c.in-Ok.lines c.in_ok-text-in-Ok.text c.accept.result.0 c.accept.result.1
-    (subst (λ n. AreLinesOf ns n v c.in-Some.file c.in-Ok.lines) c.requires (c.in-Ok.ensures.shown ns table v shows)) c.in_ok-text-in-Ok.ensures c.accept.ensures
+pub returns-in_err-lines : goal.returns-in_err-lines
+returns-in_err-lines c = λ ns table v shows.
+    let st = c.args.self.now in
+    acts-stopped _ st st c.from_residual.result _ c.from_residual.ensures.1
+    (told-stops st ns v c.in-Some.file c.args.path.now (ap (option_map (node_number ns.nodes)) (sym c.in-Some.is) ∙ c.resolve.ensures.shown ns table v shows) _
+    (λ e. none-there (kind_in c.args.view.now.rows c.in-Some.file) (c.in_err-lines.ensures.absent e) c.in-Some.ensures.there)
+    (λ e. c.in_err-lines.ensures.not_file_shown e ns table v shows))
 
-pub returns-in-Err-NotFile : goal.returns-in-Err-NotFile
-returns-in-Err-NotFile c =
-    if-ok c.refuse-in-Err-NotFile.result _ _
-    (λ next gives ns table v shows.
-    dir-shown c.args.self ns v c.in-Some.file c.args.path.now (ap (option_map (node_number ns.nodes)) (sym c.in-Some.is) ∙ c.resolve.ensures.shown ns table v shows)
-    (has_node ns v c.in-Some.file) next.0 next.1 ((rw c.in-Err-NotFile.field-0-is at c.in-Err-NotFile.ensures.not_file_shown) refl ns table v shows) gives)
-    c.refuse-in-Err-NotFile.ensures
+pub returns : goal.returns
+returns c = λ ns table v shows.
+    told-lines c.args.self.now ns v c.in-Some.file c.args.path.now (ap (option_map (node_number ns.nodes)) (sym c.in-Some.is) ∙ c.resolve.ensures.shown ns table v shows)
+    c.args.view.now.lines_made c.in_ok-lines.lines c.in_ok-file_text.field-0 c.requires (c.in_ok-lines.ensures.shown ns table v shows) c.in_ok-file_text.ensures

@@ -1,0 +1,20 @@
+-- A law of the model's step.
+use Rattle.std.specs.Prelude.{◌≡◌, ◌≢◌, ℕ, Bool, true, false, List, [], ◌∷◌, Ok, Err}
+use Rattle.std.proofs.Common.{ap}
+use Rattle.std.proofs.lemmas.Bool.{false≢true}
+use Rattle.cov_serve.specs.States.{State}
+use Rattle.cov_serve.specs.Step.{Act, acted, as_outcome, step}
+
+is_nothing : List ℕ → Bool
+is_nothing [] = true
+is_nothing (b ∷ bs) = false
+
+told_so : (st : State) (act : Act) → (as_outcome st act).is_refused ≡ true → (as_outcome st act).reply ≢ []
+unfolding is_nothing
+told_so st (Ok done) h = λ e. false≢true h
+told_so st (Err code) h = λ e. false≢true (ap is_nothing e)
+
+-- a refused line has a reply
+pub refusal_told : (st : State) (line : List ℕ) → (step st line).is_refused ≡ true → (step st line).reply ≢ []
+unfolding step
+refusal_told st line h = told_so st (acted st line) h

@@ -1,0 +1,153 @@
+// Why a line isn't done.
+ghost use Rattle.std.specs.Prelude.{◌≡◌};
+ghost use Rattle.cov_serve.specs.Stops.{syntax_stop, bad_name_stop, name_stop, bind_stop, complete_stop, read_stop, edit_stop, session_stop, refusal_stop};
+
+use cov_base::{BadName, Memory, MemoryOr};
+use cov_engine::Refusal;
+use cov_expr::{BindFault, NameFault};
+use cov_rules::CompleteFault;
+use cov_script::{Code, LineSyntax};
+use cov_session::SessionFault;
+use cov_view::{EditFault, ReadFaultOfView};
+
+/// Why a line isn't done: a rule refuses it, and then the state is as it was; or memory is wanting, and then the run ends.
+#[derive(Drop)]
+pub enum Stop {
+    Refused(Code),
+    Memory,
+}
+
+impl From<Memory> for Stop {
+    ghost use Rattle.cov_serve.specs.declared.stop.Stop.TheVariants.{Memory as wanting};
+
+    ghost from_gives = { λ _ stop. stop ≡ wanting };
+
+    fn from(_: Memory) -> Self {
+        Stop::Memory
+    }
+}
+
+impl From<LineSyntax> for Stop {
+    ghost from_gives = { λ fault stop. stop ≡ syntax_stop fault };
+
+    fn from(fault: LineSyntax) -> Self {
+        match fault {
+            LineSyntax::Syntax { at } => Stop::Refused(Code::Syntax { at }),
+            LineSyntax::TooLong => Stop::Refused(Code::TooLong),
+            LineSyntax::Memory => Stop::Memory,
+        }
+    }
+}
+
+impl From<NameFault> for Stop {
+    ghost from_gives = { λ fault stop. stop ≡ name_stop fault };
+
+    fn from(fault: NameFault) -> Self {
+        match fault {
+            NameFault::UnknownOption { name } => Stop::Refused(Code::UnknownOption { name }),
+            NameFault::Memory => Stop::Memory,
+        }
+    }
+}
+
+impl From<BindFault> for Stop {
+    ghost from_gives = { λ fault stop. stop ≡ bind_stop fault };
+
+    fn from(fault: BindFault) -> Self {
+        match fault {
+            BindFault::UnknownOption { name } => Stop::Refused(Code::UnknownOption { name }),
+            BindFault::Repeated { option } => Stop::Refused(Code::Repeated { option }),
+            BindFault::Memory => Stop::Memory,
+        }
+    }
+}
+
+impl From<CompleteFault> for Stop {
+    ghost from_gives = { λ fault stop. stop ≡ complete_stop fault };
+
+    fn from(fault: CompleteFault) -> Self {
+        match fault {
+            CompleteFault::Invalid { rule } => Stop::Refused(Code::Invalid { rule }),
+            CompleteFault::Incomplete { option } => Stop::Refused(Code::Incomplete { option }),
+            CompleteFault::Memory => Stop::Memory,
+        }
+    }
+}
+
+impl From<EditFault> for Stop {
+    ghost from_gives = { λ fault stop. stop ≡ edit_stop fault };
+
+    fn from(fault: EditFault) -> Self {
+        match fault {
+            EditFault::NoSuchNode => Stop::Refused(Code::NoSuchPath),
+            EditFault::NotFile => Stop::Refused(Code::NotFile),
+            EditFault::NotDirectory => Stop::Refused(Code::NotDirectory),
+            EditFault::NameTaken => Stop::Refused(Code::NameTaken),
+            EditFault::NoSuchLine => Stop::Refused(Code::NoSuchLine),
+            EditFault::Memory => Stop::Memory,
+        }
+    }
+}
+
+impl From<SessionFault> for Stop {
+    ghost from_gives = { λ fault stop. stop ≡ session_stop fault };
+
+    fn from(fault: SessionFault) -> Self {
+        match fault {
+            SessionFault::Invalid { rule } => Stop::Refused(Code::Invalid { rule }),
+            SessionFault::Incomplete { option } => Stop::Refused(Code::Incomplete { option }),
+            SessionFault::OutsideAmbition => Stop::Refused(Code::OutsideAmbition),
+            SessionFault::TooManyEdits => Stop::Refused(Code::TooManyEdits),
+            SessionFault::TooManyBytes => Stop::Refused(Code::TooManyBytes),
+            SessionFault::Edit { fault } => Stop::from(fault),
+            SessionFault::Memory => Stop::Memory,
+        }
+    }
+}
+
+impl From<MemoryOr<BadName>> for Stop {
+    ghost from_gives = { λ fault stop. stop ≡ bad_name_stop fault };
+
+    fn from(fault: MemoryOr<BadName>) -> Self {
+        match fault {
+            MemoryOr::Refused(BadName) => Stop::Refused(Code::BadName),
+            MemoryOr::Memory => Stop::Memory,
+        }
+    }
+}
+
+impl From<ReadFaultOfView> for Stop {
+    ghost from_gives = { λ fault stop. stop ≡ read_stop fault };
+
+    fn from(fault: ReadFaultOfView) -> Self {
+        match fault {
+            ReadFaultOfView::NoSuchNode => Stop::Refused(Code::NoSuchPath),
+            ReadFaultOfView::NotFile => Stop::Refused(Code::NotFile),
+            ReadFaultOfView::Memory => Stop::Memory,
+        }
+    }
+}
+
+impl From<Refusal> for Stop {
+    ghost from_gives = { λ refusal stop. stop ≡ refusal_stop refusal };
+
+    fn from(refusal: Refusal) -> Self {
+        match refusal {
+            Refusal::Full => Stop::Refused(Code::Full),
+            Refusal::Exists => Stop::Refused(Code::Exists),
+            Refusal::NoVariantLeft => Stop::Refused(Code::NoVariantLeft),
+            Refusal::BadBase => Stop::Refused(Code::BadBase),
+            Refusal::BadOption => Stop::Refused(Code::BadOption),
+            Refusal::TooManyEdits => Stop::Refused(Code::TooManyEdits),
+            Refusal::TooManyLines => Stop::Refused(Code::TooManyLines),
+            Refusal::TooManyNodes => Stop::Refused(Code::TooManyNodes),
+            Refusal::TooManyBytes => Stop::Refused(Code::TooManyBytes),
+            Refusal::Invalid { rule } => Stop::Refused(Code::Invalid { rule }),
+            Refusal::OutsideAmbition => Stop::Refused(Code::OutsideAmbition),
+            Refusal::Empty => Stop::Refused(Code::Empty),
+            Refusal::BadRecord { edit } => Stop::Refused(Code::BadRecord { edit }),
+            Refusal::Overtaken { position } => Stop::Refused(Code::Overtaken { position }),
+            Refusal::Memory => Stop::Memory,
+        }
+    }
+}
