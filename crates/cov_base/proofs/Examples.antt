@@ -1,5 +1,5 @@
 -- Worked cases of names, paths, addresses and faults of rows.
-use Rattle.std.proofs.Common.{◌≡◌, ℕ, true, false, [], ◌∷◌, Some, None, refl}
+use Rattle.std.proofs.Common.{◌≡◌, ℕ, true, false, [], ◌∷◌, map, Some, None, refl}
 use Rattle.std.specs.Prelude.{codes}
 use Rattle.std.specs.Str.{is_utf8, chars}
 use lib.Utf8.{encode}
@@ -8,48 +8,19 @@ use Rattle.cov_base.specs.Rows.{Row}
 use Rattle.cov_base.specs.Reaching.{has_clash, has_lost}
 use Rattle.cov_base.specs.declared.number.Kind.TheVariants as kinds
 use Rattle.cov_base.specs.Addresses.{address_in, with_lines, placed, after_anchor}
+use Rattle.cov_base.specs.declared.limits.TheConstants.{LIMITS, MOST_SCRIPT_LINE_BYTES, MOST_TEXT_BYTES, MOST_NAME_BYTES, MOST_OPTION_NAME_BYTES, MOST_TOKENS, TOO_MANY_SCRIPT_BYTES, CHOICE_WIDTH}
 
-plain_name : is_name (codes "main.c") ≡ true
+-- a name may have an accent and three dots, and no cut character, no space and not one dot alone
+names : map is_name (codes "main.c" ∷ (195 ∷ 169 ∷ []) ∷ codes "..." ∷ (195 ∷ []) ∷ codes "a b" ∷ codes "." ∷ [])
+    ≡ true ∷ true ∷ true ∷ false ∷ false ∷ false ∷ []
 unfolding is_utf8 chars encode
-plain_name = refl
+names = refl
 
-accented_name : is_name (195 ∷ 169 ∷ []) ≡ true
+-- a path begins with a slash, and ends with none but the root's
+paths : map path_of (codes "/" ∷ codes "/a/b" ∷ codes "/a/" ∷ codes "a" ∷ [] ∷ [])
+    ≡ Some [] ∷ Some (codes "a" ∷ codes "b" ∷ []) ∷ None ∷ None ∷ None ∷ []
 unfolding is_utf8 chars encode
-accented_name = refl
-
-cut_character : is_name (195 ∷ []) ≡ false
-unfolding is_utf8 chars encode
-cut_character = refl
-
-spaced_name : is_name (codes "a b") ≡ false
-unfolding is_utf8 chars encode
-spaced_name = refl
-
-own_directory : is_name (codes ".") ≡ false
-unfolding is_utf8 chars encode
-own_directory = refl
-
-three_dots : is_name (codes "...") ≡ true
-unfolding is_utf8 chars encode
-three_dots = refl
-
-root : path_of (codes "/") ≡ Some []
-root = refl
-
-two_names : path_of (codes "/a/b") ≡ Some (codes "a" ∷ codes "b" ∷ [])
-unfolding is_utf8 chars encode
-two_names = refl
-
-open_end : path_of (codes "/a/") ≡ None
-unfolding is_utf8 chars encode
-open_end = refl
-
-no_slash : path_of (codes "a") ≡ None
-unfolding is_utf8 chars encode
-no_slash = refl
-
-no_bytes : path_of [] ≡ None
-no_bytes = refl
+paths = refl
 
 -- lines 2 and 4 are inserted after line 1, and line 3 after line 2
 newest_first : (let table = with_lines [] (0 ∷ 1 ∷ 2 ∷ 1 ∷ []) in
@@ -63,17 +34,19 @@ after_anchors = refl
 abbrev dir : ℕ → ℕ → Row
 dir node parent = record { node = node; kind = kinds.Dir; parent = parent; name = 109 ∷ [] }
 
-one_name_twice : has_clash (dir 1 0 ∷ dir 2 1 ∷ dir 3 0 ∷ []) ≡ true
-one_name_twice = refl
+-- two rows clash that have one parent and one name
+clashes : map has_clash ((dir 1 0 ∷ dir 2 1 ∷ dir 3 0 ∷ []) ∷ (dir 1 0 ∷ dir 2 1 ∷ []) ∷ []) ≡ true ∷ false ∷ []
+clashes = refl
 
-two_directories : has_clash (dir 1 0 ∷ dir 2 1 ∷ []) ≡ false
-two_directories = refl
+-- a row may stand before its parent's, and is lost without it or in a loop
+lost : map has_lost ((dir 2 1 ∷ dir 1 0 ∷ []) ∷ (dir 1 0 ∷ dir 3 2 ∷ []) ∷ (dir 1 2 ∷ dir 2 1 ∷ []) ∷ []) ≡ false ∷ true ∷ true ∷ []
+lost = refl
 
-before_its_parent : has_lost (dir 2 1 ∷ dir 1 0 ∷ []) ≡ false
-before_its_parent = refl
+-- the limits of every history
+limits : LIMITS ≡ record { options = 64; rules = 256; commands = 1048576; edits = 16384; commit_bytes = 16777216; lines = 1048576; nodes = 65536; bytes = 1073741824 }
+limits = refl
 
-an_orphan : has_lost (dir 1 0 ∷ dir 3 2 ∷ []) ≡ true
-an_orphan = refl
-
-a_loop : has_lost (dir 1 2 ∷ dir 2 1 ∷ []) ≡ true
-a_loop = refl
+-- the limits of spelling, of what is read, and of a choice
+spelling_limits : (MOST_SCRIPT_LINE_BYTES ∷ MOST_TEXT_BYTES ∷ MOST_NAME_BYTES ∷ MOST_OPTION_NAME_BYTES ∷ MOST_TOKENS ∷ TOO_MANY_SCRIPT_BYTES ∷ CHOICE_WIDTH ∷ [])
+    ≡ 8192 ∷ 4096 ∷ 255 ∷ 64 ∷ 256 ∷ 4294967296 ∷ 128 ∷ []
+spelling_limits = refl

@@ -5,6 +5,8 @@ use Rattle.std.specs.Option.{is_some, option_or}
 use Rattle.std.specs.Str.{bytes_eq}
 use Rattle.std.proofs.lemmas.Bool.Decides.{nat_tests}
 use Rattle.std.proofs.lemmas.Slice.Eq.{bytes_eq-Decides}
+use Rattle.std.proofs.lemmas.Bool.{or_parts, or_from, not-true}
+use Rattle.cov_base.proofs.Lists.{or_left_comm, nat_eq-sym}
 use Rattle.cov_base.specs.Rows.{Row, row_of, is_present, has_node, AreDistinct, AreOnce}
 use Rattle.cov_base.specs.Faults.{Fault, Clash, Orphan, Loop, from_parent, is_reached, is_same_place, with_row, in_node_order, first_clash, first_fault}
 use Rattle.cov_base.specs.Reaching.{has_clash, has_lost, FaultsAreFound}
@@ -18,26 +20,15 @@ absorbed : (a b : Bool) → (a ≡ true → b ≡ true) → (a || b) ≡ b
 absorbed true b f = sym (f refl)
 absorbed false b f = refl
 
-pub or_left : (a b : Bool) → (a || b) ≡ false → a ≡ false
-or_left true b h = h
-or_left false b h = refl
-
-pub or_right : (a b : Bool) → (a || b) ≡ false → b ≡ false
-or_right true b h = absurd (cc)
-or_right false b h = h
-
-eq_sym : (m n : ℕ) → nat_eq m n ≡ nat_eq n m
-eq_sym m n = both_ways (nat_eq m n) (nat_eq n m) (λ e. grind (arith, nat_tests, e)) (λ e. grind (arith, nat_tests, e))
-
 bytes_eq-sym : (xs ys : List ℕ) → bytes_eq xs ys ≡ bytes_eq ys xs
 bytes_eq-sym xs ys =
     both_ways (bytes_eq xs ys) (bytes_eq ys xs)
     (λ e. (bytes_eq-Decides ys xs).1 (sym ((bytes_eq-Decides xs ys).0 e))) (λ e. (bytes_eq-Decides xs ys).1 (sym ((bytes_eq-Decides ys xs).0 e)))
 
 pub same_place-sym : (r s : Row) → is_same_place r s ≡ is_same_place s r
-same_place-sym r s = λ j. eq_sym r.parent s.parent j && bytes_eq-sym r.name s.name j
+same_place-sym r s = λ j. nat_eq-sym r.parent s.parent j && bytes_eq-sym r.name s.name j
 
-is_some-map : {X Y : Type 0} (f : X → Y) (o : Option X) → is_some (option_map f o) ≡ is_some o
+pub is_some-map : {X Y : Type 0} (f : X → Y) (o : Option X) → is_some (option_map f o) ≡ is_some o
 is_some-map f None = refl
 is_some-map f (Some x) = refl
 
@@ -45,7 +36,8 @@ is_some-or : {X : Type 0} (a b : Option X) → is_some (option_or a b) ≡ (is_s
 is_some-or None b = refl
 is_some-or (Some x) b = refl
 
-is_some-find : {X : Type 0} (p : X → Bool) (xs : List X) → is_some (find p xs) ≡ list_any p xs
+-- one is found exactly where one passes
+pub is_some-find : {X : Type 0} (p : X → Bool) (xs : List X) → is_some (find p xs) ≡ list_any p xs
 is_some-find p [] = refl
 is_some-find p (x ∷ xs) = at (p x) (is_some-find p xs)
   where
@@ -71,8 +63,8 @@ own_rows (r ∷ rows) d = (let same : nat_eq r.node r.node ≡ true = grind (ari
     later : (ss : List Row) → AllByRecursion (λ s. row_of rows s.node ≡ Some s) ss → has_node r.node (map (λ s. s.node) ss) ≡ false → AllByRecursion (λ s. row_of (r ∷ rows) s.node ≡ Some s) ss
     later [] h k = tt
     later (s ∷ ss) h k = (
-      ap (λ b. cond b (Some r) (row_of rows s.node)) (eq_sym r.node s.node ∙ or_left (nat_eq s.node r.node) (has_node r.node (map (λ (t : Row). t.node) ss)) k) ∙ h.0,
-      later ss h.1 (or_right (nat_eq s.node r.node) (has_node r.node (map (λ (t : Row). t.node) ss)) k),
+      ap (λ b. cond b (Some r) (row_of rows s.node)) (nat_eq-sym r.node s.node ∙ (or_parts (nat_eq s.node r.node) (has_node r.node (map (λ (t : Row). t.node) ss)) k).0) ∙ h.0,
+      later ss h.1 (or_parts (nat_eq s.node r.node) (has_node r.node (map (λ (t : Row). t.node) ss)) k).1,
     )
 
 pub any_implies : {X : Type 0} (p q : X → Bool) (xs : List X) → AllByRecursion (λ x. p x ≡ true → q x ≡ true) xs → list_any p xs ≡ true → list_any q xs ≡ true
@@ -86,22 +78,18 @@ any_implies p q (x ∷ xs) h k = at (p x) (q x) h.0 k (any_implies p q xs h.1)
 
 none_found : {X : Type 0} (p : X → Bool) (xs : List X) → list_any p xs ≡ false → find p xs ≡ None
 none_found p [] h = refl
-none_found p (x ∷ xs) h = ap (λ b. cond b (Some x) (find p xs)) (or_left (p x) (list_any p xs) h) ∙ none_found p xs (or_right (p x) (list_any p xs) h)
+none_found p (x ∷ xs) h = ap (λ b. cond b (Some x) (find p xs)) (or_parts (p x) (list_any p xs) h).0 ∙ none_found p xs (or_parts (p x) (list_any p xs) h).1
 
 -- a node that isn't present reaches nothing
 absent_lost : (rows : List Row) (k x : ℕ) → is_present rows x ≡ false → is_reached rows k x ≡ false
 absent_lost rows k zero h = absurd (cc)
 absent_lost rows zero (suc m) h = refl
-absent_lost rows (suc k) (suc m) h = ap (λ o. from_parent o (is_reached rows k)) (none_found (λ (r : Row). nat_eq r.node (suc m)) rows (or_right (nat_eq (suc m) 0) (list_any (λ (r : Row). nat_eq r.node (suc m)) rows) h))
+absent_lost rows (suc k) (suc m) h = ap (λ o. from_parent o (is_reached rows k)) (none_found (λ (r : Row). nat_eq r.node (suc m)) rows (or_parts (nat_eq (suc m) 0) (list_any (λ (r : Row). nat_eq r.node (suc m)) rows) h).1)
 
 orphan_lost : (rows : List Row) (k x : ℕ) (r : Row) → nat_eq x 0 ≡ false → row_of rows x ≡ Some r → is_present rows r.parent ≡ false → is_reached rows k x ≡ false
 orphan_lost rows k zero r z is h = absurd (cc)
 orphan_lost rows zero (suc m) r z is h = refl
 orphan_lost rows (suc k) (suc m) r z is h = ap (λ o. from_parent o (is_reached rows k)) is ∙ absent_lost rows k r.parent h
-
-not_true : (b : Bool) → not b ≡ true → b ≡ false
-not_true true h = sym h
-not_true false h = refl
 
 orphans_lost : (rows : List Row) → AreOnce rows → list_any (λ r. not (is_present rows r.parent)) rows ≡ true → has_lost rows ≡ true
 orphans_lost rows once = any_implies (λ r. not (is_present rows r.parent)) (λ r. not (is_reached rows (length rows) r.node)) rows (all rows (own_rows rows once.1) once.0)
@@ -110,8 +98,8 @@ orphans_lost rows once = any_implies (λ r. not (is_present rows r.parent)) (λ 
         → AllByRecursion (λ s. not (is_present rows s.parent) ≡ true → not (is_reached rows (length rows) s.node) ≡ true) ss
     all [] h k = tt
     all (s ∷ ss) h k = (
-      λ o. ap not (orphan_lost rows (length rows) s.node s (or_left (nat_eq s.node 0) (has_node 0 (map (λ (t : Row). t.node) ss)) k) h.0 (not_true (is_present rows s.parent) o)),
-      all ss h.1 (or_right (nat_eq s.node 0) (has_node 0 (map (λ (t : Row). t.node) ss)) k),
+      λ o. ap not (orphan_lost rows (length rows) s.node s (or_parts (nat_eq s.node 0) (has_node 0 (map (λ (t : Row). t.node) ss)) k).0 h.0 (not-true (is_present rows s.parent) o)),
+      all ss h.1 (or_parts (nat_eq s.node 0) (has_node 0 (map (λ (t : Row). t.node) ss)) k).1,
     )
 
 abbrev is_orphan : List Row → Row → Bool
@@ -139,18 +127,13 @@ fault_some rows once =
     clash_some rows j
     || (is_some-or (orphan rows) (loop rows) ∙ (λ i. found_orphan rows i || found_loop rows i) ∙ absorbed (list_any (is_orphan rows) rows) (has_lost rows) (orphans_lost rows once)) j)
 
-swapped : (a b c : Bool) → (a || (b || c)) ≡ (b || (a || c))
-swapped true true c = refl
-swapped true false c = refl
-swapped false b c = refl
-
 any-with : (p : Row → Bool) (r : Row) (rows : List Row) → list_any p (with_row r rows) ≡ (p r || list_any p rows)
 any-with p r [] = refl
 any-with p r (s ∷ rows) = at (nat_lt r.node s.node) (any-with p r rows)
   where
     at : (b : Bool) → list_any p (with_row r rows) ≡ (p r || list_any p rows) → list_any p (cond b (r ∷ s ∷ rows) (s ∷ with_row r rows)) ≡ (p r || (p s || list_any p rows))
     at true h = refl
-    at false h = ap (λ b. p s || b) h ∙ swapped (p s) (p r) (list_any p rows)
+    at false h = ap (λ b. p s || b) h ∙ or_left_comm (p s) (p r) (list_any p rows)
 
 any-order : (p : Row → Bool) (rows : List Row) → list_any p (in_node_order rows) ≡ list_any p rows
 any-order p [] = refl
@@ -205,18 +188,15 @@ has_node-order x rows =
     ∙ any-order (λ s. nat_eq s.node x) rows
     ∙ sym (any-map (λ n. nat_eq n x) (λ (s : Row). s.node) rows)
 
-neither : (a b : Bool) → a ≡ false → b ≡ false → (a || b) ≡ false
-neither a b h k = (λ j. h j || b) ∙ k
-
 distinct-with : (r : Row) (rows : List Row) → has_node r.node (map (λ s. s.node) rows) ≡ false → AreDistinct (map (λ s. s.node) rows) → AreDistinct (map (λ s. s.node) (with_row r rows))
 distinct-with r [] h d = (refl, tt)
-distinct-with r (s ∷ rows) h d = at (nat_lt r.node s.node) (distinct-with r rows (or_right (nat_eq s.node r.node) (has_node r.node (map (λ (t : Row). t.node) rows)) h) d.1)
+distinct-with r (s ∷ rows) h d = at (nat_lt r.node s.node) (distinct-with r rows (or_parts (nat_eq s.node r.node) (has_node r.node (map (λ (t : Row). t.node) rows)) h).1 d.1)
   where
     at : (b : Bool) → AreDistinct (map (λ s. s.node) (with_row r rows)) → AreDistinct (map (λ s. s.node) (cond b (r ∷ s ∷ rows) (s ∷ with_row r rows)))
     at true rest = (h, d)
     at false rest = (
       has_node-with s.node r rows
-          ∙ neither (nat_eq r.node s.node) (has_node s.node (map (λ (t : Row). t.node) rows)) (eq_sym r.node s.node ∙ or_left (nat_eq s.node r.node) (has_node r.node (map (λ (t : Row). t.node) rows)) h) d.0,
+          ∙ or_from (nat_eq r.node s.node) (has_node s.node (map (λ (t : Row). t.node) rows)) (nat_eq-sym r.node s.node ∙ (or_parts (nat_eq s.node r.node) (has_node r.node (map (λ (t : Row). t.node) rows)) h).0) d.0,
       rest,
     )
 
@@ -226,11 +206,11 @@ distinct-order (r ∷ rows) d = distinct-with r (in_node_order rows) (has_node-o
 
 row_of-with : (r : Row) (rows : List Row) → has_node r.node (map (λ s. s.node) rows) ≡ false → (x : ℕ) → row_of (with_row r rows) x ≡ cond (nat_eq r.node x) (Some r) (row_of rows x)
 row_of-with r [] h x = refl
-row_of-with r (s ∷ rows) h x = at (nat_lt r.node s.node) (row_of-with r rows (or_right (nat_eq s.node r.node) (has_node r.node (map (λ (t : Row). t.node) rows)) h) x)
+row_of-with r (s ∷ rows) h x = at (nat_lt r.node s.node) (row_of-with r rows (or_parts (nat_eq s.node r.node) (has_node r.node (map (λ (t : Row). t.node) rows)) h).1 x)
   where
     either : (a b : Bool) → nat_eq s.node x ≡ a → nat_eq r.node x ≡ b → cond a (Some s) (cond b (Some r) (row_of rows x)) ≡ cond b (Some r) (cond a (Some s) (row_of rows x))
     either true true e f =
-        let other : nat_eq s.node r.node ≡ false = or_left (nat_eq s.node r.node) (has_node r.node (map (λ (t : Row). t.node) rows)) h in
+        let other : nat_eq s.node r.node ≡ false = (or_parts (nat_eq s.node r.node) (has_node r.node (map (λ (t : Row). t.node) rows)) h).0 in
         absurd (grind (arith, nat_tests, e, f, other))
     either true false e f = refl
     either false b e f = refl

@@ -1,6 +1,8 @@
+pub mod CallerLemmas
 pub mod Examples
 pub mod Faulty
 pub mod Inserting
+pub mod Lists
 pub mod Ordered
 pub mod Paths
 pub mod Placing

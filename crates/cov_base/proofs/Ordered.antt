@@ -203,3 +203,11 @@ module _ {X : Type 0} (address : X → List ℕ) where
           ap (λ l. cond (p x) l (filter p (y ∷ ys)))
           (sym (placed-first x (filter p (y ∷ ys)) (all-filter (λ z. stands_before (address x) (address z) ≡ true) p (y ∷ ys) all)))
       at false e rest = later (p x) (p y) e (filter p (placed address x ys)) (filter p ys) rest
+
+  pub in_order-filter : (p : X → Bool) (xs : List X) → AreInOrder address xs → AreInOrder address (filter p xs)
+  in_order-filter p [] o = tt
+  in_order-filter p (x ∷ xs) o = at (p x) (in_order-filter p xs o.1)
+    where
+      at : (b : Bool) → AreInOrder address (filter p xs) → AreInOrder address (cond b (x ∷ filter p xs) (filter p xs))
+      at true rest = (all-filter (λ y. stands_before (address x) (address y) ≡ true) p xs o.0, rest)
+      at false rest = rest

@@ -1,7 +1,9 @@
 -- Tables of addresses.
-use Rattle.std.proofs.Common.{◌≡◌, ℕ, zero, suc, ◌+◌, ◌<◌, ◌≤◌, Bool, true, false, nat_lt, List, [], ◌∷◌, ◌++◌, length, length-append, Option, Some, None, unwrap_or, ◌⊎◌, refl, sym, ap, subst, inl, inr, ◌∙◌, arith}
+use Rattle.std.proofs.Common.{◌≡◌, ℕ, zero, suc, ◌+◌, ◌<◌, ◌≤◌, Bool, true, false, nat_eq, nat_lt, List, [], ◌∷◌, ◌++◌, length, length-append, Option, Some, None, unwrap_or, ◌⊎◌, refl, sym, ap, subst, inl, inr, ◌∙◌, arith}
 use Rattle.std.specs.List.{last_or, AllByRecursion}
+use Rattle.std.specs.Str.{bytes_eq}
 use Rattle.std.proofs.lemmas.Bool.Decides.{nat_tests}
+use Rattle.std.proofs.lemmas.Slice.Eq.{bytes_eq-Decides}
 use Rattle.cov_base.specs.Addresses.{address_in, with_line, with_lines, line_of, EndsIn, IsTable, IsLineOf}
 use Rattle.cov_base.proofs.Ordered.{all-map, all-append}
 
@@ -113,3 +115,34 @@ address_in-next t anchor later h =
     address_in-with_lines (with_line t anchor) later (suc (length t)) (omega (arith, length-with_line t anchor))
     ∙ new ∙ ap (λ n. address_in t anchor ++ n ∷ []) one
     ∙ ap (λ a. a ++ suc (length t) ∷ []) (sym (address_in-with_line t anchor anchor h) ∙ sym (address_in-with_lines (with_line t anchor) later anchor (omega (arith, h, length-with_line t anchor))))
+
+-- an address in a table is that of the line with its number, if it isn't empty
+named : (t : List (List ℕ)) (line : ℕ) → IsTable t → 0 < length (address_in t line) → line_of (address_in t line) ≡ line
+named t zero table h = absurd (omega (arith, h))
+named t (suc x) table h = by (nat_lt x (length t)) refl
+  where
+    by : (b : Bool) → nat_lt x (length t) ≡ b → line_of (address_in t (suc x)) ≡ suc x
+    by true e = line_of-in t x table (grind (arith, nat_tests, e))
+    by false e =
+        let beyond : length t ≤ x = grind (arith, nat_tests, e) in
+        let none : length (address_in t (suc x)) ≡ 0 = ap length (address_in-beyond t x beyond) in
+        absurd (omega (arith, h, none))
+
+-- a line of a table has the address of a number just where it is its own
+pub line_is : (t : List (List ℕ)) (n line : ℕ) (a : List ℕ) → IsTable t → n ≤ length t → IsLineOf t n a → bytes_eq a (address_in t line) ≡ nat_eq (line_of a) line
+line_is t n line a table below is = by (nat_eq (line_of a) line) refl
+  where
+    other : (b : Bool) → bytes_eq a (address_in t line) ≡ b → nat_eq (line_of a) line ≡ false → b ≡ false
+    other false f e = refl
+    other true f e =
+        let same : a ≡ address_in t line = (bytes_eq-Decides a (address_in t line)).0 f in
+        let some : 0 < length a = (inside t n a table below is).0 in
+        let there : length a ≡ length (address_in t line) = ap length same in
+        let number : line_of a ≡ line = ap line_of same ∙ named t line table (omega (arith, some, there)) in
+        absurd (grind (arith, nat_tests, number, e))
+
+    by : (b : Bool) → nat_eq (line_of a) line ≡ b → bytes_eq a (address_in t line) ≡ b
+    by true e =
+        let number : line_of a ≡ line = grind (arith, nat_tests, e) in
+        (bytes_eq-Decides a (address_in t line)).1 (one_address t n line a table below is number)
+    by false e = other (bytes_eq a (address_in t line)) refl e

@@ -1,10 +1,12 @@
 pub mod Addresses
+pub mod Answers
 pub mod Bits
 pub mod Bytes
 pub mod Causes
 pub mod Choices
 pub mod Faults
 pub mod Lines
+pub mod Older
 pub mod Reaching
 pub mod Rows
 pub mod Spelling

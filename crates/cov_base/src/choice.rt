@@ -2,11 +2,12 @@
 ghost use Rattle.std.specs.Prelude.{◌≡◌, ◌≢◌, ◌<◌, ◌≤◌, ◌^◌, List, Bool, ℕ, length, ◌==◌};
 ghost use Rattle.std.specs.Int.{bit_at};
 ghost use Rattle.cov_base.specs.Choices.{bits_of, number_of, is_on, with_option};
+ghost use Rattle.cov_base.specs.declared.limits.TheConstants.{CHOICE_WIDTH};
 
 use crate::OptionId;
 use std::marker::Model;
 
-/// The values of the options 0 to `count - 1`, at most 128 of them. Contracts see it as the list of these values.
+/// The values of the options 0 to `count - 1`, at most `CHOICE_WIDTH` of them. Contracts see it as the list of these values.
 #[derive(Clone, Copy, Debug)]
 pub struct Choice {
     bits: u128,
@@ -15,6 +16,7 @@ pub struct Choice {
 
 impl Model for Choice {
     ghost use Rattle.std.specs.Prelude.{List, Bool, length, ◌≤◌, ◌<◌, ◌^◌};
+    ghost use Rattle.cov_base.specs.declared.limits.TheConstants.{CHOICE_WIDTH};
     ghost use Rattle.cov_base.specs.Choices.{bits_of, number_of};
     ghost use Rattle.cov_base.specs.Bits.{same_inside};
 
@@ -22,7 +24,7 @@ impl Model for Choice {
 
     ghost view = { λ c. bits_of c.count c.bits };
 
-    ghost invariant = { λ c. (c.count ≤ 128) × (c.bits < 2 ^ c.count) };
+    ghost invariant = { λ c. (c.count ≤ CHOICE_WIDTH) × (c.bits < 2 ^ c.count) };
 
     ghost inverse = { λ v. record { bits = number_of v; count = length v } };
 
@@ -32,7 +34,7 @@ impl Model for Choice {
 impl Choice {
     /// The choice of `count` options in which option i is on where bit i is 1.
     pub fn new(bits: u128, count: u8) -> Choice
-        requires count { count ≤ 128 }
+        requires count { count ≤ CHOICE_WIDTH }
         requires bits { bits < 2 ^ count }
         ensures { result ≡ bits_of count bits }
     {
@@ -42,7 +44,7 @@ impl Choice {
     /// How many options it binds.
     pub fn count(self) -> u8
         ensures count { result ≡ length self }
-        ensures most { result ≤ 128 }
+        ensures most { result ≤ CHOICE_WIDTH }
     {
         self.count
     }
@@ -69,9 +71,9 @@ impl Choice {
 
 // The number with one of its bits as wanted.
 fn with_bit(bits: u128, at: u8, on: bool) -> u128
-    requires { at < 128 }
+    requires { at < CHOICE_WIDTH }
     ensures set { (bit_at result at == 1) ≡ on }
-    ensures others { (i : ℕ) → i < 128 → i ≢ at → bit_at result i ≡ bit_at bits i }
+    ensures others { (i : ℕ) → i < CHOICE_WIDTH → i ≢ at → bit_at result i ≡ bit_at bits i }
 {
     match on {
         true => set_bit(bits, at),
@@ -80,7 +82,7 @@ fn with_bit(bits: u128, at: u8, on: bool) -> u128
 }
 
 fn set_bit(bits: u128, at: u8) -> u128
-    requires { at < 128 }
+    requires { at < CHOICE_WIDTH }
     ensures set { bit_at result at ≡ 1 }
     ensures others { (i : ℕ) → i ≢ at → bit_at result i ≡ bit_at bits i }
 {
@@ -88,9 +90,9 @@ fn set_bit(bits: u128, at: u8) -> u128
 }
 
 fn clear_bit(bits: u128, at: u8) -> u128
-    requires { at < 128 }
+    requires { at < CHOICE_WIDTH }
     ensures set { bit_at result at ≡ 0 }
-    ensures others { (i : ℕ) → i < 128 → i ≢ at → bit_at result i ≡ bit_at bits i }
+    ensures others { (i : ℕ) → i < CHOICE_WIDTH → i ≢ at → bit_at result i ≡ bit_at bits i }
 {
     bits & !(1 << at)
 }

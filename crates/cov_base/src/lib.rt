@@ -1,19 +1,28 @@
 //! Numbers, names, choices and texts: what every crate of the store speaks of.
 #![tactic(auto)]
 
+mod bytes;
 mod choice;
 mod error;
 pub mod laws;
+mod limits;
 mod list;
 mod name;
 mod number;
+mod older;
 mod option_name;
 mod steps;
 
+pub use bytes::Text;
 pub use choice::Choice;
 pub use error::{BadName, Failed, Memory, MemoryOr};
-pub use list::{LineNos, Numbers, Text, Texts};
+pub use limits::{
+    CHOICE_WIDTH, LIMITS, Limits, MOST_NAME_BYTES, MOST_OPTION_NAME_BYTES, MOST_PARTS,
+    MOST_SCRIPT_LINE_BYTES, MOST_TEXT_BYTES, MOST_TOKENS, TOO_MANY_SCRIPT_BYTES,
+};
+pub use list::{ByReference, ByValue, LineNos, List, NodeNos, Numbers, Texts};
 pub use name::{Name, Path};
 pub use number::{Kind, LineNo, LineRef, NodeNo, NodeRef, OptionId, Position};
+pub use older::OlderLists;
 pub use option_name::{OptionName, is_first_byte, is_word_byte, spells_word};
 pub use steps::{Counted, Ledger, Steps, Uncounted};

@@ -1,139 +1,83 @@
 // Lists of the product's own. Each keeps its allocator, and contracts see it as a list.
-ghost use Rattle.std.specs.Prelude.{◌≡◌, List, ℕ, [], ◌∷◌, ◌++◌, length, IfOk, OnOk, OnErr, slice_get, nat_eq, ◌==◌};
+ghost use Rattle.std.specs.Prelude.{◌≡◌, ◌≤◌, [], ◌∷◌, ◌++◌, ◌==◌, length, insert, nat_eq, slice_get, OnOk, OnErr};
+ghost use Rattle.std.specs.Fn.{CalledAt};
 ghost use Rattle.std.specs.List.{list_any};
+ghost use Rattle.std.specs.List.Retain.{IsFiltered};
 ghost use Rattle.std.specs.Option.{option_copied};
 
-use crate::{LineNo, Memory};
+use crate::{LineNo, Memory, NodeNo, Text};
 use std::alloc::Global;
-use std::marker::Model;
-
-/// A list of bytes.
-#[derive(Debug, Drop)]
-pub struct Text {
-    bytes: Vec<u8>,
-}
-
-impl Model for Text {
-    ghost Value = { List ℕ };
-
-    ghost view = { λ t. t.bytes.items };
-}
-
-impl Text {
-    pub fn new(alloc: Global) -> Text
-        ensures { result ≡ [] }
-    {
-        Text {
-            bytes: Vec::new(alloc),
-        }
-    }
-
-    pub fn from_slice(alloc: Global, bytes: &[u8]) -> Result<Text, Memory>
-        ensures { IfOk result (λ text. text ≡ bytes.now) }
-    {
-        Ok(Text {
-            bytes: Vec::from_slice(alloc, bytes)?,
-        })
-    }
-
-    pub fn push(&mut self, byte: u8) -> Result<(), Memory>
-        ensures ok { OnOk result (self.new ≡ self.old ++ byte ∷ []) }
-        ensures err { OnErr result (self.new ≡ self.old) }
-    {
-        self.bytes.push(byte)?;
-        Ok(())
-    }
-
-    /// Appends all the bytes or none.
-    pub fn append(&mut self, bytes: &[u8]) -> Result<(), Memory>
-        ensures ok { OnOk result (self.new ≡ self.old ++ bytes.now) }
-        ensures err { OnErr result (self.new ≡ self.old) }
-    {
-        self.bytes.extend_from_slice(bytes)?;
-        Ok(())
-    }
-
-    pub fn len(&self) -> usize
-        ensures { result ≡ length self.now }
-    {
-        self.bytes.len()
-    }
-
-    pub fn is_empty(&self) -> bool
-        ensures { result ≡ (length self.now == 0) }
-    {
-        self.bytes.is_empty()
-    }
-
-    /// The byte at an index, None exactly where the index isn't below the length.
-    pub fn get(&self, index: usize) -> Option<u8>
-        ensures { result ≡ slice_get self.now index }
-    {
-        self.bytes.get(index).copied()
-    }
-
-    pub fn as_slice(&self) -> &[u8]
-        ensures { result.now ≡ self.now }
-    {
-        self.bytes.as_slice()
-    }
-
-    /// The bytes as a Vec. It takes no memory.
-    pub fn into_vec(self) -> Vec<u8>
-        ensures { result.items ≡ self }
-    {
-        self.bytes
-    }
-
-    pub fn copy(&self) -> Result<Text, Memory>
-        ensures { IfOk result (λ text. text ≡ self.now) }
-    {
-        let alloc = *self.bytes.allocator();
-        Ok(Text {
-            bytes: Vec::from_slice(alloc, self.bytes.as_slice())?,
-        })
-    }
-}
-
-impl From<String> for Text {
-    ghost use Rattle.std.specs.String.{string_bytes};
-
-    ghost from_gives = { λ string text. text ≡ string_bytes string };
-
-    fn from(string: String) -> Text {
-        Text {
-            bytes: string.into_bytes(),
-        }
-    }
-}
+use std::marker::{Model, PhantomData};
 
 /// A list of texts.
+pub type Texts = List<Text>;
+
+/// A list of numbers.
+pub type Numbers = List<u64, ByValue>;
+
+/// A list of line numbers.
+pub type LineNos = List<LineNo, ByValue>;
+
+/// A list of node numbers.
+pub type NodeNos = List<NodeNo, ByValue>;
+
+/// The way of a list that lends its items.
+#[derive(Debug)]
+pub struct ByReference;
+
+/// The way of a list that answers its items by value, as one of numbers does.
+#[derive(Debug)]
+pub struct ByValue;
+
+/// A list of items, which `get` answers in a way that the type names.
 #[derive(Debug, Drop)]
-pub struct Texts {
-    items: Vec<Text>,
+pub struct List<T, Way = ByReference> {
+    items: Vec<T>,
+    way: PhantomData<Way>,
 }
 
-impl Model for Texts {
-    ghost Value = { List (List ℕ) };
+impl<T, Way> Model for List<T, Way> {
+    ghost use Rattle.std.specs.Prelude.{List as Items};
 
-    ghost view = { λ t. t.items.items };
+    ghost Value = { Items T };
+
+    ghost view = { λ l. l.items.items };
 }
 
-impl Texts {
-    pub fn new(alloc: Global) -> Texts
+impl<T: Drop, Way> List<T, Way> {
+    pub fn new(alloc: Global) -> Self
         ensures { result ≡ [] }
     {
-        Texts {
+        List {
             items: Vec::new(alloc),
+            way: PhantomData,
         }
     }
 
-    pub fn push(&mut self, text: Text) -> Result<(), Memory>
-        ensures ok { OnOk result (self.new ≡ self.old ++ text ∷ []) }
+    pub fn push(&mut self, item: T) -> Result<(), Memory>
+        ensures ok { OnOk result (self.new ≡ self.old ++ item ∷ []) }
         ensures err { OnErr result (self.new ≡ self.old) }
     {
-        self.items.push(text)?;
+        self.items.push(item)?;
         Ok(())
+    }
+
+    /// Puts an item before the one at an index, or at the end.
+    pub fn insert(&mut self, index: usize, item: T) -> Result<(), Memory>
+        requires { index ≤ length self.old }
+        ensures ok { OnOk result (self.new ≡ insert self.old index item) }
+        ensures err { OnErr result (self.new ≡ self.old) }
+    {
+        self.items.insert(index, item)?;
+        Ok(())
+    }
+
+    /// Takes out the items that aren't kept, without memory and in one pass.
+    pub fn retain<F: FnMut(&T) -> bool>(&mut self, is_kept: F)
+        requires { F.IsAlwaysCallable is_kept }
+        ensures { IsFiltered (CalledAt F.FnMut) is_kept self.old self.new }
+    {
+        self.items.retain(is_kept);
     }
 
     pub fn len(&self) -> usize
@@ -148,114 +92,41 @@ impl Texts {
         self.items.is_empty()
     }
 
-    /// The text at an index, None exactly where the index isn't below the length.
-    pub fn get(&self, index: usize) -> Option<&Text>
+    /// The items in order.
+    pub fn as_slice(&self) -> &[T]
+        ensures { result.now ≡ self.now }
+    {
+        self.items.as_slice()
+    }
+
+    /// The allocator that the list keeps.
+    pub fn allocator(&self) -> Global {
+        *self.items.allocator()
+    }
+}
+
+impl<T: Drop> List<T, ByReference> {
+    /// The item at an index, None exactly where the index isn't below the length.
+    pub fn get(&self, index: usize) -> Option<&T>
         ensures { option_copied result ≡ slice_get self.now index }
     {
         self.items.get(index)
     }
 }
 
-/// A list of numbers.
-#[derive(Debug, Drop)]
-pub struct Numbers {
-    items: Vec<u64>,
-}
-
-impl Model for Numbers {
-    ghost Value = { List ℕ };
-
-    ghost view = { λ n. n.items.items };
-}
-
-impl Numbers {
-    pub fn new(alloc: Global) -> Numbers
-        ensures { result ≡ [] }
-    {
-        Numbers {
-            items: Vec::new(alloc),
-        }
-    }
-
-    pub fn push(&mut self, number: u64) -> Result<(), Memory>
-        ensures ok { OnOk result (self.new ≡ self.old ++ number ∷ []) }
-        ensures err { OnErr result (self.new ≡ self.old) }
-    {
-        self.items.push(number)?;
-        Ok(())
-    }
-
-    pub fn len(&self) -> usize
-        ensures { result ≡ length self.now }
-    {
-        self.items.len()
-    }
-
-    pub fn is_empty(&self) -> bool
-        ensures { result ≡ (length self.now == 0) }
-    {
-        self.items.is_empty()
-    }
-
-    /// The number at an index, None exactly where the index isn't below the length.
-    pub fn get(&self, index: usize) -> Option<u64>
+impl<T: Copy> List<T, ByValue> {
+    /// The item at an index, None exactly where the index isn't below the length.
+    pub fn get(&self, index: usize) -> Option<T>
         ensures { result ≡ slice_get self.now index }
     {
         self.items.get(index).copied()
     }
+}
 
+impl Numbers {
     pub fn contains(&self, number: u64) -> bool
         ensures { result ≡ list_any (λ n. nat_eq n number) self.now }
     {
         self.items.contains(&number)
-    }
-}
-
-/// A list of line numbers.
-#[derive(Debug, Drop)]
-pub struct LineNos {
-    items: Vec<LineNo>,
-}
-
-impl Model for LineNos {
-    ghost Value = { List ℕ };
-
-    ghost view = { λ n. n.items.items };
-}
-
-impl LineNos {
-    pub fn new(alloc: Global) -> LineNos
-        ensures { result ≡ [] }
-    {
-        LineNos {
-            items: Vec::new(alloc),
-        }
-    }
-
-    pub fn push(&mut self, line: LineNo) -> Result<(), Memory>
-        ensures ok { OnOk result (self.new ≡ self.old ++ line ∷ []) }
-        ensures err { OnErr result (self.new ≡ self.old) }
-    {
-        self.items.push(line)?;
-        Ok(())
-    }
-
-    pub fn len(&self) -> usize
-        ensures { result ≡ length self.now }
-    {
-        self.items.len()
-    }
-
-    pub fn is_empty(&self) -> bool
-        ensures { result ≡ (length self.now == 0) }
-    {
-        self.items.is_empty()
-    }
-
-    /// The line number at an index, None exactly where the index isn't below the length.
-    pub fn get(&self, index: usize) -> Option<LineNo>
-        ensures { result ≡ slice_get self.now index }
-    {
-        self.items.get(index).copied()
     }
 }

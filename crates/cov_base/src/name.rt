@@ -5,14 +5,11 @@ ghost use Rattle.std.specs.Str.{bytes_eq, is_utf8};
 ghost use Rattle.std.specs.List.{list_any, list_all};
 ghost use Rattle.cov_base.specs.Spelling.{is_name, is_outside_names, dot_names, parts_of, path_of};
 
-use crate::{BadName, Memory, MemoryOr, Text};
+use crate::{BadName, List, MOST_NAME_BYTES, Memory, MemoryOr, Text};
 use std::alloc::Global;
 use std::marker::Model;
 
-/// The greatest number of bytes of a name.
-const MOST_BYTES: usize = 255;
-
-/// The name of a file or directory: 1 to 255 bytes of well-formed UTF-8 without control characters, spaces and `/`,
+/// The name of a file or directory: 1 to `MOST_NAME_BYTES` bytes of well-formed UTF-8 without control characters, spaces and `/`,
 /// and neither `.` nor `..`.
 #[derive(Debug, Drop)]
 pub struct Name {
@@ -65,9 +62,9 @@ fn is_well_spelt(bytes: &[u8]) -> bool
 }
 
 fn has_length(bytes: &[u8]) -> bool
-    ensures { result ≡ (nat_le 1 (length bytes.now) && nat_le (length bytes.now) 255) }
+    ensures { result ≡ (nat_le 1 (length bytes.now) && nat_le (length bytes.now) MOST_NAME_BYTES) }
 {
-    1 <= bytes.len() && bytes.len() <= MOST_BYTES
+    1 <= bytes.len() && bytes.len() <= MOST_NAME_BYTES
 }
 
 fn is_text(bytes: &[u8]) -> bool
@@ -98,26 +95,9 @@ fn is_dot_name(bytes: &[u8]) -> bool
 }
 
 /// The names on the way from the root to a node; none for the root itself.
-#[derive(Debug, Drop)]
-pub struct Path {
-    names: Vec<Name>,
-}
-
-impl Model for Path {
-    ghost Value = { List (List ℕ) };
-
-    ghost view = { λ p. p.names.items };
-}
+pub type Path = List<Name>;
 
 impl Path {
-    pub fn new(alloc: Global) -> Path
-        ensures { result ≡ [] }
-    {
-        Path {
-            names: Vec::new(alloc),
-        }
-    }
-
     /// Reads a path: `/`, or one or more of `/` and a name. `BadName` comes exactly where the bytes are neither.
     pub fn read(alloc: Global, bytes: &[u8]) -> Result<Path, MemoryOr<BadName>>
         ensures ok { IfOk result (λ path. path_of bytes.now ≡ Some path) }
@@ -153,40 +133,6 @@ impl Path {
             rest = after;
         }
         Ok(path)
-    }
-
-    pub fn push(&mut self, name: Name) -> Result<(), Memory>
-        ensures ok { OnOk result (self.new ≡ self.old ++ name ∷ []) }
-        ensures err { OnErr result (self.new ≡ self.old) }
-    {
-        self.names.push(name)?;
-        Ok(())
-    }
-
-    pub fn len(&self) -> usize
-        ensures { result ≡ length self.now }
-    {
-        self.names.len()
-    }
-
-    pub fn is_empty(&self) -> bool
-        ensures { result ≡ (length self.now == 0) }
-    {
-        self.names.is_empty()
-    }
-
-    /// The name at an index, None exactly where the index isn't below the length.
-    pub fn get(&self, index: usize) -> Option<&Name>
-        ensures { option_copied result ≡ slice_get self.now index }
-    {
-        self.names.get(index)
-    }
-
-    /// The names in order.
-    pub fn as_slice(&self) -> &[Name]
-        ensures { result.now ≡ self.now }
-    {
-        self.names.as_slice()
     }
 }
 

@@ -1,9 +1,10 @@
 // Numbers with a meaning of their own.
 ghost use Rattle.std.specs.Prelude.{◌≡◌, ◌<◌, ℕ};
+ghost use Rattle.cov_base.specs.declared.limits.TheConstants.{CHOICE_WIDTH};
 
 use std::marker::Model;
 
-/// The number of an option, from 0 in order of declaration; always below 128.
+/// The number of an option, from 0 in order of declaration; always below `CHOICE_WIDTH`.
 #[derive(Clone, Copy, Debug, PartialEq, Eq, PartialOrd, Ord, Hash)]
 pub struct OptionId {
     number: u8,
@@ -14,14 +15,14 @@ impl Model for OptionId {
 
     ghost view = { λ o. o.number };
 
-    ghost invariant = { λ o. o.number < 128 };
+    ghost invariant = { λ o. o.number < CHOICE_WIDTH };
 
     ghost inverse = { λ n. record { number = n } };
 }
 
 impl OptionId {
     pub fn new(number: u8) -> OptionId
-        requires { number < 128 }
+        requires { number < CHOICE_WIDTH }
         ensures { result ≡ number }
     {
         OptionId { number }
@@ -29,7 +30,7 @@ impl OptionId {
 
     pub fn number(self) -> u8
         ensures number { result ≡ self }
-        ensures bound { result < 128 }
+        ensures bound { result < CHOICE_WIDTH }
     {
         self.number
     }
@@ -127,7 +128,7 @@ pub enum Kind {
 }
 
 /// A node that a history has, or the i-th node, from 0, that the same list of edits makes.
-#[derive(Clone, Copy, Debug, PartialEq, Eq)]
+#[derive(Clone, Copy, Debug, PartialEq, Eq, Hash)]
 pub enum NodeRef {
     Old(NodeNo),
     New(u32),

@@ -5,14 +5,11 @@ ghost use Rattle.std.specs.List.{list_any, list_all};
 ghost use Rattle.cov_base.specs.Bytes.{is_letter, is_digit};
 ghost use Rattle.cov_base.specs.Spelling.{is_word, is_option_name, reserved_words};
 
-use crate::{BadName, Memory, MemoryOr, Text};
+use crate::{BadName, MOST_OPTION_NAME_BYTES, Memory, MemoryOr, Text};
 use std::alloc::Global;
 use std::marker::Model;
 
-/// The greatest number of bytes of an option's name.
-const MOST_BYTES: usize = 64;
-
-/// The name of an option: `[A-Za-z_][A-Za-z0-9_]*` of 1 to 64 bytes, and none of the reserved words.
+/// The name of an option: `[A-Za-z_][A-Za-z0-9_]*` of 1 to `MOST_OPTION_NAME_BYTES` bytes, and none of the reserved words.
 #[derive(Debug, Drop)]
 pub struct OptionName {
     text: Text,
@@ -68,7 +65,7 @@ impl OptionName {
 fn is_well_spelt(bytes: &[u8]) -> bool
     ensures { result ≡ is_option_name bytes.now }
 {
-    spells_word(bytes) && bytes.len() <= MOST_BYTES && !is_reserved(bytes)
+    spells_word(bytes) && bytes.len() <= MOST_OPTION_NAME_BYTES && !is_reserved(bytes)
 }
 
 fn is_reserved(bytes: &[u8]) -> bool

@@ -1,16 +1,16 @@
 // The conjunction of the clauses.
 ghost use Rattle.std.specs.Prelude.{◌<◌, ◌≤◌, IfOk};
-ghost use Rattle.cov_dd.specs.Diagrams.{node_count};
+ghost use Rattle.cov_dd.specs.Diagrams.{diagram_size};
 
 use crate::random::{Literal, Random};
-use cov_base::{Memory, Steps, Uncounted};
+use cov_base::{CHOICE_WIDTH, Memory, Steps, Uncounted};
 use cov_dd::{FALSE, Node, Table};
 
 const CLAUSES: u32 = 256;
 
 /// The node that is true where all clauses are.
 pub fn conjunction(table: &mut Table, window: u8) -> Result<Node, Memory>
-    ensures { IfOk result (λ all. all < node_count table.new) }
+    ensures { IfOk result (λ all. all < diagram_size table.new) }
 {
     let mut random = Random::new();
     let mut all = clause(table, random.clause(window))?;
@@ -22,8 +22,8 @@ pub fn conjunction(table: &mut Table, window: u8) -> Result<Node, Memory>
 }
 
 fn clause(table: &mut Table, literals: [Literal; 3]) -> Result<Node, Memory>
-    ensures grows { node_count table.old ≤ node_count table.new }
-    ensures within { IfOk result (λ one. one < node_count table.new) }
+    ensures grows { diagram_size table.old ≤ diagram_size table.new }
+    ensures within { IfOk result (λ one. one < diagram_size table.new) }
 {
     let [first, second, third] = literals;
     let a = literal_node(table, first)?;
@@ -34,8 +34,8 @@ fn clause(table: &mut Table, literals: [Literal; 3]) -> Result<Node, Memory>
 }
 
 fn literal_node(table: &mut Table, literal: Literal) -> Result<Node, Memory>
-    ensures grows { node_count table.old ≤ node_count table.new }
-    ensures within { IfOk result (λ node. node < node_count table.new) }
+    ensures grows { diagram_size table.old ≤ diagram_size table.new }
+    ensures within { IfOk result (λ node. node < diagram_size table.new) }
 {
     let node = table.literal(literal.option)?;
     if literal.on {
@@ -48,7 +48,7 @@ fn literal_node(table: &mut Table, literal: Literal) -> Result<Node, Memory>
 pub fn first_choice(table: &Table, all: Node) -> u128 {
     let mut bits = 0;
     let mut node = all;
-    for _ in 0..128 {
+    for _ in 0..CHOICE_WIDTH {
         let Some(triple) = table.entry(node) else {
             break;
         };

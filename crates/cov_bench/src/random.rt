@@ -1,5 +1,6 @@
 // Random clauses.
 ghost use Rattle.std.specs.Prelude.{◌<◌, ◌≤◌};
+ghost use Rattle.cov_base.specs.declared.limits.TheConstants.{CHOICE_WIDTH};
 
 use cov_base::OptionId;
 
@@ -54,7 +55,7 @@ impl Random {
 }
 
 fn signed(option: u64, sign: u64) -> Literal
-    requires { option < 128 }
+    requires { option < CHOICE_WIDTH }
 {
     Literal {
         option: OptionId::new(option as u8),

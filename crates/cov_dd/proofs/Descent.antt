@@ -6,7 +6,7 @@ use Rattle.cov_dd.specs.declared.operation.Operation.{Operation}
 use Rattle.cov_dd.specs.declared.operation.Operation.TheVariants.{Without}
 use Rattle.cov_dd.specs.declared.triple.Triple.{Triple}
 use Rattle.cov_dd.specs.declared.memo.Pair.{Pair}
-use Rattle.cov_dd.specs.Diagrams.{node_count, top, span, value_in, IsDiagram, Extends, Stands}
+use Rattle.cov_dd.specs.Diagrams.{diagram_size, top, span, value_in, IsDiagram, Extends, Stands}
 use Rattle.cov_dd.specs.Memos.{IsKey, IsMade, IsDistinct}
 use Rattle.cov_dd.specs.Reached.{reaches, size}
 use Rattle.cov_dd.specs.Combinations.{applied, both_in, IsShortcut, first_option, joint_span, AreRight, IsSides, Runs, Joins, Rests}
@@ -20,10 +20,10 @@ cond-applied w true x₁ x₀ y₁ y₀ = refl
 cond-applied w false x₁ x₀ y₁ y₀ = refl
 
 -- a shortcut stands
-pub shortcut_stands : (w : Operation) (ts : List Triple) → IsDiagram ts → (a b r : ℕ) → a < node_count ts → b < node_count ts → IsShortcut w a b r
+pub shortcut_stands : (w : Operation) (ts : List Triple) → IsDiagram ts → (a b r : ℕ) → a < diagram_size ts → b < diagram_size ts → IsShortcut w a b r
     → Stands ts r (first_option ts a b) (joint_span ts a b) (both_in w ts a b)
 shortcut_stands w ts d a b r ha hb s = record {
-  within = at (λ n. n < node_count ts) ha hb (λ h. omega (arith, h, some_nodes ts));
+  within = at (λ n. n < diagram_size ts) ha hb (λ h. omega (arith, h, some_nodes ts));
   above = at (λ n. first_option ts a b ≤ top ts n) (omega arith) (omega arith) (λ h. omega (arith, top-constant ts r h, top-most ts a d));
   below = at (λ n. span ts n ≤ joint_span ts a b) (omega arith) (omega arith) (λ h. omega (arith, span-constant ts r h));
   value = λ c. s.value (λ n. value_in ts n c) (value-constant ts 0 c (omega arith)) (value-constant ts 1 c (omega arith));
@@ -35,7 +35,7 @@ shortcut_stands w ts d a b r ha hb s = record {
       | inr other ↦ elim other as (λ _. P r) [ inl is ↦ subst P (sym is) pb | inr h ↦ pr h ]
     ]
 
-pub settled_stands : (w : Operation) (ts : List Triple) → IsDiagram ts → (a b : ℕ) → a < node_count ts → b < node_count ts → (o : Option ℕ) → IfSome o (IsShortcut w a b)
+pub settled_stands : (w : Operation) (ts : List Triple) → IsDiagram ts → (a b : ℕ) → a < diagram_size ts → b < diagram_size ts → (o : Option ℕ) → IfSome o (IsShortcut w a b)
     → IfSome o (λ r. Stands ts r (first_option ts a b) (joint_span ts a b) (both_in w ts a b))
 settled_stands w ts d a b ha hb None s = tt
 settled_stands w ts d a b ha hb (Some r) s = shortcut_stands w ts d a b r ha hb s
@@ -48,7 +48,7 @@ made_stands w ts (e ∷ es) p r right (inl is) = subst (λ (f : Pair × ℕ). St
 made_stands w ts (e ∷ es) p r right (inr h) = made_stands w ts es p r right.1 h
 
 -- the operation on two nodes stays as the table grows
-module _ (w : Operation) (ts us : List Triple) (x : Extends ts us) (a b : ℕ) (ha : a < node_count ts) (hb : b < node_count ts) where
+module _ (w : Operation) (ts us : List Triple) (x : Extends ts us) (a b : ℕ) (ha : a < diagram_size ts) (hb : b < diagram_size ts) where
   pub first_option-later : first_option us a b ≡ first_option ts a b
   first_option-later = λ j. min (x.least a ha j) (x.least b hb j)
 
@@ -77,7 +77,7 @@ right_later w ts us x (e ∷ es) right = (
   right_later w ts us x es right.1,
 )
 
-reaches-later : (ts us : List Triple) → Extends ts us → (a n : ℕ) → a < node_count ts → reaches us a n ≡ reaches ts a n
+reaches-later : (ts us : List Triple) → Extends ts us → (a n : ℕ) → a < diagram_size ts → reaches us a n ≡ reaches ts a n
 reaches-later ts us x a n h = ap (λ vs. reaches vs a n) x.is ∙ reaches-append x.more ts a n h
 
 -- the lesser of two numbers is one of them
@@ -98,7 +98,7 @@ no_runs w ts a b m k right = record {
 }
 
 module _ (w : Operation) (ts : List Triple) (a b o a₀ a₁ b₀ b₁ : ℕ) (m : List (Pair × ℕ)) (k : ℕ)
-    (ha : a < node_count ts) (hb : b < node_count ts) (at : o ≡ first_option ts a b) (left : IsSides ts a o a₀ a₁) (right : IsSides ts b o b₀ b₁) where
+    (ha : a < diagram_size ts) (hb : b < diagram_size ts) (at : o ≡ first_option ts a b) (left : IsSides ts a o a₀ a₁) (right : IsSides ts b o b₀ b₁) where
   -- after the descent where the option is off
   module _ (t₁ : List Triple) (m₁ : List (Pair × ℕ)) (k₁ : ℕ) (first : Runs w ts t₁ a₀ b₀ m m₁ k k₁) where
     pub off_runs : Runs w ts t₁ a b m m₁ k k₁
@@ -252,12 +252,12 @@ module _ (w : Operation) (ts : List Triple) (a b o a₀ a₁ b₀ b₁ : ℕ) (m
           joined_stands (Err x) j = tt
 
 -- no more steps than pairs of nodes that are reached
-pub combined_bound : (w : Operation) (ts us : List Triple) (a b : ℕ) (m n : List (Pair × ℕ)) (k l : ℕ) → a < node_count ts → b < node_count ts → m ≡ []
+pub combined_bound : (w : Operation) (ts us : List Triple) (a b : ℕ) (m n : List (Pair × ℕ)) (k l : ℕ) → a < diagram_size ts → b < diagram_size ts → m ≡ []
     → Runs w ts us a b m n k l → IsDistinct n → l - k ≤ size ts a * size ts b
 combined_bound w ts us a b m n k l ha hb empty runs distinct =
     let whole : n ≡ runs.more = runs.is ∙ ap (λ e. runs.more ++ e) empty ∙ append-nil runs.more in
     let bound : length runs.more ≤ size ts a * size ts b =
-    fits_product runs.more (reaches ts a) (reaches ts b) (node_count ts) (node_count ts) (subst IsDistinct whole distinct)
+    fits_product runs.more (reaches ts a) (reaches ts b) (diagram_size ts) (diagram_size ts) (subst IsDistinct whole distinct)
     (λ p key. (
       omega (arith, (runs.before p key).0, ha),
       omega (arith, (runs.before p key).1, hb),

@@ -3,14 +3,14 @@ use Rattle.std.proofs.Common.{◌≡◌, true, false, List, [], ◌∷◌, Some,
 use Rattle.std.specs.List.{find}
 use Rattle.cov_base.specs.Choices.{all_choices}
 use Rattle.cov_dd.specs.declared.triple.Triple.{Triple}
-use Rattle.cov_dd.specs.Diagrams.{node_count, entry_in, top, span, value_in}
+use Rattle.cov_dd.specs.Diagrams.{diagram_size, entry_in, top, span, value_in}
 use Rattle.cov_dd.specs.Reached.{reaches, size}
 
 -- nodes 2 and 3 are the literals of options 0 and 1, and node 4 is true where one of them is
 abbrev either : List Triple
 either = record { option = 0; off = 3; on = 1 } ∷ record { option = 1; off = 0; on = 1 } ∷ record { option = 0; off = 0; on = 1 } ∷ []
 
-five_nodes : node_count either ≡ 5
+five_nodes : diagram_size either ≡ 5
 five_nodes = refl
 
 entry_of_b : entry_in either 3 ≡ Some (record { option = 1; off = 0; on = 1 })

@@ -1,5 +1,6 @@
 -- Distinct pairs of numbers are at most as many as the places of a grid.
 use Rattle.std.proofs.Common.{◌≡◌, ◌≢◌, ℕ, zero, suc, ◌+◌, ◌*◌, ◌<◌, ◌≤◌, ◌==◌, ◌&&◌, not, Bool, true, false, cond, List, [], ◌∷◌, length, refl, sym, ap, ◌∙◌, inl, inr, ◌⊎◌, subst, arith}
+use mathlib.Core.Bool.{and-true, and-false}
 use Rattle.std.proofs.Math.Nat.{zero-mul, suc-mul}
 use Rattle.std.proofs.lemmas.Bool.{eq-eqb, ne_eqb, eqb-true}
 use Rattle.cov_dd.specs.declared.memo.Pair.{Pair}
@@ -21,14 +22,6 @@ count_below-same q r zero h = refl
 count_below-same q r (suc m) h =
     let rest = count_below-same q r m (λ j lt. h j (omega (arith, lt))) in
     λ k. cond (h m (omega arith) k) (suc (rest k)) (rest k)
-
-and-true : (b : Bool) → (b && true) ≡ b
-and-true true = refl
-and-true false = refl
-
-and-false : (b : Bool) → (b && false) ≡ false
-and-false true = refl
-and-false false = refl
 
 -- a test of one column less counts one less
 count_below-less : (q r : ℕ → Bool) (y m : ℕ) → y < m → q y ≡ true → r y ≡ false → ((j : ℕ) → j ≢ y → r j ≡ q j) → count_below q m ≡ suc (count_below r m)

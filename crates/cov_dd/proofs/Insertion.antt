@@ -1,6 +1,6 @@
 -- The entries of a set of triples, read from the newest.
 use Rattle.std.proofs.Common.{◌≡◌, ◌≢◌, ℕ, zero, suc, ◌+◌, ◌-◌, ◌<◌, ◌≤◌, ◌==◌, ◌&&◌, ◌||◌, nat_eq, max, Bool, true, false, cond, List, [], ◌∷◌, ◌++◌, length, reverse, slice_get, Some, Result, Ok, Err, IfOk, OnErr, refl, sym, ap, ◌∙◌, inl, inr, ◌⊎◌, subst, arith, true≢false}
-use Rattle.std.proofs.lemmas.Bool.{eq-eqb, eqb-true, eqb-false}
+use Rattle.std.proofs.lemmas.Bool.{eq-eqb, eqb-true, eqb-false, and_parts, or_right}
 use Rattle.std.proofs.lemmas.Grind.{reverse_onto}
 use Rattle.std.proofs.lemmas.List.{reverse-append, reverse-reverse, length-reverse}
 use Rattle.std.proofs.lemmas.List.Sorted.{list_any-IsPermutation, IsPermutation-reverse}
@@ -9,27 +9,19 @@ use Rattle.std.specs.List.{list_any}
 use Rattle.indexmap.specs.IndexSet.{insert_key}
 use Rattle.cov_base.specs.Choices.{is_on}
 use Rattle.cov_dd.specs.declared.triple.Triple.{Triple}
-use Rattle.cov_dd.specs.Diagrams.{node_count, entry_in, top, span, value_in, IsDiagram, Extends, IsEntry, Stands, Placed}
+use Rattle.cov_dd.specs.Diagrams.{diagram_size, entry_in, top, span, value_in, IsDiagram, Extends, IsEntry, Stands, Placed}
 use Rattle.cov_dd.proofs.Nodes.{below, level, above, ordered, extends_by, entry_facts}
 
 -- the derived test of equality
 abbrev pub same_triple : Triple → Triple → Bool
 same_triple t u = nat_eq t.option u.option && (nat_eq t.off u.off && nat_eq t.on u.on)
 
-and_left : (a b : Bool) → (a && b) ≡ true → a ≡ true
-and_left true b h = refl
-and_left false b h = absurd (true≢false (sym h))
-
-and_right : (a b : Bool) → (a && b) ≡ true → b ≡ true
-and_right true b h = h
-and_right false b h = absurd (true≢false (sym h))
-
 same_triple-true : (t u : Triple) → same_triple t u ≡ true → t ≡ u
 same_triple-true t u h =
-    let rest = and_right (nat_eq t.option u.option) _ h in
-    let option : t.option ≡ u.option = eqb-true t.option u.option (and_left (nat_eq t.option u.option) _ h) in
-    let off : t.off ≡ u.off = eqb-true t.off u.off (and_left (nat_eq t.off u.off) _ rest) in
-    let on : t.on ≡ u.on = eqb-true t.on u.on (and_right (nat_eq t.off u.off) _ rest) in
+    let rest = (and_parts (nat_eq t.option u.option) _ h).1 in
+    let option : t.option ≡ u.option = eqb-true t.option u.option (and_parts (nat_eq t.option u.option) _ h).0 in
+    let off : t.off ≡ u.off = eqb-true t.off u.off (and_parts (nat_eq t.off u.off) _ rest).0 in
+    let on : t.on ≡ u.on = eqb-true t.on u.on (and_parts (nat_eq t.off u.off) _ rest).1 in
     λ j. record { option = option j; off = off j; on = on j }
 
 same_triple-refl : (t : Triple) → same_triple t t ≡ true
@@ -44,14 +36,14 @@ slice_get-end : {X : Type 0} (xs : List X) (y : X) → slice_get (xs ++ y ∷ []
 slice_get-end [] y = refl
 slice_get-end (x ∷ xs) y = slice_get-end xs y
 
-node_count-length : (ts : List Triple) → node_count ts ≡ length ts + 2
-node_count-length [] = refl
-node_count-length (t ∷ ts) = omega (arith, node_count-length ts)
+diagram_size-length : (ts : List Triple) → diagram_size ts ≡ length ts + 2
+diagram_size-length [] = refl
+diagram_size-length (t ∷ ts) = omega (arith, diagram_size-length ts)
 
 -- node 2 + i has entry i
 pub entry-reverse : (ts : List Triple) (i : ℕ) → entry_in ts (i + 2) ≡ slice_get (reverse ts) i
 entry-reverse [] i = refl
-entry-reverse (t ∷ ts) i = by ((i + 2) == node_count ts) refl (entry-reverse ts i) ∙ ap (λ l. slice_get l i) (sym (reverse_onto ts t []))
+entry-reverse (t ∷ ts) i = by ((i + 2) == diagram_size ts) refl (entry-reverse ts i) ∙ ap (λ l. slice_get l i) (sym (reverse_onto ts t []))
   where
     long : length (reverse ts) ≡ length ts
     long = length-reverse ts
@@ -67,23 +59,19 @@ entry-reverse (t ∷ ts) i = by ((i + 2) == node_count ts) refl (entry-reverse t
     apart : i ≢ length ts → entry_in ts (i + 2) ≡ slice_get (reverse ts) i → entry_in ts (i + 2) ≡ slice_get (reverse ts ++ t ∷ []) i
     apart ne rest = elim (ordered i (length ts)) [ below h ↦ front h rest | level h ↦ absurd (ne h) | above h ↦ past h rest ]
 
-    by : (b : Bool) → ((i + 2) == node_count ts) ≡ b → entry_in ts (i + 2) ≡ slice_get (reverse ts) i → cond b (Some t) (entry_in ts (i + 2)) ≡ slice_get (reverse ts ++ t ∷ []) i
+    by : (b : Bool) → ((i + 2) == diagram_size ts) ≡ b → entry_in ts (i + 2) ≡ slice_get (reverse ts) i → cond b (Some t) (entry_in ts (i + 2)) ≡ slice_get (reverse ts ++ t ∷ []) i
     by true e rest =
-        let at : length (reverse ts) ≡ i = omega (arith, eqb-true (i + 2) (node_count ts) e, node_count-length ts, long) in
+        let at : length (reverse ts) ≡ i = omega (arith, eqb-true (i + 2) (diagram_size ts) e, diagram_size-length ts, long) in
         sym (slice_get-end (reverse ts) t) ∙ ap (slice_get (reverse ts ++ t ∷ [])) at
-    by false e rest = apart (λ at. eqb-false (i + 2) (node_count ts) e (omega (arith, at, node_count-length ts))) rest
+    by false e rest = apart (λ at. eqb-false (i + 2) (diagram_size ts) e (omega (arith, at, diagram_size-length ts))) rest
 
 any-entry : (ts : List Triple) (a : ℕ) (t : Triple) → entry_in ts a ≡ Some t → list_any (same_triple t) ts ≡ true
 any-entry [] a t h = absurd (cc)
-any-entry (s ∷ ts) a t h = by (a == node_count ts) h (any-entry ts a t)
+any-entry (s ∷ ts) a t h = by (a == diagram_size ts) h (any-entry ts a t)
   where
     by : (b : Bool) → cond b (Some s) (entry_in ts a) ≡ Some t → (entry_in ts a ≡ Some t → list_any (same_triple t) ts ≡ true) → (same_triple t s || list_any (same_triple t) ts) ≡ true
     by true is rest = let same : s ≡ t = cc in ap (λ u. same_triple t u || list_any (same_triple t) ts) same ∙ ap (λ b. b || list_any (same_triple t) ts) (same_triple-refl t)
-    by false is rest = or_last (same_triple t s) (list_any (same_triple t) ts) (rest is)
-      where
-        or_last : (x y : Bool) → y ≡ true → (x || y) ≡ true
-        or_last true y h = refl
-        or_last false y h = h
+    by false is rest = or_right (same_triple t s) (list_any (same_triple t) ts) (rest is)
 
 -- what inserting a triple into the set does to the list of entries
 pub placed : (keys new : List Triple) (t k : Triple) (i : ℕ) → new ≡ insert_key same_triple keys t → slice_get new i ≡ Some k → same_triple t k ≡ true
@@ -103,7 +91,7 @@ placed keys new t k i is at same = record {
 
 -- a triple that may stand above a diagram was placed
 module _ (ts us : List Triple) (d : IsDiagram ts) (t : Triple) (r : ℕ) (p : Placed ts us t r)
-    (off : t.off < node_count ts) (on : t.on < node_count ts) (off_above : t.option < top ts t.off) (on_above : t.option < top ts t.on) (differ : t.off ≢ t.on) where
+    (off : t.off < diagram_size ts) (on : t.on < diagram_size ts) (off_above : t.option < top ts t.off) (on_above : t.option < top ts t.on) (differ : t.off ≢ t.on) where
   pub makes_diagram : IsDiagram us
   makes_diagram = elim p.grown [
     | inl same ↦ subst IsDiagram (sym same) d
@@ -116,10 +104,10 @@ module _ (ts us : List Triple) (d : IsDiagram ts) (t : Triple) (r : ℕ) (p : Pl
     | inr new ↦ extends_by (t ∷ []) ts us new.0
   ]
 
-  pub makes_one : node_count us ≤ node_count ts + 1
+  pub makes_one : diagram_size us ≤ diagram_size ts + 1
   makes_one = elim p.grown [
-    | inl same ↦ omega (arith, ap node_count same)
-    | inr new ↦ omega (arith, ap node_count new.0)
+    | inl same ↦ omega (arith, ap diagram_size same)
+    | inr new ↦ omega (arith, ap diagram_size new.0)
   ]
 
   pub makes_node : Stands us r t.option (max (t.option + 1) (max (span ts t.off) (span ts t.on))) (λ c. cond (is_on c t.option) (value_in ts t.on c) (value_in ts t.off c))
@@ -141,7 +129,7 @@ entry-keys keys a h =
 
 -- what `make` owes, from what placing a triple gives
 module _ {E : Type 0} (ts us : List Triple) (d : IsDiagram ts) (t : Triple)
-    (off : t.off < node_count ts) (on : t.on < node_count ts) (off_above : t.option < top ts t.off) (on_above : t.option < top ts t.on) (differ : t.off ≢ t.on) where
+    (off : t.off < diagram_size ts) (on : t.on < diagram_size ts) (off_above : t.option < top ts t.off) (on_above : t.option < top ts t.on) (differ : t.off ≢ t.on) where
   pub result_extends : (r : Result ℕ E) → IfOk r (Placed ts us t) → OnErr r (us ≡ ts) → Extends ts us
   result_extends (Ok n) p same = makes_extends ts us d t n p off on off_above on_above differ
   result_extends (Err e) p same = extends_by [] ts us same

@@ -2,7 +2,7 @@
 use Rattle.std.proofs.Common.{◌≡◌, ℕ, ◌<◌, Bool, true, false, cond, List, Some, refl, ap, ◌∙◌, arith}
 use Rattle.cov_base.specs.Choices.{is_on}
 use Rattle.cov_dd.specs.declared.triple.Triple.{Triple}
-use Rattle.cov_dd.specs.Diagrams.{node_count, entry_in, top, value_in, IsDiagram, IsEntry}
+use Rattle.cov_dd.specs.Diagrams.{diagram_size, entry_in, top, value_in, IsDiagram, IsEntry}
 use Rattle.cov_dd.specs.Combinations.{IsSides}
 use Rattle.cov_dd.proofs.Nodes.{entry_facts}
 use Rattle.cov_dd.proofs.Reaching.{reaches-off, reaches-on}
@@ -32,7 +32,7 @@ same_both true x = refl
 same_both false x = refl
 
 -- a node that doesn't have it
-pub sides_of_other : (ts : List Triple) (a o : ℕ) → a < node_count ts → o < top ts a → IsSides ts a o a a
+pub sides_of_other : (ts : List Triple) (a o : ℕ) → a < diagram_size ts → o < top ts a → IsSides ts a o a a
 sides_of_other ts a o within above = record {
   off_within = within;
   on_within = within;

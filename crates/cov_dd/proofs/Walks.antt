@@ -3,19 +3,20 @@ use Rattle.std.proofs.Common.{◌≡◌, ◌≢◌, ℕ, zero, suc, ◌+◌, ◌
 use Rattle.std.specs.List.{find}
 use Rattle.std.proofs.lemmas.Bool.{eq-eqb, ne_eqb, eqb-true, eqb-false}
 use Rattle.cov_base.specs.Choices.{all_choices, bits_of, is_on, with_option}
+use Rattle.cov_base.specs.declared.limits.TheConstants.{CHOICE_WIDTH}
 use Rattle.cov_dd.specs.declared.triple.Triple.{Triple}
-use Rattle.cov_dd.specs.Diagrams.{node_count, entry_in, top, span, value_in, IsDiagram, IsEntry}
+use Rattle.cov_dd.specs.Diagrams.{diagram_size, entry_in, top, span, value_in, IsDiagram, IsEntry}
 use Rattle.cov_dd.proofs.Settings.{length-with_option}
 use Rattle.cov_dd.proofs.Nodes.{Order, below, level, above, ordered, cond-older, value-constant, top-constant, entry-constant, entry_facts, has_entry}
 
 -- the choice c with the options on that a walk through the nodes sets, where it goes off unless that is FALSE
 abbrev pub walked : List Triple → ℕ → List Bool → List Bool
 walked [] a c = c
-walked (t ∷ ts) a c = cond (a == node_count ts) (cond (t.off == 0) (walked ts t.on (with_option c t.option true)) (walked ts t.off c)) (walked ts a c)
+walked (t ∷ ts) a c = cond (a == diagram_size ts) (cond (t.off == 0) (walked ts t.on (with_option c t.option true)) (walked ts t.off c)) (walked ts a c)
 
 pub walked-none : (ts : List Triple) (a : ℕ) (c : List Bool) → entry_in ts a ≡ None → walked ts a c ≡ c
 walked-none [] a c h = refl
-walked-none (t ∷ ts) a c h = by (a == node_count ts) h (walked-none ts a c)
+walked-none (t ∷ ts) a c h = by (a == diagram_size ts) h (walked-none ts a c)
   where
     by : (b : Bool) → cond b (Some t) (entry_in ts a) ≡ None → (entry_in ts a ≡ None → walked ts a c ≡ c)
         → cond b (cond (t.off == 0) (walked ts t.on (with_option c t.option true)) (walked ts t.off c)) (walked ts a c) ≡ c
@@ -26,12 +27,12 @@ walked-none (t ∷ ts) a c h = by (a == node_count ts) h (walked-none ts a c)
 pub walked-entry : (ts : List Triple) → IsDiagram ts → (a : ℕ) (t : Triple) (c : List Bool) → entry_in ts a ≡ Some t
     → walked ts a c ≡ cond (t.off == 0) (walked ts t.on (with_option c t.option true)) (walked ts t.off c)
 walked-entry [] d a t c h = absurd (cc)
-walked-entry (s ∷ ts) d a t c h = by (a == node_count ts) refl h (λ is. (entry_facts ts d.0 a t is, walked-entry ts d.0 a t c is))
+walked-entry (s ∷ ts) d a t c h = by (a == diagram_size ts) refl h (λ is. (entry_facts ts d.0 a t is, walked-entry ts d.0 a t c is))
   where
-    older : (n : ℕ) (v : List Bool) → n < node_count ts → walked (s ∷ ts) n v ≡ walked ts n v
-    older n v h = cond-older n (node_count ts) _ (walked ts n v) h
+    older : (n : ℕ) (v : List Bool) → n < diagram_size ts → walked (s ∷ ts) n v ≡ walked ts n v
+    older n v h = cond-older n (diagram_size ts) _ (walked ts n v) h
 
-    by : (b : Bool) → (a == node_count ts) ≡ b → cond b (Some s) (entry_in ts a) ≡ Some t
+    by : (b : Bool) → (a == diagram_size ts) ≡ b → cond b (Some s) (entry_in ts a) ≡ Some t
         → (entry_in ts a ≡ Some t → IsEntry ts a t × (walked ts a c ≡ cond (t.off == 0) (walked ts t.on (with_option c t.option true)) (walked ts t.off c)))
         → cond b (cond (s.off == 0) (walked ts s.on (with_option c s.option true)) (walked ts s.off c)) (walked ts a c)
         ≡ cond (t.off == 0) (walked (s ∷ ts) t.on (with_option c t.option true)) (walked (s ∷ ts) t.off c)
@@ -41,8 +42,8 @@ walked-entry (s ∷ ts) d a t c h = by (a == node_count ts) refl h (λ is. (entr
         ∙ ap (λ (u : Triple). cond (u.off == 0) (walked (s ∷ ts) u.on (with_option c u.option true)) (walked (s ∷ ts) u.off c)) same
     by false e is rest =
         let f = rest is in
-        let off : t.off < node_count ts = omega (arith, f.0.off_before, f.0.within) in
-        let on : t.on < node_count ts = omega (arith, f.0.on_before, f.0.within) in
+        let off : t.off < diagram_size ts = omega (arith, f.0.off_before, f.0.within) in
+        let on : t.on < diagram_size ts = omega (arith, f.0.on_before, f.0.within) in
         f.1 ∙ (λ j. cond (t.off == 0) (sym (older t.on (with_option c t.option true) on) j) (sym (older t.off c off) j))
 
 -- searching two lists, and lists of longer choices
@@ -143,7 +144,7 @@ module _ (ts : List Triple) (d : IsDiagram ts) where
   }
 
   -- a node with an option at least at p's length isn't spanned by it
-  only_true : (a : ℕ) (p : List Bool) → a < node_count ts → a ≢ 0 → length p ≤ top ts a → span ts a ≤ length p + 0 → a ≡ 1
+  only_true : (a : ℕ) (p : List Bool) → a < diagram_size ts → a ≢ 0 → length p ≤ top ts a → span ts a ≤ length p + 0 → a ≡ 1
   only_true a p within ne after spans = by (ordered a 1)
     where
       more : 1 < a → a ≡ 1
@@ -158,7 +159,7 @@ module _ (ts : List Triple) (d : IsDiagram ts) where
       by (above h) = more h
 
   -- one more option
-  further : (k a : ℕ) (p : List Bool) → a < node_count ts → length p ≤ top ts a → length p < 128
+  further : (k a : ℕ) (p : List Bool) → a < diagram_size ts → length p ≤ top ts a → length p < CHOICE_WIDTH
       → (length p < top ts a → First ts a k (p ++ false ∷ []))
       → ((t : Triple) → IsEntry ts a t → t.option ≡ length p → t.off ≢ 0 → First ts t.off k (p ++ false ∷ []))
       → ((t : Triple) → IsEntry ts a t → t.option ≡ length p → t.on ≢ 0 → First ts t.on k (p ++ true ∷ []))
@@ -189,7 +190,7 @@ module _ (ts : List Triple) (d : IsDiagram ts) where
       by (level h) = level_at h
       by (above h) = absurd (omega (arith, h, after))
 
-  first : (m a : ℕ) (p : List Bool) → a < node_count ts → a ≢ 0 → length p ≤ top ts a → span ts a ≤ length p + m → length p + m ≤ 128 → First ts a m p
+  first : (m a : ℕ) (p : List Bool) → a < diagram_size ts → a ≢ 0 → length p ≤ top ts a → span ts a ≤ length p + m → length p + m ≤ CHOICE_WIDTH → First ts a m p
   first zero a p within ne after spans most = done a p (only_true a p within ne after spans)
   first (suc k) a p within ne after spans most =
       let long_off : length (p ++ false ∷ []) ≡ length p + 1 = length-append p (false ∷ []) in
@@ -199,7 +200,7 @@ module _ (ts : List Triple) (d : IsDiagram ts) where
       (λ t e at nz. first k t.off (p ++ false ∷ []) (omega (arith, within, e.off_before)) nz (omega (arith, e.off_above, at, long_off)) (omega (arith, spans, e.spans, long_off)) (omega (arith, most, long_off)))
       (λ t e at nz. first k t.on (p ++ true ∷ []) (omega (arith, within, e.on_before)) nz (omega (arith, e.on_above, at, long_on)) (omega (arith, spans, e.spans, long_on)) (omega (arith, most, long_on)))
 
-pub first_choice : (ts : List Triple) → IsDiagram ts → (a n : ℕ) → a < node_count ts → a ≢ 0 → span ts a ≤ n → n ≤ 128
+pub first_choice : (ts : List Triple) → IsDiagram ts → (a n : ℕ) → a < diagram_size ts → a ≢ 0 → span ts a ≤ n → n ≤ CHOICE_WIDTH
     → find (value_in ts a) (all_choices n) ≡ Some (walked ts a (replicate n false))
 first_choice ts d a n within ne spans most =
     let f : First ts a n [] = first ts d n a [] within ne (omega arith) (omega (arith, spans)) (omega (arith, most)) in

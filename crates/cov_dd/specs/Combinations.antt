@@ -5,7 +5,7 @@ use Rattle.cov_dd.specs.declared.operation.Operation.{Operation}
 use Rattle.cov_dd.specs.declared.operation.Operation.TheVariants.{And, Or, Without}
 use Rattle.cov_dd.specs.declared.triple.Triple.{Triple}
 use Rattle.cov_dd.specs.declared.memo.Pair.{Pair}
-use Rattle.cov_dd.specs.Diagrams.{node_count, top, span, value_in, Extends, Stands}
+use Rattle.cov_dd.specs.Diagrams.{diagram_size, top, span, value_in, Extends, Stands}
 use Rattle.cov_dd.specs.Memos.{IsKey}
 use Rattle.cov_dd.specs.Reached.{reaches}
 
@@ -34,8 +34,8 @@ joint_span ts a b = max (span ts a) (span ts b)
 
 -- a node that was made for a pair is right
 pub record IsRight (w : Operation) (ts : List Triple) (e : Pair × ℕ) : Type 0 where
-  pub left : e.0.left < node_count ts
-  pub right : e.0.right < node_count ts
+  pub left : e.0.left < diagram_size ts
+  pub right : e.0.right < diagram_size ts
   pub stands : Stands ts e.1 (first_option ts e.0.left e.0.right) (joint_span ts e.0.left e.0.right) (both_in w ts e.0.left e.0.right)
 
 -- each node that was made for a pair is right
@@ -45,8 +45,8 @@ AreRight w ts (e ∷ es) = IsRight w ts e × AreRight w ts es
 
 -- the node a, taken apart at an option that is not after its own
 pub record IsSides (ts : List Triple) (a o off on : ℕ) : Type 0 where
-  pub off_within : off < node_count ts
-  pub on_within : on < node_count ts
+  pub off_within : off < diagram_size ts
+  pub on_within : on < diagram_size ts
   pub off_above : o < top ts off
   pub on_above : o < top ts on
   pub off_below : span ts off ≤ span ts a
@@ -67,14 +67,14 @@ pub record Runs (w : Operation) (ts us : List Triple) (a b : ℕ) (m n : List (P
   pub more : List (Pair × ℕ)
   pub is : n ≡ more ++ m
   pub steps : l ≡ k + length more
-  pub entries : node_count us ≤ node_count ts + length more
+  pub entries : diagram_size us ≤ diagram_size ts + length more
   pub reached : (p : Pair) → IsKey more p → (reaches ts a p.left ≡ true) × (reaches ts b p.right ≡ true)
   pub before : (p : Pair) → IsKey more p → (p.left ≤ a) × (p.right ≤ b)
 
 -- the node of a triple was made for a pair
 pub record Joins (ts us : List Triple) (pair : Pair) (t : Triple) (m n : List (Pair × ℕ)) (k l r : ℕ) : Type 0 where
   pub extends : Extends ts us
-  pub one : node_count us ≤ node_count ts + 1
+  pub one : diagram_size us ≤ diagram_size ts + 1
   pub stands : Stands us r t.option (max (t.option + 1) (max (span ts t.off) (span ts t.on))) (λ c. cond (is_on c t.option) (value_in ts t.on c) (value_in ts t.off c))
   pub memo : n ≡ (pair, r) ∷ m
   pub steps : l ≡ k + 1

@@ -1,5 +1,6 @@
 // The nodes of a table and their entries.
 ghost use Rattle.std.specs.Prelude.{◌≡◌, List, if◌then◌else◌};
+ghost use Rattle.cov_base.specs.declared.limits.TheConstants.{CHOICE_WIDTH};
 ghost use Rattle.cov_dd.specs.declared.triple.Triple.{Triple};
 ghost use Rattle.cov_dd.specs.Diagrams.{Stands};
 
@@ -16,7 +17,7 @@ pub const TRUE: Node = 1;
 
 /// The node with the same truth value on every choice, in any table.
 pub fn constant(on: bool) -> Node
-    ensures { (ts : List Triple) → Stands ts result 128 0 (λ _. on) }
+    ensures { (ts : List Triple) → Stands ts result CHOICE_WIDTH 0 (λ _. on) }
 {
     if on { TRUE } else { FALSE }
 }

@@ -1,56 +1,31 @@
 -- The lines of a file after a change.
 use Rattle.std.proofs.Common.{◌≡◌, ℕ, zero, suc, ◌+◌, ◌-◌, ◌≤◌, min, Bool, true, false, cond, nat_eq, nat_le, ◌||◌, List, [], ◌∷◌, ◌++◌, length, set, map, Some, position, refl, sym, ap, subst, ◌∙◌, arith}
+use mathlib.Core.Bool.{or_assoc, or_comm}
 use Rattle.std.proofs.Math.Nat.{min-le_left, min-le_right, le-min}
 use Rattle.std.specs.List.{AllByRecursion, list_any}
 use Rattle.std.specs.Map.{keys_of}
 use Rattle.std.proofs.lemmas.Bool.Decides.{nat_tests}
+use Rattle.std.proofs.lemmas.Bool.{or_left}
+use Rattle.cov_base.proofs.CallerLemmas.{or_left_comm, nat_eq-sym}
 use Rattle.cov_base.specs.Addresses.{after_first, after_anchor}
 use Rattle.cov_order.specs.Orders.{has_line}
-use Rattle.cov_file.specs.Dated.{DatedLine, node_at, newest_node, numbers_of, dated_number, new_line, with_line, changed, with_change, IsAlike, AreAlike}
-use Rattle.cov_file.specs.Listing.{Listing, lists_of, older_at, node_in, changes_in, text_in, dated_in, dated_lines, AreKept}
+use Rattle.cov_file.specs.Dated.{DatedLine, vis_at, newest_vis, line_numbers_of, dated_number, new_line, with_line, changed, with_change, IsAlike, AreAlike}
+use Rattle.cov_file.specs.Listing.{Listing, lists_of, older_at, vis_in, changes_in, text_in, dated_in, dated_lines, AreListed}
 use Rattle.cov_file.proofs.Nodes.{node_before, node_behind, node_set, changes_shorter, changes_missing, keys_behind, length-keys, text_before, text_behind, same_number}
 
 -- the numbers of lines by their numbers
-pub numbers : (texts : List (ℕ × List ℕ)) (ls : List (ℕ × List ℕ)) (lines : List ℕ) → numbers_of (dated_lines texts ls lines) ≡ lines
+pub numbers : (texts : List (ℕ × List ℕ)) (ls : List (ℕ × List ℕ)) (lines : List ℕ) → line_numbers_of (dated_lines texts ls lines) ≡ lines
 numbers texts ls [] = refl
 numbers texts ls (n ∷ ns) = ap (λ l. n ∷ l) (numbers texts ls ns)
-
-pub either : (a b : Bool) → (a || b) ≡ (b || a)
-either true true = refl
-either true false = refl
-either false true = refl
-either false false = refl
-
-pub either_true : (a b : Bool) → b ≡ true → (a || b) ≡ true
-either_true true b h = refl
-either_true false b h = h
-
-pub true_either : (a b : Bool) → a ≡ true → (a || b) ≡ true
-true_either true b h = refl
-true_either false b h = absurd (cc)
-
-swapped : (m n : ℕ) (b c : Bool) → nat_eq m n ≡ b → nat_eq n m ≡ c → b ≡ c
-swapped m n true true e f = refl
-swapped m n false false e f = refl
-swapped m n true false e f = absurd (grind (arith, nat_tests, e, f))
-swapped m n false true e f = absurd (grind (arith, nat_tests, e, f))
-
-pub swap_eq : (m n : ℕ) → nat_eq m n ≡ nat_eq n m
-swap_eq m n = swapped m n (nat_eq m n) (nat_eq n m) refl refl
 
 has_first : (n : ℕ) (t : ℕ → Bool) (x : ℕ) (xs : List ℕ) → has_line n (after_first t x xs) ≡ (nat_eq x n || has_line n xs)
 has_first n t x [] = refl
 has_first n t x (y ∷ ys) = at (t y) (has_first n t x ys)
   where
-    turn : (a b c : Bool) → (a || (b || c)) ≡ (b || (a || c))
-    turn true true c = refl
-    turn true false c = refl
-    turn false b c = refl
-
     at : (b : Bool) → has_line n (after_first t x ys) ≡ (nat_eq x n || has_line n ys)
         → has_line n (cond b (y ∷ x ∷ ys) (y ∷ after_first t x ys)) ≡ (nat_eq x n || (nat_eq y n || has_line n ys))
-    at true rest = turn (nat_eq y n) (nat_eq x n) (has_line n ys)
-    at false rest = ap (λ b. nat_eq y n || b) rest ∙ turn (nat_eq y n) (nat_eq x n) (has_line n ys)
+    at true rest = or_left_comm (nat_eq y n) (nat_eq x n) (has_line n ys)
+    at false rest = ap (λ b. nat_eq y n || b) rest ∙ or_left_comm (nat_eq y n) (nat_eq x n) (has_line n ys)
 
 -- the lines with one more have that one and the others
 pub has_after : (n anchor line : ℕ) (lines : List ℕ) → has_line n (after_anchor anchor line lines) ≡ (nat_eq line n || has_line n lines)
@@ -58,12 +33,8 @@ has_after n zero line lines = refl
 has_after n (suc anchor) line lines = has_first n (λ m. nat_eq m (suc anchor)) line lines
 
 any_behind : (n k : ℕ) (keys : List ℕ) → list_any (nat_eq n) (keys ++ k ∷ []) ≡ (list_any (nat_eq n) keys || nat_eq n k)
-any_behind n k [] = either (nat_eq n k) false
-any_behind n k (x ∷ xs) = ap (λ b. nat_eq n x || b) (any_behind n k xs) ∙ assoc (nat_eq n x) (list_any (nat_eq n) xs) (nat_eq n k)
-  where
-    assoc : (a b c : Bool) → (a || (b || c)) ≡ ((a || b) || c)
-    assoc true b c = refl
-    assoc false b c = refl
+any_behind n k [] = or_comm (nat_eq n k) false
+any_behind n k (x ∷ xs) = ap (λ b. nat_eq n x || b) (any_behind n k xs) ∙ sym (or_assoc (nat_eq n x) (list_any (nat_eq n) xs) (nat_eq n k))
 
 -- lines of a list have what all its lines have
 pub all_lines : (P : ℕ → Type 0) (lines : List ℕ) → ((n : ℕ) → has_line n lines ≡ true → P n) → AllByRecursion P lines
@@ -71,7 +42,7 @@ all_lines P [] h = tt
 all_lines P (n ∷ ns) h = (h n own, all_lines P ns (λ m k. h m (later m (nat_eq n m) k)))
   where
     own : (nat_eq n n || has_line n ns) ≡ true
-    own = true_either (nat_eq n n) (has_line n ns) (same_number n)
+    own = or_left (nat_eq n n) (has_line n ns) (same_number n)
 
     later : (m : ℕ) (b : Bool) → has_line m ns ≡ true → (b || has_line m ns) ≡ true
     later m true k = refl
@@ -123,7 +94,7 @@ covering v w rest false false e = refl
 equal : (m n : ℕ) → nat_eq m n ≡ true → m ≡ n
 equal m n e = grind (arith, nat_tests, e)
 
-module _ (lines : List ℕ) (texts : List (ℕ × List ℕ)) (l : Listing) (kept : AreKept lines texts l) (at : ℕ) (later : l.from ≤ at) where
+module _ (lines : List ℕ) (texts : List (ℕ × List ℕ)) (l : Listing) (kept : AreListed lines texts l) (at : ℕ) (later : l.from ≤ at) where
   abbrev the_keys : List ℕ
   the_keys = keys_of texts
 
@@ -141,21 +112,21 @@ module _ (lines : List ℕ) (texts : List (ℕ × List ℕ)) (l : Listing) (kept
       by false = (omega (arith, kept.nodes), kept.older)
 
   -- with the newest list as it was, each position has the node that it had
-  same_nodes : (n p : ℕ) → node_at ((at, node_in the_keys l.newest n) ∷ changes_in the_keys (older_at at l) n) p ≡ node_at (changes_in the_keys (lists_of l) n) p
+  same_nodes : (n p : ℕ) → vis_at ((at, vis_in the_keys l.newest n) ∷ changes_in the_keys (older_at at l) n) p ≡ vis_at (changes_in the_keys (lists_of l) n) p
   same_nodes n p = by (nat_eq at l.from) refl
     where
       by : (b : Bool) → nat_eq at l.from ≡ b
-          → node_at ((at, node_in the_keys l.newest n) ∷ changes_in the_keys (cond b l.older ((l.from, l.newest) ∷ l.older)) n) p ≡ node_at (changes_in the_keys (lists_of l) n) p
-      by true e = ap (λ q. node_at ((q, node_in the_keys l.newest n) ∷ changes_in the_keys l.older n) p) (equal at l.from e)
-      by false e = covered (node_in the_keys l.newest n) (node_at (changes_in the_keys l.older n) p) (nat_le at p) (nat_le l.from p) (later_le l.from at p later)
+          → vis_at ((at, vis_in the_keys l.newest n) ∷ changes_in the_keys (cond b l.older ((l.from, l.newest) ∷ l.older)) n) p ≡ vis_at (changes_in the_keys (lists_of l) n) p
+      by true e = ap (λ q. vis_at ((q, vis_in the_keys l.newest n) ∷ changes_in the_keys l.older n) p) (equal at l.from e)
+      by false e = covered (vis_in the_keys l.newest n) (vis_at (changes_in the_keys l.older n) p) (nat_le at p) (nat_le l.from p) (later_le l.from at p later)
 
   -- another node stands before those that there were
-  other_nodes : (n p vis : ℕ) → node_at ((at, vis) ∷ changes_in the_keys (older_at at l) n) p ≡ node_at ((at, vis) ∷ changes_in the_keys (lists_of l) n) p
+  other_nodes : (n p vis : ℕ) → vis_at ((at, vis) ∷ changes_in the_keys (older_at at l) n) p ≡ vis_at ((at, vis) ∷ changes_in the_keys (lists_of l) n) p
   other_nodes n p vis = by (nat_eq at l.from) refl
     where
       by : (b : Bool) → nat_eq at l.from ≡ b
-          → node_at ((at, vis) ∷ changes_in the_keys (cond b l.older ((l.from, l.newest) ∷ l.older)) n) p ≡ node_at ((at, vis) ∷ changes_in the_keys (lists_of l) n) p
-      by true e = covering (node_in the_keys l.newest n) vis (node_at (changes_in the_keys l.older n) p) (nat_le at p) (nat_le l.from p) (ap (λ q. nat_le q p) (equal at l.from e))
+          → vis_at ((at, vis) ∷ changes_in the_keys (cond b l.older ((l.from, l.newest) ∷ l.older)) n) p ≡ vis_at ((at, vis) ∷ changes_in the_keys (lists_of l) n) p
+      by true e = covering (vis_in the_keys l.newest n) vis (vis_at (changes_in the_keys l.older n) p) (nat_le at p) (nat_le l.from p) (ap (λ q. nat_le q p) (equal at l.from e))
       by false e = refl
 
   module _ (line : ℕ) (text : List ℕ) (vis : ℕ) (fresh : has_line line lines ≡ false) where
@@ -165,20 +136,20 @@ module _ (lines : List ℕ) (texts : List (ℕ × List ℕ)) (l : Listing) (kept
     abbrev new_lists : List (ℕ × List ℕ)
     new_lists = (at, l.newest ++ vis ∷ []) ∷ older_at at l
 
-    new_changes : (n : ℕ) → changes_in (keys_of new_texts) new_lists n ≡ (at, node_in (the_keys ++ line ∷ []) (l.newest ++ vis ∷ []) n) ∷ changes_in the_keys (older_at at l) n
+    new_changes : (n : ℕ) → changes_in (keys_of new_texts) new_lists n ≡ (at, vis_in (the_keys ++ line ∷ []) (l.newest ++ vis ∷ []) n) ∷ changes_in the_keys (older_at at l) n
     new_changes n =
         ap (λ ks. changes_in ks new_lists n) (keys_behind texts line text)
-        ∙ ap (λ cs. (at, node_in (the_keys ++ line ∷ []) (l.newest ++ vis ∷ []) n) ∷ cs) (changes_shorter n line the_keys (older_at at l) (shorter (older_at at l) older_short))
+        ∙ ap (λ cs. (at, vis_in (the_keys ++ line ∷ []) (l.newest ++ vis ∷ []) n) ∷ cs) (changes_shorter n line the_keys (older_at at l) (shorter (older_at at l) older_short))
 
-    old_changes : (n : ℕ) → list_any (nat_eq n) the_keys ≡ true → changes_in (keys_of new_texts) new_lists n ≡ (at, node_in the_keys l.newest n) ∷ changes_in the_keys (older_at at l) n
+    old_changes : (n : ℕ) → list_any (nat_eq n) the_keys ≡ true → changes_in (keys_of new_texts) new_lists n ≡ (at, vis_in the_keys l.newest n) ∷ changes_in the_keys (older_at at l) n
     old_changes n known = new_changes n ∙ ap (λ v. (at, v) ∷ changes_in the_keys (older_at at l) n) (node_before n line vis the_keys l.newest newest_keys known)
 
     old_alike : (n : ℕ) → list_any (nat_eq n) the_keys ≡ true → IsAlike (dated_in new_texts new_lists n) (dated_in texts (lists_of l) n)
     old_alike n known = record {
       line = refl;
       text = text_before n line text texts known;
-      nodes = λ p. ap (λ cs. node_at cs p) (old_changes n known) ∙ same_nodes n p;
-      newest = ap newest_node (old_changes n known);
+      nodes = λ p. ap (λ cs. vis_at cs p) (old_changes n known) ∙ same_nodes n p;
+      newest = ap newest_vis (old_changes n known);
     }
 
     unknown : list_any (nat_eq line) the_keys ≡ false
@@ -191,8 +162,8 @@ module _ (lines : List ℕ) (texts : List (ℕ × List ℕ)) (l : Listing) (kept
     own_alike = record {
       line = refl;
       text = text_behind line text texts unknown;
-      nodes = λ p. ap (λ cs. node_at cs p) own_changes ∙ ap (λ v. cond (nat_le at p) vis v) (changes_missing line the_keys (older_at at l) p unknown);
-      newest = ap newest_node own_changes;
+      nodes = λ p. ap (λ cs. vis_at cs p) own_changes ∙ ap (λ v. cond (nat_le at p) vis v) (changes_missing line the_keys (older_at at l) p unknown);
+      newest = ap newest_vis own_changes;
     }
 
     -- the lines once one is inserted
@@ -204,12 +175,12 @@ module _ (lines : List ℕ) (texts : List (ℕ × List ℕ)) (l : Listing) (kept
 
     keys_inserted : (anchor n : ℕ) → has_line n (after_anchor anchor line lines) ≡ list_any (nat_eq n) (keys_of new_texts)
     keys_inserted anchor n =
-        has_after n anchor line lines ∙ (λ j. swap_eq line n j || kept.keys n j) ∙ either (nat_eq n line) (list_any (nat_eq n) the_keys)
+        has_after n anchor line lines ∙ (λ j. nat_eq-sym line n j || kept.keys n j) ∙ or_comm (nat_eq n line) (list_any (nat_eq n) the_keys)
         ∙ sym (any_behind n line the_keys) ∙ ap (list_any (nat_eq n)) (sym (keys_behind texts line text))
 
     -- the invariant once a line is inserted
     pub inserted_kept : (anchor : ℕ) (lines' : List ℕ) (texts' : List (ℕ × List ℕ)) (l' : Listing)
-        → lines' ≡ after_anchor anchor line lines → texts' ≡ new_texts → l'.newest ≡ l.newest ++ vis ∷ [] → l'.older ≡ older_at at l → AreKept lines' texts' l'
+        → lines' ≡ after_anchor anchor line lines → texts' ≡ new_texts → l'.newest ≡ l.newest ++ vis ∷ [] → l'.older ≡ older_at at l → AreListed lines' texts' l'
     inserted_kept anchor lines' texts' l' same_lines same_texts newest older = record {
       keys = λ n. ap (has_line n) same_lines ∙ keys_inserted anchor n ∙ ap (λ es. list_any (nat_eq n) (keys_of es)) (sym same_texts);
       nodes = ap length newest ∙ one_more l.newest vis ∙ ap suc kept.nodes ∙ sym (one_more texts (line, text)) ∙ ap length (sym same_texts);
@@ -238,26 +209,26 @@ module _ (lines : List ℕ) (texts : List (ℕ × List ℕ)) (l : Listing) (kept
     set_alike : (n : ℕ) → IsAlike (dated_in texts set_lists n) (changed line vis at (dated_in texts (lists_of l) n))
     set_alike n = by (nat_eq n line) refl
       where
-        set_changes : changes_in the_keys set_lists n ≡ (at, cond (nat_eq n line) vis (node_in the_keys l.newest n)) ∷ changes_in the_keys (older_at at l) n
+        set_changes : changes_in the_keys set_lists n ≡ (at, cond (nat_eq n line) vis (vis_in the_keys l.newest n)) ∷ changes_in the_keys (older_at at l) n
         set_changes = ap (λ v. (at, v) ∷ changes_in the_keys (older_at at l) n) (node_set line n vis the_keys l.newest i newest_keys found)
 
         by : (b : Bool) → nat_eq n line ≡ b
             → IsAlike (dated_in texts set_lists n) (cond b (record { line = n; text = text_in texts n; changes = (at, vis) ∷ changes_in the_keys (lists_of l) n }) (dated_in texts (lists_of l) n))
         by true e =
-            let own : changes_in the_keys set_lists n ≡ (at, vis) ∷ changes_in the_keys (older_at at l) n = set_changes ∙ ap (λ b. (at, cond b vis (node_in the_keys l.newest n)) ∷ changes_in the_keys (older_at at l) n) e in
+            let own : changes_in the_keys set_lists n ≡ (at, vis) ∷ changes_in the_keys (older_at at l) n = set_changes ∙ ap (λ b. (at, cond b vis (vis_in the_keys l.newest n)) ∷ changes_in the_keys (older_at at l) n) e in
             record {
               line = refl;
               text = refl;
-              nodes = λ p. ap (λ cs. node_at cs p) own ∙ other_nodes n p vis;
-              newest = ap newest_node own;
+              nodes = λ p. ap (λ cs. vis_at cs p) own ∙ other_nodes n p vis;
+              newest = ap newest_vis own;
             }
         by false e =
-            let other : changes_in the_keys set_lists n ≡ (at, node_in the_keys l.newest n) ∷ changes_in the_keys (older_at at l) n = set_changes ∙ ap (λ b. (at, cond b vis (node_in the_keys l.newest n)) ∷ changes_in the_keys (older_at at l) n) e in
+            let other : changes_in the_keys set_lists n ≡ (at, vis_in the_keys l.newest n) ∷ changes_in the_keys (older_at at l) n = set_changes ∙ ap (λ b. (at, cond b vis (vis_in the_keys l.newest n)) ∷ changes_in the_keys (older_at at l) n) e in
             record {
               line = refl;
               text = refl;
-              nodes = λ p. ap (λ cs. node_at cs p) other ∙ same_nodes n p;
-              newest = ap newest_node other;
+              nodes = λ p. ap (λ cs. vis_at cs p) other ∙ same_nodes n p;
+              newest = ap newest_vis other;
             }
 
     -- the lines once one has another node

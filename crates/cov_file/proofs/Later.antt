@@ -4,17 +4,17 @@ use Rattle.std.proofs.Common.{◌≡◌, ℕ, zero, suc, ◌<◌, ◌≤◌, ◌
 use Rattle.std.proofs.lemmas.Bool.Decides.{nat_tests}
 use Rattle.cov_base.specs.Choices.{is_on}
 use Rattle.cov_dd.specs.declared.triple.Triple.{Triple}
-use Rattle.cov_dd.specs.Diagrams.{node_count, value_in}
+use Rattle.cov_dd.specs.Diagrams.{diagram_size, value_in}
 use Rattle.cov_base.specs.Addresses.{after_first}
 use Rattle.cov_file.specs.declared.row.FileRow.{FileRow}
-use Rattle.cov_file.specs.Dated.{DatedLine, node_at, dated_number, new_line, with_line, changed, with_change, row_of, is_visible, rows_at, AreAlike}
+use Rattle.cov_file.specs.Dated.{DatedLine, vis_at, dated_number, new_line, with_line, changed, with_change, file_row_of, is_visible, rows_at, AreAlike}
 use Rattle.cov_file.specs.Laws.{InsertIsLater, ChangeIsLater}
 
 not_zero : (n : ℕ) → 0 < n → (0 == n) ≡ false
 not_zero zero h = absurd (omega (arith, h))
 not_zero (suc n) h = grind (arith, nat_tests)
 
-some_nodes : (table : List Triple) → 0 < node_count table
+some_nodes : (table : List Triple) → 0 < diagram_size table
 some_nodes [] = omega arith
 some_nodes (t ∷ ts) = let rest = some_nodes ts in omega (arith, rest)
 
@@ -22,20 +22,20 @@ some_nodes (t ∷ ts) = let rest = some_nodes ts in omega (arith, rest)
 false_node : (table : List Triple) (c : List Bool) → value_in table 0 c ≡ false
 false_node [] c = refl
 false_node (t ∷ ts) c =
-    ap (λ b. cond b (cond (is_on c t.option) (value_in ts t.on c) (value_in ts t.off c)) (value_in ts 0 c)) (not_zero (node_count ts) (some_nodes ts))
+    ap (λ b. cond b (cond (is_on c t.option) (value_in ts t.on c) (value_in ts t.off c)) (value_in ts 0 c)) (not_zero (diagram_size ts) (some_nodes ts))
     ∙ false_node ts c
 
 -- the row of a line that passes a test, and then the others
-split : (test : DatedLine → Bool) (l : DatedLine) (ls : List DatedLine) → map row_of (filter test (l ∷ ls)) ≡ cond (test l) (row_of l ∷ []) [] ++ map row_of (filter test ls)
+split : (test : DatedLine → Bool) (l : DatedLine) (ls : List DatedLine) → map file_row_of (filter test (l ∷ ls)) ≡ cond (test l) (file_row_of l ∷ []) [] ++ map file_row_of (filter test ls)
 split test l ls = at (test l)
   where
-    at : (b : Bool) → map row_of (cond b (l ∷ filter test ls) (filter test ls)) ≡ cond b (row_of l ∷ []) [] ++ map row_of (filter test ls)
+    at : (b : Bool) → map file_row_of (cond b (l ∷ filter test ls) (filter test ls)) ≡ cond b (file_row_of l ∷ []) [] ++ map file_row_of (filter test ls)
     at true = refl
     at false = refl
 
 module _ (table : List Triple) (c : List Bool) (p : ℕ) where
   abbrev piece : DatedLine → List FileRow
-  piece l = cond (is_visible table c p l) (row_of l ∷ []) []
+  piece l = cond (is_visible table c p l) (file_row_of l ∷ []) []
 
   pub alike_shown : (ls ms : List DatedLine) → AreAlike ls ms → rows_at table c p ls ≡ rows_at table c p ms
   alike_shown [] [] h = refl
@@ -47,7 +47,7 @@ module _ (table : List Triple) (c : List Bool) (p : ℕ) where
       ∙ sym (split (is_visible table c p) m ms)
 
   unseen : (new : DatedLine) (ls : List DatedLine) → is_visible table c p new ≡ false → rows_at table c p (new ∷ ls) ≡ rows_at table c p ls
-  unseen new ls h = split (is_visible table c p) new ls ∙ ap (λ b. cond b (row_of new ∷ []) [] ++ rows_at table c p ls) h
+  unseen new ls h = split (is_visible table c p) new ls ∙ ap (λ b. cond b (file_row_of new ∷ []) [] ++ rows_at table c p ls) h
 
   behind : (l : DatedLine) (ls ms : List DatedLine) → rows_at table c p ls ≡ rows_at table c p ms → rows_at table c p (l ∷ ls) ≡ rows_at table c p (l ∷ ms)
   behind l ls ms h = split (is_visible table c p) l ls ∙ ap (λ rs. piece l ++ rs) h ∙ sym (split (is_visible table c p) l ms)
@@ -69,7 +69,7 @@ module _ (table : List Triple) (c : List Bool) (p : ℕ) where
     changed_before h l = by (nat_eq l.line line)
       where
         by : (b : Bool) → piece (cond b (record { line = l.line; text = l.text; changes = (at, vis) ∷ l.changes }) l) ≡ piece l
-        by true = ap (λ b. cond (value_in table (cond b vis (node_at l.changes p)) c) (row_of l ∷ []) []) h
+        by true = ap (λ b. cond (value_in table (cond b vis (vis_at l.changes p)) c) (file_row_of l ∷ []) []) h
         by false = refl
 
     changes_before : nat_le at p ≡ false → (ls : List DatedLine) → rows_at table c p (with_change line vis at ls) ≡ rows_at table c p ls
@@ -82,14 +82,14 @@ module _ (table : List Triple) (c : List Bool) (p : ℕ) where
     abbrev test_after : DatedLine → Bool
     test_after l = cond (nat_eq l.line line) (value_in table vis c) (is_visible table c p l)
 
-    changed_after : nat_le at p ≡ true → (l : DatedLine) → piece (changed line vis at l) ≡ cond (test_after l) (row_of l ∷ []) []
+    changed_after : nat_le at p ≡ true → (l : DatedLine) → piece (changed line vis at l) ≡ cond (test_after l) (file_row_of l ∷ []) []
     changed_after h l = by (nat_eq l.line line)
       where
-        by : (b : Bool) → piece (cond b (record { line = l.line; text = l.text; changes = (at, vis) ∷ l.changes }) l) ≡ cond (cond b (value_in table vis c) (is_visible table c p l)) (row_of l ∷ []) []
-        by true = ap (λ b. cond (value_in table (cond b vis (node_at l.changes p)) c) (row_of l ∷ []) []) h
+        by : (b : Bool) → piece (cond b (record { line = l.line; text = l.text; changes = (at, vis) ∷ l.changes }) l) ≡ cond (cond b (value_in table vis c) (is_visible table c p l)) (file_row_of l ∷ []) []
+        by true = ap (λ b. cond (value_in table (cond b vis (vis_at l.changes p)) c) (file_row_of l ∷ []) []) h
         by false = refl
 
-    changes_after : nat_le at p ≡ true → (ls : List DatedLine) → rows_at table c p (with_change line vis at ls) ≡ map row_of (filter test_after ls)
+    changes_after : nat_le at p ≡ true → (ls : List DatedLine) → rows_at table c p (with_change line vis at ls) ≡ map file_row_of (filter test_after ls)
     changes_after h [] = refl
     changes_after h (l ∷ ls) =
         split (is_visible table c p) (changed line vis at l) (with_change line vis at ls)

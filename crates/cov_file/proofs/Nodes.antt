@@ -1,14 +1,13 @@
 -- The nodes and texts of lines, and how they stay when one line is put behind or changed.
-use Rattle.std.proofs.Common.{◌≡◌, ℕ, suc, ◌+◌, ◌<◌, ◌≤◌, Bool, true, false, cond, not, nat_lt, nat_eq, nat_le, ◌==◌, ◌||◌, List, [], ◌∷◌, ◌++◌, length, set, Some, None, slice_get, position, unwrap_or, refl, sym, ap, ◌∙◌, arith}
-use Rattle.std.specs.List.{AllByRecursion, find, list_any, position_or_len}
+use Rattle.std.proofs.Common.{◌≡◌, ℕ, suc, ◌+◌, ◌<◌, ◌≤◌, Bool, true, false, cond, not, nat_lt, nat_eq, nat_le, ◌||◌, List, [], ◌∷◌, ◌++◌, length, set, Some, None, slice_get, position, unwrap_or, refl, sym, ap, ◌∙◌, arith}
+use Rattle.std.specs.List.{AllByRecursion, list_any, position_or_len}
 use Rattle.std.specs.Map.{keys_of, lookup}
-use Rattle.std.specs.Ordering.{is_le, nat_cmp}
-use Rattle.std.specs.declared.cmp.Ordering.TheVariants.{Less, Equal, Greater}
 use Rattle.std.proofs.lemmas.Bool.Decides.{nat_tests}
 use Rattle.std.proofs.lemmas.Option.{slice_get-get_or, unwrap_or-slice_get}
 use Rattle.indexmap.specs.IndexMap.{insert_entry}
-use Rattle.cov_file.specs.Dated.{node_at}
-use Rattle.cov_file.specs.Listing.{Listing, lists_of, list_at, node_in, changes_in, text_in}
+use Rattle.cov_base.specs.Older.{value_at}
+use Rattle.cov_file.specs.Dated.{vis_at}
+use Rattle.cov_file.specs.Listing.{vis_in, changes_in, text_in}
 
 -- the index of the first key that is a line
 abbrev pub place : ℕ → List ℕ → ℕ
@@ -50,54 +49,54 @@ there_place line (k ∷ ks) h = at (nat_eq line k) h (there_place line ks)
 pub there : (line : ℕ) (keys : List ℕ) (i : ℕ) → position (nat_eq line) keys ≡ Some i → list_any (nat_eq line) keys ≡ true
 there line keys i h = there_place line keys (found line keys i h).1
 
-read_place : (line : ℕ) (keys nodes : List ℕ) → place line keys < length keys → unwrap_or (slice_get nodes (place line keys)) 0 ≡ node_in keys nodes line
+read_place : (line : ℕ) (keys nodes : List ℕ) → place line keys < length keys → unwrap_or (slice_get nodes (place line keys)) 0 ≡ vis_in keys nodes line
 read_place line [] nodes h = absurd (omega (arith, h))
 read_place line (k ∷ ks) [] h = refl
 read_place line (k ∷ ks) (v ∷ vs) h = at (nat_eq line k) h (read_place line ks vs)
   where
-    at : (b : Bool) → cond (not b) (1 + place line ks) 0 < suc (length ks) → (place line ks < length ks → unwrap_or (slice_get vs (place line ks)) 0 ≡ node_in ks vs line)
-        → unwrap_or (slice_get (v ∷ vs) (cond (not b) (1 + place line ks) 0)) 0 ≡ cond b v (node_in ks vs line)
+    at : (b : Bool) → cond (not b) (1 + place line ks) 0 < suc (length ks) → (place line ks < length ks → unwrap_or (slice_get vs (place line ks)) 0 ≡ vis_in ks vs line)
+        → unwrap_or (slice_get (v ∷ vs) (cond (not b) (1 + place line ks) 0)) 0 ≡ cond b v (vis_in ks vs line)
     at true k rest = refl
     at false k rest =
         let one : 1 + place line ks ≡ suc (place line ks) = omega arith in
         ap (λ i. unwrap_or (slice_get (v ∷ vs) i) 0) one ∙ rest (omega (arith, k))
 
 -- a line's node in a list stands at the place of its key
-pub node_found : (line : ℕ) (keys nodes : List ℕ) (i : ℕ) → position (nat_eq line) keys ≡ Some i → unwrap_or (slice_get nodes i) 0 ≡ node_in keys nodes line
+pub node_found : (line : ℕ) (keys nodes : List ℕ) (i : ℕ) → position (nat_eq line) keys ≡ Some i → unwrap_or (slice_get nodes i) 0 ≡ vis_in keys nodes line
 node_found line keys nodes i h =
     ap (λ j. unwrap_or (slice_get nodes j) 0) (sym (found line keys i h).0) ∙ read_place line keys nodes (found line keys i h).1
 
 -- and is there where the list is as long as the keys
-pub node_there : (line : ℕ) (keys nodes : List ℕ) (i : ℕ) → length nodes ≡ length keys → position (nat_eq line) keys ≡ Some i → slice_get nodes i ≡ Some (node_in keys nodes line)
+pub node_there : (line : ℕ) (keys nodes : List ℕ) (i : ℕ) → length nodes ≡ length keys → position (nat_eq line) keys ≡ Some i → slice_get nodes i ≡ Some (vis_in keys nodes line)
 node_there line keys nodes i same h =
     slice_get-get_or nodes i 0 (let f = found line keys i h in omega (arith, f.0, f.1, same))
     ∙ ap (λ v. Some v) (sym (unwrap_or-slice_get nodes i 0) ∙ node_found line keys nodes i h)
 
 -- a line that isn't a key has FALSE
-pub node_missing : (line : ℕ) (keys nodes : List ℕ) → list_any (nat_eq line) keys ≡ false → node_in keys nodes line ≡ 0
+pub node_missing : (line : ℕ) (keys nodes : List ℕ) → list_any (nat_eq line) keys ≡ false → vis_in keys nodes line ≡ 0
 node_missing line [] nodes h = refl
 node_missing line (k ∷ ks) [] h = refl
 node_missing line (k ∷ ks) (v ∷ vs) h = at (nat_eq line k) h (node_missing line ks vs)
   where
-    at : (b : Bool) → (b || list_any (nat_eq line) ks) ≡ false → (list_any (nat_eq line) ks ≡ false → node_in ks vs line ≡ 0) → cond b v (node_in ks vs line) ≡ 0
+    at : (b : Bool) → (b || list_any (nat_eq line) ks) ≡ false → (list_any (nat_eq line) ks ≡ false → vis_in ks vs line ≡ 0) → cond b v (vis_in ks vs line) ≡ 0
     at true k rest = absurd (cc)
     at false k rest = rest k
 
 -- a list that is no longer than the keys has no node for one more key
-pub node_shorter : (line new : ℕ) (keys nodes : List ℕ) → length nodes ≤ length keys → node_in (keys ++ new ∷ []) nodes line ≡ node_in keys nodes line
+pub node_shorter : (line new : ℕ) (keys nodes : List ℕ) → length nodes ≤ length keys → vis_in (keys ++ new ∷ []) nodes line ≡ vis_in keys nodes line
 node_shorter line new [] [] h = refl
 node_shorter line new [] (v ∷ vs) h = absurd (omega (arith, h))
 node_shorter line new (k ∷ ks) [] h = refl
 node_shorter line new (k ∷ ks) (v ∷ vs) h = ap (λ n. cond (nat_eq line k) v n) (node_shorter line new ks vs (omega (arith, h)))
 
 -- the other lines keep their nodes where a node is put behind with its key
-pub node_before : (line new vis : ℕ) (keys nodes : List ℕ) → length nodes ≡ length keys → list_any (nat_eq line) keys ≡ true → node_in (keys ++ new ∷ []) (nodes ++ vis ∷ []) line ≡ node_in keys nodes line
+pub node_before : (line new vis : ℕ) (keys nodes : List ℕ) → length nodes ≡ length keys → list_any (nat_eq line) keys ≡ true → vis_in (keys ++ new ∷ []) (nodes ++ vis ∷ []) line ≡ vis_in keys nodes line
 node_before line new vis [] nodes same h = absurd (cc)
 node_before line new vis (k ∷ ks) [] same h = absurd (omega (arith, same))
 node_before line new vis (k ∷ ks) (v ∷ vs) same h = at (nat_eq line k) h (node_before line new vis ks vs (omega (arith, same)))
   where
-    at : (b : Bool) → (b || list_any (nat_eq line) ks) ≡ true → (list_any (nat_eq line) ks ≡ true → node_in (ks ++ new ∷ []) (vs ++ vis ∷ []) line ≡ node_in ks vs line)
-        → cond b v (node_in (ks ++ new ∷ []) (vs ++ vis ∷ []) line) ≡ cond b v (node_in ks vs line)
+    at : (b : Bool) → (b || list_any (nat_eq line) ks) ≡ true → (list_any (nat_eq line) ks ≡ true → vis_in (ks ++ new ∷ []) (vs ++ vis ∷ []) line ≡ vis_in ks vs line)
+        → cond b v (vis_in (ks ++ new ∷ []) (vs ++ vis ∷ []) line) ≡ cond b v (vis_in ks vs line)
     at true k rest = refl
     at false k rest = rest k
 
@@ -105,14 +104,14 @@ pub same_number : (n : ℕ) → nat_eq n n ≡ true
 same_number n = grind (arith, nat_tests)
 
 -- and the line of that key has that node
-pub node_behind : (new vis : ℕ) (keys nodes : List ℕ) → length nodes ≡ length keys → list_any (nat_eq new) keys ≡ false → node_in (keys ++ new ∷ []) (nodes ++ vis ∷ []) new ≡ vis
+pub node_behind : (new vis : ℕ) (keys nodes : List ℕ) → length nodes ≡ length keys → list_any (nat_eq new) keys ≡ false → vis_in (keys ++ new ∷ []) (nodes ++ vis ∷ []) new ≡ vis
 node_behind new vis [] [] same h = ap (λ b. cond b vis 0) (same_number new)
 node_behind new vis [] (v ∷ vs) same h = absurd (omega (arith, same))
 node_behind new vis (k ∷ ks) [] same h = absurd (omega (arith, same))
 node_behind new vis (k ∷ ks) (v ∷ vs) same h = at (nat_eq new k) h (node_behind new vis ks vs (omega (arith, same)))
   where
-    at : (b : Bool) → (b || list_any (nat_eq new) ks) ≡ false → (list_any (nat_eq new) ks ≡ false → node_in (ks ++ new ∷ []) (vs ++ vis ∷ []) new ≡ vis)
-        → cond b v (node_in (ks ++ new ∷ []) (vs ++ vis ∷ []) new) ≡ vis
+    at : (b : Bool) → (b || list_any (nat_eq new) ks) ≡ false → (list_any (nat_eq new) ks ≡ false → vis_in (ks ++ new ∷ []) (vs ++ vis ∷ []) new ≡ vis)
+        → cond b v (vis_in (ks ++ new ∷ []) (vs ++ vis ∷ []) new) ≡ vis
     at true k rest = absurd (cc)
     at false k rest = rest k
 
@@ -127,25 +126,25 @@ set_later line m k vis v rest true true e f g = absurd (grind (arith, nat_tests,
 set_later line m k vis v rest true false e f g = refl
 set_later line m k vis v rest false c e f g = refl
 
-set_place : (line m vis : ℕ) (keys nodes : List ℕ) → length nodes ≡ length keys → place line keys < length keys → node_in keys (set nodes (place line keys) vis) m ≡ cond (nat_eq m line) vis (node_in keys nodes m)
+set_place : (line m vis : ℕ) (keys nodes : List ℕ) → length nodes ≡ length keys → place line keys < length keys → vis_in keys (set nodes (place line keys) vis) m ≡ cond (nat_eq m line) vis (vis_in keys nodes m)
 set_place line m vis [] nodes same h = absurd (omega (arith, h))
 set_place line m vis (k ∷ ks) [] same h = absurd (omega (arith, same))
 set_place line m vis (k ∷ ks) (v ∷ vs) same h = at (nat_eq line k) refl h (set_place line m vis ks vs (omega (arith, same)))
   where
     at : (b : Bool) → nat_eq line k ≡ b → cond (not b) (1 + place line ks) 0 < suc (length ks)
-        → (place line ks < length ks → node_in ks (set vs (place line ks) vis) m ≡ cond (nat_eq m line) vis (node_in ks vs m))
-        → node_in (k ∷ ks) (set (v ∷ vs) (cond (not b) (1 + place line ks) 0) vis) m ≡ cond (nat_eq m line) vis (cond (nat_eq m k) v (node_in ks vs m))
-    at true e l rest = set_first line m k vis v (node_in ks vs m) (nat_eq m k) (nat_eq m line) e refl refl
+        → (place line ks < length ks → vis_in ks (set vs (place line ks) vis) m ≡ cond (nat_eq m line) vis (vis_in ks vs m))
+        → vis_in (k ∷ ks) (set (v ∷ vs) (cond (not b) (1 + place line ks) 0) vis) m ≡ cond (nat_eq m line) vis (cond (nat_eq m k) v (vis_in ks vs m))
+    at true e l rest = set_first line m k vis v (vis_in ks vs m) (nat_eq m k) (nat_eq m line) e refl refl
     at false e l rest =
         let one : 1 + place line ks ≡ suc (place line ks) = omega arith in
-        ap (λ i. node_in (k ∷ ks) (set (v ∷ vs) i vis) m) one
+        ap (λ i. vis_in (k ∷ ks) (set (v ∷ vs) i vis) m) one
         ∙ ap (λ n. cond (nat_eq m k) v n) (rest (omega (arith, l)))
-        ∙ set_later line m k vis v (node_in ks vs m) (nat_eq m k) (nat_eq m line) e refl refl
+        ∙ set_later line m k vis v (vis_in ks vs m) (nat_eq m k) (nat_eq m line) e refl refl
 
 -- one line alone has another node where that at its key's place is replaced
-pub node_set : (line m vis : ℕ) (keys nodes : List ℕ) (i : ℕ) → length nodes ≡ length keys → position (nat_eq line) keys ≡ Some i → node_in keys (set nodes i vis) m ≡ cond (nat_eq m line) vis (node_in keys nodes m)
+pub node_set : (line m vis : ℕ) (keys nodes : List ℕ) (i : ℕ) → length nodes ≡ length keys → position (nat_eq line) keys ≡ Some i → vis_in keys (set nodes i vis) m ≡ cond (nat_eq m line) vis (vis_in keys nodes m)
 node_set line m vis keys nodes i same h =
-    ap (λ j. node_in keys (set nodes j vis) m) (sym (found line keys i h).0) ∙ set_place line m vis keys nodes same (found line keys i h).1
+    ap (λ j. vis_in keys (set nodes j vis) m) (sym (found line keys i h).0) ∙ set_place line m vis keys nodes same (found line keys i h).1
 
 -- lists that are no longer than the keys have no nodes for one more key
 pub changes_shorter : (line new : ℕ) (keys : List ℕ) (ls : List (ℕ × List ℕ)) → AllByRecursion (λ l. length l.1 ≤ length keys) ls → changes_in (keys ++ new ∷ []) ls line ≡ changes_in keys ls line
@@ -153,25 +152,25 @@ changes_shorter line new keys [] h = refl
 changes_shorter line new keys (l ∷ ls) h = λ j. (l.0, node_shorter line new keys l.1 h.0 j) ∷ changes_shorter line new keys ls h.1 j
 
 -- a line that isn't a key is FALSE at each position
-pub changes_missing : (line : ℕ) (keys : List ℕ) (ls : List (ℕ × List ℕ)) (p : ℕ) → list_any (nat_eq line) keys ≡ false → node_at (changes_in keys ls line) p ≡ 0
+pub changes_missing : (line : ℕ) (keys : List ℕ) (ls : List (ℕ × List ℕ)) (p : ℕ) → list_any (nat_eq line) keys ≡ false → vis_at (changes_in keys ls line) p ≡ 0
 changes_missing line keys [] p h = refl
 changes_missing line keys (l ∷ ls) p h = at (nat_le l.0 p) (changes_missing line keys ls p h)
   where
-    at : (b : Bool) → node_at (changes_in keys ls line) p ≡ 0 → cond b (node_in keys l.1 line) (node_at (changes_in keys ls line) p) ≡ 0
+    at : (b : Bool) → vis_at (changes_in keys ls line) p ≡ 0 → cond b (vis_in keys l.1 line) (vis_at (changes_in keys ls line) p) ≡ 0
     at true rest = node_missing line keys l.1 h
     at false rest = rest
 
-node_empty : (keys : List ℕ) (line : ℕ) → node_in keys [] line ≡ 0
+node_empty : (keys : List ℕ) (line : ℕ) → vis_in keys [] line ≡ 0
 node_empty [] line = refl
 node_empty (k ∷ ks) line = refl
 
 -- the node at a position is that in the list of the position
-pub node_listed : (line p : ℕ) (keys : List ℕ) (ls : List (ℕ × List ℕ)) → node_at (changes_in keys ls line) p ≡ node_in keys (list_at p ls) line
+pub node_listed : (line p : ℕ) (keys : List ℕ) (ls : List (ℕ × List ℕ)) → vis_at (changes_in keys ls line) p ≡ vis_in keys (value_at [] ls p) line
 node_listed line p keys [] = sym (node_empty keys line)
 node_listed line p keys (l ∷ ls) = at (nat_le l.0 p) (node_listed line p keys ls)
   where
-    at : (b : Bool) → node_at (changes_in keys ls line) p ≡ node_in keys (list_at p ls) line
-        → cond b (node_in keys l.1 line) (node_at (changes_in keys ls line) p) ≡ node_in keys (cond b l.1 (list_at p ls)) line
+    at : (b : Bool) → vis_at (changes_in keys ls line) p ≡ vis_in keys (value_at [] ls p) line
+        → cond b (vis_in keys l.1 line) (vis_at (changes_in keys ls line) p) ≡ vis_in keys (cond b l.1 (value_at [] ls p)) line
     at true rest = refl
     at false rest = rest
 
@@ -217,32 +216,3 @@ text_before n k t es h = ap (λ o. unwrap_or o []) (lookup_before n k t es h)
 
 pub text_behind : (k : ℕ) (t : List ℕ) (es : List (ℕ × List ℕ)) → list_any (nat_eq k) (keys_of es) ≡ false → text_in (es ++ (k, t) ∷ []) k ≡ t
 text_behind k t es h = ap (λ o. unwrap_or o []) (lookup_behind k t es h)
-
--- the list of a position is that of the first that isn't beyond it
-pub list_found : (p : ℕ) (ls : List (ℕ × List ℕ)) (l : ℕ × List ℕ) → find (λ k. nat_le k.0 p) ls ≡ Some l → list_at p ls ≡ l.1
-list_found p [] l h = absurd (cc)
-list_found p (k ∷ ks) l h = at (nat_le k.0 p) h (list_found p ks l)
-  where
-    at : (b : Bool) → cond b (Some k) (find (λ m. nat_le m.0 p) ks) ≡ Some l → (find (λ m. nat_le m.0 p) ks ≡ Some l → list_at p ks ≡ l.1) → cond b k.1 (list_at p ks) ≡ l.1
-    at true e rest = ap (λ o. (unwrap_or o k).1) e
-    at false e rest = rest e
-
-pub list_none : (p : ℕ) (ls : List (ℕ × List ℕ)) → find (λ k. nat_le k.0 p) ls ≡ None → list_at p ls ≡ []
-list_none p [] h = refl
-list_none p (k ∷ ks) h = at (nat_le k.0 p) h (list_none p ks)
-  where
-    at : (b : Bool) → cond b (Some k) (find (λ m. nat_le m.0 p) ks) ≡ None → (find (λ m. nat_le m.0 p) ks ≡ None → list_at p ks ≡ []) → cond b k.1 (list_at p ks) ≡ []
-    at true e rest = absurd (cc)
-    at false e rest = rest e
-
-beyond_by : (a b : ℕ) (x y : Bool) → nat_lt a b ≡ x → (a == b) ≡ y → is_le (cond x Less (cond y Equal Greater)) ≡ false → nat_le a b ≡ false
-beyond_by a b true y e f h = absurd (cc)
-beyond_by a b false true e f h = absurd (cc)
-beyond_by a b false false e f h = grind (arith, nat_tests, e, f)
-
-beyond : (a b : ℕ) → is_le (nat_cmp a b) ≡ false → nat_le a b ≡ false
-beyond a b h = beyond_by a b (nat_lt a b) (a == b) refl refl h
-
--- where the newest list is beyond a position, the list of the position is among the older ones
-pub older_listed : (l : Listing) (p : ℕ) → is_le (nat_cmp l.from p) ≡ false → list_at p l.older ≡ list_at p (lists_of l)
-older_listed l p h = ap (λ b. cond b l.newest (list_at p l.older)) (sym (beyond l.from p h))

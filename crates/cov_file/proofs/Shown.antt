@@ -9,8 +9,9 @@ use Rattle.cov_dd.specs.declared.triple.Triple.{Triple}
 use Rattle.cov_dd.specs.Diagrams.{value_in}
 use Rattle.cov_order.specs.Orders.{has_line}
 use Rattle.cov_file.specs.declared.row.FileRow.{FileRow}
-use Rattle.cov_file.specs.Dated.{DatedLine, node_at, newest_node, newest_of, node_of, row_of, is_visible, rows_at, all_rows}
-use Rattle.cov_file.specs.Listing.{Listing, lists_of, list_at, node_in, changes_in, dated_in, dated_lines, row_in, rows_in}
+use Rattle.cov_file.specs.Dated.{DatedLine, vis_at, newest_vis, newest_of, vis_of, file_row_of, is_visible, rows_at, all_rows}
+use Rattle.cov_base.specs.Older.{value_at}
+use Rattle.cov_file.specs.Listing.{Listing, lists_of, vis_in, changes_in, dated_in, dated_lines, row_in, rows_in}
 use Rattle.cov_file.proofs.Nodes.{node_listed}
 
 pub on_ok : {A E : Type 0} (r : Result A E) (P Q R : Type 0) → (P → Q → R) → OnOk r P → OnOk r Q → OnOk r R
@@ -49,24 +50,24 @@ rows_end f xs i rows all h none whole =
 
 -- the row of a line that is visible, and then the others
 pub row_next : (table : List Triple) (c : List Bool) (texts : List (ℕ × List ℕ)) (nodes : List ℕ) (n : ℕ) (ns : List ℕ)
-    → rows_in table c texts nodes (n ∷ ns) ≡ cond (value_in table (node_in (keys_of texts) nodes n) c) (row_in texts n ∷ []) [] ++ rows_in table c texts nodes ns
-row_next table c texts nodes n ns = at (value_in table (node_in (keys_of texts) nodes n) c)
+    → rows_in table c texts nodes (n ∷ ns) ≡ cond (value_in table (vis_in (keys_of texts) nodes n) c) (row_in texts n ∷ []) [] ++ rows_in table c texts nodes ns
+row_next table c texts nodes n ns = at (value_in table (vis_in (keys_of texts) nodes n) c)
   where
-    at : (b : Bool) → map (row_in texts) (cond b (n ∷ filter (λ m. value_in table (node_in (keys_of texts) nodes m) c) ns) (filter (λ m. value_in table (node_in (keys_of texts) nodes m) c) ns))
+    at : (b : Bool) → map (row_in texts) (cond b (n ∷ filter (λ m. value_in table (vis_in (keys_of texts) nodes m) c) ns) (filter (λ m. value_in table (vis_in (keys_of texts) nodes m) c) ns))
         ≡ cond b (row_in texts n ∷ []) [] ++ rows_in table c texts nodes ns
     at true = refl
     at false = refl
 
 -- the lines shown at a position are those whose node in the list of the position is true
-pub rows_listed : (table : List Triple) (c : List Bool) (p : ℕ) (texts ls : List (ℕ × List ℕ)) (lines : List ℕ) → rows_in table c texts (list_at p ls) lines ≡ rows_at table c p (dated_lines texts ls lines)
+pub rows_listed : (table : List Triple) (c : List Bool) (p : ℕ) (texts ls : List (ℕ × List ℕ)) (lines : List ℕ) → rows_in table c texts (value_at [] ls p) lines ≡ rows_at table c p (dated_lines texts ls lines)
 rows_listed table c p texts ls [] = refl
 rows_listed table c p texts ls (n ∷ ns) =
-    row_next table c texts (list_at p ls) n ns
+    row_next table c texts (value_at [] ls p) n ns
     ∙ (λ j. cond (value_in table (sym (node_listed n p (keys_of texts) ls) j) c) (row_in texts n ∷ []) [] ++ rows_listed table c p texts ls ns j)
-    ∙ at (value_in table (node_at (changes_in (keys_of texts) ls n) p) c)
+    ∙ at (value_in table (vis_at (changes_in (keys_of texts) ls n) p) c)
   where
     at : (b : Bool) → cond b (row_in texts n ∷ []) [] ++ rows_at table c p (dated_lines texts ls ns)
-        ≡ map row_of (cond b (dated_in texts ls n ∷ filter (is_visible table c p) (dated_lines texts ls ns)) (filter (is_visible table c p) (dated_lines texts ls ns)))
+        ≡ map file_row_of (cond b (dated_in texts ls n ∷ filter (is_visible table c p) (dated_lines texts ls ns)) (filter (is_visible table c p) (dated_lines texts ls ns)))
     at true = refl
     at false = refl
 
@@ -97,20 +98,20 @@ no_line f line (n ∷ ns) number h = ap (λ m. cond (nat_eq m line) (Some (f n))
     at false k rest = rest k
 
 module _ (texts : List (ℕ × List ℕ)) (l : Listing) (line : ℕ) (lines : List ℕ) where
-  pub newest_there : has_line line lines ≡ true → newest_of line (dated_lines texts (lists_of l) lines) ≡ Some (node_in (keys_of texts) l.newest line)
-  newest_there h = ap (option_map (λ d. newest_node d.changes)) (found_line (dated_in texts (lists_of l)) line lines (λ n. refl) h)
+  pub newest_there : has_line line lines ≡ true → newest_of line (dated_lines texts (lists_of l) lines) ≡ Some (vis_in (keys_of texts) l.newest line)
+  newest_there h = ap (option_map (λ d. newest_vis d.changes)) (found_line (dated_in texts (lists_of l)) line lines (λ n. refl) h)
 
   pub newest_none : has_line line lines ≡ false → newest_of line (dated_lines texts (lists_of l) lines) ≡ None
-  newest_none h = ap (option_map (λ d. newest_node d.changes)) (no_line (dated_in texts (lists_of l)) line lines (λ n. refl) h)
+  newest_none h = ap (option_map (λ d. newest_vis d.changes)) (no_line (dated_in texts (lists_of l)) line lines (λ n. refl) h)
 
-  pub latest_there : (p : ℕ) → l.from ≤ p → has_line line lines ≡ true → node_of line p (dated_lines texts (lists_of l) lines) ≡ Some (node_in (keys_of texts) l.newest line)
+  pub latest_there : (p : ℕ) → l.from ≤ p → has_line line lines ≡ true → vis_of line p (dated_lines texts (lists_of l) lines) ≡ Some (vis_in (keys_of texts) l.newest line)
   latest_there p later h =
       let reached : nat_le l.from p ≡ true = grind (arith, nat_tests, later) in
-      ap (option_map (λ d. node_at d.changes p)) (found_line (dated_in texts (lists_of l)) line lines (λ n. refl) h)
-      ∙ ap (λ b. Some (cond b (node_in (keys_of texts) l.newest line) (node_at (changes_in (keys_of texts) l.older line) p))) reached
+      ap (option_map (λ d. vis_at d.changes p)) (found_line (dated_in texts (lists_of l)) line lines (λ n. refl) h)
+      ∙ ap (λ b. Some (cond b (vis_in (keys_of texts) l.newest line) (vis_at (changes_in (keys_of texts) l.older line) p))) reached
 
-  pub latest_none : (p : ℕ) → has_line line lines ≡ false → node_of line p (dated_lines texts (lists_of l) lines) ≡ None
-  latest_none p h = ap (option_map (λ d. node_at d.changes p)) (no_line (dated_in texts (lists_of l)) line lines (λ n. refl) h)
+  pub latest_none : (p : ℕ) → has_line line lines ≡ false → vis_of line p (dated_lines texts (lists_of l) lines) ≡ None
+  latest_none p h = ap (option_map (λ d. vis_at d.changes p)) (no_line (dated_in texts (lists_of l)) line lines (λ n. refl) h)
 
 pub if_ok : {A E : Type 0} (r : Result A E) (P Q : A → Type 0) → ((a : A) → P a → Q a) → IfOk r P → IfOk r Q
 if_ok (Ok a) P Q f h = f a h

@@ -3,7 +3,7 @@ use Rattle.std.specs.Prelude.{◌≡◌, ℕ, ◌<◌, ◌≤◌, Bool, false, n
 use Rattle.std.specs.List.{filter}
 use Rattle.cov_dd.specs.declared.triple.Triple.{Triple}
 use Rattle.cov_dd.specs.Diagrams.{value_in}
-use Rattle.cov_file.specs.Dated.{DatedLine, new_line, with_line, with_change, row_of, is_visible, rows_at, AreAlike}
+use Rattle.cov_file.specs.Dated.{DatedLine, new_line, with_line, with_change, file_row_of, is_visible, rows_at, AreAlike}
 
 -- lines that are alike show the same on each choice at each position
 abbrev pub AlikeShowTheSame : Type 0
@@ -21,4 +21,4 @@ pub record ChangeIsLater : Type 0 where
   pub before : (table : List Triple) (c : List Bool) (p line vis at : ℕ) (ls : List DatedLine)
       → p < at → rows_at table c p (with_change line vis at ls) ≡ rows_at table c p ls
   pub after : (table : List Triple) (c : List Bool) (p line vis at : ℕ) (ls : List DatedLine)
-      → at ≤ p → rows_at table c p (with_change line vis at ls) ≡ map row_of (filter (λ l. if nat_eq l.line line then value_in table vis c else is_visible table c p l) ls)
+      → at ≤ p → rows_at table c p (with_change line vis at ls) ≡ map file_row_of (filter (λ l. if nat_eq l.line line then value_in table vis c else is_visible table c p l) ls)

@@ -1,5 +1,5 @@
 -- What a file keeps: for each position of a change the nodes of all lines, in the order in which they were inserted.
-use Rattle.std.specs.Prelude.{◌≡◌, ℕ, ◌≤◌, Bool, true, nat_eq, nat_le, List, [], ◌∷◌, map, length, Option, None, Some, unwrap_or, if◌then◌else◌}
+use Rattle.std.specs.Prelude.{◌≡◌, ℕ, ◌≤◌, Bool, true, nat_eq, List, [], ◌∷◌, map, length, Option, None, Some, unwrap_or, if◌then◌else◌}
 use Rattle.std.specs.List.{AllByRecursion, filter, list_any}
 use Rattle.std.specs.Map.{keys_of, lookup}
 use Rattle.cov_dd.specs.declared.triple.Triple.{Triple}
@@ -29,21 +29,16 @@ older_at at l = if nat_eq at l.from then l.older else (l.from, l.newest) ∷ l.o
 abbrev pub may_begin : ℕ → Listing → Bool
 may_begin at l = if l.is_open then true else nat_eq at l.from
 
--- the newest list not beyond a position
-abbrev pub list_at : ℕ → List (ℕ × List ℕ) → List ℕ
-list_at p [] = []
-list_at p (l ∷ ls) = if nat_le l.0 p then l.1 else list_at p ls
-
 -- the node of a line in a list, FALSE where it has none
-abbrev pub node_in : List ℕ → List ℕ → ℕ → ℕ
-node_in [] nodes line = 0
-node_in (key ∷ keys) [] line = 0
-node_in (key ∷ keys) (node ∷ nodes) line = if nat_eq line key then node else node_in keys nodes line
+abbrev pub vis_in : List ℕ → List ℕ → ℕ → ℕ
+vis_in [] nodes line = 0
+vis_in (key ∷ keys) [] line = 0
+vis_in (key ∷ keys) (node ∷ nodes) line = if nat_eq line key then node else vis_in keys nodes line
 
 -- the nodes of a line in lists
 abbrev pub changes_in : List ℕ → List (ℕ × List ℕ) → ℕ → List (ℕ × ℕ)
 changes_in keys [] line = []
-changes_in keys (l ∷ ls) line = (l.0, node_in keys l.1 line) ∷ changes_in keys ls line
+changes_in keys (l ∷ ls) line = (l.0, vis_in keys l.1 line) ∷ changes_in keys ls line
 
 -- the text of a line
 abbrev pub text_in : List (ℕ × List ℕ) → ℕ → List ℕ
@@ -63,14 +58,14 @@ row_in texts line = record { line = line; text = text_in texts line }
 
 -- the lines whose nodes in a list are true on a choice
 abbrev pub rows_in : List Triple → List Bool → List (ℕ × List ℕ) → List ℕ → List ℕ → List FileRow
-rows_in table c texts nodes lines = map (row_in texts) (filter (λ n. value_in table (node_in (keys_of texts) nodes n) c) lines)
+rows_in table c texts nodes lines = map (row_in texts) (filter (λ n. value_in table (vis_in (keys_of texts) nodes n) c) lines)
 
 -- only one position has room where no list of another may begin
 abbrev pub position_of : Listing → Option ℕ
 position_of l = if l.is_open then None else Some l.from
 
 -- each line has its text, and has its node in the newest list; older lists are no longer
-pub record AreKept (lines : List ℕ) (texts : List (ℕ × List ℕ)) (lists : Listing) : Type 0 where
+pub record AreListed (lines : List ℕ) (texts : List (ℕ × List ℕ)) (lists : Listing) : Type 0 where
   pub keys : (line : ℕ) → has_line line lines ≡ list_any (nat_eq line) (keys_of texts)
   pub nodes : length lists.newest ≡ length texts
   pub older : AllByRecursion (λ l. length l.1 ≤ length texts) lists.older

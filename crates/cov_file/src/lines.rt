@@ -3,9 +3,9 @@ ghost use Rattle.std.specs.Prelude.{◌≡◌, ℕ, ◌<◌, ◌≤◌, ◌++◌
 ghost use Rattle.std.specs.Map.{keys_of};
 ghost use Rattle.cov_base.specs.Addresses.{after_anchor};
 ghost use Rattle.cov_order.specs.Orders.{has_line, is_anchor};
-ghost use Rattle.cov_file.specs.Dated.{numbers_of, new_line, with_line, with_change, rows_at, all_rows, newest_of, node_of, AreAlike};
+ghost use Rattle.cov_file.specs.Dated.{line_numbers_of, new_line, with_line, with_change, rows_at, all_rows, newest_of, vis_of, AreAlike};
 ghost use Rattle.cov_file.specs.Rooms.{is_room_at, IsMade, IsLeft};
-ghost use Rattle.cov_file.specs.Listing.{row_in, rows_in, node_in};
+ghost use Rattle.cov_file.specs.Listing.{row_in, rows_in, vis_in};
 
 use crate::lists::NodeLists;
 use crate::{FileRow, FileRows};
@@ -29,13 +29,13 @@ impl Model for FileLines {
     ghost use Rattle.std.specs.Prelude.{min};
     ghost use Rattle.indexmap.specs.IndexMap.{spare};
     ghost use Rattle.cov_file.specs.Rooms.{DatedFile};
-    ghost use Rattle.cov_file.specs.Listing.{lists_of, dated_lines, position_of, AreKept};
+    ghost use Rattle.cov_file.specs.Listing.{lists_of, dated_lines, position_of, AreListed};
 
     ghost Value = { DatedFile };
 
     ghost view = { λ f. record { lines = dated_lines f.texts.entries (lists_of f.lists) f.order.lines; newest = f.lists.from; room = record { inserts = min f.order.spare (min (spare f.texts) f.lists.room); changes = f.order.lines; position = position_of f.lists } } };
 
-    ghost invariant = { λ f. AreKept f.order.lines f.texts.entries f.lists };
+    ghost invariant = { λ f. AreListed f.order.lines f.texts.entries f.lists };
 }
 
 impl FileLines {
@@ -56,8 +56,9 @@ impl FileLines {
     pub fn prepare(&mut self, inserts: u32, deletes: &LineNos) -> Result<(), Memory>
         ensures lines { self.new.lines ≡ self.old.lines }
         ensures newest { self.new.newest ≡ self.old.newest }
-        ensures room { OnOk result (IsMade self.new.room (numbers_of self.new.lines) inserts deletes.now) }
+        ensures room { OnOk result (IsMade self.new.room (line_numbers_of self.new.lines) inserts deletes.now) }
     {
+        // A deletion wants no room of its own: the next position's list has a place for each node.
         let _ = deletes;
         self.order.reserve(inserts)?;
         self.texts.reserve(inserts as usize)?;
@@ -67,14 +68,14 @@ impl FileLines {
     /// Puts a line directly after its anchor, or first where the anchor is the head, with its visibility from a position on. It
     /// takes time in the number of lines, and no memory.
     pub fn insert(&mut self, anchor: LineNo, line: LineNo, text: Text, vis: Node, at: Position)
-        requires anchored { is_anchor anchor (numbers_of self.old.lines) ≡ true }
+        requires anchored { is_anchor anchor (line_numbers_of self.old.lines) ≡ true }
         requires line { 0 < line }
-        requires fresh { has_line line (numbers_of self.old.lines) ≡ false }
+        requires fresh { has_line line (line_numbers_of self.old.lines) ≡ false }
         requires later { self.old.newest ≤ at }
         requires room { 0 < self.old.room.inserts }
         requires position { is_room_at at self.old.room ≡ true }
         ensures lines { AreAlike self.new.lines (with_line anchor (new_line line text vis at) self.old.lines) }
-        ensures numbers { numbers_of self.new.lines ≡ after_anchor anchor line (numbers_of self.old.lines) }
+        ensures numbers { line_numbers_of self.new.lines ≡ after_anchor anchor line (line_numbers_of self.old.lines) }
         ensures newest { self.new.newest ≡ at }
         ensures room { IsLeft self.old.room self.new.room at 1 }
         ensures own { has_line line self.new.room.changes ≡ true }
@@ -89,12 +90,12 @@ impl FileLines {
 
     /// Gives a line another visibility from a position on. It takes no memory.
     pub fn delete(&mut self, line: LineNo, vis: Node, at: Position)
-        requires there { has_line line (numbers_of self.old.lines) ≡ true }
+        requires there { has_line line (line_numbers_of self.old.lines) ≡ true }
         requires later { self.old.newest ≤ at }
         requires room { has_line line self.old.room.changes ≡ true }
         requires position { is_room_at at self.old.room ≡ true }
         ensures lines { AreAlike self.new.lines (with_change line vis at self.old.lines) }
-        ensures numbers { numbers_of self.new.lines ≡ numbers_of self.old.lines }
+        ensures numbers { line_numbers_of self.new.lines ≡ line_numbers_of self.old.lines }
         ensures newest { self.new.newest ≡ at }
         ensures room { IsLeft self.old.room self.new.room at 0 }
     {
@@ -117,6 +118,7 @@ impl FileLines {
         ensures { IfOk result (λ rows. rows ≡ all_rows self.now.lines) }
     {
         let lines = self.order.walk()?;
+        // What `len` ensures bounds the index for the proof.
         let _count = lines.len();
         let mut rows = FileRows::new(*self.texts.allocator());
         let mut index = 0;
@@ -130,7 +132,7 @@ impl FileLines {
     /// The newest visibility of a line, None exactly where it was never inserted into this file. It takes no memory.
     pub fn vis(&self, line: LineNo) -> Option<Node>
         ensures newest { result ≡ newest_of line self.now.lines }
-        ensures latest { (p : ℕ) → self.now.newest ≤ p → result ≡ node_of line p self.now.lines }
+        ensures latest { (p : ℕ) → self.now.newest ≤ p → result ≡ vis_of line p self.now.lines }
     {
         match self.texts.get_index_of(&line) {
             Some(index) => self.lists.get(index),
@@ -149,6 +151,7 @@ fn visible_rows(
 ) -> Result<FileRows, Memory>
     ensures { IfOk result (λ rows. rows ≡ rows_in table.now choice texts.now.entries nodes.now lines.now) }
 {
+    // What `len` ensures bounds the index for the proof.
     let _count = lines.len();
     let mut rows = FileRows::new(*texts.allocator());
     let mut index = 0;
@@ -188,7 +191,7 @@ fn copied_row(texts: &IndexMap<LineNo, Text>, line: LineNo) -> Result<FileRow, M
 
 // The node of a line in a list, FALSE where it has none.
 fn listed_node(texts: &IndexMap<LineNo, Text>, nodes: &[Node], line: LineNo) -> Node
-    ensures { result ≡ node_in (keys_of texts.now.entries) nodes.now line }
+    ensures { result ≡ vis_in (keys_of texts.now.entries) nodes.now line }
 {
     match texts.get_index_of(&line) {
         Some(index) => node_or_false(nodes, index),

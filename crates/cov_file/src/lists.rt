@@ -1,29 +1,13 @@
 // The nodes of the lines of a file at each position of a change.
-ghost use Rattle.std.specs.Prelude.{◌≡◌, ◌<◌, ◌≤◌, ◌+◌, [], ◌∷◌, ◌++◌, true, false, length, reverse, nat_le, set, slice_get, OnOk};
-ghost use Rattle.std.specs.List.{find};
-ghost use Rattle.std.specs.Option.{option_copied};
-ghost use Rattle.cov_file.specs.Listing.{lists_of, older_at, may_begin, list_at};
+ghost use Rattle.std.specs.Prelude.{◌≡◌, ◌<◌, ◌≤◌, ◌+◌, [], ◌∷◌, ◌++◌, true, false, length, set, slice_get, OnOk};
+ghost use Rattle.cov_base.specs.Older.{value_at};
+ghost use Rattle.cov_file.specs.Listing.{lists_of, older_at, may_begin};
 
-use cov_base::{Memory, Position};
+use cov_base::{Memory, OlderLists, Position};
 use cov_dd::Node;
 use std::alloc::Global;
 use std::marker::Model;
 use std::mem;
-
-/// The nodes of all lines from a position on.
-#[derive(Drop)]
-struct NodeList {
-    from: Position,
-    nodes: Vec<Node>,
-}
-
-impl Model for NodeList {
-    ghost use Rattle.std.specs.Prelude.{List, ℕ};
-
-    ghost Value = { ℕ × List ℕ };
-
-    ghost view = { λ l. (l.from, l.nodes.items) };
-}
 
 /// A whole list of nodes for each position of a change, in the order in which the lines were inserted. `ahead` is a copy
 /// of the newest list with room for more, which the next position takes.
@@ -31,20 +15,20 @@ impl Model for NodeList {
 pub(crate) struct NodeLists {
     from: Position,
     newest: Vec<Node>,
-    older: Vec<NodeList>,
+    older: OlderLists<Node>,
     ahead: Option<Vec<Node>>,
 }
 
 impl Model for NodeLists {
-    ghost use Rattle.std.specs.Prelude.{◌≡◌, ◌<◌, ◌-◌, reverse, is_some, IfSome, vec_len, vec_capacity};
+    ghost use Rattle.std.specs.Prelude.{◌≡◌, ◌<◌, ◌-◌, is_some, IfSome, vec_len, vec_capacity};
     ghost use Rattle.std.specs.Option.{option_map_or};
     ghost use Rattle.cov_file.specs.Listing.{Listing};
 
     ghost Value = { Listing };
 
-    ghost view = { λ l. record { from = l.from; newest = l.newest.items; older = reverse l.older.items; room = option_map_or (λ nodes. vec_capacity nodes - vec_len nodes) l.ahead (vec_capacity l.newest - vec_len l.newest); is_open = is_some l.ahead } };
+    ghost view = { λ l. record { from = l.from; newest = l.newest.items; older = l.older.lists; room = option_map_or (λ nodes. vec_capacity nodes - vec_len nodes) l.ahead (vec_capacity l.newest - vec_len l.newest); is_open = is_some l.ahead } };
 
-    ghost invariant = { λ l. IfSome l.ahead (λ nodes. (nodes.items ≡ l.newest.items) × (0 < vec_capacity l.older - vec_len l.older)) };
+    ghost invariant = { λ l. IfSome l.ahead (λ nodes. (nodes.items ≡ l.newest.items) × (0 < l.older.room)) };
 }
 
 impl NodeLists {
@@ -56,7 +40,7 @@ impl NodeLists {
         NodeLists {
             from: Position::new(0),
             newest: Vec::new(alloc),
-            older: Vec::new(alloc),
+            older: OlderLists::new(alloc),
             ahead: None,
         }
     }
@@ -74,7 +58,7 @@ impl NodeLists {
         let room = self.newest.len() + inserts as usize;
         let mut nodes = Vec::with_capacity(*self.newest.allocator(), room)?;
         nodes.extend_from_slice(self.newest.as_slice())?;
-        self.older.reserve(1)?;
+        self.older.reserve()?;
         self.ahead = Some(nodes);
         Ok(())
     }
@@ -128,10 +112,7 @@ impl NodeLists {
         }
         let from = self.from;
         self.from = at;
-        match self.older.push(NodeList { from, nodes }) {
-            Ok(()) => (),
-            Err(_) => unreachable!(),
-        }
+        self.older.push(from, nodes);
     }
 
     /// A node of the newest list, None exactly where the index isn't below its length.
@@ -143,21 +124,11 @@ impl NodeLists {
 
     /// The newest list not beyond a position.
     pub(crate) fn at(&self, position: Position) -> &[Node]
-        ensures { result.now ≡ list_at position (lists_of self.now) }
+        ensures { result.now ≡ value_at [] (lists_of self.now) position }
     {
         if self.from <= position {
             return self.newest.as_slice();
         }
-        match newest_until(&self.older, position) {
-            Some(list) => list.nodes.as_slice(),
-            None => &[],
-        }
+        self.older.at(position)
     }
-}
-
-// The last of rising lists that isn't beyond a position.
-fn newest_until(lists: &[NodeList], position: Position) -> Option<&NodeList>
-    ensures { option_copied result ≡ find (λ l. nat_le l.0 position) (reverse lists.now) }
-{
-    lists.iter().rev().find(|list| list.from <= position)
 }

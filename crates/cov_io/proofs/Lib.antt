@@ -1,3 +1,4 @@
+pub mod CallerLemmas
 pub mod DeviceLemmas
 mod Examples
 pub mod LineLemmas

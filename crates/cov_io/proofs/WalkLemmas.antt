@@ -2,15 +2,15 @@
 use Rattle.std.proofs.Common.{◌≡◌, ◌≢◌, ℕ, ◌+◌, ◌<◌, Bool, true, false, List, [], ◌∷◌, ◌++◌, length, Option, Some, None, refl, sym, ◌∙◌, ap, subst, arith, append_assoc, append-nil, length-append}
 use Rattle.std.specs.Io.KnownBytes.{Consumes}
 use Rattle.std.proofs.lemmas.List.Elements.{All-append}
-use Rattle.cov_base.specs.Causes.{Rose}
 use Rattle.cov_base.specs.Lines.{lines_of}
 use Rattle.cov_io.specs.Devices.{Reads}
-use Rattle.cov_io.specs.Progress.{Progress, TracksEnd, IsBounded, potential}
+use Rattle.cov_io.specs.Progress.{Progress, IsBounded, potential}
 use Rattle.cov_io.specs.Items.{Gives, GivesTold, IsShort, IsUnterminated, Shrinks}
 use Rattle.cov_io.specs.Walk.{IsWithin, Holds, TakesPiece, ReachesEnd, Account, Took, Walks, Arrives, item_of, last_item}
 use Rattle.cov_io.specs.declared.buffer.Piece.TheVariants.{Ended, Open}
 use Rattle.cov_io.specs.declared.reading.Item.{Item}
 use Rattle.cov_io.specs.declared.reading.Item.TheVariants.{End}
+use Rattle.cov_io.proofs.CallerLemmas.{tracks_both}
 use Rattle.cov_io.proofs.LineLemmas.{lines_of-ended, lines_of-last}
 
 -- how far the reading has come, by its parts
@@ -41,19 +41,6 @@ consumes_both (Some l) None c first second one two = absurd one
 consumes_both (Some l) (Some m) None first second one two = absurd two
 consumes_both (Some l) (Some m) (Some n) first second one two =
     one ∙ ap (λ t. first ++ t) two ∙ sym (append_assoc first second n)
-
--- the end is known over two steps
-tracks_both : (a b c : Bool) (p q r : ℕ) → TracksEnd a b p q → TracksEnd b c q r → TracksEnd a c p r
-tracks_both a true c p q r one two = record {
-  later = omega (arith, one.later, two.later);
-  unended = λ no. ((one.unended (two.unended no).0).0, (two.unended no).1 ∙ (one.unended (two.unended no).0).1);
-  ended = λ before now. let rose : Rose p q = one.ended before refl in omega (arith, rose, two.later);
-}
-tracks_both a false c p q r one two = record {
-  later = omega (arith, one.later, two.later);
-  unended = λ no. ((one.unended (two.unended no).0).0, (two.unended no).1 ∙ (one.unended (two.unended no).0).1);
-  ended = λ before now. let rose : Rose q r = two.ended refl now in omega (arith, rose, one.later);
-}
 
 -- nothing was taken yet
 pub took_none : (p : Progress) (a : Account) → IsBounded p.ended p.taken → Took [] p p a a

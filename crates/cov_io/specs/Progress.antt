@@ -1,6 +1,8 @@
 -- How far the reading of lines has come.
 use Rattle.std.specs.Prelude.{◌≡◌, ℕ, ◌+◌, ◌-◌, ◌^◌, ◌<◌, ◌≤◌, Bool, true, false, List, length, Option, Some, None}
 use Rattle.cov_base.specs.Causes.{Rose}
+use Rattle.cov_base.specs.declared.limits.TheConstants.{TOO_MANY_SCRIPT_BYTES}
+use Rattle.cov_io.specs.declared.buffer.TheConstants.{READ_BYTES}
 
 -- the bytes taken from the source for items not yet given, how many were taken, and whether some read answered 0
 pub record Progress : Type 0 where
@@ -24,11 +26,11 @@ CountsGiven None later old new = Unit {0}
 CountsGiven (Some left) None old new = ⊥
 CountsGiven (Some left) (Some later) old new = length left + old ≡ length later + new
 
--- 2^32 bytes were taken and no read has answered 0
+-- too many bytes were taken and no read has answered 0
 abbrev pub IsTooMuch : Progress → Type 0
-IsTooMuch p = (2 ^ 32 ≤ p.taken) × (p.ended ≡ false)
+IsTooMuch p = (TOO_MANY_SCRIPT_BYTES ≤ p.taken) × (p.ended ≡ false)
 
--- while the end isn't known fewer than 2^32 + 2^16 bytes were taken, and never as many as 2^64
+-- while the end isn't known fewer bytes were taken than are too many with one read more, and never as many as 2^64
 pub record IsBounded (ended : Bool) (taken : ℕ) : Type 0 where
-  pub unended : ended ≡ false → taken < 2 ^ 32 + 2 ^ 16
+  pub unended : ended ≡ false → taken < TOO_MANY_SCRIPT_BYTES + READ_BYTES
   pub fits : taken < 2 ^ 64

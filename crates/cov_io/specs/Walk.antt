@@ -2,6 +2,7 @@
 use Rattle.std.specs.Prelude.{◌≡◌, ◌≢◌, ℕ, ◌+◌, ◌<◌, ◌≤◌, Bool, true, false, List, [], ◌∷◌, ◌++◌, length, Option, Some, None, Result, Ok, Err, All}
 use Rattle.std.specs.Io.KnownBytes.{Consumes, IsAtEnd}
 use Rattle.cov_base.specs.Causes.{Rose}
+use Rattle.cov_base.specs.declared.limits.TheConstants.{MOST_SCRIPT_LINE_BYTES}
 use Rattle.cov_io.specs.Progress.{Progress, TracksEnd, IsBounded, IsTooMuch}
 use Rattle.cov_io.specs.Items.{GivesTold, IsShort, IsUnterminated, Shrinks}
 use Rattle.cov_io.specs.declared.buffer.Piece.{Piece}
@@ -17,8 +18,8 @@ IsWithin bytes = All (λ b. b ≢ 10) bytes
 
 -- the bytes of a line so far are held, or are too many for a line that is given
 abbrev pub Holds : Option (List ℕ) → List ℕ → Type 0
-Holds (Some l) piece = (l ≡ piece) × (length piece ≤ 8192)
-Holds None piece = 8192 < length piece
+Holds (Some l) piece = (l ≡ piece) × (length piece ≤ MOST_SCRIPT_LINE_BYTES)
+Holds None piece = MOST_SCRIPT_LINE_BYTES < length piece
 
 -- what was ahead up to the line's end, or all of it, joined what was held
 abbrev pub TakesPiece : Option (List ℕ) → List ℕ → List ℕ → Piece → Type 0

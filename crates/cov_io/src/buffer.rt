@@ -5,16 +5,13 @@ ghost use Rattle.cov_io.specs.Devices.{Reads, Unread, Gives, CountsEnd};
 ghost use Rattle.cov_io.specs.Walk.{Holds, TakesPiece};
 
 use crate::Source;
-use cov_base::{Failed, Memory, Text};
+use cov_base::{Failed, MOST_SCRIPT_LINE_BYTES, Memory, Text};
 use memchr::memchr;
 use std::alloc::Global;
 use std::marker::Model;
 
 /// The bytes asked of a source in one read.
 const READ_BYTES: usize = 65536;
-
-/// The most bytes of a line that is given.
-const MOST_BYTES: usize = 8192;
 
 /// What a buffer had of a line: the line so far, or None where it is too long to be given.
 #[derive(Drop)]
@@ -35,12 +32,13 @@ pub(crate) struct Buffer {
 
 impl Model for Buffer {
     ghost use Rattle.std.specs.Prelude.{◌≡◌, ◌≤◌, List, ℕ, slice_range, length};
+    ghost use Rattle.cov_io.specs.declared.buffer.TheConstants.{READ_BYTES};
 
     ghost Value = { List ℕ };
 
     ghost view = { λ b. slice_range b.bytes.items b.from b.to };
 
-    ghost invariant = { λ b. (b.from ≤ b.to) × (b.to ≤ length b.bytes.items) × (length b.bytes.items ≡ 65536) };
+    ghost invariant = { λ b. (b.from ≤ b.to) × (b.to ≤ length b.bytes.items) × (length b.bytes.items ≡ READ_BYTES) };
 }
 
 impl Buffer {
@@ -96,7 +94,7 @@ impl Buffer {
     /// Replaces what is pending by what one read gives.
     pub(crate) fn fill<S: Source>(&mut self, source: &mut S) -> Result<usize, Failed>
         ensures count { IfOk result (λ n. n ≡ length self.new) }
-        ensures bound { IfOk result (λ n. n ≤ 65536) }
+        ensures bound { IfOk result (λ n. n ≤ READ_BYTES) }
         ensures bytes { IfOk result (λ n. Reads n self.new (S.left source.old) (S.left source.new)) }
         ensures unread { OnErr result (Unread (S.left source.old) (S.left source.new)) }
         ensures given { Gives result (S.given source.old) (S.given source.new) }
@@ -117,7 +115,7 @@ fn grown(line: Option<Text>, bytes: &[u8]) -> Result<Option<Text>, Memory>
 {
     match line {
         Some(mut text) => {
-            if MOST_BYTES.saturating_sub(text.len()) < bytes.len() {
+            if MOST_SCRIPT_LINE_BYTES.saturating_sub(text.len()) < bytes.len() {
                 return Ok(None);
             }
             text.append(bytes)?;

@@ -7,13 +7,10 @@ ghost use Rattle.cov_io.specs.Walk.{Arrives, Fills, Stops, account, item_of, las
 
 use crate::Source;
 use crate::buffer::{Buffer, Piece};
-use cov_base::{Failed, Memory, Text};
+use cov_base::{Failed, Memory, TOO_MANY_SCRIPT_BYTES, Text};
 use std::alloc::Global;
 use std::marker::Model;
 use thiserror::Error;
-
-/// From so many bytes on no more are read, unless the end was met.
-const MOST_TAKEN: u64 = 1 << 32;
 
 /// From so many bytes on no more are read at all.
 const MOST_COUNTED: u64 = 1 << 63;
@@ -21,7 +18,7 @@ const MOST_COUNTED: u64 = 1 << 63;
 /// What a source gives next.
 #[derive(Debug, Drop)]
 pub enum Item {
-    /// A line of at most 8,192 bytes, without its end.
+    /// A line of at most `MOST_SCRIPT_LINE_BYTES` bytes, without its end.
     Line(Text),
     /// A line of more bytes, which was skipped whole.
     Long,
@@ -73,7 +70,7 @@ impl Lines {
     }
 
     /// The next line. After `End` a further call reads again. `TooMuch` comes where more would have
-    /// to be read after 2^32 bytes, `Memory` also where that is so after 2^63 bytes and an end.
+    /// to be read after `TOO_MANY_SCRIPT_BYTES`, `Memory` also where that is so after 2^63 bytes and an end.
     pub fn next<S: Source>(&mut self, source: &mut S) -> Result<Item, LineFault>
         ensures items { IfOk result (GivesTold self.old self.new (S.left source.old) (S.left source.new)) }
         ensures short { IfOk result IsShort }
@@ -124,7 +121,7 @@ impl Lines {
             let after = account (S.left source.new) (S.given source.new) (S.faults source.new) (S.ends source.new) in
             Fills result self.old self.new before after }
     {
-        if self.taken >= MOST_TAKEN && !self.ended {
+        if self.taken >= TOO_MANY_SCRIPT_BYTES && !self.ended {
             return Err(LineFault::TooMuch);
         }
         if self.taken >= MOST_COUNTED {

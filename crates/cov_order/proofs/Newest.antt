@@ -2,9 +2,7 @@
 use Rattle.std.proofs.Common.{◌≡◌, ℕ, zero, suc, ◌<◌, ◌≤◌, true, false, List, [], ◌∷◌, length, refl, sym, ap, subst, arith}
 use Rattle.std.specs.List.{AllByRecursion}
 use Rattle.cov_base.specs.Addresses.{stands_before, address_in, IsTable, placed, AreInOrder, after_anchor, itself}
-use Rattle.cov_base.proofs.Ordered.{all-map, placed-in_order, new_after}
-use Rattle.cov_base.proofs.Placing.{placed-after_line, placed-at_head}
-use Rattle.cov_base.proofs.Tables.{inside}
+use Rattle.cov_base.proofs.CallerLemmas.{all-map, placed-in_order, new_after, placed-after_line, placed-at_head, inside}
 use Rattle.cov_order.specs.Laws.{IsNewest, filled, AreRising}
 
 module _ (t : List (List ℕ)) (table : IsTable t) where

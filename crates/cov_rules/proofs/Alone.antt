@@ -1,11 +1,12 @@
 -- Choices of which no option has both values are at most one.
 use Rattle.std.proofs.Common.{◌≡◌, ℕ, zero, suc, ◌<◌, ◌≤◌, Bool, true, false, cond, ◌&&◌, ◌||◌, not, List, [], ◌∷◌, ◌++◌, map, length, true≢false, refl, sym, ap, ◌∙◌, arith}
+use mathlib.Core.Bool.{or-false}
 use Rattle.std.specs.List.{filter, list_any}
 use Rattle.std.proofs.lemmas.List.{length-append, length-map}
 use Rattle.std.proofs.lemmas.List.Elements.{filter-append}
 use Rattle.std.proofs.lemmas.List.Folds.{list_any-append}
 use Rattle.cov_base.specs.Choices.{all_choices, is_on}
-use Rattle.cov_expr.proofs.ListLemmas.{list_any-map}
+use Rattle.cov_expr.proofs.CallerLemmas.{list_any-map}
 use Rattle.cov_rules.specs.Completion.{has_any, is_open}
 
 module _ {X Y : Type 0} (p : Y → Bool) (f : X → Y) where
@@ -36,21 +37,17 @@ any_false (c ∷ cs) = any_false cs
 halves : (t : List Bool → Bool) (xs ys : List (List Bool)) → list_any t (off_then xs ++ on_then ys) ≡ (list_any (λ c. t (false ∷ c)) xs || list_any (λ c. t (true ∷ c)) ys)
 halves t xs ys = list_any-append t (off_then xs) (on_then ys) ∙ (λ j. list_any-map t (λ c. false ∷ c) xs j || list_any-map t (λ c. true ∷ c) ys j)
 
-or_false : (b : Bool) → (b || false) ≡ b
-or_false true = refl
-or_false false = refl
-
 -- the first option is open where both halves have a choice
 first_open_where : (xs ys : List (List Bool)) → is_open (off_then xs ++ on_then ys) 0 ≡ (has_any ys && has_any xs)
 first_open_where xs ys = λ j.
     (halves (λ c. is_on c 0) xs ys ∙ (λ k. any_false xs k || any_true ys k)) j
-    && (halves (λ c. not (is_on c 0)) xs ys ∙ (λ k. any_true xs k || any_false ys k) ∙ or_false (has_any xs)) j
+    && (halves (λ c. not (is_on c 0)) xs ys ∙ (λ k. any_true xs k || any_false ys k) ∙ or-false (has_any xs)) j
 
 -- a later option where there is one half
 later_off : (xs : List (List Bool)) (o : ℕ) → is_open (off_then xs ++ on_then []) (suc o) ≡ is_open xs o
 later_off xs o = λ j.
-    (halves (λ c. is_on c (suc o)) xs [] ∙ or_false (list_any (λ c. is_on c o) xs)) j
-    && (halves (λ c. not (is_on c (suc o))) xs [] ∙ or_false (list_any (λ c. not (is_on c o)) xs)) j
+    (halves (λ c. is_on c (suc o)) xs [] ∙ or-false (list_any (λ c. is_on c o) xs)) j
+    && (halves (λ c. not (is_on c (suc o))) xs [] ∙ or-false (list_any (λ c. not (is_on c o)) xs)) j
 
 later_on : (ys : List (List Bool)) (o : ℕ) → is_open (off_then [] ++ on_then ys) (suc o) ≡ is_open ys o
 later_on ys o = λ j. halves (λ c. is_on c (suc o)) [] ys j && halves (λ c. not (is_on c (suc o))) [] ys j

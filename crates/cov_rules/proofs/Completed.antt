@@ -1,15 +1,15 @@
 -- The completion of a partial choice, by the nodes that stand for what is left.
-use Rattle.std.proofs.Common.{◌≡◌, ℕ, Bool, true, false, ◌&&◌, nat_lt, List, [], ◌∷◌, refl, sym, ◌∙◌, arith}
+use Rattle.std.proofs.Common.{◌≡◌, ℕ, Bool, true, false, ◌&&◌, nat_lt, List, [], ◌∷◌, refl, sym, subst, ◌∙◌, arith}
 use Rattle.std.specs.List.{filter, list_all}
 use Rattle.cov_base.specs.Choices.{all_choices}
 use Rattle.cov_dd.specs.declared.triple.Triple.{Triple}
-use Rattle.cov_dd.specs.Combinations.{joint_span}
+use Rattle.cov_dd.specs.Combinations.{first_option, joint_span}
 use Rattle.cov_dd.specs.Diagrams.{value_in, Extends, Stands}
 use Rattle.cov_dd.proofs.CallerLemmas.{stands_later}
 use Rattle.cov_expr.specs.Formula.{Formula, value}
 use Rattle.cov_expr.specs.Validity.{is_valid}
 use Rattle.cov_rules.specs.Completion.{Invalid, has_any, or_else, keep, keep_all, least_unmet, literals, fallbacks, agreeing, answer_of, completed_from, completed, IsSet, AreBelow}
-use Rattle.cov_rules.specs.Installing.{Standing, expressions, StandsForAll, Holds}
+use Rattle.cov_rules.specs.Installing.{Standing, RulesValue, expressions, StandsForAll, Holds}
 use Rattle.cov_rules.proofs.Narrowing.{filter_filter}
 use Rattle.cov_rules.proofs.Growing.{literals_below}
 
@@ -68,3 +68,19 @@ module _ (n : ℕ) (s : Standing) (partial : List (ℕ × Bool)) (below : AreBel
         choices = (λ j. filter (λ c. (both.value c ∙ (λ k. stands.value c k && kept.value c k)) j) (all_choices n))
             ∙ sym (filter_filter (is_valid (literals partial)) (is_valid (expressions s.constraints)) (all_choices n));
       }
+
+-- the valid choices as rules find them, whose value is seen in two ways, as are the bindings
+module _ (n : ℕ) (v w : RulesValue) (seen : w ≡ v) (partial bs : List (ℕ × Bool)) (read : bs ≡ partial) (below : AreBelow n v.standing) (bound : list_all (λ b. nat_lt b.0 n) partial ≡ true)
+    (ts us : List Triple) (h : Holds ts v.standing) (x : Extends ts us) (agree : ℕ) (stands : StandsForAll us agree (literals bs)) where
+  agreement : StandsForAll us agree (literals partial)
+  agreement = subst (λ cs. StandsForAll us agree (literals cs)) read stands
+
+  pub agreeing_found : IsSet us agree n (agreeing n partial)
+  agreeing_found = agreeing_set n v.standing partial below bound ts us h x agree agreement
+
+  pub valid_found : (vs : List Triple) (start : ℕ)
+      → Stands vs start (first_option us agree w.standing.conjunction) (joint_span us agree w.standing.conjunction) (λ c. value_in us agree c && value_in us w.standing.conjunction c)
+      → IsSet vs start n (valid n v.standing partial)
+  valid_found vs start both =
+      valid_set n v.standing partial below bound ts us h x agree agreement vs start (first_option us agree v.standing.conjunction)
+      (subst (λ (r : RulesValue). Stands vs start (first_option us agree r.standing.conjunction) (joint_span us agree r.standing.conjunction) (λ c. value_in us agree c && value_in us r.standing.conjunction c)) seen both)

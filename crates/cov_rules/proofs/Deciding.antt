@@ -1,13 +1,14 @@
 -- What one node decides of all choices.
 use Rattle.std.proofs.Common.{◌≡◌, ℕ, zero, suc, ◌+◌, ◌-◌, ◌<◌, ◌≤◌, Bool, true, false, ◌&&◌, ◌||◌, not, nat_lt, option_map, List, [], ◌∷◌, ◌++◌, map, length, take, replicate, Some, None, if◌then◌else◌, refl, sym, ap, ◌∙◌, arith, length-append}
 use Rattle.std.specs.List.{list_any, position_or_len}
-use Rattle.std.proofs.lemmas.Bool.{ltb-false}
+use Rattle.std.proofs.lemmas.Bool.{ltb-false, or_parts}
 use Rattle.std.proofs.lemmas.List.{length-take, length-replicate}
 use Rattle.std.proofs.lemmas.List.Folds.{list_any-append}
 use Rattle.cov_base.specs.Choices.{all_choices, is_on}
+use Rattle.cov_base.specs.declared.limits.TheConstants.{CHOICE_WIDTH}
 use Rattle.cov_dd.specs.declared.triple.Triple.{Triple}
 use Rattle.cov_dd.specs.Diagrams.{value_in}
-use Rattle.cov_expr.proofs.ListLemmas.{list_any-map}
+use Rattle.cov_expr.proofs.CallerLemmas.{list_any-map}
 use Rattle.cov_expr.specs.Formula.{Formula, False, True, On, Not, And, Or, value, reach}
 use Rattle.cov_expr.specs.Validity.{is_valid, first_false}
 use Rattle.cov_rules.specs.Installing.{reach_of}
@@ -40,14 +41,6 @@ is_on-padded [] (suc k) (suc o) = is_on-padded [] k o
 is_on-padded (b ∷ c) k zero = refl
 is_on-padded (b ∷ c) k (suc o) = is_on-padded c k o
 
-neither_left : (a b : Bool) → (a || b) ≡ false → a ≡ false
-neither_left false b h = refl
-neither_left true b h = h
-
-neither_right : (a b : Bool) → (a || b) ≡ false → b ≡ false
-neither_right false b h = h
-neither_right true b h = absurd (cc)
-
 -- the choices of one option more
 module _ (n : ℕ) (p : List Bool → Bool) where
   halves : list_any p (all_choices (suc n)) ≡ (list_any (λ c. p (false ∷ c)) (all_choices n) || list_any (λ c. p (true ∷ c)) (all_choices n))
@@ -61,23 +54,23 @@ none_passes (suc n) p h = halves n p
     ∙ (λ j. none_passes n (λ c. p (false ∷ c)) (λ c long. h (false ∷ c) (ap suc long)) j || none_passes n (λ c. p (true ∷ c)) (λ c long. h (true ∷ c) (ap suc long)) j)
 
 pub fails_on_each : (n : ℕ) (p : List Bool → Bool) → list_any p (all_choices n) ≡ false → (c : List Bool) → length c ≡ n → p c ≡ false
-fails_on_each zero p h [] long = neither_left (p []) false h
+fails_on_each zero p h [] long = (or_parts (p []) false h).0
 fails_on_each zero p h (b ∷ c) long = absurd (omega (arith, long))
 fails_on_each (suc n) p h [] long = absurd (omega (arith, long))
-fails_on_each (suc n) p h (false ∷ c) long = fails_on_each n (λ d. p (false ∷ d)) (neither_left _ _ (sym (halves n p) ∙ h)) c (omega (arith, long))
-fails_on_each (suc n) p h (true ∷ c) long = fails_on_each n (λ d. p (true ∷ d)) (neither_right _ _ (sym (halves n p) ∙ h)) c (omega (arith, long))
+fails_on_each (suc n) p h (false ∷ c) long = fails_on_each n (λ d. p (false ∷ d)) (or_parts _ _ (sym (halves n p) ∙ h)).0 c (omega (arith, long))
+fails_on_each (suc n) p h (true ∷ c) long = fails_on_each n (λ d. p (true ∷ d)) (or_parts _ _ (sym (halves n p) ∙ h)).1 c (omega (arith, long))
 
 -- a node with the values of the constraints and one more expression decides whether a choice meets them
 module _ (es : List (Formula ℕ)) (e : Formula ℕ) (ts : List Triple) (node : ℕ)
     (is : (c : List Bool) → value_in ts node c ≡ (is_valid es c && value e c)) where
-  pub unmet : ((c : List Bool) → length c ≡ 128 → value_in ts node c ≡ false) → (count : ℕ) → count ≤ 128 → is_met count es e ≡ false
+  pub unmet : ((c : List Bool) → length c ≡ CHOICE_WIDTH → value_in ts node c ≡ false) → (count : ℕ) → count ≤ CHOICE_WIDTH → is_met count es e ≡ false
   unmet none count most = none_passes count (λ c. is_valid es c && value e c) (λ c long.
-      let padded : List Bool = c ++ replicate (128 - count) false in
-      let same : (o : ℕ) → is_on c o ≡ is_on padded o = λ o. sym (is_on-padded c (128 - count) o) in
-      let full : length padded ≡ 128 = omega (arith, most, long, length-append c (replicate (128 - count) false), length-replicate (128 - count) false) in
+      let padded : List Bool = c ++ replicate (CHOICE_WIDTH - count) false in
+      let same : (o : ℕ) → is_on c o ≡ is_on padded o = λ o. sym (is_on-padded c (CHOICE_WIDTH - count) o) in
+      let full : length padded ≡ CHOICE_WIDTH = omega (arith, most, long, length-append c (replicate (CHOICE_WIDTH - count) false), length-replicate (CHOICE_WIDTH - count) false) in
       (λ j. is_valid_same es c padded (λ o lt. same o) j && value_same e c padded (λ o lt. same o) j) ∙ sym (is padded) ∙ none padded full)
 
-  pub met : (((c : List Bool) → length c ≡ 128 → value_in ts node c ≡ false) → ⊥) → (count : ℕ) → (count ≤ 128) × (reach_of es ≤ count) × (reach e ≤ count) → is_met count es e ≡ true
+  pub met : (((c : List Bool) → length c ≡ CHOICE_WIDTH → value_in ts node c ≡ false) → ⊥) → (count : ℕ) → (count ≤ CHOICE_WIDTH) × (reach_of es ≤ count) × (reach e ≤ count) → is_met count es e ≡ true
   met some count fits = by (is_met count es e) refl
     where
       by : (b : Bool) → is_met count es e ≡ b → is_met count es e ≡ true

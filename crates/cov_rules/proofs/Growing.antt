@@ -14,7 +14,7 @@ use Rattle.cov_rules.specs.declared.rules.Installed.{Installed}
 use Rattle.cov_rules.specs.declared.rules.Rule.{Rule}
 use Rattle.cov_rules.specs.declared.rules.Rule.TheVariants as rules
 use Rattle.cov_rules.specs.declared.rules.RulePlan.{RulePlan}
-use Rattle.cov_rules.proofs.CallerLemmas.{expressions_more, reach_of-more}
+use Rattle.cov_rules.proofs.Holding.{expressions_more, reach_of-more}
 use Rattle.cov_rules.proofs.Deciding.{value_same, is_valid_same, is_on-take}
 
 reach-literal : (o : ℕ) (on : Bool) → reach (literal o on) ≡ o + 1

@@ -1,10 +1,11 @@
+mod Examples
 pub mod Alone
 pub mod Answering
 pub mod CallerLemmas
 pub mod Completed
 pub mod Deciding
-mod Examples
 pub mod Growing
+pub mod Holding
 pub mod Narrowing
 pub mod Opening
 pub mod Planning

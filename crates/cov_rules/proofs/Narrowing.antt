@@ -3,9 +3,10 @@ use Rattle.std.proofs.Common.{◌≡◌, ℕ, zero, suc, ◌+◌, ◌-◌, ◌<�
 use Rattle.std.specs.List.{list_any, filter}
 use Rattle.std.proofs.lemmas.List.{length-take, length-replicate, take_more, map-append}
 use Rattle.cov_base.specs.Choices.{all_choices, is_on}
+use Rattle.cov_base.specs.declared.limits.TheConstants.{CHOICE_WIDTH}
 use Rattle.cov_dd.specs.declared.triple.Triple.{Triple}
 use Rattle.cov_dd.specs.Combinations.{joint_span}
-use Rattle.cov_dd.specs.Diagrams.{node_count, span, value_in, Extends, Stands}
+use Rattle.cov_dd.specs.Diagrams.{diagram_size, span, value_in, Extends, Stands}
 use Rattle.cov_dd.proofs.CallerLemmas.{stands_later, stands_weaker}
 use Rattle.cov_expr.specs.Formula.{Formula, value, reach}
 use Rattle.cov_expr.specs.Validity.{is_valid}
@@ -13,13 +14,13 @@ use Rattle.cov_rules.specs.Completion.{has_any, or_else, keep, keep_all, IsSet}
 use Rattle.cov_rules.specs.Installing.{literal, reach_of, StandsFor, StandsForAll, AllStand, AllFallBack}
 use Rattle.cov_rules.specs.declared.rules.Fallback.{Fallback}
 use Rattle.cov_rules.specs.declared.rules.Installed.{Installed}
-use Rattle.cov_rules.proofs.CallerLemmas.{reach_of-more, is_valid-more}
+use Rattle.cov_rules.proofs.Holding.{reach_of-more, is_valid-more}
 use Rattle.cov_rules.proofs.Deciding.{is_on-take, is_on-padded, none_passes, fails_on_each}
 
 -- a node has the same value on choices that have the same values of its options
 pub value_in_same : (ts : List Triple) (a : ℕ) (c d : List Bool) → ((o : ℕ) → o < span ts a → is_on c o ≡ is_on d o) → value_in ts a c ≡ value_in ts a d
 value_in_same [] a c d h = refl
-value_in_same (t ∷ ts) a c d h = by (a == node_count ts) h (value_in_same ts a c d) (value_in_same ts t.on c d) (value_in_same ts t.off c d)
+value_in_same (t ∷ ts) a c d h = by (a == diagram_size ts) h (value_in_same ts a c d) (value_in_same ts t.on c d) (value_in_same ts t.off c d)
   where
     by : (b : Bool) → ((o : ℕ) → o < cond b (max (t.option + 1) (max (span ts t.off) (span ts t.on))) (span ts a) → is_on c o ≡ is_on d o)
         → (((o : ℕ) → o < span ts a → is_on c o ≡ is_on d o) → value_in ts a c ≡ value_in ts a d)
@@ -69,12 +70,12 @@ module _ (ts : List Triple) (node count : ℕ) (cs : List (List Bool)) (is : IsS
   any : list_any (value_in ts node) (all_choices count) ≡ has_any cs
   any = any_filter (value_in ts node) (all_choices count) ∙ ap has_any is.choices
 
-  -- a node that is false on every choice of 128 options stands for no choice
-  pub decides : (b : Bool) → (b ≡ true) ↔ ((c : List Bool) → length c ≡ 128 → value_in ts node c ≡ false) → not b ≡ has_any cs
+  -- a node that is false on every choice of all options that it can have stands for no choice
+  pub decides : (b : Bool) → (b ≡ true) ↔ ((c : List Bool) → length c ≡ CHOICE_WIDTH → value_in ts node c ≡ false) → not b ≡ has_any cs
   decides true h = sym (none_passes count (value_in ts node) (λ c long.
-      let padded : List Bool = c ++ replicate (128 - count) false in
-      let full : length padded ≡ 128 = omega (arith, is.few, long, length-append c (replicate (128 - count) false), length-replicate (128 - count) false) in
-      value_in_same ts node c padded (λ o lt. sym (is_on-padded c (128 - count) o)) ∙ h.0 refl padded full)) ∙ any
+      let padded : List Bool = c ++ replicate (CHOICE_WIDTH - count) false in
+      let full : length padded ≡ CHOICE_WIDTH = omega (arith, is.few, long, length-append c (replicate (CHOICE_WIDTH - count) false), length-replicate (CHOICE_WIDTH - count) false) in
+      value_in_same ts node c padded (λ o lt. sym (is_on-padded c (CHOICE_WIDTH - count) o)) ∙ h.0 refl padded full)) ∙ any
   decides false h = by (list_any (value_in ts node) (all_choices count)) refl
     where
       by : (x : Bool) → list_any (value_in ts node) (all_choices count) ≡ x → true ≡ has_any cs

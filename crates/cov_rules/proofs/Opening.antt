@@ -2,7 +2,7 @@
 use Rattle.std.proofs.Common.{◌≡◌, ℕ, zero, suc, ◌+◌, ◌-◌, ◌<◌, ◌≤◌, Bool, true, false, cond, ◌&&◌, List, [], ◌∷◌, Some, None, Result, Ok, Err, IfOk, IfErr, ◌||◌, not, length, refl, sym, ap, ◌∙◌, arith}
 use Rattle.std.specs.List.{filter, find, list_any, range_with_len}
 use Rattle.cov_base.specs.Choices.{all_choices, is_on}
-use Rattle.cov_dd.proofs.Nodes.{Order, below, level, above, ordered}
+use Rattle.cov_dd.proofs.CallerLemmas.{Order, below, level, above, ordered}
 use Rattle.cov_dd.specs.declared.triple.Triple.{Triple}
 use Rattle.cov_dd.specs.Combinations.{joint_span}
 use Rattle.cov_dd.specs.Diagrams.{value_in, Extends, Stands}

@@ -1,6 +1,7 @@
 -- The plan of one more rule.
 use Rattle.std.proofs.Common.{◌≡◌, ℕ, ◌<◌, ◌≤◌, max, Bool, true, false, ◌&&◌, List, [], ◌∷◌, ◌++◌, length, Option, Some, None, Result, Ok, Err, IfOk, IfErr, OnOk, if◌then◌else◌, sym, ap, subst, ◌∙◌, arith}
 use Rattle.std.proofs.lemmas.Bool.{le-leb, lt-leb}
+use Rattle.cov_base.specs.declared.limits.TheConstants.{CHOICE_WIDTH, LIMITS}
 use Rattle.cov_dd.specs.declared.triple.Triple.{Triple}
 use Rattle.cov_dd.specs.Diagrams.{span, value_in, Stands}
 use Rattle.cov_expr.specs.Formula.{Formula, value, reach}
@@ -12,7 +13,7 @@ use Rattle.cov_rules.specs.declared.rules.Rule.TheVariants as rules
 use Rattle.cov_rules.specs.declared.rules.RuleFault.{RuleFault}
 use Rattle.cov_rules.specs.declared.rules.RuleFault.TheVariants as faults
 use Rattle.cov_rules.specs.declared.rules.RulePlan.{RulePlan}
-use Rattle.cov_rules.proofs.CallerLemmas.{stands_for_more}
+use Rattle.cov_rules.proofs.Holding.{stands_for_more}
 use Rattle.cov_rules.proofs.Deciding as deciding
 
 module _ (s : Standing) (rule : Rule) where
@@ -20,16 +21,16 @@ module _ (s : Standing) (rule : Rule) where
   abbrev by : Bool → Bool → Option RuleFault
   by many left = if many then Some faults.Full else (if left then None else Some faults.NoVariantLeft)
 
-  pub full : 256 ≤ count_of rule s → IsFaultOf s rule faults.Full
-  full h count fits = ap (λ b. by b (leaves_variant count (expressions s.constraints) rule)) (le-leb 256 (count_of rule s) h)
+  pub full : LIMITS.rules ≤ count_of rule s → IsFaultOf s rule faults.Full
+  full h count fits = ap (λ b. by b (leaves_variant count (expressions s.constraints) rule)) (le-leb LIMITS.rules (count_of rule s) h)
 
-  pub taken : count_of rule s < 256 → ((count : ℕ) → AreOptions count s rule → leaves_variant count (expressions s.constraints) rule ≡ true) → IsAccepted s rule
-  taken few left count fits = λ j. by (lt-leb 256 (count_of rule s) few j) (left count fits j)
+  pub taken : count_of rule s < LIMITS.rules → ((count : ℕ) → AreOptions count s rule → leaves_variant count (expressions s.constraints) rule ≡ true) → IsAccepted s rule
+  taken few left count fits = λ j. by (lt-leb LIMITS.rules (count_of rule s) few j) (left count fits j)
 
-  pub left_none : count_of rule s < 256 → ((count : ℕ) → AreOptions count s rule → leaves_variant count (expressions s.constraints) rule ≡ false) → IsFaultOf s rule faults.NoVariantLeft
-  left_none few left count fits = λ j. by (lt-leb 256 (count_of rule s) few j) (left count fits j)
+  pub left_none : count_of rule s < LIMITS.rules → ((count : ℕ) → AreOptions count s rule → leaves_variant count (expressions s.constraints) rule ≡ false) → IsFaultOf s rule faults.NoVariantLeft
+  left_none few left count fits = λ j. by (lt-leb LIMITS.rules (count_of rule s) few j) (left count fits j)
 
-module _ (ts us : List Triple) (r s : RulesValue) (e : Formula ℕ) (plan : RulePlan) (h : Holds ts r.standing) (few : length r.standing.constraints < 256)
+module _ (ts us : List Triple) (r s : RulesValue) (e : Formula ℕ) (plan : RulePlan) (h : Holds ts r.standing) (few : length r.standing.constraints < LIMITS.rules)
     (all : Stands us plan.conjunction 0 (max (span ts r.standing.conjunction) (reach e)) (λ c. value_in ts r.standing.conjunction c && value e c)) where
   decided : (c : List Bool) → value_in us plan.conjunction c ≡ (is_valid (expressions r.standing.constraints) c && value e c)
   decided c = all.value c ∙ ap (λ b. b && value e c) (h.conjunction.value c)
@@ -46,11 +47,11 @@ module _ (ts us : List Triple) (r s : RulesValue) (e : Formula ℕ) (plan : Rule
     );
   })
 
-  pub accepted : (answer : Result RulePlan RuleFault) → OnOk answer (((c : List Bool) → length c ≡ 128 → value_in us plan.conjunction c ≡ false) → ⊥) → IfOk answer (λ _. IsAccepted r.standing (rules.Constraint e))
+  pub accepted : (answer : Result RulePlan RuleFault) → OnOk answer (((c : List Bool) → length c ≡ CHOICE_WIDTH → value_in us plan.conjunction c ≡ false) → ⊥) → IfOk answer (λ _. IsAccepted r.standing (rules.Constraint e))
   accepted (Err fault) some = tt
   accepted (Ok a) some = taken r.standing (rules.Constraint e) few (λ count fits. deciding.met (expressions r.standing.constraints) e us plan.conjunction decided some count fits)
 
-  pub refused : (answer : Result RulePlan RuleFault) → IfErr answer (λ fault. (fault ≡ faults.NoVariantLeft) × ((c : List Bool) → length c ≡ 128 → value_in us plan.conjunction c ≡ false)) → IfErr answer (IsFaultOf r.standing (rules.Constraint e))
+  pub refused : (answer : Result RulePlan RuleFault) → IfErr answer (λ fault. (fault ≡ faults.NoVariantLeft) × ((c : List Bool) → length c ≡ CHOICE_WIDTH → value_in us plan.conjunction c ≡ false)) → IfErr answer (IsFaultOf r.standing (rules.Constraint e))
   refused (Ok a) none = tt
   refused (Err fault) none = subst (IsFaultOf r.standing (rules.Constraint e)) (sym none.0)
       (left_none r.standing (rules.Constraint e) few (λ count fits. deciding.unmet (expressions r.standing.constraints) e us plan.conjunction decided none.1 count fits.0))

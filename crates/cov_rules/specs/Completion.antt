@@ -2,8 +2,9 @@
 use Rattle.std.specs.Prelude.{ℕ, ◌+◌, ◌≡◌, ◌≤◌, ◌<◌, Bool, true, false, ◌&&◌, not, List, [], ◌∷◌, map, length, Option, Some, None}
 use Rattle.std.specs.List.{filter, find, list_any, range_with_len}
 use Rattle.cov_base.specs.Choices.{all_choices, is_on}
+use Rattle.cov_base.specs.declared.limits.TheConstants.{CHOICE_WIDTH}
 use Rattle.cov_dd.specs.declared.triple.Triple.{Triple}
-use Rattle.cov_dd.specs.Diagrams.{node_count, span, value_in}
+use Rattle.cov_dd.specs.Diagrams.{diagram_size, span, value_in}
 use Rattle.cov_expr.specs.Formula.{Formula, value}
 use Rattle.cov_expr.specs.Validity.{is_valid, first_false}
 use Rattle.cov_rules.specs.Installing.{Standing, expressions, literal, reach_of}
@@ -83,7 +84,7 @@ abbrev pub completed : ℕ → Standing → List (ℕ × Bool) → Completion
 completed n s partial = completed_by n (expressions s.constraints) (expressions s.preferences) (fallbacks s.defaults) partial
 
 -- a choice has n options, meets the constraints and agrees with a partial choice
-pub record IsAnswer (n : ℕ) (constraints : List (Formula ℕ)) (partial : List (ℕ × Bool)) (choice : List Bool) : Type 0 where
+pub record IsCompletion (n : ℕ) (constraints : List (Formula ℕ)) (partial : List (ℕ × Bool)) (choice : List Bool) : Type 0 where
   pub whole : length choice ≡ n
   pub valid : first_false constraints choice ≡ None
   pub agrees : is_valid (literals partial) choice ≡ true
@@ -91,7 +92,7 @@ pub record IsAnswer (n : ℕ) (constraints : List (Formula ℕ)) (partial : List
 -- the choice that completes a partial one has all options, meets the constraints and agrees with it
 abbrev pub CompletedIsValid : Type 0
 CompletedIsValid = (n : ℕ) (constraints preferences defaults : List (Formula ℕ)) (partial : List (ℕ × Bool)) (choice : List Bool)
-    → completed_by n constraints preferences defaults partial ≡ Complete choice → IsAnswer n constraints partial choice
+    → completed_by n constraints preferences defaults partial ≡ Complete choice → IsCompletion n constraints partial choice
 
 -- a fault is want of memory, or the refusal that completion gives
 abbrev pub IsRefusalBy : Completion → CompleteFault → Type 0
@@ -101,14 +102,14 @@ IsRefusalBy answer (faults.Incomplete option) = answer ≡ Incomplete (Some opti
 
 -- a node has options below count and is true on exactly these of their choices, in order
 pub record IsSet (ts : List Triple) (node count : ℕ) (cs : List (List Bool)) : Type 0 where
-  pub few : count ≤ 128
-  pub within : node < node_count ts
+  pub few : count ≤ CHOICE_WIDTH
+  pub within : node < diagram_size ts
   pub options : span ts node ≤ count
   pub choices : filter (value_in ts node) (all_choices count) ≡ cs
 
 -- there may be so many options, and the rules have no others
 pub record AreBelow (count : ℕ) (s : Standing) : Type 0 where
-  pub few : count ≤ 128
+  pub few : count ≤ CHOICE_WIDTH
   pub constraints : reach_of (expressions s.constraints) ≤ count
   pub preferences : reach_of (expressions s.preferences) ≤ count
   pub defaults : reach_of (fallbacks s.defaults) ≤ count

@@ -1,5 +1,6 @@
 -- What one more rule adds, and what holds of rules when options and nodes are added.
 use Rattle.std.specs.Prelude.{◌≡◌, ℕ, ◌≤◌, Bool, nat_le, List, [], ◌∷◌, ◌++◌, take, if◌then◌else◌}
+use Rattle.cov_base.specs.declared.limits.TheConstants.{CHOICE_WIDTH}
 use Rattle.cov_dd.specs.declared.triple.Triple.{Triple}
 use Rattle.cov_dd.specs.Diagrams.{Extends}
 use Rattle.cov_expr.specs.Formula.{Formula, value, reach}
@@ -40,7 +41,7 @@ HoldInGrownTable = (ts us : List Triple) (s : Standing) → Extends ts us → Ho
 
 -- rules over so many options are rules over more options
 abbrev pub StayBelow : Type 0
-StayBelow = (m n : ℕ) (s : Standing) → m ≤ n → n ≤ 128 → AreBelow m s → AreBelow n s
+StayBelow = (m n : ℕ) (s : Standing) → m ≤ n → n ≤ CHOICE_WIDTH → AreBelow m s → AreBelow n s
 
 -- an expression has the same value on the first options of a choice, if its own are among them
 abbrev pub ValueByFirstOptions : Type 0

@@ -1,6 +1,7 @@
 -- Rules in order, with their positions and the nodes that stand for them.
 use Rattle.std.specs.Prelude.{ℕ, ◌<◌, Bool, true, false, nat_le, max, List, [], ◌∷◌, ◌++◌, map, length}
 use Rattle.std.specs.List.{filter}
+use Rattle.cov_base.specs.declared.limits.TheConstants.{LIMITS}
 use Rattle.cov_dd.specs.declared.triple.Triple.{Triple}
 use Rattle.cov_dd.specs.Diagrams.{Stands}
 use Rattle.cov_expr.specs.Formula.{Formula, On, Not, value, reach}
@@ -94,6 +95,6 @@ Plans ts s (rules.Default o on) plan = StandsFor ts plan.node (literal o on)
 
 -- a plan is one of this rule as the next of its kind, and there is room for it
 pub record IsPlan (ts : List Triple) (r : RulesValue) (rule : Rule) (plan : RulePlan) : Type 0 where
-  pub few : count_of rule r.standing < 256
+  pub few : count_of rule r.standing < LIMITS.rules
   pub room : 0 < r.spare
   pub nodes : Plans ts r.standing rule plan

@@ -2,6 +2,7 @@
 use Rattle.std.specs.Prelude.{ℕ, ◌≡◌, ◌<◌, ◌≤◌, ◌+◌, Bool, true, ◌&&◌, nat_le, List, Option, Some, None, if◌then◌else◌}
 use Rattle.std.specs.List.{list_any}
 use Rattle.cov_base.specs.Choices.{all_choices}
+use Rattle.cov_base.specs.declared.limits.TheConstants.{CHOICE_WIDTH, LIMITS}
 use Rattle.cov_expr.specs.Formula.{Formula, value, reach}
 use Rattle.cov_expr.specs.Validity.{is_valid}
 use Rattle.cov_rules.specs.Installing.{Standing, count_of, expressions, reach_of}
@@ -23,7 +24,7 @@ leaves_variant count constraints (rules.Default o on) = true
 -- the refusal of a rule over so many options, if there is one
 abbrev pub refusal : ℕ → Standing → Rule → Option RuleFault
 refusal count s rule =
-    if nat_le 256 (count_of rule s) then Some faults.Full
+    if nat_le LIMITS.rules (count_of rule s) then Some faults.Full
     else (if leaves_variant count (expressions s.constraints) rule then None else Some faults.NoVariantLeft)
 
 -- the least count of options that has every option of a rule
@@ -34,7 +35,7 @@ reach_of_rule (rules.Default o on) = o + 1
 
 -- there may be so many options, and they have every option of the constraints and of a rule
 abbrev pub AreOptions : ℕ → Standing → Rule → Type 0
-AreOptions count s rule = (count ≤ 128) × (reach_of (expressions s.constraints) ≤ count) × (reach_of_rule rule ≤ count)
+AreOptions count s rule = (count ≤ CHOICE_WIDTH) × (reach_of (expressions s.constraints) ≤ count) × (reach_of_rule rule ≤ count)
 
 -- a rule isn't refused, whatever options are declared
 abbrev pub IsAccepted : Standing → Rule → Type 0
@@ -42,6 +43,6 @@ IsAccepted s rule = (count : ℕ) → AreOptions count s rule → refusal count 
 
 -- a fault is the refusal, whatever options are declared, or want of memory where there may be one more rule of the kind
 abbrev pub IsFaultOf : Standing → Rule → RuleFault → Type 0
-IsFaultOf s rule faults.Memory = count_of rule s < 256
+IsFaultOf s rule faults.Memory = count_of rule s < LIMITS.rules
 IsFaultOf s rule faults.Full = (count : ℕ) → AreOptions count s rule → refusal count s rule ≡ Some faults.Full
 IsFaultOf s rule faults.NoVariantLeft = (count : ℕ) → AreOptions count s rule → refusal count s rule ≡ Some faults.NoVariantLeft

@@ -1,7 +1,8 @@
 // The steps by which rules complete a partial choice. Each narrows a node that stands for the choices that are left.
 ghost use Rattle.std.specs.Prelude.{◌≡◌, ◌<◌, ◌≤◌, ℕ, List, Bool, true, length, IfOk, IfErr};
 ghost use Rattle.std.specs.List.{list_any};
-ghost use Rattle.cov_dd.specs.Diagrams.{node_count, span, Extends};
+ghost use Rattle.cov_base.specs.declared.limits.TheConstants.{CHOICE_WIDTH, LIMITS};
+ghost use Rattle.cov_dd.specs.Diagrams.{diagram_size, span, Extends};
 ghost use Rattle.cov_expr.specs.Formula.{Formula, reach, value};
 ghost use Rattle.cov_rules.specs.Completion.{Complete, answer_of, literals, fallbacks, has_any, keep, keep_all, least_unmet, first_open, is_open, IsSet, IsRefusalBy};
 ghost use Rattle.cov_rules.specs.Installing.{literal, expressions, reach_of, StandsFor, StandsForAll, AllStand, AllFallBack};
@@ -35,7 +36,7 @@ pub(crate) fn agreement(table: &mut Table, bindings: &[(OptionId, bool)]) -> Res
 
 /// Whether a node is true on some choice.
 pub(crate) fn is_met(table: &Table, node: Node) -> bool
-    requires { node < node_count table.now }
+    requires { node < diagram_size table.now }
     ensures { (count : ℕ) (cs : List (List Bool)) → IsSet table.now node count cs → result ≡ has_any cs }
 {
     !table.is_false(node)
@@ -43,10 +44,10 @@ pub(crate) fn is_met(table: &Table, node: Node) -> bool
 
 // The choices on which a wish is true, if there are any, else all.
 fn narrowed(table: &mut Table, node: Node, wish: Node) -> Result<Node, Memory>
-    requires node { node < node_count table.old }
-    requires wish { wish < node_count table.old }
+    requires node { node < diagram_size table.old }
+    requires wish { wish < diagram_size table.old }
     ensures extends { Extends table.old table.new }
-    ensures within { IfOk result (λ r. r < node_count table.new) }
+    ensures within { IfOk result (λ r. r < diagram_size table.new) }
     ensures kept { IfOk result (λ r. (count : ℕ) (cs : List (List Bool)) (e : Formula ℕ) → IsSet table.old node count cs → StandsFor table.old wish e → reach e ≤ count → IsSet table.new r count (keep cs e)) }
 {
     let both = table.and(node, wish, &mut Steps::<Uncounted>::new())?;
@@ -62,10 +63,10 @@ pub(crate) fn preferred(
     node: Node,
     preferences: &[Installed],
 ) -> Result<Node, Memory>
-    requires node { node < node_count table.old }
+    requires node { node < diagram_size table.old }
     requires preferences { AllStand table.old preferences.now }
     ensures extends { Extends table.old table.new }
-    ensures within { IfOk result (λ r. r < node_count table.new) }
+    ensures within { IfOk result (λ r. r < diagram_size table.new) }
     ensures kept { IfOk result (λ r. (count : ℕ) (cs : List (List Bool)) → IsSet table.old node count cs → reach_of (expressions preferences.now) ≤ count → IsSet table.new r count (keep_all cs (expressions preferences.now))) }
 {
     let mut left = node;
@@ -81,10 +82,10 @@ pub(crate) fn defaulted(
     node: Node,
     defaults: &[Fallback],
 ) -> Result<Node, Memory>
-    requires node { node < node_count table.old }
+    requires node { node < diagram_size table.old }
     requires defaults { AllFallBack table.old defaults.now }
     ensures extends { Extends table.old table.new }
-    ensures within { IfOk result (λ r. r < node_count table.new) }
+    ensures within { IfOk result (λ r. r < diagram_size table.new) }
     ensures kept { IfOk result (λ r. (count : ℕ) (cs : List (List Bool)) → IsSet table.old node count cs → reach_of (fallbacks defaults.now) ≤ count → IsSet table.new r count (keep_all cs (fallbacks defaults.now))) }
 {
     let mut left = node;
@@ -100,8 +101,8 @@ pub(crate) fn least_unmet(
     node: Node,
     constraints: &[Installed],
 ) -> Result<u32, Memory>
-    requires few { length constraints.now ≤ 256 }
-    requires node { node < node_count table.old }
+    requires few { length constraints.now ≤ LIMITS.rules }
+    requires node { node < diagram_size table.old }
     requires constraints { AllStand table.old constraints.now }
     ensures extends { Extends table.old table.new }
     ensures unmet { IfOk result (λ rule. (count : ℕ) (cs : List (List Bool)) → IsSet table.old node count cs → reach_of (expressions constraints.now) ≤ count → rule ≡ least_unmet (expressions constraints.now) cs) }
@@ -120,8 +121,8 @@ pub(crate) fn least_unmet(
 
 /// The only choice of a node, or the least option that has both values among its choices.
 pub(crate) fn only_choice(table: &mut Table, node: Node, count: u8) -> Result<Choice, CompleteFault>
-    requires count { count ≤ 128 }
-    requires node { node < node_count table.old }
+    requires count { count ≤ CHOICE_WIDTH }
+    requires node { node < diagram_size table.old }
     requires options { span table.old node ≤ count }
     requires some { (cs : List (List Bool)) → IsSet table.old node count cs → has_any cs ≡ true }
     ensures extends { Extends table.old table.new }
@@ -140,8 +141,8 @@ pub(crate) fn only_choice(table: &mut Table, node: Node, count: u8) -> Result<Ch
 
 // The least of `count` options that has both values among the choices of a node.
 fn first_open(table: &mut Table, node: Node, count: u8) -> Result<Option<OptionId>, Memory>
-    requires count { count ≤ 128 }
-    requires node { node < node_count table.old }
+    requires count { count ≤ CHOICE_WIDTH }
+    requires node { node < diagram_size table.old }
     ensures extends { Extends table.old table.new }
     ensures first { IfOk result (λ option. (cs : List (List Bool)) → IsSet table.old node count cs → option ≡ first_open count cs) }
 {
@@ -156,7 +157,7 @@ fn first_open(table: &mut Table, node: Node, count: u8) -> Result<Option<OptionI
 
 // Whether an option has both values among the choices of a node.
 fn is_open(table: &mut Table, node: Node, option: OptionId) -> Result<bool, Memory>
-    requires node { node < node_count table.old }
+    requires node { node < diagram_size table.old }
     ensures extends { Extends table.old table.new }
     ensures both { IfOk result (λ both. (count : ℕ) (cs : List (List Bool)) → option < count → IsSet table.old node count cs → both ≡ is_open cs option) }
 {
@@ -168,7 +169,7 @@ fn is_open(table: &mut Table, node: Node, option: OptionId) -> Result<bool, Memo
 
 // Whether an option has a value on one of the choices of a node.
 fn has_value(table: &mut Table, node: Node, option: OptionId, on: bool) -> Result<bool, Memory>
-    requires node { node < node_count table.old }
+    requires node { node < diagram_size table.old }
     ensures extends { Extends table.old table.new }
     ensures some { IfOk result (λ some. (count : ℕ) (cs : List (List Bool)) → option < count → IsSet table.old node count cs → some ≡ list_any (value (literal option on)) cs) }
 {

@@ -1,10 +1,11 @@
 // Rules in the order in which they were installed.
 ghost use Rattle.std.specs.Prelude.{◌≡◌, ◌<◌, ◌≤◌, ◌+◌, ◌-◌, ◌++◌, ◌∷◌, ℕ, List, [], Bool, ◌&&◌, max, true, false, nat_lt, length, None, Some, IfOk, IfErr, OnOk, OnErr};
 ghost use Rattle.std.specs.List.{list_all};
+ghost use Rattle.cov_base.specs.declared.limits.TheConstants.{CHOICE_WIDTH};
 ghost use Rattle.cov_expr.specs.Formula.{reach, value};
 ghost use Rattle.cov_expr.specs.Validity.{is_valid, first_false};
 ghost use Rattle.cov_dd.specs.declared.triple.Triple.{Triple};
-ghost use Rattle.cov_dd.specs.Diagrams.{node_count, span, value_in, Extends, Stands};
+ghost use Rattle.cov_dd.specs.Diagrams.{diagram_size, span, value_in, Extends, Stands};
 ghost use Rattle.cov_rules.specs.Installing.{expressions, expressions_at, reach_of, count_of, literal, with_rule, StandsFor, Holds, Plans, IsPlan};
 ghost use Rattle.cov_rules.specs.Completion.{Complete, Invalid as Broken, completed, fallbacks, keep_all, least_unmet, AreBelow, IsRefusalBy, IsSet};
 ghost use Rattle.cov_rules.specs.Refusals.{reach_of_rule, IsAccepted, IsFaultOf};
@@ -15,15 +16,12 @@ ghost use Rattle.cov_rules.specs.declared.rules.Rule.TheVariants.{Constraint as 
 use crate::completing::{
     CompleteFault, agreement, defaulted, is_met, least_unmet, only_choice, preferred,
 };
-use cov_base::{Choice, Memory, OptionId, Position, Steps, Uncounted};
+use cov_base::{Choice, LIMITS, Memory, OptionId, Position, Steps, Uncounted};
 use cov_dd::{Node, TRUE, Table};
 use cov_expr::{Expr, Partial};
 use cov_vis::compile;
 use std::alloc::Global;
 use std::marker::Model;
-
-/// The greatest number of rules of one kind.
-const MOST_RULES: usize = 256;
 
 /// A rule by which choices are judged or completed.
 #[derive(Debug, Drop)]
@@ -87,6 +85,7 @@ pub struct Rules {
 impl Model for Rules {
     ghost use Rattle.std.specs.Prelude.{◌-◌, ◌≤◌, min, vec_len, vec_capacity};
     ghost use Rattle.std.specs.Coded.{codes, coded_ℕ};
+    ghost use Rattle.cov_base.specs.declared.limits.TheConstants.{LIMITS};
     ghost use Rattle.cov_expr.specs.Formula.{formula_code};
     ghost use Rattle.cov_rules.specs.Installing.{RulesValue};
 
@@ -99,7 +98,7 @@ impl Model for Rules {
       spare = min (vec_capacity r.constraints - vec_len r.constraints) (min (vec_capacity r.preferences - vec_len r.preferences) (vec_capacity r.defaults - vec_len r.defaults));
     } };
 
-    ghost invariant = { λ r. (vec_len r.constraints ≤ 256) × (vec_len r.preferences ≤ 256) × (vec_len r.defaults ≤ 256) };
+    ghost invariant = { λ r. (vec_len r.constraints ≤ LIMITS.rules) × (vec_len r.preferences ≤ LIMITS.rules) × (vec_len r.defaults ≤ LIMITS.rules) };
 }
 
 impl Rules {
@@ -108,7 +107,7 @@ impl Rules {
         ensures preferences { result.standing.preferences ≡ [] }
         ensures defaults { result.standing.defaults ≡ [] }
         ensures holds { (ts : List Triple) → Holds ts result.standing }
-        ensures below { (count : ℕ) → count ≤ 128 → AreBelow count result.standing }
+        ensures below { (count : ℕ) → count ≤ CHOICE_WIDTH → AreBelow count result.standing }
     {
         Rules {
             constraints: Vec::new(alloc),
@@ -118,7 +117,7 @@ impl Rules {
         }
     }
 
-    /// Makes room for a rule. It is refused where 256 of its kind stand, else a constraint where no choice meets it
+    /// Makes room for a rule. It is refused where as many of its kind stand as there may be, else a constraint where no choice meets it
     /// and the constraints.
     pub fn prepare(&mut self, table: &mut Table, rule: &Rule) -> Result<RulePlan, RuleFault>
         requires holds { Holds table.old self.old.standing }
@@ -143,7 +142,7 @@ impl Rules {
         ensures accepted { IfOk result (λ _. IsAccepted self.old.standing (a_constraint expr.now)) }
         ensures refused { IfErr result (IsFaultOf self.old.standing (a_constraint expr.now)) }
     {
-        if self.constraints.len() >= MOST_RULES {
+        if self.constraints.len() >= LIMITS.rules {
             return Err(RuleFault::Full);
         }
         let plan = match conjoined(table, self.conjunction, expr) {
@@ -164,7 +163,7 @@ impl Rules {
         ensures accepted { IfOk result (λ _. IsAccepted self.old.standing (a_preference expr.now)) }
         ensures refused { IfErr result (IsFaultOf self.old.standing (a_preference expr.now)) }
     {
-        if self.preferences.len() >= MOST_RULES {
+        if self.preferences.len() >= LIMITS.rules {
             return Err(RuleFault::Full);
         }
         let node = match compile(table, expr) {
@@ -186,7 +185,7 @@ impl Rules {
         ensures accepted { IfOk result (λ _. IsAccepted self.old.standing (a_default option on)) }
         ensures refused { IfErr result (IsFaultOf self.old.standing (a_default option on)) }
     {
-        if self.defaults.len() >= MOST_RULES {
+        if self.defaults.len() >= LIMITS.rules {
             return Err(RuleFault::Full);
         }
         let node = match literal_node(table, option, on) {
@@ -224,7 +223,7 @@ impl Rules {
     /// Takes a rule by its plan, on the condition that no other rule was installed since the plan was made. The answer
     /// is the rule's number within its kind, from 1. It takes no memory.
     pub fn install(&mut self, plan: RulePlan, rule: Rule, at: Position) -> u32
-        requires few { count_of rule self.old.standing < 256 }
+        requires few { count_of rule self.old.standing < LIMITS.rules }
         requires room { 0 < self.old.spare }
         ensures number { result ≡ count_of rule self.old.standing + 1 }
         ensures with_rule { self.new.standing ≡ with_rule plan rule at self.old.standing }
@@ -241,7 +240,7 @@ impl Rules {
     }
 
     fn install_constraint(&mut self, plan: RulePlan, expr: Expr, at: Position) -> u32
-        requires few { length self.old.standing.constraints < 256 }
+        requires few { length self.old.standing.constraints < LIMITS.rules }
         requires room { 0 < self.old.spare }
         ensures number { result ≡ length self.old.standing.constraints + 1 }
         ensures with_rule { self.new.standing ≡ with_rule plan (a_constraint expr) at self.old.standing }
@@ -256,7 +255,7 @@ impl Rules {
     }
 
     fn install_preference(&mut self, plan: RulePlan, expr: Expr, at: Position) -> u32
-        requires few { length self.old.standing.preferences < 256 }
+        requires few { length self.old.standing.preferences < LIMITS.rules }
         requires room { 0 < self.old.spare }
         ensures number { result ≡ length self.old.standing.preferences + 1 }
         ensures with_rule { self.new.standing ≡ with_rule plan (a_preference expr) at self.old.standing }
@@ -270,7 +269,7 @@ impl Rules {
     }
 
     fn install_default(&mut self, plan: RulePlan, option: OptionId, on: bool) -> u32
-        requires few { length self.old.standing.defaults < 256 }
+        requires few { length self.old.standing.defaults < LIMITS.rules }
         requires room { 0 < self.old.spare }
         ensures number { result ≡ length self.old.standing.defaults + 1 }
         ensures with_rule { (p : ℕ) → self.new.standing ≡ with_rule plan (a_default option on) p self.old.standing }
@@ -319,7 +318,7 @@ impl Rules {
     // The refusal of choices that don't meet all constraints.
     fn unmet(&self, table: &mut Table, node: Node) -> CompleteFault
         requires holds { Holds table.old self.now.standing }
-        requires node { node < node_count table.old }
+        requires node { node < diagram_size table.old }
         ensures extends { Extends table.old table.new }
         ensures refused { (count : ℕ) (cs : List (List Bool)) → IsSet table.old node count cs → reach_of (expressions self.now.standing.constraints) ≤ count → IsRefusalBy (Broken (least_unmet (expressions self.now.standing.constraints) cs)) result }
     {
@@ -332,9 +331,9 @@ impl Rules {
     // The choices that preferences and then defaults leave.
     fn left(&self, table: &mut Table, node: Node) -> Result<Node, Memory>
         requires holds { Holds table.old self.now.standing }
-        requires node { node < node_count table.old }
+        requires node { node < diagram_size table.old }
         ensures extends { Extends table.old table.new }
-        ensures within { IfOk result (λ r. r < node_count table.new) }
+        ensures within { IfOk result (λ r. r < diagram_size table.new) }
         ensures kept { IfOk result (λ r. (count : ℕ) (cs : List (List Bool)) → IsSet table.old node count cs → reach_of (expressions self.now.standing.preferences) ≤ count → reach_of (fallbacks self.now.standing.defaults) ≤ count → IsSet table.new r count (keep_all (keep_all cs (expressions self.now.standing.preferences)) (fallbacks self.now.standing.defaults))) }
     {
         let preferred = preferred(table, node, self.preferences.as_slice())?;
@@ -363,7 +362,7 @@ impl Rules {
 
 // The plan of a constraint beside those that a node stands for.
 fn conjoined(table: &mut Table, all: Node, expr: &Expr) -> Result<RulePlan, Memory>
-    requires { all < node_count table.old }
+    requires { all < diagram_size table.old }
     ensures extends { Extends table.old table.new }
     ensures node { IfOk result (λ plan. StandsFor table.new plan.node expr.now) }
     ensures conjunction { IfOk result (λ plan. Stands table.new plan.conjunction 0 (max (span table.old all) (reach expr.now)) (λ c. value_in table.old all c && value expr.now c)) }
@@ -387,10 +386,10 @@ pub(crate) fn literal_node(table: &mut Table, option: OptionId, on: bool) -> Res
 
 // A plan, unless its conjunction is false on every choice.
 fn judged(table: &Table, plan: RulePlan) -> Result<RulePlan, RuleFault>
-    requires { plan.conjunction < node_count table.now }
+    requires { plan.conjunction < diagram_size table.now }
     ensures ok { IfOk result (λ same. same ≡ plan) }
-    ensures met { OnOk result (((c : List Bool) → length c ≡ 128 → value_in table.now plan.conjunction c ≡ false) → ⊥) }
-    ensures err { IfErr result (λ fault. (fault ≡ no_variant_left) × ((c : List Bool) → length c ≡ 128 → value_in table.now plan.conjunction c ≡ false)) }
+    ensures met { OnOk result (((c : List Bool) → length c ≡ CHOICE_WIDTH → value_in table.now plan.conjunction c ≡ false) → ⊥) }
+    ensures err { IfErr result (λ fault. (fault ≡ no_variant_left) × ((c : List Bool) → length c ≡ CHOICE_WIDTH → value_in table.now plan.conjunction c ≡ false)) }
 {
     if table.is_false(plan.conjunction) {
         return Err(RuleFault::NoVariantLeft);
@@ -400,7 +399,7 @@ fn judged(table: &Table, plan: RulePlan) -> Result<RulePlan, RuleFault>
 
 // The number, from 1, of the first constraint among the first `at` commands that is false on a choice.
 fn first_broken(constraints: &[Installed], choice: Choice, at: Position) -> Option<u32>
-    requires few { length constraints.now ≤ 256 }
+    requires few { length constraints.now ≤ LIMITS.rules }
     requires within { reach_of (expressions_at at constraints.now) ≤ length choice }
     ensures { result ≡ first_false (expressions_at at constraints.now) choice }
 {

@@ -4,7 +4,8 @@ use Rattle.std.specs.List.{position_or_len}
 use Rattle.std.specs.Str.{bytes_eq}
 use Rattle.std.proofs.lemmas.Bool.Decides.{nat_tests}
 use Rattle.std.proofs.lemmas.Slice.Eq.{bytes_eq-Decides}
-use Rattle.cov_base.proofs.Faulty.{both_ways, or_left, or_right}
+use Rattle.std.proofs.lemmas.Bool.{or_parts}
+use Rattle.cov_base.proofs.CallerLemmas.{both_ways}
 use Rattle.cov_tree.specs.declared.entry.Place.{Place}
 use Rattle.cov_tree.specs.Entries.{is_one_place, has_place, AreApart}
 use Rattle.cov_tree.specs.Shifts.{place_at}
@@ -30,14 +31,14 @@ one_sym p n q m =
 has_behind : (p : ℕ) (n : List ℕ) (ps : List Place) (q : Place) → has_place p n ps ≡ false → is_one_place p n q.parent q.name ≡ false → has_place p n (ps ++ q ∷ []) ≡ false
 has_behind p n [] q h e = ap (λ b. b || false) e
 has_behind p n (r ∷ ps) q h e =
-    ap (λ b. b || has_place p n (ps ++ q ∷ [])) (or_left (is_one_place p n r.parent r.name) (has_place p n ps) h)
-    ∙ has_behind p n ps q (or_right (is_one_place p n r.parent r.name) (has_place p n ps) h) e
+    ap (λ b. b || has_place p n (ps ++ q ∷ [])) (or_parts (is_one_place p n r.parent r.name) (has_place p n ps) h).0
+    ∙ has_behind p n ps q (or_parts (is_one_place p n r.parent r.name) (has_place p n ps) h).1 e
 
 pub apart_behind : (ps : List Place) (q : Place) → AreApart ps → has_place q.parent q.name ps ≡ false → AreApart (ps ++ q ∷ [])
 apart_behind [] q d h = (refl, tt)
 apart_behind (p ∷ ps) q d h = (
-  has_behind p.parent p.name ps q d.0 (one_sym p.parent p.name q.parent q.name ∙ or_left (is_one_place q.parent q.name p.parent p.name) (has_place q.parent q.name ps) h),
-  apart_behind ps q d.1 (or_right (is_one_place q.parent q.name p.parent p.name) (has_place q.parent q.name ps) h),
+  has_behind p.parent p.name ps q d.0 (one_sym p.parent p.name q.parent q.name ∙ (or_parts (is_one_place q.parent q.name p.parent p.name) (has_place q.parent q.name ps) h).0),
+  apart_behind ps q d.1 (or_parts (is_one_place q.parent q.name p.parent p.name) (has_place q.parent q.name ps) h).1,
 )
 
 -- other choices of a place

@@ -7,7 +7,8 @@ use Rattle.cov_dd.specs.declared.triple.Triple.{Triple}
 use Rattle.cov_dd.specs.Diagrams.{Extends}
 use Rattle.cov_tree.specs.declared.entry.Entry.{Entry}
 use Rattle.cov_tree.specs.Entries.{rows_in, nodes_of, kinds_of, AllAreWithin}
-use Rattle.cov_tree.specs.Dated.{Dated, list_at, nodes_at, rows_at, planned, rows_with}
+use Rattle.cov_base.specs.Older.{value_at}
+use Rattle.cov_tree.specs.Dated.{Dated, nodes_at, rows_at, planned, rows_with}
 use Rattle.cov_tree.specs.Carried.{AreNodesAt, AreNodesWith, AreOnceAt, AreOnceWith, AreUnread, AreUnreadAt, AreUnreadWith}
 use Rattle.cov_tree.specs.Changes.{Makes, IsAlike}
 use Rattle.cov_tree.specs.Laws.{RowsStay, NodesStay, OnceStays, OptionsStay}
@@ -15,7 +16,7 @@ use Rattle.cov_tree.proofs.Rows.{rows_in-grown, all_within-grown}
 
 -- the newest nodes are those at each position from their own on
 pub now_at : (d : Dated) (p : ℕ) → d.from ≤ p → nodes_at p d ≡ d.newest
-now_at d p h = let yes : nat_le d.from p ≡ true = grind (arith, nat_tests, h) in ap (λ b. cond b d.newest (list_at p d.older)) yes
+now_at d p h = let yes : nat_le d.from p ≡ true = grind (arith, nat_tests, h) in ap (λ b. cond b d.newest (value_at [] d.older p)) yes
 
 pub newest_at : (d : Dated) → nodes_at d.from d ≡ d.newest
 newest_at d = now_at d d.from (omega arith)

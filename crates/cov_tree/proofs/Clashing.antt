@@ -7,12 +7,11 @@ use Rattle.indexmap.specs.IndexMap.{insert_entry}
 use Rattle.cov_base.specs.declared.number.Kind.{Kind}
 use Rattle.cov_base.specs.Rows.{Row}
 use Rattle.cov_base.specs.Faults.{is_same_place}
-use Rattle.cov_base.proofs.Ordered.{all-map}
+use Rattle.cov_base.proofs.CallerLemmas.{all-map, same_place-sym}
 use Rattle.cov_base.specs.Reaching.{has_clash}
-use Rattle.cov_base.proofs.Faulty.{same_place-sym}
 use Rattle.cov_dd.specs.declared.triple.Triple.{Triple}
-use Rattle.cov_dd.specs.Diagrams.{node_count, value_in, Extends}
-use Rattle.cov_dd.proofs.Nodes.{some_nodes}
+use Rattle.cov_dd.specs.Diagrams.{diagram_size, value_in, Extends}
+use Rattle.cov_dd.proofs.CallerLemmas.{some_nodes}
 use Rattle.cov_tree.specs.declared.entry.Place.{Place}
 use Rattle.cov_tree.specs.declared.entry.Entry.{Entry}
 use Rattle.cov_tree.specs.declared.grouping.PlaceKey.{PlaceKey}
@@ -63,7 +62,7 @@ joined_put (g ∷ groups) key node p n = at (same_key key g.0) refl (joined_put 
         ∙ ap (λ b. cond b node (unwrap_or (cond (is_one_place p n g.0.parent g.0.name.items) (Some g.1) (lookup (λ k. is_one_place p n k.parent k.name.items) groups)) 0)) same
     at false e rest = here (is_one_place p n g.0.parent g.0.name.items) (is_one_place p n key.parent key.name.items) refl refl e rest
 
-pub within_put : (table : List Triple) (groups : List (PlaceKey × ℕ)) (key : PlaceKey) (node : ℕ) → node < node_count table → GroupsWithin table groups → GroupsWithin table (insert_entry same_key groups key node)
+pub within_put : (table : List Triple) (groups : List (PlaceKey × ℕ)) (key : PlaceKey) (node : ℕ) → node < diagram_size table → GroupsWithin table groups → GroupsWithin table (insert_entry same_key groups key node)
 within_put table [] key node h k = (h, tt)
 within_put table (g ∷ groups) key node h k = at (same_key key g.0) (within_put table groups key node h k.1)
   where
@@ -71,16 +70,16 @@ within_put table (g ∷ groups) key node h k = at (same_key key g.0) (within_put
     at true rest = (h, k.1)
     at false rest = (k.0, rest)
 
-pub joined_within : (table : List Triple) (groups : List (PlaceKey × ℕ)) (p : ℕ) (n : List ℕ) → GroupsWithin table groups → joined_at groups p n < node_count table
-joined_within table [] p n h = let two : 1 < node_count table = some_nodes table in omega (arith, two)
+pub joined_within : (table : List Triple) (groups : List (PlaceKey × ℕ)) (p : ℕ) (n : List ℕ) → GroupsWithin table groups → joined_at groups p n < diagram_size table
+joined_within table [] p n h = let two : 1 < diagram_size table = some_nodes table in omega (arith, two)
 joined_within table (g ∷ groups) p n h = at (is_one_place p n g.0.parent g.0.name.items) (joined_within table groups p n h.1)
   where
-    at : (b : Bool) → joined_at groups p n < node_count table → unwrap_or (cond b (Some g.1) (lookup (λ k. is_one_place p n k.parent k.name.items) groups)) 0 < node_count table
+    at : (b : Bool) → joined_at groups p n < diagram_size table → unwrap_or (cond b (Some g.1) (lookup (λ k. is_one_place p n k.parent k.name.items) groups)) 0 < diagram_size table
     at true rest = h.0
     at false rest = rest
 
 pub groups_grown : (old new : List Triple) → Extends old new → (groups : List (PlaceKey × ℕ)) → GroupsWithin old groups → GroupsWithin new groups
-groups_grown old new grows groups h = all-map (λ g. g.1 < node_count old) (λ g. g.1 < node_count new) (λ g k. omega (arith, k, grows.count)) groups h
+groups_grown old new grows groups h = all-map (λ g. g.1 < diagram_size old) (λ g. g.1 < diagram_size new) (λ g k. omega (arith, k, grows.count)) groups h
 
 -- a row more clashes where it has the place of one before
 clash_last : (rows : List Row) (r : Row) → has_clash (rows ++ r ∷ []) ≡ (has_clash rows || list_any (is_same_place r) rows)
@@ -177,7 +176,7 @@ pub place_behind : (t0 t : List Triple) → Extends t0 t → (c : List Bool) (no
 place_behind t0 t grows c node kind ps i p here at within rows =
     append_assoc rows (rows_of t0 c node kind (take i ps)) (rows_of t c node kind (p ∷ []))
     ∙ ap (λ rs. rows ++ rs)
-    (ap (λ rs. rows_of t0 c node kind (take i ps) ++ rs) (rows_of-grown t0 t grows c node kind (p ∷ []) (holds_at (λ q. q.vis < node_count t0) ps i p within here at, tt))
+    (ap (λ rs. rows_of t0 c node kind (take i ps) ++ rs) (rows_of-grown t0 t grows c node kind (p ∷ []) (holds_at (λ q. q.vis < diagram_size t0) ps i p within here at, tt))
     ∙ sym (rows_of-append t0 c node kind (take i ps) (p ∷ []))
     ∙ ap (rows_of t0 c node kind) (sym (taken ps i p here at)))
 

@@ -3,7 +3,6 @@ pub mod Carried
 pub mod Clashing
 pub mod Examples
 pub mod Losing
-pub mod Moments
 pub mod Once
 pub mod Options
 pub mod Parts

@@ -1,5 +1,6 @@
 -- The choices on which the root isn't reached from some row.
-use Rattle.std.proofs.Common.{◌≡◌, ◌||◌, ◌&&◌, ℕ, ◌+◌, ◌<◌, Bool, true, false, not, List, [], ◌∷◌, ◌++◌, map, take, get_or, length, append-nil, refl, sym, ap, ◌∙◌, arith}
+use Rattle.std.proofs.Common.{◌≡◌, ◌||◌, ◌&&◌, ℕ, ◌+◌, ◌<◌, Bool, false, not, List, [], ◌∷◌, ◌++◌, map, take, get_or, length, append-nil, refl, sym, ap, ◌∙◌, arith}
+use mathlib.Core.Bool.{or-false, or_assoc}
 use Rattle.std.specs.List.{list_any, filter, AllByRecursion}
 use Rattle.std.specs.Option.{is_some}
 use Rattle.std.proofs.lemmas.List.Folds.{list_any-append}
@@ -7,9 +8,9 @@ use Rattle.cov_base.specs.declared.number.Kind.{Kind}
 use Rattle.cov_base.specs.Rows.{Row, AreOnce}
 use Rattle.cov_base.specs.Faults.{fault_of}
 use Rattle.cov_base.specs.Reaching.{has_clash, has_lost}
-use Rattle.cov_base.proofs.Faulty.{faults_are_found}
+use Rattle.cov_base.proofs.CallerLemmas.{faults_are_found}
 use Rattle.cov_dd.specs.declared.triple.Triple.{Triple}
-use Rattle.cov_dd.specs.Diagrams.{node_count, value_in, Extends, IsNode}
+use Rattle.cov_dd.specs.Diagrams.{diagram_size, value_in, Extends, IsNode}
 use Rattle.cov_tree.specs.declared.entry.Place.{Place}
 use Rattle.cov_tree.specs.declared.entry.Entry.{Entry}
 use Rattle.cov_tree.specs.Entries.{row_at, rows_of, rows_in, AreWithin, AllAreWithin}
@@ -18,20 +19,12 @@ use Rattle.cov_tree.proofs.Rows.{rows_of-grown, rows_in-append, rows_in-grown, t
 use Rattle.cov_tree.proofs.Turning.{any_more, reached_grown}
 
 -- before the first place
-pub outside_none : (t : List Triple) (lost : ℕ) → lost < node_count t → IsNode t lost (λ c. value_in t lost c || false)
-outside_none t lost h = record { within = h; value = λ c. at (value_in t lost c) }
-  where
-    at : (b : Bool) → b ≡ (b || false)
-    at true = refl
-    at false = refl
-
-or_assoc : (a b c : Bool) → ((a || b) || c) ≡ (a || (b || c))
-or_assoc true b c = refl
-or_assoc false b c = refl
+pub outside_none : (t : List Triple) (lost : ℕ) → lost < diagram_size t → IsNode t lost (λ c. value_in t lost c || false)
+outside_none t lost h = record { within = h; value = λ c. sym (or-false (value_in t lost c)) }
 
 -- one place more
-pub outside_more : (t0 t new : List Triple) → Extends t0 t → (lost reach : ℕ) → reach < node_count t0
-    → (node : ℕ) (kind : Kind) (ps : List Place) (i : ℕ) (p : Place) → i < length ps → p ≡ get_or ps i p → p.vis < node_count t0 → (found r : ℕ)
+pub outside_more : (t0 t new : List Triple) → Extends t0 t → (lost reach : ℕ) → reach < diagram_size t0
+    → (node : ℕ) (kind : Kind) (ps : List Place) (i : ℕ) (p : Place) → i < length ps → p ≡ get_or ps i p → p.vis < diagram_size t0 → (found r : ℕ)
     → IsNode t found (λ c. value_in t0 lost c || list_any (λ row. not (value_in t0 reach c)) (rows_of t0 c node kind (take i ps)))
     → IsNode new r (λ c. value_in t found c || (value_in t p.vis c && not (value_in t reach c)))
     → IsNode new r (λ c. value_in t0 lost c || list_any (λ row. not (value_in t0 reach c)) (rows_of t0 c node kind (take (i + 1) ps)))
@@ -50,7 +43,7 @@ own_node f node kind (p ∷ ps) = ap (λ b. f node || b) (own_node f node kind p
 
 -- one node more
 pub lost_more : (t0 t new : List Triple) → Extends t0 t → (es : List Entry) (i : ℕ) (e : Entry) → i < length es → e ≡ get_or es i e → AllAreWithin t0 es
-    → (reach : List ℕ) → AllByRecursion (λ n. n < node_count t0) reach → (lost r n : ℕ) → n ≡ node_at reach e.node
+    → (reach : List ℕ) → AllByRecursion (λ n. n < diagram_size t0) reach → (lost r n : ℕ) → n ≡ node_at reach e.node
     → IsNode t lost (λ c. list_any (λ row. not (reached_in t0 reach c row.node)) (rows_in t0 c (take i es)))
     → IsNode new r (λ c. value_in t lost c || list_any (λ row. not (value_in t n c)) (rows_of t c e.node e.kind e.places))
     → IsNode new r (λ c. list_any (λ row. not (reached_in t0 reach c row.node)) (rows_in t0 c (take (i + 1) es)))
@@ -81,9 +74,9 @@ all_lost t0 t new grows es within reach known r m = record {
 
 -- and all faults
 pub all_unsound : (t0 t1 t2 t3 t4 : List Triple) → Extends t0 t1 → Extends t1 t2 → Extends t2 t3 → (es : List Entry) → AllAreWithin t0 es → ((c : List Bool) → AreOnce (rows_in t0 c es))
-    → (within clash lost fault r : ℕ) → within < node_count t0 → IsNode t1 clash (λ c. has_clash (rows_in t0 c es)) → IsNode t2 lost (λ c. has_lost (rows_in t1 c es))
+    → (within clash lost fault r : ℕ) → within < diagram_size t0 → IsNode t1 clash (λ c. has_clash (rows_in t0 c es)) → IsNode t2 lost (λ c. has_lost (rows_in t1 c es))
     → ((c : List Bool) → value_in t3 fault c ≡ (value_in t2 clash c || value_in t2 lost c))
-    → r < node_count t4 → ((c : List Bool) → value_in t4 r c ≡ (value_in t3 within c && value_in t3 fault c))
+    → r < diagram_size t4 → ((c : List Bool) → value_in t4 r c ≡ (value_in t3 within c && value_in t3 fault c))
     → IsNode t4 r (λ c. value_in t0 within c && is_some (fault_of (rows_in t0 c es)))
 all_unsound t0 t1 t2 t3 t4 g1 g2 g3 es inside once within clash lost fault r known x y z below w = record {
   within = below;
@@ -96,8 +89,8 @@ all_unsound t0 t1 t2 t3 t4 g1 g2 g3 es inside once within clash lost fault r kno
       ∙ sym (faults_are_found (rows_in t0 c es) (once c))) j);
 }
   where
-    below1 : within < node_count t1
+    below1 : within < diagram_size t1
     below1 = omega (arith, known, g1.count)
 
-    below2 : within < node_count t2
+    below2 : within < diagram_size t2
     below2 = omega (arith, below1, g2.count)

@@ -4,9 +4,9 @@ use Rattle.std.proofs.Common.{◌≡◌, ◌||◌, ℕ, zero, suc, ◌<◌, ◌�
 use Rattle.std.specs.List.{filter}
 use Rattle.std.proofs.lemmas.Bool.Decides.{nat_tests}
 use Rattle.std.proofs.lemmas.List.{map-append}
+use Rattle.std.proofs.lemmas.Bool.{or_parts}
 use Rattle.cov_base.specs.declared.number.Kind.{Kind}
 use Rattle.cov_base.specs.Rows.{Row, RowChange, Created, Renamed, Moved, Removed, changed, with_name, with_parent, has_node, AreDistinct, AreOnce}
-use Rattle.cov_base.proofs.Faulty.{or_left, or_right}
 use Rattle.cov_dd.specs.declared.triple.Triple.{Triple}
 use Rattle.cov_dd.specs.Diagrams.{value_in, Extends}
 use Rattle.cov_tree.specs.declared.entry.Place.{Place}
@@ -47,10 +47,10 @@ moved node parent (r ∷ rows) = λ j. at (nat_eq r.node node) j ∷ moved node 
 
 has_filtered : (p : Row → Bool) (x : ℕ) (rows : List Row) → has_node x (nodes rows) ≡ false → has_node x (nodes (filter p rows)) ≡ false
 has_filtered p x [] h = refl
-has_filtered p x (r ∷ rows) h = at (p r) (has_filtered p x rows (or_right (nat_eq r.node x) (has_node x (nodes rows)) h))
+has_filtered p x (r ∷ rows) h = at (p r) (has_filtered p x rows (or_parts (nat_eq r.node x) (has_node x (nodes rows)) h).1)
   where
     at : (b : Bool) → has_node x (nodes (filter p rows)) ≡ false → has_node x (nodes (cond b (r ∷ filter p rows) (filter p rows))) ≡ false
-    at true k = (λ j. or_left (nat_eq r.node x) (has_node x (nodes rows)) h j || has_node x (nodes (filter p rows))) ∙ k
+    at true k = (λ j. (or_parts (nat_eq r.node x) (has_node x (nodes rows)) h).0 j || has_node x (nodes (filter p rows))) ∙ k
     at false k = k
 
 distinct_filtered : (p : Row → Bool) (rows : List Row) → AreDistinct (nodes rows) → AreDistinct (nodes (filter p rows))
@@ -93,13 +93,13 @@ not_own node kind (p ∷ ps) x more h k = (λ j. h j || has_node x (nodes (map (
 pub not_there : (table : List Triple) (c : List Bool) (es : List Entry) (x : ℕ) → has_node x (nodes_of es) ≡ false → has_node x (map (λ r. r.node) (rows_in table c es)) ≡ false
 not_there table c [] x h = refl
 not_there table c (e ∷ es) x h =
-    not_own e.node e.kind (filter (λ (p : Place). value_in table p.vis c) e.places) x (rows_in table c es) (or_left (nat_eq e.node x) (has_node x (nodes_of es)) h)
-    (not_there table c es x (or_right (nat_eq e.node x) (has_node x (nodes_of es)) h))
+    not_own e.node e.kind (filter (λ (p : Place). value_in table p.vis c) e.places) x (rows_in table c es) (or_parts (nat_eq e.node x) (has_node x (nodes_of es)) h).0
+    (not_there table c es x (or_parts (nat_eq e.node x) (has_node x (nodes_of es)) h).1)
 
 pub fresh_there : (table : List Triple) (c : List Bool) (es : List Entry) (node : ℕ) (kind : Kind) (parent : ℕ) (name : List ℕ) → has_node node (0 ∷ nodes_of es) ≡ false
     → IsFresh (Created node kind parent name) (rows_in table c es)
 fresh_there table c es node kind parent name h =
-    (λ j. or_left (nat_eq 0 node) (has_node node (nodes_of es)) h j || has_node node (nodes (rows_in table c es))) ∙ not_there table c es node (or_right (nat_eq 0 node) (has_node node (nodes_of es)) h)
+    (λ j. (or_parts (nat_eq 0 node) (has_node node (nodes_of es)) h).0 j || has_node node (nodes (rows_in table c es))) ∙ not_there table c es node (or_parts (nat_eq 0 node) (has_node node (nodes_of es)) h).1
 
 -- a node has one row at most
 length_own : (table : List Triple) (c : List Bool) (node node' : ℕ) (kind kind' : Kind) (ps : List Place) → length (map (row_at node kind) ps) ≡ length (map (row_at node' kind') ps)
@@ -111,7 +111,7 @@ one_own node kind [] more d = omega arith
 one_own node kind (p ∷ []) more d = omega arith
 one_own node kind (p ∷ q ∷ ps) more d =
     let same : nat_eq node node ≡ true = grind (arith, nat_tests) in
-    absurd (let no = or_left (nat_eq node node) (has_node node (nodes (map (row_at node kind) ps ++ more))) d.0 in cc)
+    absurd (let no = (or_parts (nat_eq node node) (has_node node (nodes (map (row_at node kind) ps ++ more))) d.0).0 in cc)
 
 behind : (xs ys : List Row) → AreDistinct (nodes (xs ++ ys)) → AreDistinct (nodes ys)
 behind [] ys d = d

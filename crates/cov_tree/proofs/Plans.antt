@@ -2,13 +2,13 @@
 use Rattle.std.specs.Prelude.{Result, Ok, Err, OnOk, OnErr}
 use Rattle.std.proofs.Common.{◌≡◌, ℕ, ◌<◌, Bool, true, false, cond, ◌||◌, nat_eq, List, [], ◌∷◌, ◌++◌, Option, Some, append-nil, refl, sym, ap, subst, ◌∙◌, arith}
 use Rattle.std.specs.List.{AllByRecursion}
-use Rattle.std.proofs.lemmas.Bool.Decides.{nat_tests}
 use Rattle.std.proofs.lemmas.List.{map-append}
+use Rattle.std.proofs.lemmas.Bool.{or_parts}
+use Rattle.cov_base.proofs.CallerLemmas.{nat_eq-sym, all-append}
 use Rattle.cov_base.specs.Rows.{Row, RowChange, Created, changed, has_node, AreDistinct}
 use Rattle.cov_base.specs.declared.number.Kind.{Kind}
-use Rattle.cov_base.proofs.Ordered.{all-append}
 use Rattle.cov_dd.specs.declared.triple.Triple.{Triple}
-use Rattle.cov_dd.specs.Diagrams.{node_count, value_in, Extends}
+use Rattle.cov_dd.specs.Diagrams.{diagram_size, value_in, Extends}
 use Rattle.cov_tree.specs.declared.entry.Entry.{Entry}
 use Rattle.cov_tree.specs.Entries.{row_at, rows_of, rows_in, nodes_of, AllAreWithin}
 use Rattle.cov_tree.specs.Changes.{changed_on, all_changed, Makes}
@@ -24,12 +24,12 @@ more_changed table c [] change ambition rows = refl
 more_changed table c (x ∷ xs) change ambition rows = more_changed table c xs change ambition (changed_on table c x.0 x.1 rows)
 
 abbrev AreAmbitions : List Triple → List (RowChange × ℕ) → Type 0
-AreAmbitions table changes = AllByRecursion (λ change. change.1 < node_count table) changes
+AreAmbitions table changes = AllByRecursion (λ change. change.1 < diagram_size table) changes
 
 module _ (old new : List Triple) (grows : Extends old new) where
   ambitions_grown : (changes : List (RowChange × ℕ)) → AreAmbitions old changes → AreAmbitions new changes
   ambitions_grown [] h = tt
-  ambitions_grown (x ∷ xs) h = (let first : x.1 < node_count old = h.0 in omega (arith, first, grows.count), ambitions_grown xs h.1)
+  ambitions_grown (x ∷ xs) h = (let first : x.1 < diagram_size old = h.0 in omega (arith, first, grows.count), ambitions_grown xs h.1)
 
   -- changes are the same in a table that grew
   changed_grown : (c : List Bool) (changes : List (RowChange × ℕ)) (rows : List Row) → AreAmbitions old changes → all_changed new c changes rows ≡ all_changed old c changes rows
@@ -50,10 +50,10 @@ module _ (old new : List Triple) (grows : Extends old new) where
   }
 
   -- a plan makes one change more
-  pub makes_more : (d : Dated) (fs : List Entry) (plan : Option (List Entry)) (changes : List (RowChange × ℕ)) (change : RowChange) (ambition : ℕ) → ambition < node_count old
+  pub makes_more : (d : Dated) (fs : List Entry) (plan : Option (List Entry)) (changes : List (RowChange × ℕ)) (change : RowChange) (ambition : ℕ) → ambition < diagram_size old
       → Makes old d plan changes → Becomes old new (planned plan d.newest) fs change ambition → Makes new d (Some fs) (changes ++ (change, ambition) ∷ [])
   makes_more d fs plan changes change ambition known m b =
-      let all : AreAmbitions old (changes ++ (change, ambition) ∷ []) = all-append (λ x. x.1 < node_count old) changes ((change, ambition) ∷ []) m.ambitions (known, tt) in
+      let all : AreAmbitions old (changes ++ (change, ambition) ∷ []) = all-append (λ x. x.1 < diagram_size old) changes ((change, ambition) ∷ []) m.ambitions (known, tt) in
       record {
         rows = λ c p le.
             b.rows c ∙ ap (changed_on old c change ambition) (m.rows c p le)
@@ -69,7 +69,7 @@ pub plans_grow : PlansStay
 plans_grow = λ old new d plan changes grows m. makes_grown old new grows d plan changes m
 
 -- a node that is made stands behind the others
-pub created_behind : (table : List Triple) (es fs : List Entry) (node : ℕ) (kind : Kind) (parent : ℕ) (name : List ℕ) (ambition : ℕ) → AllAreWithin table es → ambition < node_count table
+pub created_behind : (table : List Triple) (es fs : List Entry) (node : ℕ) (kind : Kind) (parent : ℕ) (name : List ℕ) (ambition : ℕ) → AllAreWithin table es → ambition < diagram_size table
     → fs ≡ es ++ record { node = node; kind = kind; places = place_at parent name ambition ∷ [] } ∷ []
     → Becomes table table es fs (Created node kind parent name) ambition
 created_behind table es fs node kind parent name ambition within known is =
@@ -86,26 +86,15 @@ created_behind table es fs node kind parent name ambition within known is =
     at true rows row = refl
     at false rows row = append-nil rows
 
-swap : (m n : ℕ) → nat_eq m n ≡ nat_eq n m
-swap m n = grind (arith, nat_tests)
-
-left : (a b : Bool) → (a || b) ≡ false → a ≡ false
-left false b e = refl
-left true b e = absurd (cc)
-
-right : (a b : Bool) → (a || b) ≡ false → b ≡ false
-right false b e = e
-right true b e = absurd (cc)
-
 has_behind : (m n : ℕ) (ns : List ℕ) → has_node m ns ≡ false → nat_eq n m ≡ false → has_node m (ns ++ n ∷ []) ≡ false
 has_behind m n [] h e = ap (λ b. b || false) e
 has_behind m n (k ∷ ns) h e =
-    ap (λ b. b || has_node m (ns ++ n ∷ [])) (left (nat_eq k m) (has_node m ns) h) ∙ has_behind m n ns (right (nat_eq k m) (has_node m ns) h) e
+    ap (λ b. b || has_node m (ns ++ n ∷ [])) (or_parts (nat_eq k m) (has_node m ns) h).0 ∙ has_behind m n ns (or_parts (nat_eq k m) (has_node m ns) h).1 e
 
 pub distinct_more : (ns : List ℕ) (n : ℕ) → AreDistinct ns → has_node n ns ≡ false → AreDistinct (ns ++ n ∷ [])
 distinct_more [] n d h = (refl, tt)
 distinct_more (m ∷ ns) n d h =
-    (has_behind m n ns d.0 (swap n m ∙ left (nat_eq m n) (has_node n ns) h), distinct_more ns n d.1 (right (nat_eq m n) (has_node n ns) h))
+    (has_behind m n ns d.0 (nat_eq-sym n m ∙ (or_parts (nat_eq m n) (has_node n ns) h).0), distinct_more ns n d.1 (or_parts (nat_eq m n) (has_node n ns) h).1)
 
 nodes_behind : (es : List Entry) (e : Entry) → nodes_of (es ++ e ∷ []) ≡ nodes_of es ++ e.node ∷ []
 nodes_behind es e = map-append (λ (x : Entry). x.node) es (e ∷ [])

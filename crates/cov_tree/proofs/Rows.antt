@@ -5,9 +5,9 @@ use Rattle.std.specs.List.{AllByRecursion}
 use Rattle.std.proofs.lemmas.List.{map-append, take_more}
 use Rattle.std.proofs.lemmas.List.Elements.{filter-append}
 use Rattle.cov_base.specs.declared.number.Kind.{Kind}
-use Rattle.cov_base.proofs.Ordered.{all-append}
+use Rattle.cov_base.proofs.CallerLemmas.{all-append}
 use Rattle.cov_dd.specs.declared.triple.Triple.{Triple}
-use Rattle.cov_dd.specs.Diagrams.{node_count, value_in, Extends}
+use Rattle.cov_dd.specs.Diagrams.{diagram_size, value_in, Extends}
 use Rattle.cov_tree.specs.declared.entry.Place.{Place}
 use Rattle.cov_tree.specs.declared.entry.Entry.{Entry}
 use Rattle.cov_tree.specs.Entries.{row_at, rows_of, rows_in, AreWithin, AllAreWithin}
@@ -23,6 +23,10 @@ on_ok (Err e) P Q f h = tt
 pub on_err : {A E : Type 0} (r : Result A E) (P Q : Type 0) → (P → Q) → OnErr r P → OnErr r Q
 on_err (Ok a) P Q f h = tt
 on_err (Err e) P Q f h = f h
+
+-- what stands at an index of a slice stands there in the list that is the slice
+pub in_list : {X : Type 0} {xs ys : List X} (i : ℕ) (x : X) → xs ≡ ys → i < length xs → x ≡ get_or xs i x → (i < length ys) × (x ≡ get_or ys i x)
+in_list i x same here is = (subst (λ zs. i < length zs) same here, is ∙ ap (λ zs. get_or zs i x) same)
 
 -- the rows of places behind others
 pub rows_of-append : (table : List Triple) (c : List Bool) (node : ℕ) (kind : Kind) (ps qs : List Place)
@@ -82,7 +86,7 @@ rows_in-grown old new grows c (e ∷ es) h = λ j. rows_of-grown old new grows c
 -- places stay within a table that grows
 pub within-grown : (old new : List Triple) → Extends old new → (ps : List Place) → AreWithin old ps → AreWithin new ps
 within-grown old new grows [] h = tt
-within-grown old new grows (p ∷ ps) h = (let first : p.vis < node_count old = h.0 in omega (arith, first, grows.count), within-grown old new grows ps h.1)
+within-grown old new grows (p ∷ ps) h = (let first : p.vis < diagram_size old = h.0 in omega (arith, first, grows.count), within-grown old new grows ps h.1)
 
 -- and so do nodes
 pub all_within-grown : (old new : List Triple) → Extends old new → (es : List Entry) → AllAreWithin old es → AllAreWithin new es
@@ -91,7 +95,7 @@ all_within-grown old new grows (e ∷ es) h = (within-grown old new grows e.plac
 
 -- places within a table are so together
 pub within-append : (table : List Triple) (ps qs : List Place) → AreWithin table ps → AreWithin table qs → AreWithin table (ps ++ qs)
-within-append table ps qs g h = all-append (λ p. p.vis < node_count table) ps qs g h
+within-append table ps qs g h = all-append (λ p. p.vis < diagram_size table) ps qs g h
 
 pub all_within-append : (table : List Triple) (es fs : List Entry) → AllAreWithin table es → AllAreWithin table fs → AllAreWithin table (es ++ fs)
 all_within-append table es fs g h = all-append (λ e. AreWithin table e.places) es fs g h

@@ -2,6 +2,7 @@
 use Rattle.std.proofs.Common.{◌≡◌, ℕ, zero, suc, ◌+◌, ◌<◌, ◌≤◌, Bool, true, false, cond, ◌||◌, not, nat_eq, nat_lt, List, [], ◌∷◌, ◌++◌, map, length, get_or, set, Some, None, position, refl, sym, ap, subst, ◌∙◌, arith}
 use Rattle.std.specs.List.{filter, position_or_len}
 use Rattle.std.proofs.lemmas.Bool.Decides.{nat_tests}
+use Rattle.std.proofs.lemmas.Bool.{or_parts, eqb-true}
 use Rattle.cov_base.specs.Rows.{changed, has_node, AreDistinct}
 use Rattle.cov_base.specs.declared.number.Kind.{Kind}
 use Rattle.cov_dd.specs.declared.triple.Triple.{Triple}
@@ -45,14 +46,6 @@ none_shifted table c node shift ambition = at (value_in table ambition c) shift
     at true shifts.Removed = refl
     at false s = refl
 
-left : (a b : Bool) → (a || b) ≡ false → a ≡ false
-left false b e = refl
-left true b e = absurd (cc)
-
-right : (a b : Bool) → (a || b) ≡ false → b ≡ false
-right false b e = e
-right true b e = absurd (cc)
-
 -- and a change of a node that isn't there changes nothing
 all_unshifted : (table : List Triple) (c : List Bool) (node : ℕ) (shift : Shift) (ambition : ℕ) (es : List Entry) → has_node node (nodes_of es) ≡ false
     → shifted table c node shift ambition (rows_in table c es) ≡ rows_in table c es
@@ -60,11 +53,8 @@ all_unshifted table c node shift ambition [] h = none_shifted table c node shift
 all_unshifted table c node shift ambition (e ∷ es) h =
     shifted-append table c node shift ambition (rows_of table c e.node e.kind e.places) (rows_in table c es)
     ∙ (λ j.
-    unshifted table c node shift ambition e.node e.kind e.places (left (nat_eq e.node node) (has_node node (nodes_of es)) h) j
-    ++ all_unshifted table c node shift ambition es (right (nat_eq e.node node) (has_node node (nodes_of es)) h) j)
-
-equal : (m n : ℕ) → nat_eq m n ≡ true → m ≡ n
-equal m n e = grind (arith, nat_tests, e)
+    unshifted table c node shift ambition e.node e.kind e.places (or_parts (nat_eq e.node node) (has_node node (nodes_of es)) h).0 j
+    ++ all_unshifted table c node shift ambition es (or_parts (nat_eq e.node node) (has_node node (nodes_of es)) h).1 j)
 
 -- an entry with other places
 abbrev pub with_places : List Place → Entry → Entry
@@ -94,7 +84,7 @@ module _ (old new : List Triple) (grows : Extends old new) (node : ℕ) (shift :
           → rows_in new c (set (e ∷ es) (cond (not b) (1 + place node es) 0) (with_places ps (get_or (e ∷ es) (cond (not b) (1 + place node es) 0) d)))
           ≡ shifted old c node shift ambition (rows_of old c e.node e.kind e.places ++ rows_in old c es)
       at true same h made rest =
-          let is : e.node ≡ node = equal e.node node same in
+          let is : e.node ≡ node = eqb-true e.node node same in
           (λ j.
           own_rows c e is made j
           ++ (rows_in-grown old new grows c es within.1 ∙ sym (all_unshifted old c node shift ambition es (ap (λ n. has_node n (nodes_of es)) (sym is) ∙ distinct.0))) j)

@@ -1,24 +1,21 @@
 -- The root is reached round by round.
 use Rattle.std.proofs.Common.{◌≡◌, ◌||◌, ℕ, zero, suc, ◌<◌, ◌≤◌, Bool, true, false, cond, nat_eq, List, [], ◌∷◌, ◌++◌, map, get_or, length, Option, Some, None, refl, sym, ap, subst, ◌∙◌, arith}
+use mathlib.Core.Bool.{or-true}
 use Rattle.std.specs.List.{find, filter, list_any, AllByRecursion}
 use Rattle.std.specs.Option.{option_or}
 use Rattle.std.proofs.lemmas.Bool.Decides.{nat_tests}
+use Rattle.std.proofs.lemmas.Bool.{or_parts, eqb-true}
 use Rattle.cov_base.specs.declared.number.Kind.{Kind}
 use Rattle.cov_base.specs.Rows.{Row, row_of, has_node, AreDistinct, AreOnce}
 use Rattle.cov_base.specs.Faults.{is_reached}
-use Rattle.cov_base.proofs.Ordered.{all-map, all-append}
+use Rattle.cov_base.proofs.CallerLemmas.{all-map, all-append, up, down, in_time, reached_in_time, both_ways, own_rows}
 use Rattle.cov_base.specs.Reaching.{Reaches, root, below}
-use Rattle.cov_base.proofs.Reaching.{up, down, in_time, reached_in_time}
-use Rattle.cov_base.proofs.Faulty.{both_ways, or_left, or_right, own_rows}
 use Rattle.cov_dd.specs.declared.triple.Triple.{Triple}
 use Rattle.cov_dd.specs.Diagrams.{value_in}
 use Rattle.cov_tree.specs.declared.entry.Place.{Place}
 use Rattle.cov_tree.specs.declared.entry.Entry.{Entry}
 use Rattle.cov_tree.specs.Entries.{row_at, rows_of, rows_in, nodes_of}
 use Rattle.cov_tree.specs.Spreading.{Holds, AreReached, Turns, Rounds}
-
-equal : (m n : ℕ) → nat_eq m n ≡ true → m ≡ n
-equal m n e = grind (arith, nat_tests, e)
 
 -- a step more
 later : (rows : List Row) (k x : ℕ) → is_reached rows k x ≡ true → is_reached rows (suc k) x ≡ true
@@ -56,7 +53,7 @@ module _ (rows : List Row) (node : ℕ) (own : List Row) (inner : nat_eq node 0 
       here (suc k) g i = at_node k v w b (λ y j. g y (later rows k y j)) t i
 
       at : (a : Bool) → nat_eq x node ≡ a → w x ≡ true
-      at true e = let same : x ≡ node = equal x node e in ap w same ∙ here k h (ap (is_reached rows k) (sym same) ∙ is)
+      at true e = let same : x ≡ node = eqb-true x node e in ap w same ∙ here k h (ap (is_reached rows k) (sym same) ∙ is)
       at false e = t.others x e ∙ h x is
 
   -- one node's turn more
@@ -69,25 +66,25 @@ module _ (rows : List Row) (node : ℕ) (own : List Row) (inner : nat_eq node 0 
         (all-map (λ r. is_reached rows (suc k) r.node ≡ true → v r.node ≡ true) (λ r. is_reached rows (suc k) r.node ≡ true → w r.node ≡ true) (λ r f. more_at k h r.node f (nat_eq r.node node) refl) done (m.more k h))
         (all-map (λ r. r.node ≡ node) (λ r. is_reached rows (suc k) r.node ≡ true → w r.node ≡ true)
         (λ r e is. ap w e ∙ at_node k v w b (m.holds k h) t (ap (is_reached rows (suc k)) (sym e) ∙ is)) own named);
-    same = λ e x. t.same (or_left b changed e) x ∙ m.same (or_right b changed e) x;
+    same = λ e x. t.same (or_parts b changed e).0 x ∙ m.same (or_parts b changed e).1 x;
     closed = λ e.
-        all-append (λ r. u r.parent ≡ true → u r.node ≡ true) done own (m.closed (or_right b changed e))
+        all-append (λ r. u r.parent ≡ true → u r.node ≡ true) done own (m.closed (or_parts b changed e).1)
         (all_both own owned named
         (λ r o n g.
-        ap u n ∙ sym (t.same (or_left b changed e) node ∙ m.same (or_right b changed e) node)
-        ∙ t.at ∙ whole r o (λ s. v s.parent) (m.same (or_right b changed e) r.parent ∙ g)));
+        ap u n ∙ sym (t.same (or_parts b changed e).0 node ∙ m.same (or_parts b changed e).1 node)
+        ∙ t.at ∙ whole r o (λ s. v s.parent) (m.same (or_parts b changed e).1 r.parent ∙ g)));
   }
     where
       reached_at : AreReached rows u → (x : ℕ) → w x ≡ true → (a : Bool) → nat_eq x node ≡ a → Reaches rows x
       reached_at a x is true e =
-          let same : x ≡ node = equal x node e in
+          let same : x ≡ node = eqb-true x node e in
           let s = some_true (λ r. row_of rows node ≡ Some r) (λ r. v r.parent) own owned (sym t.at ∙ ap w (sym same) ∙ is) in
           subst (Reaches rows) (sym same) (below node s.0 s.1 (m.reached a s.0.parent s.2))
       reached_at a x is false e = m.reached a x (sym (t.others x e) ∙ is)
 
       more_at : (k : ℕ) → Holds rows k u → (x : ℕ) → (is_reached rows (suc k) x ≡ true → v x ≡ true) → (a : Bool) → nat_eq x node ≡ a → is_reached rows (suc k) x ≡ true → w x ≡ true
       more_at k h x f true e is =
-          let same : x ≡ node = equal x node e in
+          let same : x ≡ node = eqb-true x node e in
           ap w same ∙ at_node k v w b (m.holds k h) t (ap (is_reached rows (suc k)) (sym same) ∙ is)
       more_at k h x f false e is = t.others x e ∙ f is
 
@@ -106,7 +103,7 @@ found_row P [] x r h is = absurd (cc)
 found_row P (s ∷ rows) x r h is = at (nat_eq s.node x) refl is (found_row P rows x r h.1)
   where
     at : (b : Bool) → nat_eq s.node x ≡ b → cond b (Some s) (row_of rows x) ≡ Some r → (row_of rows x ≡ Some r → P r × (r.node ≡ x)) → P r × (r.node ≡ x)
-    at true e g rest = let same : s ≡ r = cc in (subst P same h.0, ap (λ (t : Row). t.node) (sym same) ∙ equal s.node x e)
+    at true e g rest = let same : s ≡ r = cc in (subst P same h.0, ap (λ (t : Row). t.node) (sym same) ∙ eqb-true s.node x e)
     at false e g rest = rest g
 
 -- a set that has each node with a parent in it has all from which the root is reached
@@ -171,11 +168,7 @@ find_any p q (y ∷ ys) x h k = at (q y) h (find_any p q ys x)
   where
     at : (b : Bool) → cond b (Some y) (find q ys) ≡ Some x → (find q ys ≡ Some x → p x ≡ true → list_any p ys ≡ true) → (p y || list_any p ys) ≡ true
     at true g rest = let same : y ≡ x = cc in ap (λ b. b || list_any p ys) (ap p same ∙ k)
-    at false g rest = (λ j. p y || rest g k j) ∙ any_true (p y)
-      where
-        any_true : (b : Bool) → (b || true) ≡ true
-        any_true true = refl
-        any_true false = refl
+    at false g rest = (λ j. p y || rest g k j) ∙ or-true (p y)
 
 module _ (table : List Triple) (c : List Bool) where
   no_rows : (es : List Entry) (x : ℕ) → has_node x (nodes_of es) ≡ false → row_of (rows_in table c es) x ≡ None
@@ -183,8 +176,8 @@ module _ (table : List Triple) (c : List Bool) where
   no_rows (e ∷ es) x h =
       row_of-append (rows_of table c e.node e.kind e.places) (rows_in table c es) x
       ∙ (λ j.
-      option_or (no_row e.node e.kind (filter (λ (p : Place). value_in table p.vis c) e.places) x (or_left (nat_eq e.node x) (has_node x (nodes_of es)) h) j)
-      (no_rows es x (or_right (nat_eq e.node x) (has_node x (nodes_of es)) h) j))
+      option_or (no_row e.node e.kind (filter (λ (p : Place). value_in table p.vis c) e.places) x (or_parts (nat_eq e.node x) (has_node x (nodes_of es)) h).0 j)
+      (no_rows es x (or_parts (nat_eq e.node x) (has_node x (nodes_of es)) h).1 j))
 
   -- a node's row is among its own
   row_among : (es : List Entry) (i : ℕ) (e : Entry) → i < length es → e ≡ get_or es i e → AreDistinct (nodes_of es)
@@ -204,10 +197,10 @@ module _ (table : List Triple) (c : List Bool) where
       other : (es : List Entry) (i : ℕ) (e : Entry) → i < length es → e ≡ get_or es i e → (x : ℕ) → has_node x (nodes_of es) ≡ false → nat_eq x e.node ≡ false
       other [] i e here at x h = absurd (omega (arith, here))
       other (g ∷ es) zero e here at x h =
-          let first : nat_eq g.node x ≡ false = or_left (nat_eq g.node x) (has_node x (nodes_of es)) h in
+          let first : nat_eq g.node x ≡ false = (or_parts (nat_eq g.node x) (has_node x (nodes_of es)) h).0 in
           let same : e.node ≡ g.node = ap (λ (k : Entry). k.node) at in
           grind (arith, nat_tests, first, same)
-      other (g ∷ es) (suc i) e here at x h = other es i e (omega (arith, here)) at x (or_right (nat_eq g.node x) (has_node x (nodes_of es)) h)
+      other (g ∷ es) (suc i) e here at x h = other es i e (omega (arith, here)) at x (or_parts (nat_eq g.node x) (has_node x (nodes_of es)) h).1
 
   all_own : (P : Row → Type 0) (es : List Entry) (i : ℕ) (e : Entry) → i < length es → e ≡ get_or es i e → AllByRecursion P (rows_in table c es) → AllByRecursion P (rows_of table c e.node e.kind e.places)
   all_own P [] i e here at h = absurd (omega (arith, here))
@@ -231,8 +224,8 @@ module _ (table : List Triple) (c : List Bool) where
       where
         others : (es : List Entry) (i : ℕ) (e : Entry) → i < length es → e ≡ get_or es i e → has_node 0 (nodes_of es) ≡ false → nat_eq e.node 0 ≡ false
         others [] i e here at h = absurd (omega (arith, here))
-        others (g ∷ es) zero e here at h = ap (λ (k : Entry). nat_eq k.node 0) at ∙ or_left (nat_eq g.node 0) (has_node 0 (nodes_of es)) h
-        others (g ∷ es) (suc i) e here at h = others es i e (omega (arith, here)) at (or_right (nat_eq g.node 0) (has_node 0 (nodes_of es)) h)
+        others (g ∷ es) zero e here at h = ap (λ (k : Entry). nat_eq k.node 0) at ∙ (or_parts (nat_eq g.node 0) (has_node 0 (nodes_of es)) h).0
+        others (g ∷ es) (suc i) e here at h = others es i e (omega (arith, here)) at (or_parts (nat_eq g.node 0) (has_node 0 (nodes_of es)) h).1
 
     -- an entry's turn more
     pub entry_more : (done : List Row) (u v w : ℕ → Bool) (changed b : Bool) → Rounds (rows_in table c es) done u v changed
@@ -259,4 +252,4 @@ module _ (table : List Triple) (c : List Bool) where
       few (p ∷ []) d f = let h = f d.1 in omega (arith, h)
       few (p ∷ q ∷ ps) d f =
           let same : nat_eq e.node e.node ≡ true = grind (arith, nat_tests) in
-          absurd (let no = or_left (nat_eq e.node e.node) (has_node e.node (map (λ (r : Row). r.node) (map (row_at e.node e.kind) ps ++ rows_in table c es))) d.0 in cc)
+          absurd (let no = (or_parts (nat_eq e.node e.node) (has_node e.node (map (λ (r : Row). r.node) (map (row_at e.node e.kind) ps ++ rows_in table c es))) d.0).0 in cc)

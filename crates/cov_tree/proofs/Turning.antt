@@ -5,12 +5,12 @@ use Rattle.std.proofs.lemmas.Bool.Decides.{nat_tests}
 use Rattle.std.proofs.lemmas.List.Folds.{list_any-append}
 use Rattle.cov_base.specs.declared.number.Kind.{Kind}
 use Rattle.cov_base.specs.Rows.{Row, AreDistinct, AreOnce}
-use Rattle.cov_base.proofs.Ordered.{all-map}
+use Rattle.cov_base.proofs.CallerLemmas.{all-map}
 use Rattle.cov_base.specs.Reaching.{root}
 use Rattle.cov_base.specs.Choices.{is_on}
 use Rattle.cov_dd.specs.declared.triple.Triple.{Triple}
-use Rattle.cov_dd.specs.Diagrams.{node_count, value_in, Extends, IsNode}
-use Rattle.cov_dd.proofs.Nodes.{some_nodes}
+use Rattle.cov_dd.specs.Diagrams.{diagram_size, value_in, Extends, IsNode}
+use Rattle.cov_dd.proofs.CallerLemmas.{some_nodes}
 use Rattle.cov_tree.specs.declared.entry.Place.{Place}
 use Rattle.cov_tree.specs.declared.entry.Entry.{Entry}
 use Rattle.cov_tree.specs.Entries.{row_at, rows_of, rows_in, nodes_of, AllAreWithin}
@@ -33,23 +33,23 @@ any_more t c test node kind ps i p here at =
     by true false e = ap (λ x. x || false) e
     by false b e = refl
 
-pub node_within : (t : List Triple) (reach : List ℕ) (x : ℕ) → AllByRecursion (λ n. n < node_count t) reach → node_at reach x < node_count t
-node_within t [] x h = let two : 2 ≤ node_count t = some_nodes t in omega (arith, two)
+pub node_within : (t : List Triple) (reach : List ℕ) (x : ℕ) → AllByRecursion (λ n. n < diagram_size t) reach → node_at reach x < diagram_size t
+node_within t [] x h = let two : 2 ≤ diagram_size t = some_nodes t in omega (arith, two)
 node_within t (n ∷ reach) zero h = h.0
 node_within t (n ∷ reach) (suc x) h = node_within t reach x h.1
 
-pub within_grown : (old new : List Triple) → Extends old new → (reach : List ℕ) → AllByRecursion (λ n. n < node_count old) reach → AllByRecursion (λ n. n < node_count new) reach
-within_grown old new grows reach h = all-map (λ n. n < node_count old) (λ n. n < node_count new) (λ n k. omega (arith, k, grows.count)) reach h
+pub within_grown : (old new : List Triple) → Extends old new → (reach : List ℕ) → AllByRecursion (λ n. n < diagram_size old) reach → AllByRecursion (λ n. n < diagram_size new) reach
+within_grown old new grows reach h = all-map (λ n. n < diagram_size old) (λ n. n < diagram_size new) (λ n k. omega (arith, k, grows.count)) reach h
 
-pub reached_grown : (old new : List Triple) → Extends old new → (reach : List ℕ) → AllByRecursion (λ n. n < node_count old) reach → (c : List Bool) (x : ℕ) → reached_in new reach c x ≡ reached_in old reach c x
+pub reached_grown : (old new : List Triple) → Extends old new → (reach : List ℕ) → AllByRecursion (λ n. n < diagram_size old) reach → (c : List Bool) (x : ℕ) → reached_in new reach c x ≡ reached_in old reach c x
 reached_grown old new grows reach h c x = grows.value (node_at reach x) (node_within old reach x h) c
 
 pub none_found : (t : List Triple) (f : List Bool → Bool) → ((c : List Bool) → f c ≡ false) → IsNode t 0 f
-none_found t f h = record { within = let two : 2 ≤ node_count t = some_nodes t in omega (arith, two); value = λ c. false_node t c ∙ sym (h c) }
+none_found t f h = record { within = let two : 2 ≤ diagram_size t = some_nodes t in omega (arith, two); value = λ c. false_node t c ∙ sym (h c) }
 
 -- one place more, of which the parent is reached
-pub arrival_more : (t0 t new : List Triple) → Extends t0 t → (reach : List ℕ) → AllByRecursion (λ n. n < node_count t0) reach
-    → (node : ℕ) (kind : Kind) (ps : List Place) (i : ℕ) (p : Place) → i < length ps → p ≡ get_or ps i p → p.vis < node_count t0 → (found r b : ℕ)
+pub arrival_more : (t0 t new : List Triple) → Extends t0 t → (reach : List ℕ) → AllByRecursion (λ n. n < diagram_size t0) reach
+    → (node : ℕ) (kind : Kind) (ps : List Place) (i : ℕ) (p : Place) → i < length ps → p ≡ get_or ps i p → p.vis < diagram_size t0 → (found r b : ℕ)
     → IsNode t found (λ c. list_any (λ row. reached_in t0 reach c row.parent) (rows_of t0 c node kind (take i ps)))
     → b ≡ node_at reach p.parent
     → IsNode new r (λ c. value_in t found c || (value_in t p.vis c && value_in t b c))
@@ -83,8 +83,8 @@ rounds_before t0 t new grows es within before after b s c =
 true_node : (t : List Triple) (c : List Bool) → value_in t 1 c ≡ true
 true_node [] c = refl
 true_node (t ∷ ts) c =
-    let two : 2 ≤ node_count ts = some_nodes ts in
-    let other : (1 == node_count ts) ≡ false = grind (arith, nat_tests, two) in
+    let two : 2 ≤ diagram_size ts = some_nodes ts in
+    let other : (1 == diagram_size ts) ≡ false = grind (arith, nat_tests, two) in
     ap (λ b. cond b (cond (is_on c t.option) (value_in ts t.on c) (value_in ts t.off c)) (value_in ts 1 c)) other ∙ true_node ts c
 
 -- at first the root alone is reached
@@ -98,11 +98,11 @@ first_reached t reach none rows c (suc m) is =
     let other : nat_eq (suc m) 0 ≡ false = grind (arith, nat_tests) in
     absurd (let no = ap (λ n. value_in t n c) (none (suc m) other) ∙ false_node t c in cc)
 
-pub first_within : (t : List Triple) (reach : List ℕ) → AllByRecursion (λ n. n < 2) reach → AllByRecursion (λ n. n < node_count t) reach
-first_within t reach h = let two : 2 ≤ node_count t = some_nodes t in all_map_two two reach h
+pub first_within : (t : List Triple) (reach : List ℕ) → AllByRecursion (λ n. n < 2) reach → AllByRecursion (λ n. n < diagram_size t) reach
+first_within t reach h = let two : 2 ≤ diagram_size t = some_nodes t in all_map_two two reach h
   where
-    all_map_two : 2 ≤ node_count t → (ns : List ℕ) → AllByRecursion (λ n. n < 2) ns → AllByRecursion (λ n. n < node_count t) ns
-    all_map_two two ns k = all-map (λ n. n < 2) (λ n. n < node_count t) (λ n l. omega (arith, l, two)) ns k
+    all_map_two : 2 ≤ diagram_size t → (ns : List ℕ) → AllByRecursion (λ n. n < 2) ns → AllByRecursion (λ n. n < diagram_size t) ns
+    all_map_two two ns k = all-map (λ n. n < 2) (λ n. n < diagram_size t) (λ n l. omega (arith, l, two)) ns k
 
 pub once_grown : (old new : List Triple) → Extends old new → (es : List Entry) → AllAreWithin old es → ((c : List Bool) → AreOnce (rows_in old c es)) → (c : List Bool) → AreOnce (rows_in new c es)
 once_grown old new grows es within once c = subst AreOnce (sym (rows_in-grown old new grows c es within)) (once c)
@@ -119,7 +119,7 @@ reach_at_rest t0 t new grows es within before after b k is holds reached s = rec
 }
 
 -- and there are no more rounds than nodes
-pub reach_in_time : (t0 t : List Triple) (es : List Entry) (reach : List ℕ) (k : ℕ) → length es ≤ k → ((c : List Bool) → AreOnce (rows_in t0 c es)) → AllByRecursion (λ n. n < node_count t) reach
+pub reach_in_time : (t0 t : List Triple) (es : List Entry) (reach : List ℕ) (k : ℕ) → length es ≤ k → ((c : List Bool) → AreOnce (rows_in t0 c es)) → AllByRecursion (λ n. n < diagram_size t) reach
     → ((c : List Bool) → Holds (rows_in t0 c es) k (reached_in t reach c)) → ((c : List Bool) → AreReached (rows_in t0 c es) (reached_in t reach c)) → IsReach t0 t es reach
 reach_in_time t0 t es reach k most once within holds reached = record {
   within = within;

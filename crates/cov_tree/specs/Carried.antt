@@ -2,6 +2,7 @@
 use Rattle.std.specs.Prelude.{◌≡◌, ℕ, ◌≤◌, Bool, true, false, length, List, Option}
 use Rattle.cov_base.specs.Choices.{with_option}
 use Rattle.cov_base.specs.Rows.{Row, AreOnce}
+use Rattle.cov_base.specs.declared.limits.TheConstants.{CHOICE_WIDTH}
 use Rattle.cov_dd.specs.declared.triple.Triple.{Triple}
 use Rattle.cov_tree.specs.declared.entry.Entry.{Entry}
 use Rattle.cov_tree.specs.Entries.{AllAreWithin}
@@ -21,9 +22,9 @@ AreOnceAt table d = (p : ℕ) (c : List Bool) → AreOnce (rows_at table c p d)
 abbrev pub AreOnceWith : List Triple → Option (List Entry) → Dated → Type 0
 AreOnceWith table plan d = (c : List Bool) → AreOnce (rows_with table c plan d)
 
--- from an option on, rows on choices of 128 options depend on none
+-- from an option on, rows on choices of all options that they can have depend on none
 abbrev pub AreUnread : (List Bool → List Row) → ℕ → Type 0
-AreUnread rows count = (o : ℕ) → count ≤ o → (c : List Bool) → length c ≡ 128 → rows (with_option c o true) ≡ rows (with_option c o false)
+AreUnread rows count = (o : ℕ) → count ≤ o → (c : List Bool) → length c ≡ CHOICE_WIDTH → rows (with_option c o true) ≡ rows (with_option c o false)
 
 -- the rows depend on no option at or above a count: at each position, and with a plan
 abbrev pub AreUnreadAt : List Triple → Dated → ℕ → Type 0

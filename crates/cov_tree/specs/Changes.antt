@@ -3,7 +3,7 @@ use Rattle.std.specs.Prelude.{◌≡◌, ℕ, ◌<◌, ◌≤◌, Bool, List, []
 use Rattle.std.specs.List.{AllByRecursion}
 use Rattle.cov_base.specs.Rows.{Row, RowChange, changed}
 use Rattle.cov_dd.specs.declared.triple.Triple.{Triple}
-use Rattle.cov_dd.specs.Diagrams.{node_count, value_in}
+use Rattle.cov_dd.specs.Diagrams.{diagram_size, value_in}
 use Rattle.cov_tree.specs.declared.entry.Entry.{Entry}
 use Rattle.cov_tree.specs.Dated.{Dated, rows_at, rows_with, nodes_with, kinds_with}
 use Rattle.cov_tree.specs.Carried.{AreNodesAt, AreNodesWith}
@@ -23,7 +23,7 @@ pub record Makes (table : List Triple) (entries : Dated) (plan : Option (List En
   pub rows : (c : List Bool) (p : ℕ) → entries.from ≤ p → rows_with table c plan entries ≡ all_changed table c changes (rows_at table c p entries)
   pub over : AreNodesAt table entries
   pub within : AreNodesWith table plan entries
-  pub ambitions : AllByRecursion (λ change. change.1 < node_count table) changes
+  pub ambitions : AllByRecursion (λ change. change.1 < diagram_size table) changes
 
 -- a plan is over these entries what another was: it has the same nodes, and on each choice the same rows, in each table
 pub record IsAlike (entries : Dated) (before after : Option (List Entry)) : Type 0 where

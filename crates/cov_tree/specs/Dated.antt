@@ -1,5 +1,6 @@
 -- The nodes of a store at each position, and as a plan has them.
-use Rattle.std.specs.Prelude.{ℕ, ◌<◌, Bool, nat_le, List, [], ◌∷◌, Option, unwrap_or, if◌then◌else◌}
+use Rattle.std.specs.Prelude.{ℕ, ◌<◌, Bool, List, [], ◌∷◌, Option, unwrap_or}
+use Rattle.cov_base.specs.Older.{value_at}
 use Rattle.cov_base.specs.Rows.{Row}
 use Rattle.cov_base.specs.declared.number.Kind.{Kind}
 use Rattle.cov_dd.specs.declared.triple.Triple.{Triple}
@@ -14,14 +15,9 @@ pub record Dated : Type 0 where
   pub older : List (ℕ × List Entry)
   pub room : ℕ
 
--- the newest list not beyond a position
-abbrev pub list_at : ℕ → List (ℕ × List Entry) → List Entry
-list_at p [] = []
-list_at p (l ∷ ls) = if nat_le l.0 p then l.1 else list_at p ls
-
 -- the nodes at a position
 abbrev pub nodes_at : ℕ → Dated → List Entry
-nodes_at p d = list_at p ((d.from, d.newest) ∷ d.older)
+nodes_at p d = value_at [] ((d.from, d.newest) ∷ d.older) p
 
 -- the rows on a choice at a position
 abbrev pub rows_at : List Triple → List Bool → ℕ → Dated → List Row

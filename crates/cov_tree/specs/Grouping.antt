@@ -5,7 +5,7 @@ use Rattle.std.specs.Map.{lookup}
 use Rattle.cov_base.specs.Rows.{Row}
 use Rattle.cov_base.specs.Reaching.{has_clash}
 use Rattle.cov_dd.specs.declared.triple.Triple.{Triple}
-use Rattle.cov_dd.specs.Diagrams.{node_count, value_in}
+use Rattle.cov_dd.specs.Diagrams.{diagram_size, value_in}
 use Rattle.cov_tree.specs.declared.grouping.PlaceKey.{PlaceKey}
 use Rattle.cov_tree.specs.Entries.{is_one_place}
 
@@ -15,7 +15,7 @@ joined_at groups parent name = unwrap_or (lookup (λ key. is_one_place parent na
 
 -- all choices are nodes of a table
 abbrev pub GroupsWithin : List Triple → List (PlaceKey × ℕ) → Type 0
-GroupsWithin table groups = AllByRecursion (λ g. g.1 < node_count table) groups
+GroupsWithin table groups = AllByRecursion (λ g. g.1 < diagram_size table) groups
 
 -- the groups have for each place the choices on which a row is there, and a node those on which two rows clash
 pub record IsClash (table : List Triple) (groups : List (PlaceKey × ℕ)) (clash : ℕ) (rows : List Bool → List Row) : Type 0 where

@@ -5,7 +5,7 @@ use Rattle.cov_base.specs.Rows.{Row}
 use Rattle.cov_base.specs.Faults.{is_reached}
 use Rattle.cov_base.specs.Reaching.{Reaches}
 use Rattle.cov_dd.specs.declared.triple.Triple.{Triple}
-use Rattle.cov_dd.specs.Diagrams.{node_count, value_in}
+use Rattle.cov_dd.specs.Diagrams.{diagram_size, value_in}
 use Rattle.cov_tree.specs.declared.entry.Entry.{Entry}
 use Rattle.cov_tree.specs.Entries.{rows_of, rows_in}
 
@@ -40,17 +40,17 @@ pub record Rounds (rows done : List Row) (u v : ℕ → Bool) (changed : Bool) :
 
 -- the choices of a node are those on which it has a parent that is reached
 pub record Relaxes (old new : List Triple) (e : Entry) (before after : List ℕ) (changed : Bool) : Type 0 where
-  pub within : AllByRecursion (λ n. n < node_count new) after
+  pub within : AllByRecursion (λ n. n < diagram_size new) after
   pub count : length after ≡ length before
   pub turns : (c : List Bool) → Turns e.node (rows_of old c e.node e.kind e.places) (reached_in old before c) (reached_in new after c) changed
 
 -- a round over nodes
 pub record Spreads (old new : List Triple) (es : List Entry) (before after : List ℕ) (changed : Bool) : Type 0 where
-  pub within : AllByRecursion (λ n. n < node_count new) after
+  pub within : AllByRecursion (λ n. n < diagram_size new) after
   pub count : length after ≡ length before
   pub rounds : (c : List Bool) → Rounds (rows_in old c es) (rows_in old c es) (reached_in old before c) (reached_in new after c) changed
 
 -- each node has the choices on which it reaches the root
 pub record IsReach (old new : List Triple) (es : List Entry) (reach : List ℕ) : Type 0 where
-  pub within : AllByRecursion (λ n. n < node_count new) reach
+  pub within : AllByRecursion (λ n. n < diagram_size new) reach
   pub value : (c : List Bool) (x : ℕ) → reached_in new reach c x ≡ is_reached (rows_in old c es) (length (rows_in old c es)) x

@@ -1,10 +1,9 @@
 // The nodes of a store at each position.
-ghost use Rattle.std.specs.Prelude.{◌≡◌, ◌<◌, ◌≤◌, ℕ, List, Bool, [], ◌∷◌, ◌++◌, ◌&&◌, nat_le, reverse, IfOk, OnOk};
-ghost use Rattle.std.specs.List.{find};
-ghost use Rattle.std.specs.Option.{is_some, option_copied};
+ghost use Rattle.std.specs.Prelude.{◌≡◌, ◌<◌, ◌≤◌, ℕ, List, Bool, [], ◌∷◌, ◌++◌, ◌&&◌, IfOk, OnOk};
+ghost use Rattle.std.specs.Option.{is_some};
 ghost use Rattle.cov_base.specs.Faults.{fault_of};
 ghost use Rattle.cov_base.specs.Rows.{RowChange, AreDistinct};
-ghost use Rattle.cov_dd.specs.Diagrams.{node_count, span, value_in, Extends, IsNode};
+ghost use Rattle.cov_dd.specs.Diagrams.{diagram_size, span, value_in, Extends, IsNode};
 ghost use Rattle.cov_dd.specs.declared.triple.Triple.{Triple};
 ghost use Rattle.cov_tree.specs.Entries.{rows_of, rows_in, row_at, nodes_of};
 ghost use Rattle.cov_tree.specs.Dated.{nodes_at, rows_at, nodes_in, kinds_in, rows_with, nodes_with, kinds_with, without_room, HasRoom};
@@ -14,7 +13,7 @@ ghost use Rattle.cov_tree.specs.Changes.{all_changed, Makes};
 use crate::entry::{Entry, Place, copied};
 use crate::soundness::unsound;
 use crate::{EntryPlan, NodeRow, NodeRows};
-use cov_base::{Choice, Kind, Memory, NodeNo, Position};
+use cov_base::{Choice, Kind, Memory, NodeNo, OlderLists, Position};
 use cov_dd::{Node, Table};
 use std::alloc::Global;
 use std::marker::Model;
@@ -23,22 +22,6 @@ use std::mem;
 /// How many nodes new entries have room for.
 const FIRST_ROOM: usize = 16;
 
-/// All nodes from a position on.
-#[derive(Drop)]
-struct OlderEntries {
-    from: Position,
-    entries: Vec<Entry>,
-}
-
-impl Model for OlderEntries {
-    ghost use Rattle.std.specs.Prelude.{List, ℕ};
-    ghost use Rattle.cov_tree.specs.declared.entry.Entry.{Entry as EntryValue};
-
-    ghost Value = { ℕ × List EntryValue };
-
-    ghost view = { λ l. (l.from, l.entries.items) };
-}
-
 /// The nodes that a store ever had, by position: a whole list of them for each position that changed one. Contracts tell of the
 /// rows that they have on each choice, at each position (`rows_at`) and with a plan (`rows_with`). The root is always there and has
 /// no row.
@@ -46,18 +29,18 @@ impl Model for OlderEntries {
 pub struct Entries {
     from: Position,
     newest: Vec<Entry>,
-    older: Vec<OlderEntries>,
+    older: OlderLists<Entry>,
 }
 
 impl Model for Entries {
-    ghost use Rattle.std.specs.Prelude.{◌-◌, ◌∷◌, reverse, vec_len, vec_capacity};
+    ghost use Rattle.std.specs.Prelude.{◌∷◌};
     ghost use Rattle.cov_base.specs.Rows.{AreDistinct};
     ghost use Rattle.cov_tree.specs.Entries.{nodes_of};
     ghost use Rattle.cov_tree.specs.Dated.{Dated};
 
     ghost Value = { Dated };
 
-    ghost view = { λ e. record { from = e.from; newest = e.newest.items; older = reverse e.older.items; room = vec_capacity e.older - vec_len e.older } };
+    ghost view = { λ e. record { from = e.from; newest = e.newest.items; older = e.older.lists; room = e.older.room } };
 
     ghost invariant = { λ e. AreDistinct (0 ∷ nodes_of e.newest.items) };
 }
@@ -76,7 +59,7 @@ impl Entries {
         Ok(Entries {
             from: Position::new(0),
             newest: Vec::with_capacity(alloc, FIRST_ROOM)?,
-            older: Vec::new(alloc),
+            older: OlderLists::new(alloc),
         })
     }
 
@@ -99,7 +82,7 @@ impl Entries {
     /// each node grow in rounds over all nodes: two where each node was made after its parents, and one more for each parent on a
     /// way to the root that was made after its child.
     pub fn unsound(&self, plan: &EntryPlan, table: &mut Table, within: Node) -> Result<Node, Memory>
-        requires within { within < node_count table.old }
+        requires within { within < diagram_size table.old }
         requires visible { AreNodesWith table.old plan.now self.now }
         requires once { AreOnceWith table.old plan.now self.now }
         ensures extends { Extends table.old table.new }
@@ -118,9 +101,9 @@ impl Entries {
         ensures from { self.new.from ≡ self.old.from }
         ensures room { OnOk result (HasRoom plan.now self.new) }
     {
+        // Any plan wants the same room, one list; it is named for the contract.
         let _ = plan;
-        self.older.reserve(1)?;
-        Ok(())
+        self.older.reserve()
     }
 
     /// Makes the changes of a plan from a position on. It takes no memory.
@@ -158,13 +141,7 @@ impl Entries {
             return;
         }
         let from = mem::replace(&mut self.from, at);
-        match self.older.push(OlderEntries {
-            from,
-            entries: newest,
-        }) {
-            Ok(()) => (),
-            Err(_) => unreachable!(),
-        }
+        self.older.push(from, newest);
     }
 
     /// The rows on a choice at a position. It evaluates each visibility there at most once.
@@ -198,18 +175,8 @@ impl Entries {
         if self.from <= position {
             return self.newest.as_slice();
         }
-        match newest_until(&self.older, position) {
-            Some(list) => list.entries.as_slice(),
-            None => &[],
-        }
+        self.older.at(position)
     }
-}
-
-// The last of rising lists that isn't beyond a position.
-fn newest_until(lists: &[OlderEntries], position: Position) -> Option<&OlderEntries>
-    ensures { option_copied result ≡ find (λ l. nat_le l.0 position) (reverse lists.now) }
-{
-    lists.iter().rev().find(|list| list.from <= position)
 }
 
 // The rows that nodes have on a choice.

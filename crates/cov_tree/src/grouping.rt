@@ -4,7 +4,7 @@ ghost use Rattle.std.specs.List.{AllByRecursion};
 ghost use Rattle.std.specs.Str.{bytes_eq};
 ghost use Rattle.cov_base.specs.Rows.{Row};
 ghost use Rattle.cov_base.specs.Reaching.{has_clash};
-ghost use Rattle.cov_dd.specs.Diagrams.{node_count, Extends, IsNode};
+ghost use Rattle.cov_dd.specs.Diagrams.{diagram_size, Extends, IsNode};
 ghost use Rattle.cov_tree.specs.Entries.{rows_of, rows_in, is_one_place, AreWithin, AllAreWithin};
 ghost use Rattle.cov_tree.specs.Grouping.{joined_at, GroupsWithin, IsClash};
 
@@ -47,7 +47,7 @@ impl Groups {
     // Sets the choices on which a row is there.
     fn put(&mut self, key: PlaceKey, node: Node) -> Result<(), Memory>
         ensures ok { OnOk result ((parent : ℕ) (name : List ℕ) → joined_at self.new.nodes.entries parent name ≡ (if is_one_place parent name key.parent key.name.items then node else joined_at self.old.nodes.entries parent name)) }
-        ensures within { OnOk result ((table : _) → node < node_count table → GroupsWithin table self.old.nodes.entries → GroupsWithin table self.new.nodes.entries) }
+        ensures within { OnOk result ((table : _) → node < diagram_size table → GroupsWithin table self.old.nodes.entries → GroupsWithin table self.new.nodes.entries) }
     {
         self.nodes.insert(key, node)?;
         Ok(())
@@ -87,11 +87,11 @@ fn add_entry(
     entry: &Entry,
 ) -> Result<Node, Memory>
     requires within { AreWithin table.old entry.now.places }
-    requires clash { clash < node_count table.old }
+    requires clash { clash < diagram_size table.old }
     requires groups { GroupsWithin table.old groups.old.nodes.entries }
     ensures extends { Extends table.old table.new }
     ensures groups { IfOk result (λ r. GroupsWithin table.new groups.new.nodes.entries) }
-    ensures clash { IfOk result (λ r. r < node_count table.new) }
+    ensures clash { IfOk result (λ r. r < diagram_size table.new) }
     ensures ok { (rows : List Bool → List Row) → IsClash table.old groups.old.nodes.entries clash rows → IfOk result (λ r. IsClash table.new groups.new.nodes.entries r (λ c. rows c ++ rows_of table.old c entry.now.node entry.now.kind entry.now.places)) }
 {
     let mut found = clash;
@@ -109,12 +109,12 @@ fn add_place(
     clash: Node,
     place: &Place,
 ) -> Result<Node, Memory>
-    requires vis { place.now.vis < node_count table.old }
-    requires clash { clash < node_count table.old }
+    requires vis { place.now.vis < diagram_size table.old }
+    requires clash { clash < diagram_size table.old }
     requires groups { GroupsWithin table.old groups.old.nodes.entries }
     ensures extends { Extends table.old table.new }
     ensures groups { IfOk result (λ r. GroupsWithin table.new groups.new.nodes.entries) }
-    ensures clash { IfOk result (λ r. r < node_count table.new) }
+    ensures clash { IfOk result (λ r. r < diagram_size table.new) }
     ensures ok { (rows : List Bool → List Row) (node : ℕ) (kind : _) → IsClash table.old groups.old.nodes.entries clash rows → IfOk result (λ r. IsClash table.new groups.new.nodes.entries r (λ c. rows c ++ rows_of table.old c node kind (place.now ∷ []))) }
 {
     let key = key_of(alloc, place)?;

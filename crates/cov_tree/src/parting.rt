@@ -1,6 +1,6 @@
 // Places parted by an ambition.
 ghost use Rattle.std.specs.Prelude.{◌≡◌, ◌<◌, ◌≤◌, ◌++◌, ◌&&◌, [], ◌∷◌, ℕ, List, Bool, true, length, IfOk, OnOk, if◌then◌else◌};
-ghost use Rattle.cov_dd.specs.Diagrams.{node_count, value_in, Extends};
+ghost use Rattle.cov_dd.specs.Diagrams.{diagram_size, value_in, Extends};
 ghost use Rattle.cov_tree.specs.Entries.{rows_of, AreWithin};
 ghost use Rattle.cov_tree.specs.Shifts.{place_at, shifted, Puts, Adds};
 
@@ -26,7 +26,7 @@ pub(crate) fn parted(
     shift: &Shift,
 ) -> Result<Places, Memory>
     requires places { AreWithin table.old places.now }
-    requires ambition { ambition < node_count table.old }
+    requires ambition { ambition < diagram_size table.old }
     requires once { (c : List Bool) (node : ℕ) (kind : _) → length (rows_of table.old c node kind places.now) ≤ 1 }
     ensures extends { Extends table.old table.new }
     ensures ok { IfOk result (λ made. Adds table.old table.new [] made (λ c. true) (λ c node kind. shifted table.old c node shift.now ambition (rows_of table.old c node kind places.now))) }
@@ -47,8 +47,8 @@ fn add_parts(
     shift: &Shift,
 ) -> Result<(), Memory>
     requires made { AreWithin table.old made.old }
-    requires place { place.now.vis < node_count table.old }
-    requires ambition { ambition < node_count table.old }
+    requires place { place.now.vis < diagram_size table.old }
+    requires ambition { ambition < diagram_size table.old }
     ensures extends { Extends table.old table.new }
     ensures ok { OnOk result (Adds table.old table.new made.old made.new (λ c. value_in table.old place.now.vis c) (λ c node kind. shifted table.old c node shift.now ambition (rows_of table.old c node kind (place.now ∷ [])))) }
 {
@@ -65,8 +65,8 @@ fn add_shifted(
     shift: &Shift,
 ) -> Result<(), Memory>
     requires made { AreWithin table.old made.old }
-    requires place { place.now.vis < node_count table.old }
-    requires ambition { ambition < node_count table.old }
+    requires place { place.now.vis < diagram_size table.old }
+    requires ambition { ambition < diagram_size table.old }
     ensures extends { Extends table.old table.new }
     ensures ok { OnOk result (Adds table.old table.new made.old made.new (λ c. value_in table.old place.now.vis c && value_in table.old ambition c) (λ c node kind. if value_in table.old ambition c then shifted table.old c node shift.now ambition (rows_of table.old c node kind (place.now ∷ [])) else [])) }
 {
@@ -87,8 +87,8 @@ fn add_outside(
     ambition: Node,
 ) -> Result<(), Memory>
     requires made { AreWithin table.old made.old }
-    requires place { place.now.vis < node_count table.old }
-    requires ambition { ambition < node_count table.old }
+    requires place { place.now.vis < diagram_size table.old }
+    requires ambition { ambition < diagram_size table.old }
     ensures extends { Extends table.old table.new }
     ensures ok { OnOk result (Adds table.old table.new made.old made.new (λ c. value_in table.old place.now.vis c) (λ c node kind. if value_in table.old ambition c then [] else rows_of table.old c node kind (place.now ∷ []))) }
 {
@@ -106,8 +106,8 @@ fn add_within(
     ambition: Node,
 ) -> Result<(), Memory>
     requires made { AreWithin table.old made.old }
-    requires vis { vis < node_count table.old }
-    requires ambition { ambition < node_count table.old }
+    requires vis { vis < diagram_size table.old }
+    requires ambition { ambition < diagram_size table.old }
     ensures extends { Extends table.old table.new }
     ensures ok { OnOk result (Adds table.old table.new made.old made.new (λ c. value_in table.old vis c && value_in table.old ambition c) (λ c node kind. if value_in table.old ambition c then rows_of table.old c node kind (place_at parent name.now vis ∷ []) else [])) }
 {
@@ -124,7 +124,7 @@ fn add_place(
     vis: Node,
 ) -> Result<(), Memory>
     requires made { AreWithin table.old made.old }
-    requires vis { vis < node_count table.old }
+    requires vis { vis < diagram_size table.old }
     ensures extends { Extends table.old table.new }
     ensures ok { OnOk result (Puts table.old table.new made.old made.new parent name.now vis) }
 {

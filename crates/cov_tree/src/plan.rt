@@ -2,7 +2,7 @@
 ghost use Rattle.std.specs.Prelude.{◌≡◌, ◌<◌, ◌≤◌, ◌++◌, ◌∷◌, ℕ, List, Bool, [], None, Some, false, option_map, nat_eq, length, position, IfSome, OnOk, OnErr};
 ghost use Rattle.cov_base.specs.Rows.{RowChange, Created, Renamed, Moved, Removed, has_node, AreDistinct, AreOnce};
 ghost use Rattle.cov_dd.specs.declared.triple.Triple.{Triple};
-ghost use Rattle.cov_dd.specs.Diagrams.{node_count, span, Extends};
+ghost use Rattle.cov_dd.specs.Diagrams.{diagram_size, span, Extends};
 ghost use Rattle.cov_tree.specs.Entries.{rows_in, nodes_of, kinds_of, AllAreWithin};
 ghost use Rattle.cov_tree.specs.Dated.{Dated, planned, rows_at, rows_with, nodes_in, kinds_in, nodes_with, kinds_with};
 ghost use Rattle.cov_tree.specs.Carried.{AreNodesAt, AreNodesWith, AreOnceAt, AreOnceWith, AreUnreadAt, AreUnreadWith};
@@ -69,7 +69,7 @@ impl EntryPlan {
         requires fresh { has_node node (0 ∷ nodes_with self.old entries.now) ≡ false }
         requires within { AreNodesWith table.old self.old entries.now }
         requires once { AreOnceWith table.old self.old entries.now }
-        requires ambition { ambition < node_count table.old }
+        requires ambition { ambition < diagram_size table.old }
         ensures extends { Extends table.old table.new }
         ensures makes { (changes : List (RowChange × ℕ)) → Makes table.old entries.now self.old changes → OnOk result (Makes table.new entries.now self.new (changes ++ (Created node kind parent name.now, ambition) ∷ [])) }
         ensures nodes { OnOk result (nodes_with self.new entries.now ≡ nodes_with self.old entries.now ++ node ∷ []) }
@@ -79,6 +79,7 @@ impl EntryPlan {
         ensures options { (count : ℕ) → span table.old ambition ≤ count → AreUnreadWith table.old self.old entries.now count → AreUnreadWith table.new self.new entries.now count }
         ensures err { OnErr result (IsAlike entries.now self.old self.new) }
     {
+        // The row of a new node is seen on the ambition itself, so no node is made.
         let _ = table;
         self.begin(entries)?;
         match &mut self.entries {
@@ -98,7 +99,7 @@ impl EntryPlan {
     ) -> Result<(), Memory>
         requires within { AreNodesWith table.old self.old entries.now }
         requires once { AreOnceWith table.old self.old entries.now }
-        requires ambition { ambition < node_count table.old }
+        requires ambition { ambition < diagram_size table.old }
         ensures extends { Extends table.old table.new }
         ensures makes { (changes : List (RowChange × ℕ)) → Makes table.old entries.now self.old changes → OnOk result (Makes table.new entries.now self.new (changes ++ (Renamed node name.now, ambition) ∷ [])) }
         ensures nodes { OnOk result (nodes_with self.new entries.now ≡ nodes_with self.old entries.now) }
@@ -123,7 +124,7 @@ impl EntryPlan {
     ) -> Result<(), Memory>
         requires within { AreNodesWith table.old self.old entries.now }
         requires once { AreOnceWith table.old self.old entries.now }
-        requires ambition { ambition < node_count table.old }
+        requires ambition { ambition < diagram_size table.old }
         ensures extends { Extends table.old table.new }
         ensures makes { (changes : List (RowChange × ℕ)) → Makes table.old entries.now self.old changes → OnOk result (Makes table.new entries.now self.new (changes ++ (Moved node parent, ambition) ∷ [])) }
         ensures nodes { OnOk result (nodes_with self.new entries.now ≡ nodes_with self.old entries.now) }
@@ -146,7 +147,7 @@ impl EntryPlan {
     ) -> Result<(), Memory>
         requires within { AreNodesWith table.old self.old entries.now }
         requires once { AreOnceWith table.old self.old entries.now }
-        requires ambition { ambition < node_count table.old }
+        requires ambition { ambition < diagram_size table.old }
         ensures extends { Extends table.old table.new }
         ensures makes { (changes : List (RowChange × ℕ)) → Makes table.old entries.now self.old changes → OnOk result (Makes table.new entries.now self.new (changes ++ (Removed node, ambition) ∷ [])) }
         ensures nodes { OnOk result (nodes_with self.new entries.now ≡ nodes_with self.old entries.now) }
@@ -170,7 +171,7 @@ impl EntryPlan {
     ) -> Result<(), Memory>
         requires within { AreNodesWith table.old self.old entries.now }
         requires once { AreOnceWith table.old self.old entries.now }
-        requires ambition { ambition < node_count table.old }
+        requires ambition { ambition < diagram_size table.old }
         ensures extends { Extends table.old table.new }
         ensures makes { (changes : List (RowChange × ℕ)) → Makes table.old entries.now self.old changes → OnOk result (Makes table.new entries.now self.new (changes ++ (change_of node shift.now, ambition) ∷ [])) }
         ensures nodes { OnOk result (nodes_with self.new entries.now ≡ nodes_with self.old entries.now) }
@@ -247,7 +248,7 @@ fn shift_entry(
     requires distinct { AreDistinct (0 ∷ nodes_of list.old.items) }
     requires within { AllAreWithin table.old list.old.items }
     requires once { (c : List Bool) → AreOnce (rows_in table.old c list.old.items) }
-    requires ambition { ambition < node_count table.old }
+    requires ambition { ambition < diagram_size table.old }
     ensures extends { Extends table.old table.new }
     ensures ok { OnOk result (Becomes table.old table.new list.old.items list.new.items (change_of node shift.now) ambition) }
     ensures nodes { OnOk result (nodes_of list.new.items ≡ nodes_of list.old.items) }

@@ -5,7 +5,7 @@ ghost use Rattle.std.specs.Option.{is_some};
 ghost use Rattle.cov_base.specs.Faults.{fault_of};
 ghost use Rattle.cov_base.specs.Rows.{AreDistinct, AreOnce};
 ghost use Rattle.cov_base.specs.Reaching.{has_lost};
-ghost use Rattle.cov_dd.specs.Diagrams.{node_count, span, value_in, Extends, IsNode};
+ghost use Rattle.cov_dd.specs.Diagrams.{diagram_size, span, value_in, Extends, IsNode};
 ghost use Rattle.cov_tree.specs.Carried.{AreUnread};
 ghost use Rattle.cov_tree.specs.Entries.{rows_of, rows_in, nodes_of, AreWithin, AllAreWithin};
 ghost use Rattle.cov_tree.specs.Spreading.{node_at, reached_in, Relaxes, Spreads, IsReach};
@@ -23,7 +23,7 @@ pub(crate) fn unsound(
     entries: &[Entry],
     within: Node,
 ) -> Result<Node, Memory>
-    requires within { within < node_count table.old }
+    requires within { within < diagram_size table.old }
     requires visible { AllAreWithin table.old entries.now }
     requires once { (c : List Bool) → AreOnce (rows_in table.old c entries.now) }
     requires distinct { AreDistinct (0 ∷ nodes_of entries.now) }
@@ -31,24 +31,12 @@ pub(crate) fn unsound(
     ensures ok { IfOk result (λ r. IsNode table.new r (λ c. value_in table.old within c && is_some (fault_of (rows_in table.old c entries.now)))) }
     ensures options { (count : ℕ) → span table.old within ≤ count → AreUnread (λ c. rows_in table.old c entries.now) count → IfOk result (λ r. span table.new r ≤ count) }
 {
-    let node = faulty(table, alloc, entries, within)?;
-    table.options_are_needed(node);
-    Ok(node)
-}
-
-// The same, with no word on options.
-fn faulty(table: &mut Table, alloc: Global, entries: &[Entry], within: Node) -> Result<Node, Memory>
-    requires within { within < node_count table.old }
-    requires visible { AllAreWithin table.old entries.now }
-    requires once { (c : List Bool) → AreOnce (rows_in table.old c entries.now) }
-    requires distinct { AreDistinct (0 ∷ nodes_of entries.now) }
-    ensures extends { Extends table.old table.new }
-    ensures ok { IfOk result (λ r. IsNode table.new r (λ c. value_in table.old within c && is_some (fault_of (rows_in table.old c entries.now)))) }
-{
     let clash = clashes(table, alloc, entries)?;
     let lost = lost(table, alloc, entries)?;
     let fault = table.or(clash, lost)?;
-    table.and(within, fault, &mut Steps::<Uncounted>::new())
+    let node = table.and(within, fault, &mut Steps::<Uncounted>::new())?;
+    table.options_are_needed(node);
+    Ok(node)
 }
 
 // The choices on which the root isn't reached from some row.
@@ -66,7 +54,7 @@ fn lost(table: &mut Table, alloc: Global, entries: &[Entry]) -> Result<Node, Mem
 // The choices on which some row is that of a node that isn't reached there.
 fn outside(table: &mut Table, entries: &[Entry], reach: &[Node]) -> Result<Node, Memory>
     requires within { AllAreWithin table.old entries.now }
-    requires reach { AllByRecursion (λ n. n < node_count table.old) reach.now }
+    requires reach { AllByRecursion (λ n. n < diagram_size table.old) reach.now }
     ensures extends { Extends table.old table.new }
     ensures ok { IfOk result (λ r. IsNode table.new r (λ c. list_any (λ row. not (reached_in table.old reach.now c row.node)) (rows_in table.old c entries.now))) }
 {
@@ -80,8 +68,8 @@ fn outside(table: &mut Table, entries: &[Entry], reach: &[Node]) -> Result<Node,
 // The choices of one node, and those on which an entry has a row and which aren't those of the other.
 fn or_outside(table: &mut Table, lost: Node, entry: &Entry, reach: Node) -> Result<Node, Memory>
     requires within { AreWithin table.old entry.now.places }
-    requires lost { lost < node_count table.old }
-    requires reach { reach < node_count table.old }
+    requires lost { lost < diagram_size table.old }
+    requires reach { reach < diagram_size table.old }
     ensures extends { Extends table.old table.new }
     ensures ok { IfOk result (λ r. IsNode table.new r (λ c. value_in table.old lost c || list_any (λ row. not (value_in table.old reach c)) (rows_of table.old c entry.now.node entry.now.kind entry.now.places))) }
 {
@@ -94,9 +82,9 @@ fn or_outside(table: &mut Table, lost: Node, entry: &Entry, reach: Node) -> Resu
 
 // The choices of one node, and those of another without those of a third.
 fn or_without(table: &mut Table, found: Node, a: Node, b: Node) -> Result<Node, Memory>
-    requires found { found < node_count table.old }
-    requires a { a < node_count table.old }
-    requires b { b < node_count table.old }
+    requires found { found < diagram_size table.old }
+    requires a { a < diagram_size table.old }
+    requires b { b < diagram_size table.old }
     ensures extends { Extends table.old table.new }
     ensures ok { IfOk result (λ r. IsNode table.new r (λ c. value_in table.old found c || (value_in table.old a c && not (value_in table.old b c)))) }
 {
@@ -156,7 +144,7 @@ fn greater(a: usize, b: usize) -> usize
 // One round. It tells whether a node has changed.
 fn spread(table: &mut Table, entries: &[Entry], reach: &mut Vec<Node>) -> Result<bool, Memory>
     requires within { AllAreWithin table.old entries.now }
-    requires reach { AllByRecursion (λ n. n < node_count table.old) reach.old.items }
+    requires reach { AllByRecursion (λ n. n < diagram_size table.old) reach.old.items }
     requires room { AllByRecursion (λ e. e.node < length reach.old.items) entries.now }
     requires once { (c : List Bool) → AreOnce (rows_in table.old c entries.now) }
     requires distinct { AreDistinct (0 ∷ nodes_of entries.now) }
@@ -182,7 +170,7 @@ fn either(a: bool, b: bool) -> bool
 // Takes the choices anew on which a node has a parent that is reached. It tells whether they have changed.
 fn relax(table: &mut Table, entry: &Entry, reach: &mut Vec<Node>) -> Result<bool, Memory>
     requires within { AreWithin table.old entry.now.places }
-    requires reach { AllByRecursion (λ n. n < node_count table.old) reach.old.items }
+    requires reach { AllByRecursion (λ n. n < diagram_size table.old) reach.old.items }
     requires room { entry.now.node < length reach.old.items }
     ensures extends { Extends table.old table.new }
     ensures ok { IfOk result (λ changed. Relaxes table.old table.new entry.now reach.old.items reach.new.items changed) }
@@ -197,7 +185,7 @@ fn relax(table: &mut Table, entry: &Entry, reach: &mut Vec<Node>) -> Result<bool
 // The choices on which a node has a parent that is reached.
 fn arrival(table: &mut Table, entry: &Entry, reach: &[Node]) -> Result<Node, Memory>
     requires within { AreWithin table.old entry.now.places }
-    requires reach { AllByRecursion (λ n. n < node_count table.old) reach.now }
+    requires reach { AllByRecursion (λ n. n < diagram_size table.old) reach.now }
     ensures extends { Extends table.old table.new }
     ensures ok { IfOk result (λ r. IsNode table.new r (λ c. list_any (λ row. reached_in table.old reach.now c row.parent) (rows_of table.old c entry.now.node entry.now.kind entry.now.places))) }
 {
@@ -217,9 +205,9 @@ fn reach_of(reach: &[Node], node: NodeNo) -> Node
 
 /// The choices of one node, and those of two others together.
 pub(crate) fn or_both(table: &mut Table, found: Node, a: Node, b: Node) -> Result<Node, Memory>
-    requires found { found < node_count table.old }
-    requires a { a < node_count table.old }
-    requires b { b < node_count table.old }
+    requires found { found < diagram_size table.old }
+    requires a { a < diagram_size table.old }
+    requires b { b < diagram_size table.old }
     ensures extends { Extends table.old table.new }
     ensures ok { IfOk result (λ r. IsNode table.new r (λ c. value_in table.old found c || (value_in table.old a c && value_in table.old b c))) }
 {

@@ -2,7 +2,7 @@
 ghost use Rattle.std.specs.Prelude.{◌≡◌, ◌<◌, ◌≤◌, ◌+◌, ◌-◌, ◌*◌, ℕ, Bool, min, max, not, ◌&&◌, ◌||◌, IfOk, IfSome, IfNone, OnErr};
 ghost use Rattle.cov_base.specs.Choices.{is_on};
 ghost use Rattle.cov_dd.specs.declared.operation.Operation.{Operation};
-ghost use Rattle.cov_dd.specs.Diagrams.{node_count, top, span, value_in, Extends, Stands};
+ghost use Rattle.cov_dd.specs.Diagrams.{diagram_size, top, span, value_in, Extends, Stands};
 ghost use Rattle.cov_dd.specs.Memos.{IsKey};
 ghost use Rattle.cov_dd.specs.Reached.{size};
 ghost use Rattle.cov_dd.specs.Combinations.{first_option, joint_span, both_in, AreRight, IsSides, Runs, Joins, Rests};
@@ -11,7 +11,7 @@ use super::Table;
 use crate::memo::{Memo, Pair};
 use crate::operation::{Operation, shortcut};
 use crate::{Node, TRUE, Triple};
-use cov_base::{Ledger, Memory, OptionId, Steps, Uncounted};
+use cov_base::{CHOICE_WIDTH, Ledger, Memory, OptionId, Steps, Uncounted};
 
 /// The nodes that a node is where an option is off and where it is on.
 #[derive(Clone, Copy, Debug)]
@@ -23,21 +23,21 @@ struct Sides {
 impl Table {
     /// The node that is true where both are. There is one tick for each `make`.
     pub fn and<L: Ledger>(&mut self, a: Node, b: Node, steps: &mut Steps<L>) -> Result<Node, Memory>
-        requires a { a < node_count self.old }
-        requires b { b < node_count self.old }
+        requires a { a < diagram_size self.old }
+        requires b { b < diagram_size self.old }
         ensures extends { Extends self.old self.new }
         ensures stands { IfOk result (λ r. Stands self.new r (first_option self.old a b) (joint_span self.old a b) (λ c. value_in self.old a c && value_in self.old b c)) }
         ensures rising { steps.old ≤ steps.new }
         ensures bound { steps.new - steps.old ≤ size self.old a * size self.old b }
-        ensures entries { node_count self.new ≤ node_count self.old + (steps.new - steps.old) }
+        ensures entries { diagram_size self.new ≤ diagram_size self.old + (steps.new - steps.old) }
     {
         self.combine(Operation::And, a, b, steps)
     }
 
     /// The node that is true where one of both is.
     pub fn or(&mut self, a: Node, b: Node) -> Result<Node, Memory>
-        requires a { a < node_count self.old }
-        requires b { b < node_count self.old }
+        requires a { a < diagram_size self.old }
+        requires b { b < diagram_size self.old }
         ensures extends { Extends self.old self.new }
         ensures stands { IfOk result (λ r. Stands self.new r (first_option self.old a b) (joint_span self.old a b) (λ c. value_in self.old a c || value_in self.old b c)) }
     {
@@ -46,8 +46,8 @@ impl Table {
 
     /// The node that is true where the first is and the second isn't.
     pub fn without(&mut self, a: Node, b: Node) -> Result<Node, Memory>
-        requires a { a < node_count self.old }
-        requires b { b < node_count self.old }
+        requires a { a < diagram_size self.old }
+        requires b { b < diagram_size self.old }
         ensures extends { Extends self.old self.new }
         ensures stands { IfOk result (λ r. Stands self.new r (first_option self.old a b) (joint_span self.old a b) (λ c. value_in self.old a c && not (value_in self.old b c))) }
     {
@@ -56,10 +56,11 @@ impl Table {
 
     /// The node that is true where the node isn't.
     pub fn not(&mut self, a: Node) -> Result<Node, Memory>
-        requires { a < node_count self.old }
+        requires { a < diagram_size self.old }
         ensures extends { Extends self.old self.new }
         ensures stands { IfOk result (λ r. Stands self.new r (top self.old a) (span self.old a) (λ c. not (value_in self.old a c))) }
     {
+        // Reading a field brings the table's invariant into the proof.
         let _ = &self.entries;
         self.without(TRUE, a)
     }
@@ -71,13 +72,13 @@ impl Table {
         b: Node,
         steps: &mut Steps<L>,
     ) -> Result<Node, Memory>
-        requires a { a < node_count self.old }
-        requires b { b < node_count self.old }
+        requires a { a < diagram_size self.old }
+        requires b { b < diagram_size self.old }
         ensures extends { Extends self.old self.new }
         ensures stands { IfOk result (λ r. Stands self.new r (first_option self.old a b) (joint_span self.old a b) (both_in operation self.old a b)) }
         ensures rising { steps.old ≤ steps.new }
         ensures bound { steps.new - steps.old ≤ size self.old a * size self.old b }
-        ensures entries { node_count self.new ≤ node_count self.old + (steps.new - steps.old) }
+        ensures entries { diagram_size self.new ≤ diagram_size self.old + (steps.new - steps.old) }
     {
         let mut memo = Memo::new(*self.entries.allocator());
         self.descend(operation, a, b, &mut memo, steps)
@@ -92,8 +93,8 @@ impl Table {
         memo: &mut Memo,
         steps: &mut Steps<L>,
     ) -> Result<Node, Memory>
-        requires a { a < node_count self.old }
-        requires b { b < node_count self.old }
+        requires a { a < diagram_size self.old }
+        requires b { b < diagram_size self.old }
         requires right { AreRight operation self.old memo.old.made }
         ensures runs { Runs operation self.old self.new a b memo.old.made memo.new.made steps.old steps.new }
         ensures stands { IfOk result (λ r. Stands self.new r (first_option self.old a b) (joint_span self.old a b) (both_in operation self.old a b)) }
@@ -121,11 +122,12 @@ impl Table {
 
     // The result where it needs no entry. Else the second node has one.
     fn settled(&self, operation: Operation, a: Node, b: Node) -> Option<Node>
-        requires a { a < node_count self.now }
-        requires b { b < node_count self.now }
+        requires a { a < diagram_size self.now }
+        requires b { b < diagram_size self.now }
         ensures some { IfSome result (λ r. Stands self.now r (first_option self.now a b) (joint_span self.now a b) (both_in operation self.now a b)) }
         ensures none { IfNone result (1 < b) }
     {
+        // Reading a field brings the table's invariant into the proof.
         let _ = &self.entries;
         shortcut(operation, a, b)
     }
@@ -138,8 +140,8 @@ impl Table {
         memo: &mut Memo,
         steps: &mut Steps<L>,
     ) -> Result<Node, Memory>
-        requires off { triple.off < node_count self.old }
-        requires on { triple.on < node_count self.old }
+        requires off { triple.off < diagram_size self.old }
+        requires on { triple.on < diagram_size self.old }
         requires off_above { triple.option < top self.old triple.off }
         requires on_above { triple.option < top self.old triple.on }
         requires fresh { IsKey memo.old.made pair → ⊥ }
@@ -155,31 +157,32 @@ impl Table {
 
     // The first option of two nodes, of which the second has one.
     fn first_of(&self, a: Node, b: Node) -> OptionId
-        requires within { b < node_count self.now }
+        requires within { b < diagram_size self.now }
         requires inner { 1 < b }
         ensures first { result ≡ first_option self.now a b }
-        ensures below { result < 128 }
+        ensures below { result < CHOICE_WIDTH }
     {
         OptionId::new(self.top_of(a).min(self.top_of(b)))
     }
 
-    // The option of a node, 128 for FALSE and TRUE.
+    // The option of a node, `CHOICE_WIDTH` for FALSE and TRUE.
     fn top_of(&self, a: Node) -> u8
         ensures top { result ≡ top self.now a }
-        ensures inner { 1 < a → a < node_count self.now → result < 128 }
+        ensures inner { 1 < a → a < diagram_size self.now → result < CHOICE_WIDTH }
     {
         match self.entry(a) {
             Some(triple) => triple.option.number(),
-            None => 128,
+            None => CHOICE_WIDTH,
         }
     }
 
     fn sides(&self, a: Node, option: OptionId) -> Sides
-        requires within { a < node_count self.now }
+        requires within { a < diagram_size self.now }
         requires first { option ≤ top self.now a }
-        requires below { option < 128 }
+        requires below { option < CHOICE_WIDTH }
         ensures { IsSides self.now a option result.off result.on }
     {
+        // Reading a field brings the table's invariant into the proof.
         let _ = &self.entries;
         match self.entry(a) {
             Some(triple) if triple.option == option => Sides {

@@ -1,7 +1,8 @@
 // The first choice on which a node is true.
 ghost use Rattle.std.specs.Prelude.{◌≡◌, ◌≢◌, ◌<◌, ◌≤◌, ◌↔◌, ℕ, Bool, true, false, length, find, Some, IsNone, if◌then◌else◌};
 ghost use Rattle.cov_base.specs.Choices.{all_choices, with_option};
-ghost use Rattle.cov_dd.specs.Diagrams.{node_count, span, value_in};
+ghost use Rattle.cov_base.specs.declared.limits.TheConstants.{CHOICE_WIDTH};
+ghost use Rattle.cov_dd.specs.Diagrams.{diagram_size, span, value_in};
 
 use super::Table;
 use crate::{FALSE, Node};
@@ -10,8 +11,8 @@ use cov_base::{Choice, OptionId};
 impl Table {
     /// The first choice of `count` options, in their order, on which a node is true. None comes exactly for FALSE.
     pub fn least(&self, a: Node, count: u8) -> Option<Choice>
-        requires within { a < node_count self.now }
-        requires count { count ≤ 128 }
+        requires within { a < diagram_size self.now }
+        requires count { count ≤ CHOICE_WIDTH }
         requires options { span self.now a ≤ count }
         ensures first { result ≡ find (value_in self.now a) (all_choices count) }
         ensures none { IsNone result ↔ (a ≡ 0) }
@@ -24,12 +25,13 @@ impl Table {
 
     // An option is on only where off leads to FALSE.
     fn first_choice(&self, a: Node, count: u8) -> Choice
-        requires within { a < node_count self.now }
+        requires within { a < diagram_size self.now }
         requires other { a ≢ 0 }
-        requires count { count ≤ 128 }
+        requires count { count ≤ CHOICE_WIDTH }
         requires options { span self.now a ≤ count }
         ensures { find (value_in self.now a) (all_choices count) ≡ Some result }
     {
+        // Reading a field brings the table's invariant into the proof.
         let _ = &self.entries;
         let mut node = a;
         let mut choice = Choice::new(0, count);

@@ -1,9 +1,8 @@
 use Rattle.std.proofs.Common.{ℕ, Bool, subst, sym}
 use Rattle.cov_dd.specs.Combinations.{first_option}
-use Rattle.cov_dd.proofs.CallerLemmas.{extends_trans}
-use Rattle.cov_dd.proofs.Nodes.{extends_none}
+use Rattle.cov_dd.proofs.CallerLemmas.{extends_trans, extends_none}
 use Rattle.cov_rules.specs.Installing.{literal, StandsForAll}
-use Rattle.cov_rules.proofs.CallerLemmas.{none_hold}
+use Rattle.cov_rules.proofs.Holding.{none_hold}
 use Rattle.cov_rules.proofs.Narrowing.{stated_more, and_more}
 use Rattle.cov_rules.proofs.completing.agreement.Goals as goal
 

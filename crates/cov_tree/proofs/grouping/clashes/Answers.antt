@@ -1,9 +1,8 @@
 use Rattle.std.proofs.Common.{◌<◌, [], ap, subst, sym, ◌∙◌, arith}
 use Rattle.std.proofs.lemmas.List.{take_all}
 use Rattle.cov_base.specs.Reaching.{has_clash}
-use Rattle.cov_dd.specs.Diagrams.{node_count}
-use Rattle.cov_dd.proofs.CallerLemmas.{extends_none, extends_trans}
-use Rattle.cov_dd.proofs.Nodes.{some_nodes}
+use Rattle.cov_dd.specs.Diagrams.{diagram_size}
+use Rattle.cov_dd.proofs.CallerLemmas.{extends_none, extends_trans, some_nodes}
 use Rattle.cov_tree.specs.Entries.{rows_in, AreWithin}
 use Rattle.cov_tree.specs.Grouping.{GroupsWithin, IsClash}
 use Rattle.cov_tree.proofs.Rows.{holds_at, within-grown}
@@ -13,7 +12,7 @@ use Rattle.cov_tree.proofs.grouping.clashes.Goals as goal
 pub entries-init : goal.entries-init
 entries-init c =
     let t = c.args.table.now in
-    let two : 1 < node_count t = some_nodes t in
+    let two : 1 < diagram_size t = some_nodes t in
     record {
       extends = extends_none t;
       groups = subst (GroupsWithin t) (sym c.new-groups.ensures) tt;

@@ -4,6 +4,7 @@ use Rattle.std.specs.Int.{bit_at}
 use Rattle.cov_base.specs.Bits.{length-bits_of, bits_of-with, below_from_bits}
 use Rattle.cov_base.specs.Choices.{with_option}
 use Rattle.cov_base.proofs.choice.Choice.with.Goals as goal
+use Rattle.cov_base.specs.declared.limits.TheConstants.{CHOICE_WIDTH}
 
 -- the option is below the count of options
 within : (c : goal.After-with_bit) → c.args.option < c.self.inside.count
@@ -12,14 +13,14 @@ within c =
     omega (arith, count, c.requires)
 
 -- the other bits are as before
-others : (c : goal.After-with_bit) → (i : ℕ) → i < 128 → i ≢ c.args.option → bit_at c.with_bit.result i ≡ bit_at c.self.inside.bits i
+others : (c : goal.After-with_bit) → (i : ℕ) → i < CHOICE_WIDTH → i ≢ c.args.option → bit_at c.with_bit.result i ≡ bit_at c.self.inside.bits i
 others c i lt ne = c.with_bit.ensures.others i lt (λ e. ne (e ∙ c.number.ensures.number))
 
 pub invariant_of-result : goal.invariant_of-result
 invariant_of-result c =
     let option : c.args.option < c.self.inside.count = within c in (
       c.self.invariant.0,
-      below_from_bits 128 c.self.inside.count c.with_bit.result c.with_bit.type_inv
+      below_from_bits CHOICE_WIDTH c.self.inside.count c.with_bit.result c.with_bit.type_inv
           (λ i lt above.
           let ne : i ≢ c.args.option = λ e. absurd (omega (arith, e, above, option)) in
           others c i lt ne ∙ bit_at_above c.self.inside.bits c.self.inside.count i c.self.invariant.1 above),

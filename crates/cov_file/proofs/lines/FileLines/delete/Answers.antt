@@ -1,7 +1,7 @@
 use Rattle.std.proofs.Common.{◌≤◌, ◌∙◌, sym, ap, subst, true≢false}
 use Rattle.std.specs.Map.{keys_of}
 use Rattle.cov_order.specs.Orders.{has_line}
-use Rattle.cov_file.specs.Dated.{with_change, numbers_of, AreAlike}
+use Rattle.cov_file.specs.Dated.{with_change, line_numbers_of, AreAlike}
 use Rattle.cov_file.specs.Rooms.{DatedFile}
 use Rattle.cov_file.specs.Listing.{lists_of, dated_lines}
 use Rattle.cov_file.proofs.Changes.{numbers, deleted_alike}
@@ -10,7 +10,7 @@ use Rattle.cov_file.proofs.lines.FileLines.delete.Goals as goal
 
 pub unreachable-requires : goal.unreachable-requires
 unreachable-requires c =
-    let there = ap (has_line c.args.line) (sym (numbers c.self.inside.texts.entries (lists_of c.self.inside.lists) c.self.inside.order.lines) ∙ ap (λ (f : DatedFile). numbers_of f.lines) c.self.view_is) ∙ c.requires.there in
+    let there = ap (has_line c.args.line) (sym (numbers c.self.inside.texts.entries (lists_of c.self.inside.lists) c.self.inside.order.lines) ∙ ap (λ (f : DatedFile). line_numbers_of f.lines) c.self.view_is) ∙ c.requires.there in
     true≢false (sym there ∙ c.self.invariant.keys c.args.line ∙ missing c.args.line (keys_of c.self.inside.texts.entries) (sym c.get_index_of.ensures.index ∙ c.in-None.is))
 
 pub returns-clause-lines : goal.returns-clause-lines
@@ -23,4 +23,4 @@ returns-clause-lines c =
 pub returns-clause-numbers : goal.returns-clause-numbers
 returns-clause-numbers c =
     numbers c.self.inside.texts.entries (lists_of c.set.new.self) c.self.inside.order.lines
-    ∙ sym (numbers c.self.inside.texts.entries (lists_of c.self.inside.lists) c.self.inside.order.lines) ∙ ap (λ (f : DatedFile). numbers_of f.lines) c.self.view_is
+    ∙ sym (numbers c.self.inside.texts.entries (lists_of c.self.inside.lists) c.self.inside.order.lines) ∙ ap (λ (f : DatedFile). line_numbers_of f.lines) c.self.view_is

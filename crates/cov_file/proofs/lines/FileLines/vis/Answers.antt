@@ -1,8 +1,8 @@
 use Rattle.std.proofs.Common.{◌≡◌, ◌∙◌, ◌≤◌, sym, ap, subst, true, false, Some}
 use Rattle.std.specs.Map.{keys_of}
 use Rattle.cov_order.specs.Orders.{has_line}
-use Rattle.cov_file.specs.Dated.{newest_of, node_of}
-use Rattle.cov_file.specs.Listing.{node_in}
+use Rattle.cov_file.specs.Dated.{newest_of, vis_of}
+use Rattle.cov_file.specs.Listing.{vis_in}
 use Rattle.cov_file.specs.Rooms.{DatedFile}
 use Rattle.cov_file.proofs.Nodes.{node_there, there, missing, length-keys}
 use Rattle.cov_file.proofs.Shown.{newest_there, newest_none, latest_there, latest_none}
@@ -15,7 +15,7 @@ has c = c.self.invariant.keys c.args.line ∙ there c.args.line (keys_of c.self.
 lacks : (c : In-None) → has_line c.args.line c.self.inside.order.lines ≡ false
 lacks c = c.self.invariant.keys c.args.line ∙ missing c.args.line (keys_of c.self.inside.texts.entries) (sym c.get_index_of.ensures.index ∙ c.in-None.is)
 
-read : (c : After-get) → c.get.result ≡ Some (node_in (keys_of c.self.inside.texts.entries) c.self.inside.lists.newest c.args.line)
+read : (c : After-get) → c.get.result ≡ Some (vis_in (keys_of c.self.inside.texts.entries) c.self.inside.lists.newest c.args.line)
 read c =
     c.get.ensures
     ∙ node_there c.args.line (keys_of c.self.inside.texts.entries) c.self.inside.lists.newest c.in-Some.index
@@ -31,7 +31,7 @@ returns-in-Some-clause-latest c = λ p later.
     read c
     ∙ sym (latest_there c.self.inside.texts.entries c.self.inside.lists c.args.line c.self.inside.order.lines p
     (subst (λ (f : DatedFile). f.newest ≤ p) (sym c.self.view_is) later) (has c))
-    ∙ ap (λ (f : DatedFile). node_of c.args.line p f.lines) c.self.view_is
+    ∙ ap (λ (f : DatedFile). vis_of c.args.line p f.lines) c.self.view_is
 
 pub returns-in-None-clause-newest : goal.returns-in-None-clause-newest
 returns-in-None-clause-newest c =
@@ -41,4 +41,4 @@ returns-in-None-clause-newest c =
 pub returns-in-None-clause-latest : goal.returns-in-None-clause-latest
 returns-in-None-clause-latest c = λ p later.
     sym (latest_none c.self.inside.texts.entries c.self.inside.lists c.args.line c.self.inside.order.lines p (lacks c))
-    ∙ ap (λ (f : DatedFile). node_of c.args.line p f.lines) c.self.view_is
+    ∙ ap (λ (f : DatedFile). vis_of c.args.line p f.lines) c.self.view_is

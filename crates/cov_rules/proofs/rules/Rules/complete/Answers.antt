@@ -1,11 +1,9 @@
-use Rattle.std.proofs.Common.{◌≡◌, true, false, ◌&&◌, Bool, List, sym, ap, subst, ◌∙◌}
-use Rattle.cov_dd.specs.Combinations.{first_option, joint_span}
-use Rattle.cov_dd.specs.Diagrams.{value_in, Stands}
+use Rattle.std.proofs.Common.{◌≡◌, true, false, Bool, List, sym, ap, subst, ◌∙◌}
 use Rattle.cov_dd.proofs.CallerLemmas.{extends_trans}
-use Rattle.cov_rules.specs.Completion.{Complete, has_any, literals, agreeing, answer_of, completed, IsRefusalBy, IsSet}
-use Rattle.cov_rules.specs.Installing.{RulesValue, StandsForAll}
+use Rattle.cov_rules.specs.Completion.{Complete, has_any, agreeing, answer_of, completed, IsRefusalBy, IsSet}
 use Rattle.cov_rules.proofs.CallerLemmas.{holds_later}
-use Rattle.cov_rules.proofs.Completed.{valid, left, invalid, answered, left_any, agreeing_set, valid_set}
+use Rattle.cov_rules.proofs.Completed.{valid, left, invalid, answered, left_any, agreeing_found, valid_found}
+use Rattle.cov_rules.proofs.Holding.{holds_later}
 use Rattle.cov_rules.proofs.Narrowing.{set_later}
 use Rattle.cov_rules.proofs.Opening.{if_ok_also, if_err_also}
 use Rattle.cov_rules.proofs.rules.Rules.complete.Goals as goal
@@ -37,15 +35,12 @@ returns-then-not-is_met-clause-refused c =
     let n = c.args.count in
     let s = c.args.self.now.standing in
     let partial = c.args.partial.now in
-    let us = c.agreement.new.table in
-    let vs = c.and.new.self in
-    let stands : StandsForAll us c.in-Ok.node (literals partial) = subst (λ bs. StandsForAll us c.in-Ok.node (literals bs)) c.bindings.ensures.bindings c.in-Ok.ensures.stands in
-    let valids : IsSet vs c.in-Ok-and.node n (valid n s partial) =
-    valid_set n s partial c.requires.below c.requires.bound c.args.table.now us c.requires.holds c.in-Ok.ensures.extends c.in-Ok.node stands vs c.in-Ok-and.node (first_option us c.in-Ok.node s.conjunction)
-    (subst (λ (v : RulesValue). Stands vs c.in-Ok-and.node (first_option us c.in-Ok.node v.standing.conjunction) (joint_span us c.in-Ok.node v.standing.conjunction) (λ d. value_in us c.in-Ok.node d && value_in us v.standing.conjunction d))
-    c.self.view_is c.in-Ok-and.ensures.stands) in
+    let valids =
+    valid_found n c.args.self.now _ c.self.view_is partial _ c.bindings.ensures.bindings c.requires.below c.requires.bound c.args.table.now c.agreement.new.table c.requires.holds c.in-Ok.ensures.extends c.in-Ok.node c.in-Ok.ensures.stands
+    c.and.new.self c.in-Ok-and.node c.in-Ok-and.ensures.stands in
     let unmet : has_any (valid n s partial) ≡ false = sym (c.is_met.ensures n (valid n s partial) valids) ∙ c.if-not-is_met.true in
-    let agrees = agreeing_set n s partial c.requires.below c.requires.bound c.args.table.now us c.requires.holds c.in-Ok.ensures.extends c.in-Ok.node stands in
+    let agrees =
+    agreeing_found n c.args.self.now _ c.self.view_is partial _ c.bindings.ensures.bindings c.requires.below c.requires.bound c.args.table.now c.agreement.new.table c.requires.holds c.in-Ok.ensures.extends c.in-Ok.node c.in-Ok.ensures.stands in
     subst (λ a. IsRefusalBy a c.unmet.result) (sym (invalid n s partial unmet))
     (c.unmet.ensures.refused n (agreeing n partial) (set_later c.in-Ok-and.ensures.extends agrees) c.requires.below.constraints)
 
@@ -54,13 +49,9 @@ only_choice-requires-clause-options c =
     let n = c.args.count in
     let s = c.args.self.now.standing in
     let partial = c.args.partial.now in
-    let us = c.agreement.new.table in
-    let vs = c.and.new.self in
-    let stands : StandsForAll us c.in-Ok.node (literals partial) = subst (λ bs. StandsForAll us c.in-Ok.node (literals bs)) c.bindings.ensures.bindings c.in-Ok.ensures.stands in
-    let valids : IsSet vs c.in-Ok-and.node n (valid n s partial) =
-    valid_set n s partial c.requires.below c.requires.bound c.args.table.now us c.requires.holds c.in-Ok.ensures.extends c.in-Ok.node stands vs c.in-Ok-and.node (first_option us c.in-Ok.node s.conjunction)
-    (subst (λ (v : RulesValue). Stands vs c.in-Ok-and.node (first_option us c.in-Ok.node v.standing.conjunction) (joint_span us c.in-Ok.node v.standing.conjunction) (λ d. value_in us c.in-Ok.node d && value_in us v.standing.conjunction d))
-    c.self.view_is c.in-Ok-and.ensures.stands) in
+    let valids =
+    valid_found n c.args.self.now _ c.self.view_is partial _ c.bindings.ensures.bindings c.requires.below c.requires.bound c.args.table.now c.agreement.new.table c.requires.holds c.in-Ok.ensures.extends c.in-Ok.node c.in-Ok.ensures.stands
+    c.and.new.self c.in-Ok-and.node c.in-Ok-and.ensures.stands in
     let met : has_any (valid n s partial) ≡ true = sym (c.is_met.ensures n (valid n s partial) valids) ∙ c.if-not-is_met.false in
     let lefts : IsSet c.left.new.table c.in-Ok-left.node n (left n s partial) = c.in-Ok-left.ensures.kept n (valid n s partial) valids c.requires.below.preferences c.requires.below.defaults in
     lefts.options
@@ -70,13 +61,9 @@ only_choice-requires-clause-some c cs is =
     let n = c.args.count in
     let s = c.args.self.now.standing in
     let partial = c.args.partial.now in
-    let us = c.agreement.new.table in
-    let vs = c.and.new.self in
-    let stands : StandsForAll us c.in-Ok.node (literals partial) = subst (λ bs. StandsForAll us c.in-Ok.node (literals bs)) c.bindings.ensures.bindings c.in-Ok.ensures.stands in
-    let valids : IsSet vs c.in-Ok-and.node n (valid n s partial) =
-    valid_set n s partial c.requires.below c.requires.bound c.args.table.now us c.requires.holds c.in-Ok.ensures.extends c.in-Ok.node stands vs c.in-Ok-and.node (first_option us c.in-Ok.node s.conjunction)
-    (subst (λ (v : RulesValue). Stands vs c.in-Ok-and.node (first_option us c.in-Ok.node v.standing.conjunction) (joint_span us c.in-Ok.node v.standing.conjunction) (λ d. value_in us c.in-Ok.node d && value_in us v.standing.conjunction d))
-    c.self.view_is c.in-Ok-and.ensures.stands) in
+    let valids =
+    valid_found n c.args.self.now _ c.self.view_is partial _ c.bindings.ensures.bindings c.requires.below c.requires.bound c.args.table.now c.agreement.new.table c.requires.holds c.in-Ok.ensures.extends c.in-Ok.node c.in-Ok.ensures.stands
+    c.and.new.self c.in-Ok-and.node c.in-Ok-and.ensures.stands in
     let met : has_any (valid n s partial) ≡ true = sym (c.is_met.ensures n (valid n s partial) valids) ∙ c.if-not-is_met.false in
     let lefts : IsSet c.left.new.table c.in-Ok-left.node n (left n s partial) = c.in-Ok-left.ensures.kept n (valid n s partial) valids c.requires.below.preferences c.requires.below.defaults in
     ap has_any (sym is.choices ∙ lefts.choices) ∙ left_any n s partial met
@@ -86,13 +73,9 @@ returns-clause-complete c =
     let n = c.args.count in
     let s = c.args.self.now.standing in
     let partial = c.args.partial.now in
-    let us = c.agreement.new.table in
-    let vs = c.and.new.self in
-    let stands : StandsForAll us c.in-Ok.node (literals partial) = subst (λ bs. StandsForAll us c.in-Ok.node (literals bs)) c.bindings.ensures.bindings c.in-Ok.ensures.stands in
-    let valids : IsSet vs c.in-Ok-and.node n (valid n s partial) =
-    valid_set n s partial c.requires.below c.requires.bound c.args.table.now us c.requires.holds c.in-Ok.ensures.extends c.in-Ok.node stands vs c.in-Ok-and.node (first_option us c.in-Ok.node s.conjunction)
-    (subst (λ (v : RulesValue). Stands vs c.in-Ok-and.node (first_option us c.in-Ok.node v.standing.conjunction) (joint_span us c.in-Ok.node v.standing.conjunction) (λ d. value_in us c.in-Ok.node d && value_in us v.standing.conjunction d))
-    c.self.view_is c.in-Ok-and.ensures.stands) in
+    let valids =
+    valid_found n c.args.self.now _ c.self.view_is partial _ c.bindings.ensures.bindings c.requires.below c.requires.bound c.args.table.now c.agreement.new.table c.requires.holds c.in-Ok.ensures.extends c.in-Ok.node c.in-Ok.ensures.stands
+    c.and.new.self c.in-Ok-and.node c.in-Ok-and.ensures.stands in
     let met : has_any (valid n s partial) ≡ true = sym (c.is_met.ensures n (valid n s partial) valids) ∙ c.if-not-is_met.false in
     let lefts : IsSet c.left.new.table c.in-Ok-left.node n (left n s partial) = c.in-Ok-left.ensures.kept n (valid n s partial) valids c.requires.below.preferences c.requires.below.defaults in
     if_ok_also c.only_choice.result
@@ -105,13 +88,9 @@ returns-clause-refused c =
     let n = c.args.count in
     let s = c.args.self.now.standing in
     let partial = c.args.partial.now in
-    let us = c.agreement.new.table in
-    let vs = c.and.new.self in
-    let stands : StandsForAll us c.in-Ok.node (literals partial) = subst (λ bs. StandsForAll us c.in-Ok.node (literals bs)) c.bindings.ensures.bindings c.in-Ok.ensures.stands in
-    let valids : IsSet vs c.in-Ok-and.node n (valid n s partial) =
-    valid_set n s partial c.requires.below c.requires.bound c.args.table.now us c.requires.holds c.in-Ok.ensures.extends c.in-Ok.node stands vs c.in-Ok-and.node (first_option us c.in-Ok.node s.conjunction)
-    (subst (λ (v : RulesValue). Stands vs c.in-Ok-and.node (first_option us c.in-Ok.node v.standing.conjunction) (joint_span us c.in-Ok.node v.standing.conjunction) (λ d. value_in us c.in-Ok.node d && value_in us v.standing.conjunction d))
-    c.self.view_is c.in-Ok-and.ensures.stands) in
+    let valids =
+    valid_found n c.args.self.now _ c.self.view_is partial _ c.bindings.ensures.bindings c.requires.below c.requires.bound c.args.table.now c.agreement.new.table c.requires.holds c.in-Ok.ensures.extends c.in-Ok.node c.in-Ok.ensures.stands
+    c.and.new.self c.in-Ok-and.node c.in-Ok-and.ensures.stands in
     let met : has_any (valid n s partial) ≡ true = sym (c.is_met.ensures n (valid n s partial) valids) ∙ c.if-not-is_met.false in
     let lefts : IsSet c.left.new.table c.in-Ok-left.node n (left n s partial) = c.in-Ok-left.ensures.kept n (valid n s partial) valids c.requires.below.preferences c.requires.below.defaults in
     if_err_also c.only_choice.result

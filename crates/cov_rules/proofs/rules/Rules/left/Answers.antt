@@ -2,7 +2,7 @@ use Rattle.std.proofs.Common.{◌≡◌, ℕ, ◌≤◌, Bool, List, sym, ap, su
 use Rattle.cov_dd.proofs.CallerLemmas.{extends_trans}
 use Rattle.cov_rules.specs.Completion.{fallbacks, keep_all, IsSet}
 use Rattle.cov_rules.specs.Installing.{RulesValue, expressions, reach_of, AllFallBack}
-use Rattle.cov_rules.proofs.CallerLemmas.{all_fall_back_later}
+use Rattle.cov_rules.proofs.Holding.{all_fall_back_later}
 use Rattle.cov_rules.proofs.Opening.{if_ok_also}
 use Rattle.cov_rules.proofs.rules.Rules.left.Goals as goal
 

@@ -3,7 +3,7 @@ use Rattle.cov_rules.specs.Completion.{fallbacks}
 use Rattle.cov_rules.specs.Installing.{expressions, reach_of, AllStand, AllFallBack, StandsForAll}
 use Rattle.cov_rules.specs.declared.rules.Fallback.{Fallback}
 use Rattle.cov_rules.specs.declared.rules.Installed.{Installed}
-use Rattle.cov_rules.proofs.CallerLemmas.{none_hold}
+use Rattle.cov_rules.proofs.Holding.{none_hold}
 use Rattle.cov_rules.proofs.rules.Rules.new.Goals as goal
 
 pub returns-clause-holds : goal.returns-clause-holds

@@ -1,12 +1,13 @@
 use Rattle.std.proofs.Common.{◌<◌, ◌&&◌, max, length, ap, subst, arith}
+use Rattle.cov_base.specs.declared.limits.TheConstants.{LIMITS}
 use Rattle.cov_dd.specs.Diagrams.{span, value_in, Stands}
 use Rattle.cov_expr.specs.Formula.{reach, value}
 use Rattle.cov_rules.specs.Installing.{RulesValue}
 use Rattle.cov_rules.proofs.Planning as planning
 use Rattle.cov_rules.proofs.rules.Rules.prepare_constraint.Goals as goal
 
-few : (c : goal.After-judged) → length c.args.self.now.standing.constraints < 256
-few c = omega (arith, c.if-len-ge-MOST_RULES.false, c.len.ensures, ap (λ (v : RulesValue). length v.standing.constraints) c.self.view_is)
+few : (c : goal.After-judged) → length c.args.self.now.standing.constraints < LIMITS.rules
+few c = omega (arith, c.if-len.false, c.len.ensures, ap (λ (v : RulesValue). length v.standing.constraints) c.self.view_is)
 
 -- the conjunction with the new constraint
 conjunction : (c : goal.After-judged) → Stands c.conjoined.new.table c.in-Ok.plan.conjunction 0 (max (span c.args.table.now c.args.self.now.standing.conjunction) (reach c.args.expr.now)) (λ d. value_in c.args.table.now c.args.self.now.standing.conjunction d && value c.args.expr.now d)
