@@ -6,7 +6,7 @@ use Rattle.std.proofs.lemmas.List.{append-nil, length-replicate, replicate-appen
 use Rattle.std.proofs.lemmas.Slice.Eq.{bytes_eq-Decides}
 use Rattle.cov_expr.specs.Formula.{Formula, part_count}
 use Rattle.cov_expr.specs.Grammar.{Rule, OrRule, AndRule, NotRule, AtomRule, Spells, lone_and, either, lone_not, both, negated, single, named, always, never, in_parentheses, IsExpression, BeginsExpression, constant_of, constant_or_name, word_formula}
-use Rattle.cov_expr.specs.Reading.{State, run, fresh, start, with_nots, after_and, after_or, settled, after_token, next, whole, finished}
+use Rattle.cov_expr.specs.Reading.{ParserState, run, fresh, start, with_nots, after_and, after_or, settled, after_token, next, whole, finished}
 use Rattle.cov_expr.specs.declared.reading.Level.{Level}
 use Rattle.cov_expr.specs.declared.token.Token.{Token}
 use Rattle.cov_expr.specs.declared.token.Token.TheVariants.{Word, Bang, Amp, Bar, Open, Close}
@@ -36,7 +36,7 @@ IsOperand level None ts = ts ≡ []
 IsOperand level (Some e) ts = Spells AndRule ts e × (level.and_left ≡ None) × (level.nots ≡ 0)
 
 -- the tokens that led to a state
-pub record IsFront (s : State) (ts : List Token) : Type 0 where
+pub record IsFront (s : ParserState) (ts : List Token) : Type 0 where
   outers : List Token
   levels : List Token
   operands : List Token
@@ -96,7 +96,7 @@ replicate-suc_end : (n : ℕ) → replicate n Bang ++ Bang ∷ [] ≡ replicate 
 replicate-suc_end n = replicate-append-replicate n 1 Bang
 
 -- one token more
-next-IsFront : (outer : List Level) (level : Level) (operand : Option (Formula (List ℕ))) (t : Token) (ts : List Token) (s : State) → IsFront (record { outer = outer; level = level; operand = operand }) ts → after_token outer level operand t ≡ Some s → IsFront s (ts ++ t ∷ [])
+next-IsFront : (outer : List Level) (level : Level) (operand : Option (Formula (List ℕ))) (t : Token) (ts : List Token) (s : ParserState) → IsFront (record { outer = outer; level = level; operand = operand }) ts → after_token outer level operand t ≡ Some s → IsFront s (ts ++ t ∷ [])
 next-IsFront outer level None (Word word) ts s f h =
     let same : settled outer level (word_formula word) ≡ s = cc in
     let all : f.outers ++ (f.levels ++ Word word ∷ []) ≡ ts ++ Word word ∷ [] = rw (f.all, f.operand) (simp (append_assoc, append-nil)) in
@@ -185,19 +185,19 @@ next-IsFront outer level (Some e) Bang ts s f h = cc
 next-IsFront outer level (Some e) Open ts s f h = cc
 
 -- tokens more
-pub run-IsFront : (us ts : List Token) (s s' : State) → IsFront s ts → run us s ≡ Some s' → IsFront s' (ts ++ us)
+pub run-IsFront : (us ts : List Token) (s s' : ParserState) → IsFront s ts → run us s ≡ Some s' → IsFront s' (ts ++ us)
 run-IsFront [] ts s s' f h =
     let same : s ≡ s' = cc in
     subst (λ x. IsFront x (ts ++ [])) same (subst (λ x. IsFront s x) (sym (append-nil ts)) f)
-run-IsFront (u ∷ us) ts s s' f h = step (next s u) refl h (λ m. run-IsFront us (ts ++ u ∷ []) m s')
+run-IsFront (u ∷ us) ts s s' f h = onward (next s u) refl h (λ m. run-IsFront us (ts ++ u ∷ []) m s')
   where
-    step : (o : Option State) → next s u ≡ o → option_and_then (run us) o ≡ Some s' → ((m : State) → IsFront m (ts ++ u ∷ []) → run us m ≡ Some s' → IsFront s' ((ts ++ u ∷ []) ++ us)) → IsFront s' (ts ++ u ∷ us)
-    step None first h later = cc
-    step (Some m) first h later =
+    onward : (o : Option ParserState) → next s u ≡ o → option_and_then (run us) o ≡ Some s' → ((m : ParserState) → IsFront m (ts ++ u ∷ []) → run us m ≡ Some s' → IsFront s' ((ts ++ u ∷ []) ++ us)) → IsFront s' (ts ++ u ∷ us)
+    onward None first h later = cc
+    onward (Some m) first h later =
         subst (λ x. IsFront s' x) (append_assoc ts (u ∷ []) us) (later m (next-IsFront s.outer s.level s.operand u ts m f first) h)
 
 -- the tokens that led from the start to a state
-pub started-IsFront : (ts : List Token) (s : State) → run ts start ≡ Some s → IsFront s ts
+pub started-IsFront : (ts : List Token) (s : ParserState) → run ts start ≡ Some s → IsFront s ts
 started-IsFront ts s h = run-IsFront ts [] start s start-IsFront h
 
 -- where a whole expression was read, the tokens spell it
@@ -210,12 +210,12 @@ finished-spelt [] level (Some operand) ts e f h =
 finished-spelt [] level None ts e f h = cc
 finished-spelt (l ∷ outer) level operand ts e f h = cc
 
-pub run-spelt : (ts : List Token) (s : State) (e : Formula (List ℕ)) → run ts start ≡ Some s → finished s ≡ Some e → IsExpression ts e
+pub run-spelt : (ts : List Token) (s : ParserState) (e : Formula (List ℕ)) → run ts start ≡ Some s → finished s ≡ Some e → IsExpression ts e
 run-spelt ts s e h k = finished-spelt s.outer s.level s.operand ts e (started-IsFront ts s h) k
 
 -- tokens with which a reading ends as a whole expression
-abbrev pub Ends : State → Type 0
-Ends s = (ts : List Token) × (m : State) × (e : Formula (List ℕ)) × (run ts s ≡ Some m) × (finished m ≡ Some e)
+abbrev pub Ends : ParserState → Type 0
+Ends s = (ts : List Token) × (m : ParserState) × (e : Formula (List ℕ)) × (run ts s ≡ Some m) × (finished m ≡ Some e)
 
 -- after an operand the open parentheses are closed
 closes : (outer : List Level) (level : Level) (operand : Formula (List ℕ)) → Ends (record { outer = outer; level = level; operand = Some operand })
@@ -234,7 +234,7 @@ ends outer level None =
     (Word word ∷ later.0, later.1, later.2, later.3, later.4)
 
 -- an expression begins with tokens that can be read
-pub run-begins : (ts : List Token) (s : State) → run ts start ≡ Some s → BeginsExpression ts
+pub run-begins : (ts : List Token) (s : ParserState) → run ts start ≡ Some s → BeginsExpression ts
 run-begins ts s h =
     let later = ends s.outer s.level s.operand in
     (later.0, later.2, run-spelt (ts ++ later.0) later.1 later.2 (run-after ts later.0 start s h ∙ later.3) later.4)
@@ -247,7 +247,7 @@ stuck-begins_none ts h (rest, e, spelt) =
     cc
 
 -- no more ! stand before an operand than there are tokens
-pub front-nots : (s : State) (ts : List Token) → IsFront s ts → s.level.nots ≤ length ts
+pub front-nots : (s : ParserState) (ts : List Token) → IsFront s ts → s.level.nots ≤ length ts
 front-nots s ts f = rw (f.all, f.level.all) (omega (arith, length-append {A = Token}, length-replicate s.level.nots Bang))
 
 -- an expression has at most as many parts as its text has tokens

@@ -1,12 +1,14 @@
 mod ChoiceExamples
 mod Examples
+pub mod CallerLemmas
+pub mod FrontReads
 pub mod Fronts
 pub mod FullChoices
 pub mod Gathering
 pub mod Lexing
 pub mod ListLemmas
-pub mod NamesBack
 pub mod NameLemmas
+pub mod NamesBack
 pub mod Parsing
 pub mod PartCounts
 pub mod PartialLemmas
@@ -14,6 +16,5 @@ pub mod Printing
 pub mod ReadingBindings
 pub mod Spelt
 pub mod SplitLemmas
-pub mod Steps
 pub mod Texts
 pub mod Words

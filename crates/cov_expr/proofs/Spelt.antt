@@ -3,21 +3,21 @@ use Rattle.std.proofs.Common.{◌≡◌, ℕ, zero, suc, ◌+◌, List, [], ◌�
 use Rattle.std.specs.Prelude.{Option, Some, None, option_and_then}
 use Rattle.cov_expr.specs.Formula.{Formula, Not}
 use Rattle.cov_expr.specs.Grammar.{Rule, OrRule, AndRule, NotRule, AtomRule, Spells, lone_and, either, lone_not, both, negated, single, named, always, never, in_parentheses, IsExpression, constant_or_name}
-use Rattle.cov_expr.specs.Reading.{State, run, fresh, start, with_nots, after_and, after_or, settled, next, finished}
+use Rattle.cov_expr.specs.Reading.{ParserState, run, fresh, start, with_nots, after_and, after_or, settled, next, finished}
 use Rattle.cov_expr.specs.declared.reading.Level.{Level}
 use Rattle.cov_expr.specs.declared.token.Token.{Token}
 use Rattle.cov_expr.specs.declared.token.Token.TheVariants.{Amp, Bar, Close}
 
-pub run-append : (ts us : List Token) (s : State) → run (ts ++ us) s ≡ option_and_then (run us) (run ts s)
+pub run-append : (ts us : List Token) (s : ParserState) → run (ts ++ us) s ≡ option_and_then (run us) (run ts s)
 run-append [] us s = refl
-run-append (t ∷ ts) us s = step (next s t) (run-append ts us)
+run-append (t ∷ ts) us s = onward (next s t) (run-append ts us)
   where
-    step : (o : Option State) → ((s' : State) → run (ts ++ us) s' ≡ option_and_then (run us) (run ts s')) → option_and_then (run (ts ++ us)) o ≡ option_and_then (run us) (option_and_then (run ts) o)
-    step None same = refl
-    step (Some s') same = same s'
+    onward : (o : Option ParserState) → ((s' : ParserState) → run (ts ++ us) s' ≡ option_and_then (run us) (run ts s')) → option_and_then (run (ts ++ us)) o ≡ option_and_then (run us) (option_and_then (run ts) o)
+    onward None same = refl
+    onward (Some s') same = same s'
 
 -- tokens after others, whose state is known
-pub run-after : (ts us : List Token) (s s' : State) → run ts s ≡ Some s' → run (ts ++ us) s ≡ run us s'
+pub run-after : (ts us : List Token) (s s' : ParserState) → run ts s ≡ Some s' → run (ts ++ us) s ≡ run us s'
 run-after ts us s s' h = run-append ts us s ∙ ap (option_and_then (run us)) h
 
 -- a ! more on the inside
@@ -32,10 +32,10 @@ with_nots-suc n e = rw add-one (inside n)
 abbrev level_of : Option (Formula (List ℕ)) → Level
 level_of left = record { or_left = left; and_left = None; nots = 0 }
 
-abbrev read_at : List Level → Option (Formula (List ℕ)) → Formula (List ℕ) → State
+abbrev read_at : List Level → Option (Formula (List ℕ)) → Formula (List ℕ) → ParserState
 read_at outer left e = record { outer = outer; level = level_of left; operand = Some e }
 
-abbrev awaits : List Level → Level → State
+abbrev awaits : List Level → Level → ParserState
 awaits outer level = record { outer = outer; level = level; operand = None }
 
 -- what reading does with the tokens of a rule

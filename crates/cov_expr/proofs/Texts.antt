@@ -4,6 +4,7 @@ use Rattle.std.proofs.lemmas.List.{append-nil}
 use Rattle.std.specs.Prelude.{Option, Some, None, Ok, codes}
 use Rattle.std.specs.Option.{option_map}
 use Rattle.cov_base.specs.Spelling.{is_word}
+use Rattle.cov_base.specs.declared.limits.TheConstants.{MOST_TOKENS}
 use Rattle.cov_expr.specs.ExpressionText.{is_or, is_binary, grouped, text_of, IsTextOf}
 use Rattle.cov_expr.specs.Formula.{Formula, False, True, On, Not, And, Or, renamed}
 use Rattle.cov_expr.specs.Grammar.{Rule, OrRule, AndRule, NotRule, AtomRule, Spells, lone_and, either, lone_not, both, negated, single, named, always, never, in_parentheses, IsExpression}
@@ -179,8 +180,8 @@ module _ {X : Type 0} (name : X → List ℕ) where
       by (BadByte at) read h = cc
 
 -- reading the text of an expression with few tokens gives it
-pub text_read : (text : List ℕ) (e : Formula (List ℕ)) (count : ℕ) → IsTextOf text e → token_count (tokens_of text) ≡ Ok count → count ≤ 256 → parsed text ≡ Ok e
+pub text_read : (text : List ℕ) (e : Formula (List ℕ)) (count : ℕ) → IsTextOf text e → token_count (tokens_of text) ≡ Ok count → count ≤ MOST_TOKENS → parsed text ≡ Ok e
 text_read text e count is counted few =
     let size : length is.tokens ≡ count = let same = sym (ap token_count is.read) ∙ counted in cc in
-    let short : length is.tokens ≤ 256 = rw size few in
+    let short : length is.tokens ≤ MOST_TOKENS = rw size few in
     parsed-is_answer text (Ok e) (subst (λ lexed. IsParsed (length text) lexed (Ok e)) (sym is.read) (short, is.spelt))

@@ -2,6 +2,7 @@ pub mod Binding
 pub mod ChoiceText
 pub mod ExpressionText
 pub mod Formula
+pub mod FrontReads
 pub mod Grammar
 pub mod Laws
 pub mod Lexemes
@@ -13,6 +14,5 @@ pub mod Parts
 pub mod Reading
 pub mod Readings
 pub mod Sizes
-pub mod Steps
 pub mod Tokens
 pub mod Validity

@@ -1,5 +1,5 @@
 -- What an expression over names is, given the options' names.
-use Rattle.std.specs.Prelude.{◌≡◌, ℕ, not, List, Option, Some, None, Result, Ok, Err}
+use Rattle.std.specs.Prelude.{◌≡◌, ℕ, Bool, true, false, not, List, Option, Some, None, Result, Ok, Err}
 use Rattle.std.specs.List.{find}
 use Rattle.cov_expr.specs.Formula.{Formula, names_in, renamed}
 use Rattle.cov_expr.specs.Options.{is_declared, option_number, option_name}
@@ -23,11 +23,10 @@ known_or (Some name) e = Err (UnknownOption name)
 abbrev pub bound_expression : List (List ℕ) → Formula (List ℕ) → Result (Formula ℕ) NameFault
 bound_expression names e = known_or (first_unknown names e) (with_numbers names e)
 
--- the same answer, or want of memory
-abbrev pub IsBound : Result (Formula ℕ) NameFault → Result (Formula ℕ) NameFault → Type 0
-IsBound wanted (Ok e) = wanted ≡ Ok e
-IsBound wanted (Err (UnknownOption name)) = wanted ≡ Err (UnknownOption name)
-IsBound wanted (Err Memory) = Unit {0}
+-- whether a fault is want of memory
+abbrev pub is_memory : NameFault → Bool
+is_memory Memory = true
+is_memory (UnknownOption name) = false
 
 -- a fault is want of memory, or that of a name which no option has
 abbrev pub IsUnknownName : Option (List ℕ) → NameFault → Type 0

@@ -1,5 +1,6 @@
 -- What a text is by the grammar of expressions.
 use Rattle.std.specs.Prelude.{◌≡◌, ◌⊎◌, ℕ, ◌<◌, ◌≤◌, List, [], ◌∷◌, ◌++◌, map, length, Result, Ok, Err}
+use Rattle.cov_base.specs.declared.limits.TheConstants.{MOST_TOKENS}
 use Rattle.cov_expr.specs.Formula.{Formula}
 use Rattle.cov_expr.specs.Grammar.{IsExpression, BeginsExpression}
 use Rattle.cov_expr.specs.Tokens.{Lexed, Tokens, BadByte}
@@ -31,7 +32,7 @@ IsParsed size (BadByte bad) (Ok e) = ⊥
 IsParsed size (BadByte bad) (Err (Syntax at)) = at ≡ bad
 IsParsed size (BadByte bad) (Err TooLong) = ⊥
 IsParsed size (BadByte bad) (Err Memory) = Unit {0}
-IsParsed size (Tokens ts) (Ok e) = (length ts ≤ 256) × IsExpression (bare ts) e
-IsParsed size (Tokens ts) (Err (Syntax at)) = (length ts ≤ 256) × (IsStuckAt ts at ⊎ (IsUnfinished (bare ts) × (at ≡ size)))
-IsParsed size (Tokens ts) (Err TooLong) = 256 < length ts
+IsParsed size (Tokens ts) (Ok e) = (length ts ≤ MOST_TOKENS) × IsExpression (bare ts) e
+IsParsed size (Tokens ts) (Err (Syntax at)) = (length ts ≤ MOST_TOKENS) × (IsStuckAt ts at ⊎ (IsUnfinished (bare ts) × (at ≡ size)))
+IsParsed size (Tokens ts) (Err TooLong) = MOST_TOKENS < length ts
 IsParsed size (Tokens ts) (Err Memory) = Unit {0}

@@ -1,5 +1,6 @@
 -- How the tokens of an expression are read one after another, with a stack of the parentheses that are open.
-use Rattle.std.specs.Prelude.{◌≡◌, ℕ, zero, suc, ◌+◌, nat_lt, List, [], ◌∷◌, length, Option, Some, None, option_and_then, Result, Ok, Err, if◌then◌else◌}
+use Rattle.std.specs.Prelude.{ℕ, zero, suc, ◌+◌, nat_lt, Bool, true, false, List, [], ◌∷◌, length, Option, Some, None, option_and_then, Result, Ok, Err, if◌then◌else◌}
+use Rattle.cov_base.specs.declared.limits.TheConstants.{MOST_TOKENS}
 use Rattle.cov_expr.specs.Formula.{Formula, Not, And, Or}
 use Rattle.cov_expr.specs.Grammar.{word_formula}
 use Rattle.cov_expr.specs.Tokens.{Lexed, Tokens, BadByte, tokens_of, token_count}
@@ -10,7 +11,7 @@ use Rattle.cov_expr.specs.declared.token.Token.{Token}
 use Rattle.cov_expr.specs.declared.token.Token.TheVariants.{Word, Bang, Amp, Bar, Open, Close}
 
 -- what was read: the levels round the innermost parentheses, from the inside; the level within them; and an operand, if none is awaited
-pub record State : Type 0 where
+pub record ParserState : Type 0 where
   pub outer : List Level
   pub level : Level
   pub operand : Option (Formula (List ℕ))
@@ -20,7 +21,7 @@ abbrev pub fresh : Level
 fresh = record { or_left = None; and_left = None; nots = 0 }
 
 -- the state before the first token
-abbrev pub start : State
+abbrev pub start : ParserState
 start = record { outer = []; level = fresh; operand = None }
 
 -- an expression below a number of !
@@ -39,7 +40,7 @@ after_or None e = e
 after_or (Some left) e = Or left e
 
 -- an operand was read, and takes what binds tighter than an |
-abbrev pub settled : List Level → Level → Formula (List ℕ) → State
+abbrev pub settled : List Level → Level → Formula (List ℕ) → ParserState
 settled outer level e = record {
   outer = outer;
   level = record { or_left = level.or_left; and_left = None; nots = 0 };
@@ -47,12 +48,12 @@ settled outer level e = record {
 }
 
 -- the state after a closing parenthesis
-abbrev pub after_close : List Level → Formula (List ℕ) → Option State
+abbrev pub after_close : List Level → Formula (List ℕ) → Option ParserState
 after_close [] e = None
 after_close (level ∷ outer) e = Some (settled outer level e)
 
 -- what was read with one token more; none where no expression goes on with it
-abbrev pub after_token : List Level → Level → Option (Formula (List ℕ)) → Token → Option State
+abbrev pub after_token : List Level → Level → Option (Formula (List ℕ)) → Token → Option ParserState
 after_token outer level None (Word word) = Some (settled outer level (word_formula word))
 after_token outer level None Bang = Some (record { outer = outer; level = record level { nots = level.nots + 1 }; operand = None })
 after_token outer level None Open = Some (record { outer = level ∷ outer; level = fresh; operand = None })
@@ -67,7 +68,7 @@ after_token outer level (Some e) Bang = None
 after_token outer level (Some e) Open = None
 
 -- the state after one token more; none where no expression goes on with it
-abbrev pub next : State → Token → Option State
+abbrev pub next : ParserState → Token → Option ParserState
 next s t = after_token s.outer s.level s.operand t
 
 -- what was read, if it is a whole expression
@@ -77,11 +78,11 @@ whole [] level None = None
 whole (l ∷ outer) level operand = None
 
 -- the expression that a state has read, if it is a whole one
-abbrev pub finished : State → Option (Formula (List ℕ))
+abbrev pub finished : ParserState → Option (Formula (List ℕ))
 finished s = whole s.outer s.level s.operand
 
 -- the state after tokens
-abbrev pub run : List Token → State → Option State
+abbrev pub run : List Token → ParserState → Option ParserState
 run [] s = Some s
 run (t ∷ ts) s = option_and_then (run ts) (next s t)
 
@@ -91,23 +92,23 @@ at_end size None = Err (Syntax size)
 at_end size (Some e) = Ok e
 
 -- what a text is, by the state after a token at a place and what follows from it
-abbrev pub go_on : ℕ → (State → Result (Formula (List ℕ)) ExprFault) → Option State → Result (Formula (List ℕ)) ExprFault
+abbrev pub go_on : ℕ → (ParserState → Result (Formula (List ℕ)) ExprFault) → Option ParserState → Result (Formula (List ℕ)) ExprFault
 go_on at later None = Err (Syntax at)
 go_on at later (Some s) = later s
 
 -- what a text of a size is, by its tokens from a state on
-abbrev pub read_from : List (ℕ × Token) → ℕ → State → Result (Formula (List ℕ)) ExprFault
+abbrev pub read_from : List (ℕ × Token) → ℕ → ParserState → Result (Formula (List ℕ)) ExprFault
 read_from [] size s = at_end size (finished s)
 read_from (t ∷ ts) size s = go_on t.0 (read_from ts size) (next s t.1)
 
 -- what a text of a size is, by its tokens or a byte that begins none
-abbrev pub read_lexed : Lexed → ℕ → State → Result (Formula (List ℕ)) ExprFault
+abbrev pub read_lexed : Lexed → ℕ → ParserState → Result (Formula (List ℕ)) ExprFault
 read_lexed (Tokens ts) size s = read_from ts size s
 read_lexed (BadByte at) size s = Err (Syntax at)
 
 -- too many tokens come before what reading them gives, and a byte that begins none before both
 abbrev pub read_counted : Result ℕ ℕ → Result (Formula (List ℕ)) ExprFault → Result (Formula (List ℕ)) ExprFault
-read_counted (Ok count) read = if nat_lt 256 count then Err TooLong else read
+read_counted (Ok count) read = if nat_lt MOST_TOKENS count then Err TooLong else read
 read_counted (Err at) read = read
 
 -- the expression that a text spells, or why it spells none
@@ -116,9 +117,8 @@ parsed bytes =
     let lexed = tokens_of bytes in
     read_counted (token_count lexed) (read_lexed lexed (length bytes) start)
 
--- the same answer, or want of memory
-abbrev pub IsAnswer : Result (Formula (List ℕ)) ExprFault → Result (Formula (List ℕ)) ExprFault → Type 0
-IsAnswer wanted (Ok e) = wanted ≡ Ok e
-IsAnswer wanted (Err (Syntax at)) = wanted ≡ Err (Syntax at)
-IsAnswer wanted (Err TooLong) = wanted ≡ Err TooLong
-IsAnswer wanted (Err Memory) = Unit {0}
+-- whether a fault is want of memory
+abbrev pub is_memory : ExprFault → Bool
+is_memory Memory = true
+is_memory (Syntax at) = false
+is_memory TooLong = false

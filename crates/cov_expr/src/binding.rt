@@ -1,12 +1,13 @@
 // Bindings of names as bindings of options.
 ghost use Rattle.std.specs.Prelude.{◌≡◌, ◌<◌, ◌≤◌, ℕ, List, Bool, true, nat_eq, nat_lt, None, Some, map, length, slice_index_or, IfOk, IfErr, OnOk, IfNone};
 ghost use Rattle.std.specs.List.{list_all, range_with_len};
+ghost use Rattle.cov_base.specs.declared.limits.TheConstants.{CHOICE_WIDTH};
 ghost use Rattle.cov_expr.specs.Partials.{bound_value, partial_of};
 ghost use Rattle.cov_expr.specs.Binding.{numbered, first_undeclared, first_repeated, bound, IsFaultOf, IsUnknown, IsRepetition};
 
 use crate::{Options, Partial, RawChoice};
 use cov_base::{Memory, OptionId, Text};
-use std::alloc::{AllocError, AllocFailed, Global};
+use std::alloc::Global;
 
 /// What is wrong with the bindings of a choice.
 #[derive(Debug, Drop)]
@@ -28,26 +29,6 @@ impl From<Memory> for BindFault {
     }
 }
 
-impl From<AllocError> for BindFault {
-    ghost use Rattle.cov_expr.specs.declared.binding.BindFault.TheVariants.{Memory as wanting};
-
-    ghost from_gives = { λ _ fault. fault ≡ wanting };
-
-    fn from(_: AllocError) -> Self {
-        BindFault::Memory
-    }
-}
-
-impl<T: Drop> From<AllocFailed<T>> for BindFault {
-    ghost use Rattle.cov_expr.specs.declared.binding.BindFault.TheVariants.{Memory as wanting};
-
-    ghost from_gives = { λ _ fault. fault ≡ wanting };
-
-    fn from(_: AllocFailed<T>) -> Self {
-        BindFault::Memory
-    }
-}
-
 // The bindings with options in place of their names.
 pub(crate) fn resolve(
     alloc: Global,
@@ -63,7 +44,7 @@ pub(crate) fn resolve(
     for (name, on) in bindings {
         match options.find(name.as_slice()) {
             None => return Err(BindFault::UnknownOption { name: name.copy()? }),
-            Some(option) => found.push((option, *on))?,
+            Some(option) => found.push((option, *on)).map_err(|_| Memory)?,
         }
     }
     Ok(found)
@@ -75,14 +56,14 @@ pub(crate) fn gather(
     bindings: &[(OptionId, bool)],
     count: u8,
 ) -> Result<Partial, BindFault>
-    requires count { count ≤ 128 }
+    requires count { count ≤ CHOICE_WIDTH }
     requires within { list_all (λ b. nat_lt b.0 count) bindings.now ≡ true }
     ensures once { OnOk result (first_repeated bindings.now ≡ None) }
     ensures partial { IfOk result (λ partial. partial ≡ partial_of count bindings.now) }
     ensures below { IfOk result (λ partial. list_all (λ b. nat_lt b.0 count) partial ≡ true) }
     ensures repeated { IfErr result (IsRepetition (first_repeated bindings.now)) }
 {
-    let mut values = vec![in alloc; None; count as usize]?;
+    let mut values = vec![in alloc; None; count as usize].map_err(|_| Memory)?;
     if let Some(option) = fill(values.as_mut_slice(), bindings) {
         return Err(BindFault::Repeated { option });
     }

@@ -7,18 +7,15 @@ ghost use Rattle.cov_expr.specs.Options.{option_name};
 use crate::Options;
 use crate::part::{Part, copy_part, room_after, value_of};
 use crate::part_text::append_part;
-use cov_base::{Choice, Memory, Text};
+use cov_base::{Choice, MOST_PARTS, Memory, Text};
 use std::alloc::Global;
 use std::marker::Model;
 
-/// The greatest number of parts of an expression.
-const MOST_PARTS: u32 = 256;
-
-/// A part that consists of more than 256 parts, itself included.
+/// A part that consists of more than `MOST_PARTS` parts, itself included.
 #[derive(Clone, Copy, Debug, PartialEq, Eq)]
 pub struct TooManyParts;
 
-/// A Boolean expression over options, of at most 256 parts.
+/// A Boolean expression over options, of at most `MOST_PARTS` parts.
 #[derive(Debug, Drop)]
 pub struct Expr {
     part: Part,
@@ -27,6 +24,7 @@ pub struct Expr {
 impl Model for Expr {
     ghost use Rattle.std.specs.Prelude.{ℕ, ◌≤◌};
     ghost use Rattle.std.specs.Coded.{coded_ℕ};
+    ghost use Rattle.cov_base.specs.declared.limits.TheConstants.{MOST_PARTS};
     ghost use Rattle.cov_expr.specs.Formula.{Formula, formula_code, part_count};
 
     ghost Value = { Formula ℕ };
@@ -37,17 +35,17 @@ impl Model for Expr {
 
     ghost view = { λ e. formula e.part };
 
-    ghost invariant = { λ e. part_count (formula e.part) ≤ 256 };
+    ghost invariant = { λ e. part_count (formula e.part) ≤ MOST_PARTS };
 }
 
 impl Expr {
     ghost use Rattle.cov_expr.specs.Parts.{formula};
 
-    /// The expression that the part is. `TooManyParts` comes exactly where it consists of more than 256 parts.
+    /// The expression that the part is. `TooManyParts` comes exactly where it consists of more than `MOST_PARTS` parts.
     pub fn new(part: Part) -> Result<Expr, TooManyParts>
         ensures ok { IfOk result (λ expr. expr ≡ formula part) }
-        ensures fits { IfOk result (λ expr. part_count expr ≤ 256) }
-        ensures refused { OnErr result (256 < part_count (formula part)) }
+        ensures fits { IfOk result (λ expr. part_count expr ≤ MOST_PARTS) }
+        ensures refused { OnErr result (MOST_PARTS < part_count (formula part)) }
     {
         match room_after(&part, MOST_PARTS) {
             Some(_) => Ok(Expr { part }),
@@ -56,7 +54,7 @@ impl Expr {
     }
 
     pub(crate) fn from_part(part: Part) -> Expr
-        requires { part_count (formula part) ≤ 256 }
+        requires { part_count (formula part) ≤ MOST_PARTS }
         ensures { result ≡ formula part }
     {
         Expr { part }
@@ -64,14 +62,14 @@ impl Expr {
 
     pub fn part(&self) -> &Part
         ensures part { formula result.now ≡ self.now }
-        ensures fits { part_count self.now ≤ 256 }
+        ensures fits { part_count self.now ≤ MOST_PARTS }
     {
         &self.part
     }
 
     pub fn into_part(self) -> Part
         ensures part { formula result ≡ self }
-        ensures fits { part_count self ≤ 256 }
+        ensures fits { part_count self ≤ MOST_PARTS }
     {
         let Expr { part } = self;
         part

@@ -11,7 +11,7 @@ pub fn reading_follows_grammar()
     ensures { ReadsByGrammar }
 {}
 
-/// The text of an expression spells it, and reading and binding a text of at most 256 tokens gives the expression again.
+/// The text of an expression spells it, and reading and binding a text of at most `MOST_TOKENS` tokens gives the expression again.
 pub fn texts_give_their_expressions()
     ensures spells { TextsSpell }
     ensures reads { TextsReadBack }

@@ -27,7 +27,7 @@ pub use options::Options;
 pub use part::Part;
 pub use partial::Partial;
 pub use print::print_choice;
-pub use raw_choice::{ChoiceSyntax, RawChoice};
+pub use raw_choice::{ChoiceSyntax, RawChoice, switch_in};
 pub use raw_expr::RawExpr;
 pub use spelling::{ExprFault, parse};
 pub use token::Token;

@@ -7,7 +7,7 @@ ghost use Rattle.cov_expr.specs.Parts.{formula, raw_formula};
 use crate::tree::{RawPart, Tree};
 use crate::{Options, Part};
 use cov_base::{Memory, Text};
-use std::alloc::{AllocFailed, Global};
+use std::alloc::Global;
 
 /// Why the names of an expression aren't bound.
 #[derive(Debug, Drop)]
@@ -23,16 +23,6 @@ impl From<Memory> for NameFault {
     ghost from_gives = { λ _ fault. fault ≡ wanting };
 
     fn from(_: Memory) -> Self {
-        NameFault::Memory
-    }
-}
-
-impl<T: Drop> From<AllocFailed<T>> for NameFault {
-    ghost use Rattle.cov_expr.specs.declared.naming.NameFault.TheVariants.{Memory as wanting};
-
-    ghost from_gives = { λ _ fault. fault ≡ wanting };
-
-    fn from(_: AllocFailed<T>) -> Self {
         NameFault::Memory
     }
 }
@@ -62,17 +52,17 @@ fn bind_part(alloc: Global, part: &RawPart, options: &Options) -> Result<Part, N
         },
         RawPart::Not(inner) => {
             let inner = bind_part(alloc, inner, options)?;
-            Ok(Part::Not(Box::new(alloc, inner)?))
+            Ok(Part::not(alloc, inner)?)
         }
         RawPart::And(left, right) => {
             let left = bind_part(alloc, left, options)?;
             let right = bind_part(alloc, right, options)?;
-            Ok(Part::And(Box::new(alloc, left)?, Box::new(alloc, right)?))
+            Ok(Part::and(alloc, left, right)?)
         }
         RawPart::Or(left, right) => {
             let left = bind_part(alloc, left, options)?;
             let right = bind_part(alloc, right, options)?;
-            Ok(Part::Or(Box::new(alloc, left)?, Box::new(alloc, right)?))
+            Ok(Part::or(alloc, left, right)?)
         }
     }
 }

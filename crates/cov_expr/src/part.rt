@@ -1,6 +1,6 @@
 // The parts that an expression consists of.
 ghost use Rattle.std.specs.Prelude.{◌≡◌, ◌+◌, ◌<◌, ◌≤◌, MatchOption, IfOk, length};
-ghost use Rattle.cov_expr.specs.Formula.{part_count, reach, value};
+ghost use Rattle.cov_expr.specs.Formula.{Not, And, Or, part_count, reach, value};
 ghost use Rattle.cov_expr.specs.Parts.{formula};
 
 use cov_base::{Choice, Memory, OptionId};
@@ -15,6 +15,29 @@ pub enum Part {
     Not(Box<Part>),
     And(Box<Part>, Box<Part>),
     Or(Box<Part>, Box<Part>),
+}
+
+impl Part {
+    /// The part that is true where the operand is false.
+    pub(crate) fn not(alloc: Global, operand: Part) -> Result<Part, Memory>
+        ensures { IfOk result (λ part. formula part ≡ Not (formula operand)) }
+    {
+        Ok(Part::Not(Box::new(alloc, operand)?))
+    }
+
+    /// The part that is true where both operands are.
+    pub(crate) fn and(alloc: Global, left: Part, right: Part) -> Result<Part, Memory>
+        ensures { IfOk result (λ part. formula part ≡ And (formula left) (formula right)) }
+    {
+        Ok(Part::And(Box::new(alloc, left)?, Box::new(alloc, right)?))
+    }
+
+    /// The part that is true where one operand is, or both.
+    pub(crate) fn or(alloc: Global, left: Part, right: Part) -> Result<Part, Memory>
+        ensures { IfOk result (λ part. formula part ≡ Or (formula left) (formula right)) }
+    {
+        Ok(Part::Or(Box::new(alloc, left)?, Box::new(alloc, right)?))
+    }
 }
 
 /// What is left of `room` for parts after those of `part`; None exactly where they don't fit into it.
@@ -44,15 +67,15 @@ pub(crate) fn copy_part(alloc: Global, part: &Part) -> Result<Part, Memory>
         Part::False => Ok(Part::False),
         Part::True => Ok(Part::True),
         Part::Option(option) => Ok(Part::Option(*option)),
-        Part::Not(inner) => Ok(Part::Not(Box::new(alloc, copy_part(alloc, inner)?)?)),
-        Part::And(left, right) => Ok(Part::And(
-            Box::new(alloc, copy_part(alloc, left)?)?,
-            Box::new(alloc, copy_part(alloc, right)?)?,
-        )),
-        Part::Or(left, right) => Ok(Part::Or(
-            Box::new(alloc, copy_part(alloc, left)?)?,
-            Box::new(alloc, copy_part(alloc, right)?)?,
-        )),
+        Part::Not(inner) => Part::not(alloc, copy_part(alloc, inner)?),
+        Part::And(left, right) => {
+            let left = copy_part(alloc, left)?;
+            Part::and(alloc, left, copy_part(alloc, right)?)
+        }
+        Part::Or(left, right) => {
+            let left = copy_part(alloc, left)?;
+            Part::or(alloc, left, copy_part(alloc, right)?)
+        }
     }
 }
 

@@ -1,6 +1,7 @@
 // Choices that bind some of the options.
 ghost use Rattle.std.specs.Prelude.{◌≡◌, ◌<◌, ◌≤◌, ℕ, List, Bool, true, nat_lt, length, IfOk};
 ghost use Rattle.std.specs.List.{enumerate_from, list_all};
+ghost use Rattle.cov_base.specs.declared.limits.TheConstants.{CHOICE_WIDTH};
 ghost use Rattle.cov_expr.specs.Partials.{is_in_order, bound_value, places_from};
 
 use cov_base::{Choice, Memory, OptionId};
@@ -41,7 +42,7 @@ impl Partial {
 
     /// Binds each option for whose number there is a value.
     pub(crate) fn of_values(alloc: Global, values: &[Option<bool>]) -> Result<Partial, Memory>
-        requires { length values.now ≤ 128 }
+        requires { length values.now ≤ CHOICE_WIDTH }
         ensures bindings { IfOk result (λ partial. partial ≡ places_from 0 values.now) }
         ensures within { IfOk result (λ partial. list_all (λ b. nat_lt b.0 (length values.now)) partial ≡ true) }
     {

@@ -1,6 +1,7 @@
 // Choices as they are printed.
 ghost use Rattle.std.specs.Prelude.{◌≡◌, ◌<◌, ◌≤◌, ◌++◌, length, IfOk, OnOk};
 ghost use Rattle.cov_base.specs.Choices.{is_on};
+ghost use Rattle.cov_base.specs.declared.limits.TheConstants.{CHOICE_WIDTH};
 ghost use Rattle.cov_expr.specs.Options.{option_name};
 ghost use Rattle.cov_expr.specs.ChoiceText.{binding_text, choice_text};
 
@@ -34,7 +35,7 @@ fn append_binding(
 ) -> Result<(), Memory>
     requires bound { number < length choice }
     requires declared { number < length options.now.names }
-    requires small { number < 128 }
+    requires small { number < CHOICE_WIDTH }
     ensures { OnOk result (text.new ≡ text.old ++ binding_text (option_name options.now.names number) (is_on choice number)) }
 {
     let option = OptionId::new(number);

@@ -152,7 +152,8 @@ fn place_of(text: &[u8], byte: u8) -> Option<usize>
     text.iter().position(|b| *b == byte)
 }
 
-fn switch_in(word: &[u8]) -> Option<bool>
+/// What `on` and `off` stand for; None exactly where the word is neither.
+pub fn switch_in(word: &[u8]) -> Option<bool>
     ensures { result ≡ switch_of word.now }
 {
     match word {

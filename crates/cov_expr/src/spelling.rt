@@ -1,29 +1,27 @@
 // The expression that a text spells.
 ghost use Rattle.std.specs.Prelude.{◌≡◌, ◌<◌, ◌^◌, length, IfOk, IfSome};
 ghost use Rattle.std.specs.Option.{option_map};
+ghost use Rattle.cov_base.specs.Answers.{IsOrMemory};
 ghost use Rattle.cov_expr.specs.Parsing.{IsParsed};
-ghost use Rattle.cov_expr.specs.Reading.{start, next, read_lexed, parsed, IsAnswer};
+ghost use Rattle.cov_expr.specs.Reading.{start, next, read_lexed, parsed, is_memory};
 ghost use Rattle.cov_expr.specs.Readings.{state_of};
 ghost use Rattle.cov_expr.specs.Sizes.{IsFrontSize};
-ghost use Rattle.cov_expr.specs.Steps.{HasTokens, IsFrontRead};
+ghost use Rattle.cov_expr.specs.FrontReads.{HasTokens, IsFrontRead};
 ghost use Rattle.cov_expr.specs.Tokens.{tokens_of, token_count};
 
 use crate::raw_expr::RawExpr;
 use crate::reading::Reading;
 use crate::token::{Lexeme, Token, lexeme_of};
 use crate::tree::Tree;
-use cov_base::{Memory, Text};
+use cov_base::{MOST_TOKENS, Memory, Text};
 use std::alloc::Global;
-
-/// The greatest number of tokens of an expression.
-const MOST_TOKENS: u32 = 256;
 
 /// Why a text is no expression.
 #[derive(Clone, Copy, Debug, PartialEq, Eq)]
 pub enum ExprFault {
     /// The place of the first mistake: the index of a byte, or the number of bytes where the text ends too early.
     Syntax { at: u32 },
-    /// It has more than 256 tokens.
+    /// It has more than `MOST_TOKENS` tokens.
     TooLong,
     Memory,
 }
@@ -39,13 +37,13 @@ impl From<Memory> for ExprFault {
 }
 
 /// The expression that a text spells. Its refusals come in this order: `Syntax` at the first byte that neither is a
-/// space nor begins a token; `TooLong` where there are more than 256 tokens; `Syntax` at the first byte of the first
+/// space nor begins a token; `TooLong` where there are more than `MOST_TOKENS` tokens; `Syntax` at the first byte of the first
 /// token such that no expression begins with the tokens up to and including it; `Syntax` at the text's length where
 /// the tokens are too few for an expression. The work is linear in the text.
 pub fn parse(alloc: Global, bytes: &[u8]) -> Result<RawExpr, ExprFault>
     requires { length bytes.now < 2 ^ 32 }
     ensures grammar { IsParsed (length bytes.now) (tokens_of bytes.now) result }
-    ensures answer { IsAnswer (parsed bytes.now) result }
+    ensures answer { IsOrMemory is_memory (parsed bytes.now) result }
 {
     match parse_tree(alloc, bytes) {
         Ok(tree) => Ok(RawExpr::new(tree)),
@@ -55,7 +53,7 @@ pub fn parse(alloc: Global, bytes: &[u8]) -> Result<RawExpr, ExprFault>
 
 fn parse_tree(alloc: Global, bytes: &[u8]) -> Result<Tree, ExprFault>
     requires { length bytes.now < 2 ^ 32 }
-    ensures { IsAnswer (parsed bytes.now) result }
+    ensures { IsOrMemory is_memory (parsed bytes.now) result }
 {
     match count_tokens(bytes) {
         Err(at) => Err(ExprFault::Syntax { at }),
@@ -72,16 +70,16 @@ fn parse_tree(alloc: Global, bytes: &[u8]) -> Result<Tree, ExprFault>
 fn read_tokens(alloc: Global, bytes: &[u8]) -> Result<Tree, ExprFault>
     requires short { length bytes.now < 2 ^ 32 }
     requires lexed { HasTokens (tokens_of bytes.now) }
-    ensures { IsAnswer (read_lexed (tokens_of bytes.now) (length bytes.now) start) result }
+    ensures { IsOrMemory is_memory (read_lexed (tokens_of bytes.now) (length bytes.now) start) result }
 {
     let mut reading = Reading::new(alloc);
     let mut at = 0;
     while at < bytes.len() {
         match read_front(alloc, reading, &bytes[at..])? {
             None => return Err(ExprFault::Syntax { at: at as u32 }),
-            Some(step) => {
-                at += step.bytes;
-                reading = step.reading;
+            Some(front) => {
+                at += front.bytes;
+                reading = front.reading;
             }
         }
     }
@@ -93,20 +91,20 @@ fn read_tokens(alloc: Global, bytes: &[u8]) -> Result<Tree, ExprFault>
 
 // What was read, with the space or the token at the front of a text, and how many bytes this is.
 #[derive(Debug, Drop)]
-struct Step {
+struct Front {
     reading: Reading,
     bytes: usize,
 }
 
 // Reads what stands at the front of the text; None where no expression goes on with it.
-fn read_front(alloc: Global, reading: Reading, text: &[u8]) -> Result<Option<Step>, Memory>
+fn read_front(alloc: Global, reading: Reading, text: &[u8]) -> Result<Option<Front>, Memory>
     requires some { 0 < length text.now }
     requires few { reading.level.nots < 2 ^ 32 }
     ensures { IfOk result (IsFrontRead text.now (state_of reading)) }
 {
     match lexeme_of(text) {
         Lexeme::Bad => Ok(None),
-        Lexeme::Space => Ok(Some(Step { reading, bytes: 1 })),
+        Lexeme::Space => Ok(Some(Front { reading, bytes: 1 })),
         Lexeme::Word(bytes) => {
             let word = Text::from_slice(alloc, &text[..bytes])?;
             read_token(alloc, reading, Token::Word(word), bytes)
@@ -121,14 +119,14 @@ fn read_token(
     reading: Reading,
     token: Token,
     bytes: usize,
-) -> Result<Option<Step>, Memory>
+) -> Result<Option<Front>, Memory>
     requires { reading.level.nots < 2 ^ 32 }
-    ensures state { IfOk result (λ step. option_map (λ s. state_of s.reading) step ≡ next (state_of reading) token) }
-    ensures bytes { IfOk result (λ step. IfSome step (λ s. s.bytes ≡ bytes)) }
+    ensures state { IfOk result (λ front. option_map (λ s. state_of s.reading) front ≡ next (state_of reading) token) }
+    ensures bytes { IfOk result (λ front. IfSome front (λ s. s.bytes ≡ bytes)) }
 {
     match reading.read(alloc, token)? {
         None => Ok(None),
-        Some(reading) => Ok(Some(Step { reading, bytes })),
+        Some(reading) => Ok(Some(Front { reading, bytes })),
     }
 }
 

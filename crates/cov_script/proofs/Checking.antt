@@ -3,9 +3,9 @@ use Rattle.std.proofs.Common.{◌≡◌, ℕ, Bool, true, false, List, [], ◌�
 use Rattle.std.specs.Prelude.{codes, is_some, if◌then◌else◌}
 use Rattle.cov_base.specs.Spelling.{path_of}
 use Rattle.cov_expr.specs.ChoiceText.{bindings_of, switch_of}
-use Rattle.cov_script.specs.Fields.{Rest, ahead, place, behind, go_on, field, taken, at_end, expression, text, token_of, name_of, new_path_of, word_of, number_of, line_of, first_field}
+use Rattle.cov_script.specs.Fields.{Rest, ahead, place, behind, go_on, field, taken, at_end, expression, text, token_of, name_of, new_path_of, word_of, number_of, line_field_of, first_field}
 use Rattle.cov_script.specs.Kinds.{Kind, Expression, Text, is_of, ends_at_space, kinds_behind}
-use Rattle.cov_script.specs.Lines.{line_behind, two_fields, one, two, three, line_and_text, with_text, ambition, open_line}
+use Rattle.cov_script.specs.Lines.{line_behind, two_fields, alone, pair, triple, made, line_and_text, named_text, ambition, opening}
 use Rattle.cov_script.specs.declared.keyword.Keyword.{Keyword}
 use Rattle.cov_script.specs.declared.keyword.Keyword.TheVariants as keywords
 use Rattle.cov_script.specs.declared.line.Line.{Line}
@@ -76,30 +76,36 @@ two_fields-told {X} {Y} {Z} kind kind' g h same rest = first (kind (first_field 
     first None = refl
     first (Some x) = second x (behind rest) (kind' (first_field (ahead (behind rest))))
 
-one-told : {X : Type 0} (kind : List ℕ → Option X) (form : X → Line) (rest : Rest) → told (one kind form rest) ≡ go_on (field (tested kind) rest) (λ a. at_end tt a.1)
-one-told kind form rest = field-told kind (λ a. at_end (form a.0) a.1) (λ r. at_end tt r) (λ x r. at_end-told (form x) r) rest
+alone-told : {X : Type 0} (kind : List ℕ → Option X) (rest : Rest) → told (alone kind rest) ≡ go_on (field (tested kind) rest) (λ a. at_end tt a.1)
+alone-told kind rest = field-told kind (λ a. at_end a.0 a.1) (λ r. at_end tt r) (λ x r. at_end-told x r) rest
+
+one-told : {X : Type 0} (kind : List ℕ → Option X) (form : X → Line) (rest : Rest) → told (made (alone kind rest) form) ≡ go_on (field (tested kind) rest) (λ a. at_end tt a.1)
+one-told kind form rest = value-told (alone kind rest) form ∙ alone-told kind rest
 
 two-told : {X Y : Type 0} (kind : List ℕ → Option X) (kind' : List ℕ → Option Y) (form : X → Y → Line) (rest : Rest)
-    → told (two kind kind' form rest) ≡ go_on (field (tested kind) rest) (λ a. go_on (field (tested kind') a.1) (λ b. at_end tt b.1))
+    → told (made (pair kind kind' rest) (λ a. form a.0 a.1)) ≡ go_on (field (tested kind) rest) (λ a. go_on (field (tested kind') a.1) (λ b. at_end tt b.1))
 two-told kind kind' form rest =
-    two_fields-told kind kind' (λ a. at_end (form a.0.0 a.0.1) a.1) (λ r. at_end tt r) (λ x y r. at_end-told (form x y) r) rest
+    value-told (pair kind kind' rest) (λ a. form a.0 a.1)
+    ∙ two_fields-told kind kind' (λ a. at_end a.0 a.1) (λ r. at_end tt r) (λ x y r. at_end-told (x, y) r) rest
 
 three-told : {X Y Z : Type 0} (kind : List ℕ → Option X) (kind' : List ℕ → Option Y) (kind'' : List ℕ → Option Z) (form : X → Y → Z → Line) (rest : Rest)
-    → told (three kind kind' kind'' form rest) ≡ go_on (field (tested kind) rest) (λ a. go_on (field (tested kind') a.1) (λ b. go_on (field (tested kind'') b.1) (λ c. at_end tt c.1)))
+    → told (made (triple kind kind' kind'' rest) (λ a. form a.0 a.1 a.2)) ≡ go_on (field (tested kind) rest) (λ a. go_on (field (tested kind') a.1) (λ b. go_on (field (tested kind'') b.1) (λ c. at_end tt c.1)))
 three-told kind kind' kind'' form rest =
-    two_fields-told kind kind' (λ a. go_on (field kind'' a.1) (λ b. at_end (form a.0.0 a.0.1 b.0) b.1)) (λ r. go_on (field (tested kind'') r) (λ c. at_end tt c.1))
-    (λ x y r. field-told kind'' (λ b. at_end (form x y b.0) b.1) (λ r. at_end tt r) (λ z r. at_end-told (form x y z) r) r)
+    value-told (triple kind kind' kind'' rest) (λ a. form a.0 a.1 a.2)
+    ∙ two_fields-told kind kind' (λ a. go_on (alone kind'' a.1) (λ z. Ok (a.0.0, a.0.1, z))) (λ r. go_on (field (tested kind'') r) (λ c. at_end tt c.1))
+    (λ x y r. value-told (alone kind'' r) (λ z. (x, y, z)) ∙ alone-told kind'' r)
     rest
 
-line_and_text-told : (rest : Rest) → told (line_and_text rest) ≡ go_on (field (tested line_of) rest) (λ a. told (text a.1))
+line_and_text-told : (rest : Rest) → told (line_and_text rest) ≡ go_on (field (tested line_field_of) rest) (λ a. told (text a.1))
 line_and_text-told rest =
-    field-told line_of (λ a. go_on (text a.1) (λ t. Ok (a.0, t))) (λ r. told (text r)) (λ l r. value-told (text r) (λ t. (l, t))) rest
+    field-told line_field_of (λ a. go_on (text a.1) (λ t. Ok (a.0, t))) (λ r. told (text r)) (λ l r. value-told (text r) (λ t. (l, t))) rest
 
 with_text-told : (form : List ℕ → List (List ℕ) → LineField → List ℕ → Line) (rest : Rest)
-    → told (with_text form rest) ≡ go_on (field (tested name_of) rest) (λ a. go_on (field (tested path_of) a.1) (λ b. go_on (field (tested line_of) b.1) (λ c. told (text c.1))))
+    → told (made (named_text rest) (λ a. form a.0 a.1 a.2 a.3)) ≡ go_on (field (tested name_of) rest) (λ a. go_on (field (tested path_of) a.1) (λ b. go_on (field (tested line_field_of) b.1) (λ c. told (text c.1))))
 with_text-told form rest =
-    two_fields-told name_of path_of (λ a. go_on (line_and_text a.1) (λ b. Ok (form a.0.0 a.0.1 b.0 b.1))) (λ r. go_on (field (tested line_of) r) (λ c. told (text c.1)))
-    (λ n p r. value-told (line_and_text r) (λ b. form n p b.0 b.1) ∙ line_and_text-told r)
+    value-told (named_text rest) (λ a. form a.0 a.1 a.2 a.3)
+    ∙ two_fields-told name_of path_of (λ a. go_on (line_and_text a.1) (λ b. Ok (a.0.0, a.0.1, b.0, b.1))) (λ r. go_on (field (tested line_field_of) r) (λ c. told (text c.1)))
+    (λ n p r. value-told (line_and_text r) (λ b. (n, p, b.0, b.1)) ∙ line_and_text-told r)
     rest
 
 ambition-told : (rest : Rest) → told (ambition rest) ≡ go_on (field (tested (word_of (codes "for"))) rest) (λ a. told (expression a.1))
@@ -107,10 +113,11 @@ ambition-told rest =
     field-told (word_of (codes "for")) (λ a. expression a.1) (λ r. told (expression r)) (λ x r. refl) rest
 
 open-told : (rest : Rest)
-    → told (open_line rest) ≡ go_on (field (tested name_of) rest) (λ a. go_on (field (tested bindings_of) a.1) (λ b. go_on (field (tested (word_of (codes "for"))) b.1) (λ c. told (expression c.1))))
+    → told (line_behind keywords.Open rest) ≡ go_on (field (tested name_of) rest) (λ a. go_on (field (tested bindings_of) a.1) (λ b. go_on (field (tested (word_of (codes "for"))) b.1) (λ c. told (expression c.1))))
 open-told rest =
-    two_fields-told name_of bindings_of (λ a. go_on (ambition a.1) (λ e. Ok (lines.OpenSession a.0.0 a.0.1 e))) (λ r. go_on (field (tested (word_of (codes "for"))) r) (λ c. told (expression c.1)))
-    (λ n c r. value-told (ambition r) (λ e. lines.OpenSession n c e) ∙ ambition-told r)
+    value-told (opening rest) (λ a. lines.OpenSession a.0 a.1 a.2)
+    ∙ two_fields-told name_of bindings_of (λ a. go_on (ambition a.1) (λ e. Ok (a.0.0, a.0.1, e))) (λ r. go_on (field (tested (word_of (codes "for"))) r) (λ c. told (expression c.1)))
+    (λ n c r. value-told (ambition r) (λ e. (n, c, e)) ∙ ambition-told r)
     rest
 
 -- a keyword's form is read by the kinds of its fields
@@ -127,7 +134,7 @@ behind-told keywords.Rename rest = three-told name_of path_of name_of (λ n p to
 behind-told keywords.Move rest = three-told name_of path_of path_of (λ n p target. lines.Move n p target) rest
 behind-told keywords.Remove rest = two-told name_of path_of (λ n p. lines.Remove n p) rest
 behind-told keywords.Insert rest = with_text-told (λ n p l t. lines.Insert n p l t) rest
-behind-told keywords.Delete rest = three-told name_of path_of line_of (λ n p l. lines.Delete n p l) rest
+behind-told keywords.Delete rest = three-told name_of path_of line_field_of (λ n p l. lines.Delete n p l) rest
 behind-told keywords.Replace rest = with_text-told (λ n p l t. lines.Replace n p l t) rest
 behind-told keywords.Show rest = two-told name_of path_of (λ n p. lines.Show n p) rest
 behind-told keywords.List rest = two-told name_of path_of (λ n p. lines.List n p) rest

@@ -6,8 +6,7 @@ use Rattle.cov_script.specs.Kinds.{word_for}
 use Rattle.cov_script.specs.Lines.{form_of, spoken, if_keyword, keyword_of, line_behind}
 use Rattle.cov_script.specs.declared.keyword.Keyword.{Keyword}
 use Rattle.cov_script.specs.declared.keyword.Keyword.TheVariants as keywords
-use Rattle.cov_script.proofs.Spelling.{first, later}
-use Rattle.cov_script.proofs.Unspelling.{is_other}
+use Rattle.cov_script.proofs.Spelling.{is_other, first, later}
 
 -- what holds of the word of each keyword, and of what follows it
 record IsWord (k : Keyword) : Type 0 where
@@ -17,28 +16,7 @@ record IsWord (k : Keyword) : Type 0 where
 
 is_word : (k : Keyword) → IsWord k
 is_word keywords.Option = record { spaceless = refl; found = refl; speaks = λ tail. refl }
-is_word keywords.Constraint = record { spaceless = refl; found = refl; speaks = λ tail. refl }
-is_word keywords.Prefer = record { spaceless = refl; found = refl; speaks = λ tail. refl }
-is_word keywords.Default = record { spaceless = refl; found = refl; speaks = λ tail. refl }
-is_word keywords.Complete = record { spaceless = refl; found = refl; speaks = λ tail. refl }
-is_word keywords.Open = record { spaceless = refl; found = refl; speaks = λ tail. refl }
-is_word keywords.MakeDir = record { spaceless = refl; found = refl; speaks = λ tail. refl }
-is_word keywords.MakeFile = record { spaceless = refl; found = refl; speaks = λ tail. refl }
-is_word keywords.Rename = record { spaceless = refl; found = refl; speaks = λ tail. refl }
-is_word keywords.Move = record { spaceless = refl; found = refl; speaks = λ tail. refl }
-is_word keywords.Remove = record { spaceless = refl; found = refl; speaks = λ tail. refl }
-is_word keywords.Insert = record { spaceless = refl; found = refl; speaks = λ tail. refl }
-is_word keywords.Delete = record { spaceless = refl; found = refl; speaks = λ tail. refl }
-is_word keywords.Replace = record { spaceless = refl; found = refl; speaks = λ tail. refl }
-is_word keywords.Show = record { spaceless = refl; found = refl; speaks = λ tail. refl }
-is_word keywords.List = record { spaceless = refl; found = refl; speaks = λ tail. refl }
-is_word keywords.Refresh = record { spaceless = refl; found = refl; speaks = λ tail. refl }
-is_word keywords.Commit = record { spaceless = refl; found = refl; speaks = λ tail. refl }
-is_word keywords.Drop = record { spaceless = refl; found = refl; speaks = λ tail. refl }
-is_word keywords.Cat = record { spaceless = refl; found = refl; speaks = λ tail. refl }
-is_word keywords.Checkout = record { spaceless = refl; found = refl; speaks = λ tail. refl }
-is_word keywords.Alt = record { spaceless = refl; found = refl; speaks = λ tail. refl }
-is_word keywords.Where = record { spaceless = refl; found = refl; speaks = λ tail. refl }
+is_word k = record { spaceless = refl; found = refl; speaks = λ tail. refl }
 
 pub word_found : (k : Keyword) → keyword_of (word_for k) ≡ Some k
 word_found k = (is_word k).found

@@ -1,7 +1,7 @@
 -- Fields by their kinds.
 use Rattle.std.proofs.Common.{◌≡◌, ℕ, ◌-◌, true, false, List, [], ◌∷◌, length, Result, Err, refl, ap, ◌∙◌, arith}
 use Rattle.cov_script.specs.Fields.{Rest, field, go_on, taken, place, behind, first_field}
-use Rattle.cov_script.specs.Kinds.{Kind, Token, Name, Path, NewPath, Choice, Switch, For, StoreLine, EditLine, Expression, Text, is_of, ends_at_space}
+use Rattle.cov_script.specs.Kinds.{Kind, Expression, Text, is_of, ends_at_space}
 use Rattle.cov_script.specs.Mistakes.{IsWrong}
 use Rattle.cov_script.specs.declared.line.LineSyntax.{LineSyntax}
 use Rattle.cov_script.specs.declared.line.LineSyntax.TheVariants.{Syntax}
@@ -9,44 +9,20 @@ use Rattle.cov_script.proofs.Checking.{passed, test}
 
 -- no empty field is of a kind that ends at a space
 pub empty_is_wrong : (kind : Kind) → ends_at_space kind ≡ true → is_of kind [] ≡ false
-empty_is_wrong Token ends = refl
-empty_is_wrong Name ends = refl
-empty_is_wrong Path ends = refl
-empty_is_wrong NewPath ends = refl
-empty_is_wrong Choice ends = refl
-empty_is_wrong Switch ends = refl
-empty_is_wrong For ends = refl
-empty_is_wrong StoreLine ends = refl
-empty_is_wrong EditLine ends = refl
 empty_is_wrong Expression ends = cc
 empty_is_wrong Text ends = cc
+empty_is_wrong kind ends = refl
 
 -- a field that ends at a space is mistaken at its first byte
 pub wrong_at_first : (kind : Kind) (bytes : List ℕ) → ends_at_space kind ≡ true → is_of kind bytes ≡ false → IsWrong kind bytes 0
-wrong_at_first Token bytes ends h = (h, refl)
-wrong_at_first Name bytes ends h = (h, refl)
-wrong_at_first Path bytes ends h = (h, refl)
-wrong_at_first NewPath bytes ends h = (h, refl)
-wrong_at_first Choice bytes ends h = (h, refl)
-wrong_at_first Switch bytes ends h = (h, refl)
-wrong_at_first For bytes ends h = (h, refl)
-wrong_at_first StoreLine bytes ends h = (h, refl)
-wrong_at_first EditLine bytes ends h = (h, refl)
 wrong_at_first Expression bytes ends h = cc
 wrong_at_first Text bytes ends h = cc
+wrong_at_first kind bytes ends h = (h, refl)
 
 pub first_is_wrong : (kind : Kind) (bytes : List ℕ) (within : ℕ) → ends_at_space kind ≡ true → IsWrong kind bytes within → (is_of kind bytes ≡ false) × (within ≡ 0)
-first_is_wrong Token bytes within ends h = h
-first_is_wrong Name bytes within ends h = h
-first_is_wrong Path bytes within ends h = h
-first_is_wrong NewPath bytes within ends h = h
-first_is_wrong Choice bytes within ends h = h
-first_is_wrong Switch bytes within ends h = h
-first_is_wrong For bytes within ends h = h
-first_is_wrong StoreLine bytes within ends h = h
-first_is_wrong EditLine bytes within ends h = h
 first_is_wrong Expression bytes within ends h = cc
 first_is_wrong Text bytes within ends h = cc
+first_is_wrong kind bytes within ends h = h
 
 module _ (kind : Kind) (later : Rest → Result (Unit {0}) LineSyntax) (size : ℕ) where
   -- a field that isn't of its kind stops the reading at its first byte

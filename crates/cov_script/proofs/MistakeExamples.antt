@@ -1,11 +1,12 @@
 -- Lines with the places at which they are mistaken.
-use Rattle.std.proofs.Common.{◌≡◌, [], ◌∷◌, ◌++◌, replicate, Some, None, refl, ap, sym, ◌∙◌, inl, inr, arith}
+use Rattle.std.proofs.Common.{◌≡◌, ℕ, ◌+◌, List, [], ◌∷◌, ◌++◌, length, replicate, Some, None, refl, ap, sym, ◌∙◌, inl, inr, arith}
 use Rattle.std.specs.Prelude.{codes}
 use Rattle.std.specs.Str.{is_utf8, chars}
+use Rattle.std.proofs.lemmas.List.{append-nil}
 use lib.Utf8.{encode}
-use Rattle.cov_script.specs.Kinds.{Token, Name, Path, Choice, For, EditLine, Expression, Text, word_for}
+use Rattle.cov_script.specs.Kinds.{Kind, Token, Name, Path, Choice, For, EditLine, Expression, Text, field_ahead, word_for, kinds_behind}
 use Rattle.cov_script.specs.Lines.{keyword_of}
-use Rattle.cov_script.specs.Mistakes.{IsRight, IsMistaken, IsTooLong}
+use Rattle.cov_script.specs.Mistakes.{IsRight, IsWrong, IsMistaken, IsTooLong}
 use Rattle.cov_script.specs.declared.keyword.Keyword.{Keyword}
 use Rattle.cov_script.specs.declared.keyword.Keyword.TheVariants as keywords
 use Rattle.cov_script.proofs.Keywords.{word_found}
@@ -17,21 +18,26 @@ more =
     let token : IsRight Token (codes "a") = record { ends = refl; spaceless = refl; of_kind = refl } in
     inr (inr (inr (record { keyword = keywords.Option; front = codes "option a"; right = (codes " a", refl, (codes "a", [], refl, token, refl)); more = codes "b"; all = refl; place = refl })))
 
--- no token, behind a space and before one: an empty field is not of its kind
-empty : IsMistaken (codes "option  a") 7
-empty = inr (inl (record {
-  keyword = keywords.Option;
+-- a line whose first field isn't of its kind
+first_wrong : (keyword : Keyword) (kind : Kind) (later : List Kind) (ahead : List ℕ) (within : ℕ) → kinds_behind keyword ≡ kind ∷ later → IsWrong kind (field_ahead kind ahead) within
+    → IsMistaken (word_for keyword ++ 32 ∷ ahead) (length (word_for keyword) + 1 + within)
+first_wrong keyword kind later ahead within wanted wrong = inr (inl (record {
+  keyword = keyword;
   before = [];
-  kind = Token;
-  wanted = ([], refl);
-  front = codes "option";
-  right = ([], refl, refl);
-  ahead = codes " a";
+  kind = kind;
+  wanted = (later, wanted);
+  front = word_for keyword;
+  right = ([], sym (append-nil (word_for keyword)), refl);
+  ahead = ahead;
   all = refl;
-  within = 0;
-  wrong = (refl, refl);
+  within = within;
+  wrong = wrong;
   place = refl;
 }))
+
+-- no token, behind a space and before one: an empty field is not of its kind
+empty : IsMistaken (codes "option  a") 7
+empty = first_wrong keywords.Option Token [] (codes " a") 0 refl (refl, refl)
 
 -- no expression: at the line's length
 lacking : IsMistaken (codes "constraint") 10
@@ -40,19 +46,7 @@ lacking =
 
 -- a byte that begins no token, behind the keyword and a space at 11: at its place within the expression behind that
 no_token : IsMistaken (codes "constraint a $") 13
-no_token = inr (inl (record {
-  keyword = keywords.Constraint;
-  before = [];
-  kind = Expression;
-  wanted = ([], refl);
-  front = codes "constraint";
-  right = ([], refl, refl);
-  ahead = codes "a $";
-  all = refl;
-  within = 2;
-  wrong = refl;
-  place = refl;
-}))
+no_token = first_wrong keywords.Constraint Expression [] (codes "a $") 2 refl refl
 
 -- the third field is not the word for, and what follows it isn't looked at
 third : IsMistaken (codes "open s - fro $") 9

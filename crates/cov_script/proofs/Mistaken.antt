@@ -2,14 +2,15 @@
 use Rattle.std.proofs.Common.{◌≡◌, ◌⊎◌, ℕ, ◌+◌, ◌-◌, Bool, true, false, nat_eq, List, [], ◌∷◌, ◌++◌, length, Option, Some, None, Result, Ok, Err, refl, ap, subst, sym, inl, inr, ◌∙◌, append_assoc, arith}
 use Rattle.std.specs.Prelude.{if◌then◌else◌}
 use Rattle.std.proofs.lemmas.List.{append-nil, length-append}
+use Rattle.cov_base.specs.Spelling.{is_line_text}
 use Rattle.cov_expr.specs.Formula.{Formula}
 use Rattle.cov_expr.specs.Laws.{ReadsByGrammar}
 use Rattle.cov_expr.specs.Reading.{parsed}
 use Rattle.cov_expr.specs.declared.spelling.ExprFault.{ExprFault}
 use Rattle.cov_expr.specs.declared.spelling.ExprFault.TheVariants as faults
-use Rattle.cov_script.specs.Fields.{go_on, field, taken, place, behind, at_end, expression, expression_at, text, is_text, first_field, behind_field}
+use Rattle.cov_script.specs.Fields.{go_on, field, taken, place, behind, at_end, expression, expression_at, text, first_field, behind_field}
 use Rattle.cov_script.specs.Forms.{IsSilent, HasForm}
-use Rattle.cov_script.specs.Kinds.{Kind, Token, Name, Path, NewPath, Choice, Switch, For, StoreLine, EditLine, Expression, Text, is_of, ends_at_space, field_ahead, word_for, kinds_behind}
+use Rattle.cov_script.specs.Kinds.{Kind, Expression, Text, is_of, ends_at_space, field_ahead, word_for, kinds_behind}
 use Rattle.cov_script.specs.Lines.{form_of, spoken, if_keyword, keyword_of}
 use Rattle.cov_script.specs.Mistakes.{IsRight, AreRight, IsFront, IsWrong, HasMore, IsMistaken, IsTooLong}
 use Rattle.cov_script.specs.declared.keyword.Keyword.{Keyword}
@@ -156,7 +157,7 @@ module _ (grammar : ReadsByGrammar) (keyword : Keyword) (line : List ℕ) where
       }
   parsed-tells before kinds front ahead h (Err faults.Memory) read = absurd (never_memory ahead read)
 
-  text-tells : (before kinds : List Kind) (front ahead : List ℕ) → IsAt before (Text ∷ kinds) front (32 ∷ ahead) → (b : Bool) → is_text ahead ≡ b → Tells line (told (if b then Ok ahead else Err (Syntax (length line - length ahead))))
+  text-tells : (before kinds : List Kind) (front ahead : List ℕ) → IsAt before (Text ∷ kinds) front (32 ∷ ahead) → (b : Bool) → is_line_text ahead ≡ b → Tells line (told (if b then Ok ahead else Err (Syntax (length line - length ahead))))
   text-tells before kinds front ahead h true is = tt
   text-tells before kinds front ahead h false is =
       is_wrong before Text kinds front ahead 0 (length line - length ahead) h (is, refl) (omega arith)
@@ -171,16 +172,8 @@ module _ (grammar : ReadsByGrammar) (keyword : Keyword) (line : List ℕ) where
   to_end-tells before Text kinds front tail h (inl nothing) = subst (λ t. Tells line (told (text (length line, t)))) (sym nothing) tt
   to_end-tells before Text kinds front tail h (inr more) =
       let here : IsAt before (Text ∷ kinds) front (32 ∷ more.0) = subst (IsAt before (Text ∷ kinds) front) more.1 h in
-      subst (λ t. Tells line (told (text (length line, t)))) (sym more.1) (text-tells before kinds front more.0 here (is_text more.0) refl)
-  to_end-tells before Token kinds front tail h starts = tt
-  to_end-tells before Name kinds front tail h starts = tt
-  to_end-tells before Path kinds front tail h starts = tt
-  to_end-tells before NewPath kinds front tail h starts = tt
-  to_end-tells before Choice kinds front tail h starts = tt
-  to_end-tells before Switch kinds front tail h starts = tt
-  to_end-tells before For kinds front tail h starts = tt
-  to_end-tells before StoreLine kinds front tail h starts = tt
-  to_end-tells before EditLine kinds front tail h starts = tt
+      subst (λ t. Tells line (told (text (length line, t)))) (sym more.1) (text-tells before kinds front more.0 here (is_line_text more.0) refl)
+  to_end-tells before kind kinds front tail h starts = tt
 
   either-tells : (before : List Kind) (kind : Kind) (kinds : List Kind) (front tail : List ℕ)
       → ((before' : List Kind) (front' tail' : List ℕ) → IsAt before' kinds front' tail' → Starts tail' → Tells line (checked kinds (length line, tail')))

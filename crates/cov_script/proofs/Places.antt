@@ -2,10 +2,12 @@
 use Rattle.std.proofs.Common.{◌≡◌, ℕ, zero, suc, ◌+◌, ◌≤◌, Bool, true, false, List, [], ◌∷◌, length, Option, Some, None, Result, Ok, Err, arith, subst}
 use Rattle.std.specs.Prelude.{if◌then◌else◌, nat_eq, nat_lt}
 use Rattle.std.specs.List.{prefix_len, take_while}
+use Rattle.cov_base.specs.Answers.{IsOrMemory}
 use Rattle.cov_base.specs.Bytes.{is_letter}
+use Rattle.cov_base.specs.declared.limits.TheConstants.{MOST_TOKENS}
 use Rattle.cov_expr.specs.Formula.{Formula}
 use Rattle.cov_expr.specs.Tokens.{Lexed, Tokens, BadByte, tokens_of, tokens_from, token_then, sign_then, sign, goes_on, token_count}
-use Rattle.cov_expr.specs.Reading.{State, start, finished, next, at_end, go_on, read_from, read_lexed, read_counted, parsed, IsAnswer}
+use Rattle.cov_expr.specs.Reading.{ParserState, start, finished, next, at_end, go_on, read_from, read_lexed, read_counted, parsed, is_memory}
 use Rattle.cov_expr.specs.declared.spelling.ExprFault.{ExprFault}
 use Rattle.cov_expr.specs.declared.spelling.ExprFault.TheVariants.{Syntax, TooLong, Memory}
 use Rattle.cov_expr.specs.declared.token.Token.{Token}
@@ -54,11 +56,11 @@ at_end-within : (n : ℕ) (o : Option (Formula (List ℕ))) → FaultWithin n (a
 at_end-within n None = omega arith
 at_end-within n (Some e) = tt
 
-go_on-within : (n at : ℕ) (later : State → Result (Formula (List ℕ)) ExprFault) (o : Option State) → at ≤ n → ((s : State) → FaultWithin n (later s)) → FaultWithin n (go_on at later o)
+go_on-within : (n at : ℕ) (later : ParserState → Result (Formula (List ℕ)) ExprFault) (o : Option ParserState) → at ≤ n → ((s : ParserState) → FaultWithin n (later s)) → FaultWithin n (go_on at later o)
 go_on-within n at later None h k = h
 go_on-within n at later (Some s) h k = k s
 
-read_from-within : (ts : List (ℕ × Token)) (n : ℕ) (s : State) → AllWithin n ts → FaultWithin n (read_from ts n s)
+read_from-within : (ts : List (ℕ × Token)) (n : ℕ) (s : ParserState) → AllWithin n ts → FaultWithin n (read_from ts n s)
 read_from-within [] n s h = at_end-within n (finished s)
 read_from-within (t ∷ ts) n s h = go_on-within n t.0 (read_from ts n) (next s t.1) h.0 (λ m. read_from-within ts n m h.1)
 
@@ -71,7 +73,7 @@ too_long-within n true r h = tt
 too_long-within n false r h = h
 
 read_counted-within : (n : ℕ) (counted : Result ℕ ℕ) (r : Result (Formula (List ℕ)) ExprFault) → FaultWithin n r → FaultWithin n (read_counted counted r)
-read_counted-within n (Ok count) r h = too_long-within n (nat_lt 256 count) r h
+read_counted-within n (Ok count) r h = too_long-within n (nat_lt MOST_TOKENS count) r h
 read_counted-within n (Err at) r h = h
 
 parsed-within : (bs : List ℕ) → FaultWithin (length bs) (parsed bs)
@@ -88,5 +90,5 @@ pub never_memory : (bs : List ℕ) → parsed bs ≡ Err Memory → ⊥
 never_memory bs e = subst (FaultWithin (length bs)) e (parsed-within bs)
 
 -- the same of a fault that is answered
-pub answered_within : (bs : List ℕ) (fault : ExprFault) (at : ℕ) → IsAnswer (parsed bs) (Err fault) → fault ≡ Syntax at → at ≤ length bs
-answered_within bs fault at answer e = mistake_within bs at (subst (λ f. IsAnswer (parsed bs) (Err f)) e answer)
+pub answered_within : (bs : List ℕ) (fault : ExprFault) (at : ℕ) → IsOrMemory is_memory (parsed bs) (Err fault) → fault ≡ Syntax at → at ≤ length bs
+answered_within bs fault at answer e = mistake_within bs at (subst (λ f. IsOrMemory is_memory (parsed bs) (Err f)) e answer)

@@ -8,7 +8,7 @@ use Rattle.cov_expr.specs.Laws.{ReadsByGrammar}
 use Rattle.cov_expr.specs.declared.spelling.ExprFault.TheVariants as faults
 use Rattle.cov_script.specs.Fields.{go_on, field, expression_at, first_field, behind_field}
 use Rattle.cov_script.specs.Forms.{IsField, IsSilent}
-use Rattle.cov_script.specs.Kinds.{Kind, Token, Name, Path, NewPath, Choice, Switch, For, StoreLine, EditLine, Expression, Text, is_of, ends_at_space, field_ahead, word_for, kinds_behind}
+use Rattle.cov_script.specs.Kinds.{Kind, Expression, Text, is_of, ends_at_space, field_ahead, word_for, kinds_behind}
 use Rattle.cov_script.specs.Lines.{form_of, spoken, if_keyword, keyword_of}
 use Rattle.cov_script.specs.Mistakes.{IsRight, AreRight, IsFront, IsWrong, HasUnknownKeyword, HasWrongField, LacksField, HasMore, IsMistaken, IsTooLong}
 use Rattle.cov_script.specs.declared.keyword.Keyword.{Keyword}
@@ -17,8 +17,8 @@ use Rattle.cov_script.specs.declared.line.LineSyntax.TheVariants.{Syntax, TooLon
 use Rattle.cov_script.proofs.Checking.{told, passed, test, to_end, checked, told-err, behind-told}
 use Rattle.cov_script.proofs.Keywords.{keyword_read}
 use Rattle.cov_script.proofs.KindLemmas.{first_is_wrong, wrong_stops, missing_stops}
-use Rattle.cov_script.proofs.Spelling.{field_read}
-use Rattle.cov_script.proofs.Unspelling.{is_other, was_keyword}
+use Rattle.cov_script.proofs.Spelling.{is_other, field_read}
+use Rattle.cov_script.proofs.Unspelling.{was_keyword}
 
 -- fields begin with a space
 fields_begin : (kinds : List Kind) (fields tail : List ℕ) → AreRight kinds fields → prefix_len is_other tail ≡ 0 → prefix_len is_other (fields ++ tail) ≡ 0
@@ -75,18 +75,10 @@ wrong_text kinds ahead size within wrong =
 
 module _ (grammar : ReadsByGrammar) where
   wrong_read : (kind : Kind) (kinds : List Kind) (ahead : List ℕ) (size within : ℕ) → IsWrong kind (field_ahead kind ahead) within → checked (kind ∷ kinds) (size, 32 ∷ ahead) ≡ Err (Syntax (size - length ahead + within))
-  wrong_read Token kinds ahead size within wrong = wrong_first Token kinds ahead size within refl wrong
-  wrong_read Name kinds ahead size within wrong = wrong_first Name kinds ahead size within refl wrong
-  wrong_read Path kinds ahead size within wrong = wrong_first Path kinds ahead size within refl wrong
-  wrong_read NewPath kinds ahead size within wrong = wrong_first NewPath kinds ahead size within refl wrong
-  wrong_read Choice kinds ahead size within wrong = wrong_first Choice kinds ahead size within refl wrong
-  wrong_read Switch kinds ahead size within wrong = wrong_first Switch kinds ahead size within refl wrong
-  wrong_read For kinds ahead size within wrong = wrong_first For kinds ahead size within refl wrong
-  wrong_read StoreLine kinds ahead size within wrong = wrong_first StoreLine kinds ahead size within refl wrong
-  wrong_read EditLine kinds ahead size within wrong = wrong_first EditLine kinds ahead size within refl wrong
   wrong_read Text kinds ahead size within wrong = wrong_text kinds ahead size within wrong
   wrong_read Expression kinds ahead size within wrong =
       ap (λ r. told (expression_at (size - length ahead) r)) ((grammar ahead (Err (faults.Syntax within))).1 wrong)
+  wrong_read kind kinds ahead size within wrong = wrong_first kind kinds ahead size within refl wrong
 
   wrong_refused : (line : List ℕ) (at : ℕ) → HasWrongField line at → told (form_of line) ≡ Err (Syntax at)
   wrong_refused line at h =
@@ -107,19 +99,11 @@ missing_field kind kinds size ends =
     ∙ missing_stops kind (checked kinds) size ends
 
 missing_read : (kind : Kind) (kinds : List Kind) (size : ℕ) → (kind ≡ Text → ⊥) → checked (kind ∷ kinds) (size, []) ≡ Err (Syntax size)
-missing_read Token kinds size needed = missing_field Token kinds size refl
-missing_read Name kinds size needed = missing_field Name kinds size refl
-missing_read Path kinds size needed = missing_field Path kinds size refl
-missing_read NewPath kinds size needed = missing_field NewPath kinds size refl
-missing_read Choice kinds size needed = missing_field Choice kinds size refl
-missing_read Switch kinds size needed = missing_field Switch kinds size refl
-missing_read For kinds size needed = missing_field For kinds size refl
-missing_read StoreLine kinds size needed = missing_field StoreLine kinds size refl
-missing_read EditLine kinds size needed = missing_field EditLine kinds size refl
 missing_read Text kinds size needed = absurd (needed refl)
 missing_read Expression kinds size needed =
     let place : size - 0 + 0 ≡ size = omega arith in
     ap (λ n. Err (Syntax n)) place
+missing_read kind kinds size needed = missing_field kind kinds size refl
 
 lack_refused : (line : List ℕ) (at : ℕ) → LacksField line at → told (form_of line) ≡ Err (Syntax at)
 lack_refused line at h =

@@ -1,9 +1,9 @@
 -- A line as fields with one space between two, read from the left.
-use Rattle.std.specs.Prelude.{◌≡◌, ℕ, ◌+◌, ◌-◌, ◌*◌, ◌^◌, Bool, false, ◌&&◌, not, nat_eq, nat_lt, nat_le, List, [], ◌∷◌, length, drop, Option, Some, None, Result, Ok, Err, if◌then◌else◌}
+use Rattle.std.specs.Prelude.{ℕ, ◌+◌, ◌-◌, ◌*◌, ◌^◌, Bool, false, ◌&&◌, not, nat_eq, nat_lt, List, [], ◌∷◌, length, drop, Option, Some, None, Result, Ok, Err, if◌then◌else◌, true}
 use Rattle.std.specs.Str.{bytes_eq}
-use Rattle.std.specs.List.{list_all, list_any, before_first, position_or_len}
+use Rattle.std.specs.List.{list_all, before_first, position_or_len}
 use Rattle.cov_base.specs.Bytes.{is_digit}
-use Rattle.cov_base.specs.Spelling.{is_name, path_of}
+use Rattle.cov_base.specs.Spelling.{is_line_text, is_name, path_of}
 use Rattle.cov_expr.specs.Formula.{Formula}
 use Rattle.cov_expr.specs.Reading.{parsed}
 use Rattle.cov_expr.specs.declared.spelling.ExprFault.{ExprFault}
@@ -26,12 +26,11 @@ abbrev pub go_on : {X Y : Type 0} → Result X LineSyntax → (X → Result Y Li
 go_on (Ok x) later = later x
 go_on (Err fault) later = Err fault
 
--- the same answer, or want of memory
-abbrev pub IsAnswer : {X : Type 0} → Result X LineSyntax → Result X LineSyntax → Type 0
-IsAnswer wanted (Ok x) = wanted ≡ Ok x
-IsAnswer wanted (Err (Syntax at)) = wanted ≡ Err (Syntax at)
-IsAnswer wanted (Err TooLong) = wanted ≡ Err TooLong
-IsAnswer wanted (Err Memory) = Unit {0}
+-- whether a fault is want of memory
+abbrev pub is_memory : LineSyntax → Bool
+is_memory Memory = true
+is_memory (Syntax at) = false
+is_memory TooLong = false
 
 -- what is ahead, from the first byte of the next field on; a field that is missing is empty and begins at the line's end
 abbrev pub ahead : Rest → List ℕ
@@ -78,13 +77,9 @@ expression_at at (Err faults.Memory) = Err Memory
 abbrev pub expression : Rest → Result (Formula (List ℕ)) LineSyntax
 expression rest = expression_at (place rest) (parsed (ahead rest))
 
--- at most 4,096 bytes without a line's end
-abbrev pub is_text : List ℕ → Bool
-is_text bytes = nat_le (length bytes) 4096 && not (list_any (λ b. nat_eq b 10) bytes)
-
 -- a text, to the line's end; it may be empty or missing
 abbrev pub text : Rest → Result (List ℕ) LineSyntax
-text rest = if is_text (ahead rest) then Ok (ahead rest) else Err (Syntax (place rest))
+text rest = if is_line_text (ahead rest) then Ok (ahead rest) else Err (Syntax (place rest))
 
 -- one byte or more
 abbrev pub token_of : List ℕ → Option (List ℕ)
@@ -139,6 +134,6 @@ as_own None = None
 as_own (Some n) = Some (Own n)
 
 -- a line by its number, or with a plus by its number among the session's
-abbrev pub line_of : List ℕ → Option LineField
-line_of [] = None
-line_of (b ∷ bs) = if nat_eq b 43 then as_own (number_of bs) else as_number (number_of (b ∷ bs))
+abbrev pub line_field_of : List ℕ → Option LineField
+line_field_of [] = None
+line_field_of (b ∷ bs) = if nat_eq b 43 then as_own (number_of bs) else as_number (number_of (b ∷ bs))

@@ -1,11 +1,11 @@
 -- How the forms of lines are spelt.
 use Rattle.std.specs.Prelude.{◌≡◌, ◌⊎◌, ◌↔◌, ℕ, true, not, nat_eq, List, [], ◌∷◌, ◌++◌, Option, Some, Ok, codes}
 use Rattle.std.specs.List.{list_all}
-use Rattle.cov_base.specs.Spelling.{path_of}
+use Rattle.cov_base.specs.Spelling.{is_line_text, path_of}
 use Rattle.cov_expr.specs.ChoiceText.{bindings_of, switch_of}
 use Rattle.cov_expr.specs.Formula.{Formula}
 use Rattle.cov_expr.specs.Reading.{parsed}
-use Rattle.cov_script.specs.Fields.{is_text, token_of, name_of, new_path_of, number_of, line_of}
+use Rattle.cov_script.specs.Fields.{token_of, name_of, new_path_of, number_of, line_field_of}
 use Rattle.cov_script.specs.Lines.{form_of}
 use Rattle.cov_script.specs.declared.line.Line.{Line}
 use Rattle.cov_script.specs.declared.line.Line.TheVariants as lines
@@ -49,8 +49,8 @@ pub record Only (word : List ℕ) (e : Formula (List ℕ)) (line : List ℕ) : T
 -- a line and a text, which runs to the line's end, may hold spaces and, where it is empty, be missing
 pub record LineAndText (l : LineField) (t : List ℕ) (bytes : List ℕ) : Type 0 where
   pub a : List ℕ
-  pub first : IsField line_of l a
-  pub short : is_text t ≡ true
+  pub first : IsField line_field_of l a
+  pub short : is_line_text t ≡ true
   pub all : (bytes ≡ a ++ 32 ∷ t) ⊎ ((bytes ≡ a) × (t ≡ []))
 
 -- the word for and an expression
@@ -78,7 +78,7 @@ HasForm line (lines.Rename n p to) = Behind (codes "rename") name_of path_of n p
 HasForm line (lines.Move n p target) = Behind (codes "move") name_of path_of n p (IsField path_of target) line
 HasForm line (lines.Remove n p) = Two (codes "remove") name_of path_of n p line
 HasForm line (lines.Insert n p l t) = Behind (codes "insert") name_of path_of n p (LineAndText l t) line
-HasForm line (lines.Delete n p l) = Behind (codes "delete") name_of path_of n p (IsField line_of l) line
+HasForm line (lines.Delete n p l) = Behind (codes "delete") name_of path_of n p (IsField line_field_of l) line
 HasForm line (lines.Replace n p l t) = Behind (codes "replace") name_of path_of n p (LineAndText l t) line
 HasForm line (lines.Show n p) = Two (codes "show") name_of path_of n p line
 HasForm line (lines.List n p) = Two (codes "list") name_of path_of n p line

@@ -1,9 +1,9 @@
 -- What the form of each keyword wants: fields of kinds, in order.
 use Rattle.std.specs.Prelude.{ℕ, Bool, true, false, List, [], ◌∷◌, codes, is_some, is_ok, if◌then◌else◌}
-use Rattle.cov_base.specs.Spelling.{path_of}
+use Rattle.cov_base.specs.Spelling.{is_line_text, path_of}
 use Rattle.cov_expr.specs.ChoiceText.{bindings_of, switch_of}
 use Rattle.cov_expr.specs.Reading.{parsed}
-use Rattle.cov_script.specs.Fields.{is_text, token_of, name_of, new_path_of, word_of, number_of, line_of, first_field}
+use Rattle.cov_script.specs.Fields.{token_of, name_of, new_path_of, word_of, number_of, line_field_of, first_field}
 use Rattle.cov_script.specs.declared.keyword.Keyword.{Keyword}
 use Rattle.cov_script.specs.declared.keyword.Keyword.TheVariants as keywords
 
@@ -31,9 +31,9 @@ is_of Choice bytes = is_some (bindings_of bytes)
 is_of Switch bytes = is_some (switch_of bytes)
 is_of For bytes = is_some (word_of (codes "for") bytes)
 is_of StoreLine bytes = is_some (number_of bytes)
-is_of EditLine bytes = is_some (line_of bytes)
+is_of EditLine bytes = is_some (line_field_of bytes)
 is_of Expression bytes = is_ok (parsed bytes)
-is_of Text bytes = is_text bytes
+is_of Text bytes = is_line_text bytes
 
 -- whether a field of a kind ends at the next space; an expression and a text run to the line's end and may hold spaces
 abbrev pub ends_at_space : Kind → Bool

@@ -1,10 +1,11 @@
 -- The forms of lines.
-use Rattle.std.specs.Prelude.{ℕ, nat_eq, List, [], ◌∷◌, length, Option, Some, None, Result, Ok, Err, if◌then◌else◌, codes}
+use Rattle.std.specs.Prelude.{ℕ, Bool, nat_eq, List, [], ◌∷◌, map, length, Option, Some, None, Result, Ok, Err, if◌then◌else◌, codes}
 use Rattle.std.specs.Str.{bytes_eq}
 use Rattle.cov_base.specs.Spelling.{path_of}
 use Rattle.cov_expr.specs.ChoiceText.{bindings_of, switch_of}
 use Rattle.cov_expr.specs.Formula.{Formula}
-use Rattle.cov_script.specs.Fields.{Rest, Got, go_on, field, at_end, expression, text, token_of, name_of, new_path_of, word_of, number_of, line_of, first_field, behind_field}
+use Rattle.cov_script.specs.Fields.{Rest, Got, go_on, field, at_end, expression, text, token_of, name_of, new_path_of, word_of, number_of, line_field_of, first_field, behind_field}
+use Rattle.cov_script.specs.Kinds.{word_for}
 use Rattle.cov_script.specs.declared.keyword.Keyword.{Keyword}
 use Rattle.cov_script.specs.declared.keyword.Keyword.TheVariants as keywords
 use Rattle.cov_script.specs.declared.line.Line.{Line}
@@ -13,96 +14,86 @@ use Rattle.cov_script.specs.declared.line.LineField.{LineField}
 use Rattle.cov_script.specs.declared.line.LineSyntax.{LineSyntax}
 use Rattle.cov_script.specs.declared.line.LineSyntax.TheVariants.{Syntax}
 
--- the keywords of options and of what is said about them
-abbrev pub rule_words : List (List ℕ × Keyword)
-rule_words = (codes "option", keywords.Option) ∷ (codes "constraint", keywords.Constraint) ∷ (codes "prefer", keywords.Prefer) ∷ (codes "default", keywords.Default) ∷ (codes "complete", keywords.Complete) ∷ (codes "where", keywords.Where) ∷ []
+-- the keywords
+abbrev pub every_keyword : List Keyword
+every_keyword = keywords.Option ∷ keywords.Constraint ∷ keywords.Prefer ∷ keywords.Default ∷ keywords.Complete ∷ keywords.Open ∷ keywords.MakeDir ∷ keywords.MakeFile ∷ keywords.Rename ∷ keywords.Move ∷ keywords.Remove ∷ keywords.Insert ∷ keywords.Delete ∷ keywords.Replace ∷ keywords.Show ∷ keywords.List ∷ keywords.Refresh ∷ keywords.Commit ∷ keywords.Drop ∷ keywords.Cat ∷ keywords.Checkout ∷ keywords.Alt ∷ keywords.Where ∷ []
 
--- the keywords of edits of the tree
-abbrev pub tree_words : List (List ℕ × Keyword)
-tree_words = (codes "mkdir", keywords.MakeDir) ∷ (codes "mkfile", keywords.MakeFile) ∷ (codes "rename", keywords.Rename) ∷ (codes "move", keywords.Move) ∷ (codes "remove", keywords.Remove) ∷ []
-
--- the keywords of edits of lines, and of what a session shows
-abbrev pub line_words : List (List ℕ × Keyword)
-line_words = (codes "insert", keywords.Insert) ∷ (codes "delete", keywords.Delete) ∷ (codes "replace", keywords.Replace) ∷ (codes "show", keywords.Show) ∷ (codes "list", keywords.List) ∷ []
-
--- the keywords of sessions as wholes, and of what is shown of the store
-abbrev pub session_words : List (List ℕ × Keyword)
-session_words = (codes "open", keywords.Open) ∷ (codes "refresh", keywords.Refresh) ∷ (codes "commit", keywords.Commit) ∷ (codes "drop", keywords.Drop) ∷ (codes "cat", keywords.Cat) ∷ (codes "checkout", keywords.Checkout) ∷ (codes "alt", keywords.Alt) ∷ []
+-- each keyword with its bytes
+abbrev pub words : List (List ℕ × Keyword)
+words = map (λ k. (word_for k, k)) every_keyword
 
 -- the first of the words that bytes are
 abbrev pub looked_up : List (List ℕ × Keyword) → List ℕ → Option Keyword
 looked_up [] bytes = None
 looked_up (word ∷ words) bytes = if bytes_eq bytes word.0 then Some word.1 else looked_up words bytes
 
--- a keyword, or another where it is none
-abbrev pub or_else : Option Keyword → Option Keyword → Option Keyword
-or_else None other = other
-or_else (Some keyword) other = Some keyword
-
 -- the keyword that bytes are
 abbrev pub keyword_of : List ℕ → Option Keyword
-keyword_of bytes =
-    or_else (looked_up rule_words bytes) (or_else (looked_up tree_words bytes) (or_else (looked_up line_words bytes) (looked_up session_words bytes)))
+keyword_of bytes = looked_up words bytes
 
 -- two fields, one behind the other
 abbrev pub two_fields : {X Y : Type 0} → (List ℕ → Option X) → (List ℕ → Option Y) → Rest → Got (X × Y)
 two_fields first second rest =
     go_on (field first rest) (λ a. go_on (field second a.1) (λ b. Ok ((a.0, b.0), b.1)))
 
--- a line of one field
-abbrev pub one : {X : Type 0} → (List ℕ → Option X) → (X → Line) → Rest → Result Line LineSyntax
-one kind form rest = go_on (field kind rest) (λ a. at_end (form a.0) a.1)
+-- one field, and nothing behind it
+abbrev pub alone : {X : Type 0} → (List ℕ → Option X) → Rest → Result X LineSyntax
+alone kind rest = go_on (field kind rest) (λ a. at_end a.0 a.1)
 
--- a line of two fields
-abbrev pub two : {X Y : Type 0} → (List ℕ → Option X) → (List ℕ → Option Y) → (X → Y → Line) → Rest → Result Line LineSyntax
-two first second form rest = go_on (two_fields first second rest) (λ a. at_end (form a.0.0 a.0.1) a.1)
+-- two fields, and nothing behind them
+abbrev pub pair : {X Y : Type 0} → (List ℕ → Option X) → (List ℕ → Option Y) → Rest → Result (X × Y) LineSyntax
+pair first second rest = go_on (two_fields first second rest) (λ a. at_end a.0 a.1)
 
--- a line of three fields
-abbrev pub three : {X Y Z : Type 0} → (List ℕ → Option X) → (List ℕ → Option Y) → (List ℕ → Option Z) → (X → Y → Z → Line) → Rest → Result Line LineSyntax
-three first second third form rest =
-    go_on (two_fields first second rest) (λ a. go_on (field third a.1) (λ b. at_end (form a.0.0 a.0.1 b.0) b.1))
+-- three fields, and nothing behind them
+abbrev pub triple : {X Y Z : Type 0} → (List ℕ → Option X) → (List ℕ → Option Y) → (List ℕ → Option Z) → Rest → Result (X × Y × Z) LineSyntax
+triple first second third rest =
+    go_on (two_fields first second rest) (λ a. go_on (alone third a.1) (λ z. Ok (a.0.0, a.0.1, z)))
+
+-- the line that is made of what is read
+abbrev pub made : {X : Type 0} → Result X LineSyntax → (X → Line) → Result Line LineSyntax
+made read form = go_on read (λ x. Ok (form x))
 
 -- a line, and a text behind it
 abbrev pub line_and_text : Rest → Result (LineField × List ℕ) LineSyntax
-line_and_text rest = go_on (field line_of rest) (λ a. go_on (text a.1) (λ t. Ok (a.0, t)))
+line_and_text rest = go_on (field line_field_of rest) (λ a. go_on (text a.1) (λ t. Ok (a.0, t)))
 
--- a line of a text behind a name, a path and a line
-abbrev pub with_text : (List ℕ → List (List ℕ) → LineField → List ℕ → Line) → Rest → Result Line LineSyntax
-with_text form rest = go_on (two_fields name_of path_of rest) (λ a. go_on (line_and_text a.1) (λ b. Ok (form a.0.0 a.0.1 b.0 b.1)))
+-- a name, a path, a line, and a text behind them
+abbrev pub named_text : Rest → Result (List ℕ × List (List ℕ) × LineField × List ℕ) LineSyntax
+named_text rest = go_on (two_fields name_of path_of rest) (λ a. go_on (line_and_text a.1) (λ b. Ok (a.0.0, a.0.1, b.0, b.1)))
 
 -- an ambition behind its word
 abbrev pub ambition : Rest → Result (Formula (List ℕ)) LineSyntax
 ambition rest = go_on (field (word_of (codes "for")) rest) (λ a. expression a.1)
 
--- the line that opens a session
-abbrev pub open_line : Rest → Result Line LineSyntax
-open_line rest = go_on (two_fields name_of bindings_of rest) (λ a. go_on (ambition a.1) (λ e. Ok (lines.OpenSession a.0.0 a.0.1 e)))
+-- a name, bindings, and an ambition behind them
+abbrev pub opening : Rest → Result (List ℕ × List (List ℕ × Bool) × Formula (List ℕ)) LineSyntax
+opening rest = go_on (two_fields name_of bindings_of rest) (λ a. go_on (ambition a.1) (λ e. Ok (a.0.0, a.0.1, e)))
 
 -- what follows each keyword
 abbrev pub line_behind : Keyword → Rest → Result Line LineSyntax
-line_behind keywords.Option rest = one token_of (λ t. lines.Option t) rest
-line_behind keywords.Constraint rest = go_on (expression rest) (λ e. Ok (lines.Constraint e))
-line_behind keywords.Prefer rest = go_on (expression rest) (λ e. Ok (lines.Prefer e))
-line_behind keywords.Default rest = two token_of switch_of (λ t on. lines.Default t on) rest
-line_behind keywords.Complete rest = one bindings_of (λ c. lines.Complete c) rest
-line_behind keywords.Open rest = open_line rest
-line_behind keywords.MakeDir rest = two name_of new_path_of (λ n p. lines.MakeDir n p) rest
-line_behind keywords.MakeFile rest = two name_of new_path_of (λ n p. lines.MakeFile n p) rest
-line_behind keywords.Rename rest = three name_of path_of name_of (λ n p to. lines.Rename n p to) rest
-line_behind keywords.Move rest = three name_of path_of path_of (λ n p target. lines.Move n p target) rest
-line_behind keywords.Remove rest = two name_of path_of (λ n p. lines.Remove n p) rest
-line_behind keywords.Insert rest = with_text (λ n p l t. lines.Insert n p l t) rest
-line_behind keywords.Delete rest = three name_of path_of line_of (λ n p l. lines.Delete n p l) rest
-line_behind keywords.Replace rest = with_text (λ n p l t. lines.Replace n p l t) rest
-line_behind keywords.Show rest = two name_of path_of (λ n p. lines.Show n p) rest
-line_behind keywords.List rest = two name_of path_of (λ n p. lines.List n p) rest
-line_behind keywords.Refresh rest = one name_of (λ n. lines.Refresh n) rest
-line_behind keywords.Commit rest = one name_of (λ n. lines.Commit n) rest
-line_behind keywords.Drop rest = one name_of (λ n. lines.Discard n) rest
-line_behind keywords.Cat rest = two bindings_of path_of (λ c p. lines.Cat c p) rest
-line_behind keywords.Checkout rest = two name_of bindings_of (λ t c. lines.Checkout t c) rest
-line_behind keywords.Alt rest = three bindings_of token_of path_of (λ c t p. lines.Alt c t p) rest
-line_behind keywords.Where rest = one number_of (λ n. lines.Presence n) rest
+line_behind keywords.Option rest = made (alone token_of rest) (λ t. lines.Option t)
+line_behind keywords.Constraint rest = made (expression rest) (λ e. lines.Constraint e)
+line_behind keywords.Prefer rest = made (expression rest) (λ e. lines.Prefer e)
+line_behind keywords.Default rest = made (pair token_of switch_of rest) (λ a. lines.Default a.0 a.1)
+line_behind keywords.Complete rest = made (alone bindings_of rest) (λ c. lines.Complete c)
+line_behind keywords.Open rest = made (opening rest) (λ a. lines.OpenSession a.0 a.1 a.2)
+line_behind keywords.MakeDir rest = made (pair name_of new_path_of rest) (λ a. lines.MakeDir a.0 a.1)
+line_behind keywords.MakeFile rest = made (pair name_of new_path_of rest) (λ a. lines.MakeFile a.0 a.1)
+line_behind keywords.Rename rest = made (triple name_of path_of name_of rest) (λ a. lines.Rename a.0 a.1 a.2)
+line_behind keywords.Move rest = made (triple name_of path_of path_of rest) (λ a. lines.Move a.0 a.1 a.2)
+line_behind keywords.Remove rest = made (pair name_of path_of rest) (λ a. lines.Remove a.0 a.1)
+line_behind keywords.Insert rest = made (named_text rest) (λ a. lines.Insert a.0 a.1 a.2 a.3)
+line_behind keywords.Delete rest = made (triple name_of path_of line_field_of rest) (λ a. lines.Delete a.0 a.1 a.2)
+line_behind keywords.Replace rest = made (named_text rest) (λ a. lines.Replace a.0 a.1 a.2 a.3)
+line_behind keywords.Show rest = made (pair name_of path_of rest) (λ a. lines.Show a.0 a.1)
+line_behind keywords.List rest = made (pair name_of path_of rest) (λ a. lines.List a.0 a.1)
+line_behind keywords.Refresh rest = made (alone name_of rest) (λ n. lines.Refresh n)
+line_behind keywords.Commit rest = made (alone name_of rest) (λ n. lines.Commit n)
+line_behind keywords.Drop rest = made (alone name_of rest) (λ n. lines.Discard n)
+line_behind keywords.Cat rest = made (pair bindings_of path_of rest) (λ a. lines.Cat a.0 a.1)
+line_behind keywords.Checkout rest = made (pair name_of bindings_of rest) (λ a. lines.Checkout a.0 a.1)
+line_behind keywords.Alt rest = made (triple bindings_of token_of path_of rest) (λ a. lines.Alt a.0 a.1 a.2)
+line_behind keywords.Where rest = made (alone number_of rest) (λ n. lines.Presence n)
 
 -- the line that follows a keyword, if there is one
 abbrev pub if_keyword : Option Keyword → Rest → Result Line LineSyntax

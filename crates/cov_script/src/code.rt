@@ -12,9 +12,9 @@ use std::alloc::Global;
 pub enum Code {
     /// The line has no form; its first mistake is at this byte, or behind the last.
     Syntax { at: u32 },
-    /// An expression has more than 256 tokens.
+    /// An expression has more than `MOST_TOKENS` tokens.
     TooLong,
-    /// The line has more than 8,192 bytes.
+    /// The line has more than `MOST_SCRIPT_LINE_BYTES` bytes.
     Long,
     /// No option may have that name.
     BadName,
@@ -42,7 +42,7 @@ pub enum Code {
     /// Its directory has that name already.
     NameTaken,
     NoSuchLine,
-    /// A session has more than 16,384 edits.
+    /// A session has more than `LIMITS.edits` edits.
     TooManyEdits,
     /// A session's inserted texts have more than 2^24 bytes.
     TooManyBytes,

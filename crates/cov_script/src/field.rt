@@ -1,100 +1,144 @@
-// The kinds of fields.
-ghost use Rattle.std.specs.Prelude.{◌≡◌, ◌&&◌, nat_eq, nat_le, not, length, codes, IfOk};
-ghost use Rattle.std.specs.Option.{option_map};
+// The kinds of fields, and how a field is read.
+ghost use Rattle.std.specs.Prelude.{◌≡◌, ◌&&◌, ℕ, List, Option, nat_eq, nat_le, not, length, codes, IfOk};
 ghost use Rattle.std.specs.List.{list_any};
-ghost use Rattle.cov_base.specs.Spelling.{path_of};
+ghost use Rattle.cov_base.specs.Answers.{IsOrMemory};
+ghost use Rattle.cov_base.specs.Spelling.{path_of, is_line_text};
 ghost use Rattle.cov_expr.specs.ChoiceText.{bindings_of, switch_of};
 ghost use Rattle.cov_expr.specs.Reading.{parsed};
-ghost use Rattle.cov_script.specs.Fields.{Rest, field, expression, text, is_text, token_of, name_of, new_path_of, word_of, number_of, line_of, IsAnswer};
+ghost use Rattle.cov_script.specs.Fields.{Rest, field, expression, text, token_of, name_of, new_path_of, word_of, number_of, line_field_of, is_memory};
 
 use crate::number::read_number;
 use crate::unread::Unread;
 use crate::{LineField, LineSyntax};
-use cov_base::{BadName, MemoryOr, Name, Path, Text};
-use cov_expr::{ChoiceSyntax, ExprFault, RawChoice, RawExpr, parse};
+use cov_base::{BadName, MOST_TEXT_BYTES, Memory, MemoryOr, Name, Path, Text};
+use cov_expr::{ChoiceSyntax, ExprFault, RawChoice, RawExpr, parse, switch_in};
 use std::alloc::Global;
-
-/// The greatest number of bytes of a text.
-const MOST_BYTES: usize = 4096;
+use std::marker::Model;
 
 /// A field's value and what is left behind it.
 pub(crate) type Got<'a, T> = Result<(T, Unread<'a>), LineSyntax>;
 
-pub(crate) fn read_token<'a>(alloc: Global, unread: Unread<'a>) -> Got<'a, Text>
-    ensures { IsAnswer (field token_of unread.entry) result }
+/// A value that one field spells.
+pub(crate) trait Field: Drop {
+    /// The kind: what bytes spell, if they are of it.
+    ghost kind: { List ℕ → Option Self };
+
+    /// The value that the bytes spell; None exactly where they aren't of the kind.
+    fn spelt(alloc: Global, bytes: &[u8]) -> Result<Option<Self>, Memory>
+        ensures { IfOk result (λ value. value ≡ kind bytes.now) };
+}
+
+/// Reads the next field.
+pub(crate) fn read_field<'a, T: Field>(alloc: Global, unread: Unread<'a>) -> Got<'a, T>
+    ensures { IsOrMemory is_memory (field T.kind unread.entry) result }
 {
     let (at, bytes, behind) = unread.cut();
-    match bytes {
-        [] => Err(LineSyntax::Syntax { at }),
-        _ => Ok((Text::from_slice(alloc, bytes)?, behind)),
+    match T::spelt(alloc, bytes)? {
+        Some(value) => Ok((value, behind)),
+        None => Err(LineSyntax::Syntax { at }),
     }
 }
 
-pub(crate) fn read_name<'a>(alloc: Global, unread: Unread<'a>) -> Got<'a, Name>
-    ensures { IsAnswer (field name_of unread.entry) result }
-{
-    let (at, bytes, behind) = unread.cut();
-    match Name::read(alloc, bytes) {
-        Ok(name) => Ok((name, behind)),
-        Err(MemoryOr::Refused(BadName)) => Err(LineSyntax::Syntax { at }),
-        Err(MemoryOr::Memory) => Err(LineSyntax::Memory),
-    }
-}
+/// One byte or more.
+impl Field for Text {
+    ghost kind = { token_of };
 
-pub(crate) fn read_path<'a>(alloc: Global, unread: Unread<'a>) -> Got<'a, Path>
-    ensures { IsAnswer (field path_of unread.entry) result }
-{
-    let (at, bytes, behind) = unread.cut();
-    match Path::read(alloc, bytes) {
-        Ok(path) => Ok((path, behind)),
-        Err(MemoryOr::Refused(BadName)) => Err(LineSyntax::Syntax { at }),
-        Err(MemoryOr::Memory) => Err(LineSyntax::Memory),
-    }
-}
-
-/// Reads a path other than `/`.
-pub(crate) fn read_new_path<'a>(alloc: Global, unread: Unread<'a>) -> Got<'a, Path>
-    ensures { IsAnswer (field new_path_of unread.entry) result }
-{
-    let (at, bytes, behind) = unread.cut();
-    match Path::read(alloc, bytes) {
-        Ok(path) => {
-            if path.is_empty() {
-                return Err(LineSyntax::Syntax { at });
-            }
-            Ok((path, behind))
+    fn spelt(alloc: Global, bytes: &[u8]) -> Result<Option<Text>, Memory> {
+        match bytes {
+            [] => Ok(None),
+            _ => Ok(Some(Text::from_slice(alloc, bytes)?)),
         }
-        Err(MemoryOr::Refused(BadName)) => Err(LineSyntax::Syntax { at }),
-        Err(MemoryOr::Memory) => Err(LineSyntax::Memory),
     }
 }
 
-pub(crate) fn read_choice<'a>(alloc: Global, unread: Unread<'a>) -> Got<'a, RawChoice>
-    ensures { IsAnswer (field bindings_of unread.entry) result }
-{
-    let (at, bytes, behind) = unread.cut();
-    match RawChoice::parse(alloc, bytes) {
-        Ok(choice) => Ok((choice, behind)),
-        Err(MemoryOr::Refused(ChoiceSyntax)) => Err(LineSyntax::Syntax { at }),
-        Err(MemoryOr::Memory) => Err(LineSyntax::Memory),
+impl Field for Name {
+    ghost kind = { name_of };
+
+    fn spelt(alloc: Global, bytes: &[u8]) -> Result<Option<Name>, Memory> {
+        match Name::read(alloc, bytes) {
+            Ok(name) => Ok(Some(name)),
+            Err(MemoryOr::Refused(BadName)) => Ok(None),
+            Err(MemoryOr::Memory) => Err(Memory),
+        }
     }
 }
 
-/// Reads `on` or `off`.
-pub(crate) fn read_switch<'a>(unread: Unread<'a>) -> Got<'a, bool>
-    ensures { IsAnswer (field switch_of unread.entry) result }
-{
-    let (at, bytes, behind) = unread.cut();
-    match bytes {
-        b"on" => Ok((true, behind)),
-        b"off" => Ok((false, behind)),
-        _ => Err(LineSyntax::Syntax { at }),
+impl Field for Path {
+    ghost kind = { path_of };
+
+    fn spelt(alloc: Global, bytes: &[u8]) -> Result<Option<Path>, Memory> {
+        match Path::read(alloc, bytes) {
+            Ok(path) => Ok(Some(path)),
+            Err(MemoryOr::Refused(BadName)) => Ok(None),
+            Err(MemoryOr::Memory) => Err(Memory),
+        }
+    }
+}
+
+/// A path other than `/`.
+#[derive(Drop)]
+pub(crate) struct NewPath(pub(crate) Path);
+
+impl Model for NewPath {
+    ghost use Rattle.std.specs.Prelude.{List, ℕ};
+
+    ghost Value = { List (List ℕ) };
+
+    ghost view = { λ p. p.0 };
+}
+
+impl Field for NewPath {
+    ghost kind = { new_path_of };
+
+    fn spelt(alloc: Global, bytes: &[u8]) -> Result<Option<NewPath>, Memory> {
+        match Path::spelt(alloc, bytes)? {
+            Some(path) if !path.is_empty() => Ok(Some(NewPath(path))),
+            _ => Ok(None),
+        }
+    }
+}
+
+impl Field for RawChoice {
+    ghost kind = { bindings_of };
+
+    fn spelt(alloc: Global, bytes: &[u8]) -> Result<Option<RawChoice>, Memory> {
+        match RawChoice::parse(alloc, bytes) {
+            Ok(choice) => Ok(Some(choice)),
+            Err(MemoryOr::Refused(ChoiceSyntax)) => Ok(None),
+            Err(MemoryOr::Memory) => Err(Memory),
+        }
+    }
+}
+
+/// `on` or `off`.
+impl Field for bool {
+    ghost kind = { switch_of };
+
+    fn spelt(_alloc: Global, bytes: &[u8]) -> Result<Option<bool>, Memory> {
+        Ok(switch_in(bytes))
+    }
+}
+
+/// The number of a line in the whole store.
+impl Field for u32 {
+    ghost kind = { number_of };
+
+    fn spelt(_alloc: Global, bytes: &[u8]) -> Result<Option<u32>, Memory> {
+        Ok(read_number(bytes))
+    }
+}
+
+impl Field for LineField {
+    ghost kind = { line_field_of };
+
+    fn spelt(_alloc: Global, bytes: &[u8]) -> Result<Option<LineField>, Memory> {
+        Ok(line_field(bytes))
     }
 }
 
 /// Reads the word `for`.
 pub(crate) fn read_for<'a>(unread: Unread<'a>) -> Got<'a, ()>
-    ensures { IsAnswer (field (word_of (codes "for")) unread.entry) result }
+    ensures { IsOrMemory is_memory (field (word_of (codes "for")) unread.entry) result }
 {
     let (at, bytes, behind) = unread.cut();
     match bytes {
@@ -103,28 +147,8 @@ pub(crate) fn read_for<'a>(unread: Unread<'a>) -> Got<'a, ()>
     }
 }
 
-pub(crate) fn read_line_number<'a>(unread: Unread<'a>) -> Got<'a, u32>
-    ensures { IsAnswer (field number_of unread.entry) result }
-{
-    let (at, bytes, behind) = unread.cut();
-    match read_number(bytes) {
-        Some(number) => Ok((number, behind)),
-        None => Err(LineSyntax::Syntax { at }),
-    }
-}
-
-pub(crate) fn read_line_field<'a>(unread: Unread<'a>) -> Got<'a, LineField>
-    ensures { IsAnswer (field line_of unread.entry) result }
-{
-    let (at, bytes, behind) = unread.cut();
-    match line_field(bytes) {
-        Some(line) => Ok((line, behind)),
-        None => Err(LineSyntax::Syntax { at }),
-    }
-}
-
 fn line_field(bytes: &[u8]) -> Option<LineField>
-    ensures { result ≡ line_of bytes.now }
+    ensures { result ≡ line_field_of bytes.now }
 {
     match bytes {
         [] => None,
@@ -135,7 +159,7 @@ fn line_field(bytes: &[u8]) -> Option<LineField>
 
 /// Reads an expression, to the line's end.
 pub(crate) fn read_expression(alloc: Global, unread: Unread) -> Result<RawExpr, LineSyntax>
-    ensures { IsAnswer (expression unread.entry) result }
+    ensures { IsOrMemory is_memory (expression unread.entry) result }
 {
     let (at, bytes) = unread.ahead();
     match parse(alloc, bytes) {
@@ -148,19 +172,19 @@ pub(crate) fn read_expression(alloc: Global, unread: Unread) -> Result<RawExpr, 
 
 /// Reads a text, to the line's end.
 pub(crate) fn read_text(alloc: Global, unread: Unread) -> Result<Text, LineSyntax>
-    ensures { IsAnswer (text unread.entry) result }
+    ensures { IsOrMemory is_memory (text unread.entry) result }
 {
     let (at, bytes) = unread.ahead();
-    if !is_text(bytes) {
+    if !is_line_text(bytes) {
         return Err(LineSyntax::Syntax { at });
     }
     Ok(Text::from_slice(alloc, bytes)?)
 }
 
-fn is_text(bytes: &[u8]) -> bool
-    ensures { result ≡ is_text bytes.now }
+fn is_line_text(bytes: &[u8]) -> bool
+    ensures { result ≡ is_line_text bytes.now }
 {
-    bytes.len() <= MOST_BYTES && !has_line_end(bytes)
+    bytes.len() <= MOST_TEXT_BYTES && !has_line_end(bytes)
 }
 
 fn has_line_end(bytes: &[u8]) -> bool

@@ -1,15 +1,9 @@
 // What follows each keyword.
-ghost use Rattle.std.specs.Prelude.{◌≡◌, codes};
-ghost use Rattle.cov_base.specs.Spelling.{path_of};
-ghost use Rattle.cov_expr.specs.ChoiceText.{bindings_of, switch_of};
-ghost use Rattle.cov_script.specs.Fields.{Rest, IsAnswer, go_on, field, at_end, expression, text, token_of, name_of, new_path_of, word_of, number_of, line_of};
-ghost use Rattle.cov_script.specs.Lines.{one, two, three, with_text, two_fields, open_line, line_and_text, ambition, line_behind};
-ghost use Rattle.cov_script.specs.declared.line.Line.TheVariants as lines;
+ghost use Rattle.cov_base.specs.Answers.{IsOrMemory};
+ghost use Rattle.cov_script.specs.Fields.{is_memory, at_end};
+ghost use Rattle.cov_script.specs.Lines.{two_fields, alone, pair, triple, line_and_text, named_text, ambition, opening, line_behind};
 
-use crate::field::{
-    Got, read_choice, read_expression, read_for, read_line_field, read_line_number, read_name,
-    read_new_path, read_path, read_switch, read_text, read_token,
-};
+use crate::field::{Field, Got, NewPath, read_expression, read_field, read_for, read_text};
 use crate::keyword::Keyword;
 use crate::unread::Unread;
 use crate::{Line, LineField, LineSyntax};
@@ -23,298 +17,144 @@ pub(crate) fn read_behind(
     keyword: Keyword,
     unread: Unread,
 ) -> Result<Line, LineSyntax>
-    ensures { IsAnswer (line_behind keyword unread.entry) result }
+    ensures { IsOrMemory is_memory (line_behind keyword unread.entry) result }
 {
     match keyword {
-        Keyword::Option => read_option(alloc, unread),
-        Keyword::Constraint => read_constraint(alloc, unread),
-        Keyword::Prefer => read_prefer(alloc, unread),
-        Keyword::Default => read_default(alloc, unread),
-        Keyword::Complete => read_complete(alloc, unread),
-        Keyword::Open => read_open(alloc, unread),
-        Keyword::MakeDir => read_make_dir(alloc, unread),
-        Keyword::MakeFile => read_make_file(alloc, unread),
-        Keyword::Rename => read_rename(alloc, unread),
-        Keyword::Move => read_move(alloc, unread),
-        Keyword::Remove => read_remove(alloc, unread),
-        Keyword::Insert => read_insert(alloc, unread),
-        Keyword::Delete => read_delete(alloc, unread),
-        Keyword::Replace => read_replace(alloc, unread),
-        Keyword::Show => read_show(alloc, unread),
-        Keyword::List => read_list(alloc, unread),
-        Keyword::Refresh => read_refresh(alloc, unread),
-        Keyword::Commit => read_commit(alloc, unread),
-        Keyword::Drop => read_drop(alloc, unread),
-        Keyword::Cat => read_cat(alloc, unread),
-        Keyword::Checkout => read_checkout(alloc, unread),
-        Keyword::Alt => read_alt(alloc, unread),
-        Keyword::Where => read_where(unread),
+        Keyword::Option => alone(alloc, unread).map(|token| Line::Option { token }),
+        Keyword::Constraint => read_expression(alloc, unread).map(|expr| Line::Constraint { expr }),
+        Keyword::Prefer => read_expression(alloc, unread).map(|expr| Line::Prefer { expr }),
+        Keyword::Default => pair(alloc, unread).map(|(token, on)| Line::Default { token, on }),
+        Keyword::Complete => alone(alloc, unread).map(|choice| Line::Complete { choice }),
+        Keyword::Open => opening(alloc, unread).map(|(name, choice, ambition)| Line::OpenSession {
+            name,
+            choice,
+            ambition,
+        }),
+        Keyword::MakeDir => pair(alloc, unread).map(|(name, NewPath(path))| Line::MakeDir {
+            name,
+            path,
+        }),
+        Keyword::MakeFile => pair(alloc, unread).map(|(name, NewPath(path))| Line::MakeFile {
+            name,
+            path,
+        }),
+        Keyword::Rename => triple(alloc, unread).map(|(name, path, to)| Line::Rename {
+            name,
+            path,
+            to,
+        }),
+        Keyword::Move => triple(alloc, unread).map(|(name, path, target)| Line::Move {
+            name,
+            path,
+            target,
+        }),
+        Keyword::Remove => pair(alloc, unread).map(|(name, path)| Line::Remove { name, path }),
+        Keyword::Insert => named_text(alloc, unread).map(|(name, path, line, text)| Line::Insert {
+            name,
+            path,
+            line,
+            text,
+        }),
+        Keyword::Delete => triple(alloc, unread).map(|(name, path, line)| Line::Delete {
+            name,
+            path,
+            line,
+        }),
+        Keyword::Replace => named_text(alloc, unread).map(|(name, path, line, text)| Line::Replace {
+            name,
+            path,
+            line,
+            text,
+        }),
+        Keyword::Show => pair(alloc, unread).map(|(name, path)| Line::Show { name, path }),
+        Keyword::List => pair(alloc, unread).map(|(name, path)| Line::List { name, path }),
+        Keyword::Refresh => alone(alloc, unread).map(|name| Line::Refresh { name }),
+        Keyword::Commit => alone(alloc, unread).map(|name| Line::Commit { name }),
+        Keyword::Drop => alone(alloc, unread).map(|name| Line::Discard { name }),
+        Keyword::Cat => pair(alloc, unread).map(|(choice, path)| Line::Cat { choice, path }),
+        Keyword::Checkout => pair(alloc, unread).map(|(tree, choice)| Line::Checkout {
+            tree,
+            choice,
+        }),
+        Keyword::Alt => triple(alloc, unread).map(|(choice, token, path)| Line::Alt {
+            choice,
+            token,
+            path,
+        }),
+        Keyword::Where => alone(alloc, unread).map(|line| Line::Presence { line }),
     }
 }
 
-fn read_option(alloc: Global, unread: Unread) -> Result<Line, LineSyntax>
-    ensures { IsAnswer (one token_of (λ token. lines.Option token) unread.entry) result }
+// One field, and nothing behind it.
+fn alone<T: Field>(alloc: Global, unread: Unread) -> Result<T, LineSyntax>
+    ensures { IsOrMemory is_memory (alone T.kind unread.entry) result }
 {
-    match read_token(alloc, unread) {
-        Ok((token, unread)) => end(unread, Line::Option { token }),
+    match read_field(alloc, unread) {
+        Ok((value, unread)) => end(unread, value),
         Err(fault) => Err(fault),
     }
 }
 
-fn read_default(alloc: Global, unread: Unread) -> Result<Line, LineSyntax>
-    ensures { IsAnswer (two token_of switch_of (λ token on. lines.Default token on) unread.entry) result }
+// Two fields, and nothing behind them.
+fn pair<A: Field, B: Field>(alloc: Global, unread: Unread) -> Result<(A, B), LineSyntax>
+    ensures { IsOrMemory is_memory (pair A.kind B.kind unread.entry) result }
 {
-    match read_token_and_switch(alloc, unread) {
-        Ok(((token, on), unread)) => end(unread, Line::Default { token, on }),
+    match two_fields(alloc, unread) {
+        Ok((both, unread)) => end(unread, both),
         Err(fault) => Err(fault),
     }
 }
 
-fn read_complete(alloc: Global, unread: Unread) -> Result<Line, LineSyntax>
-    ensures { IsAnswer (one bindings_of (λ choice. lines.Complete choice) unread.entry) result }
+// Three fields, and nothing behind them.
+fn triple<A: Field, B: Field, C: Field>(
+    alloc: Global,
+    unread: Unread,
+) -> Result<(A, B, C), LineSyntax>
+    ensures { IsOrMemory is_memory (triple A.kind B.kind C.kind unread.entry) result }
 {
-    match read_choice(alloc, unread) {
-        Ok((choice, unread)) => end(unread, Line::Complete { choice }),
+    match two_fields(alloc, unread) {
+        Ok(((first, second), unread)) => alone(alloc, unread).map(|third| (first, second, third)),
         Err(fault) => Err(fault),
     }
 }
 
-fn read_make_dir(alloc: Global, unread: Unread) -> Result<Line, LineSyntax>
-    ensures { IsAnswer (two name_of new_path_of (λ name path. lines.MakeDir name path) unread.entry) result }
+// A name, a path, a line, and a text behind them.
+fn named_text(alloc: Global, unread: Unread) -> Result<(Name, Path, LineField, Text), LineSyntax>
+    ensures { IsOrMemory is_memory (named_text unread.entry) result }
 {
-    match read_name_and_new_path(alloc, unread) {
-        Ok(((name, path), unread)) => end(unread, Line::MakeDir { name, path }),
+    match two_fields(alloc, unread) {
+        Ok(((name, path), unread)) => line_and_text(alloc, unread).map(|(line, text)| (
+            name, path, line, text,
+        )),
         Err(fault) => Err(fault),
     }
 }
 
-fn read_make_file(alloc: Global, unread: Unread) -> Result<Line, LineSyntax>
-    ensures { IsAnswer (two name_of new_path_of (λ name path. lines.MakeFile name path) unread.entry) result }
+// A line, and a text behind it.
+fn line_and_text(alloc: Global, unread: Unread) -> Result<(LineField, Text), LineSyntax>
+    ensures { IsOrMemory is_memory (line_and_text unread.entry) result }
 {
-    match read_name_and_new_path(alloc, unread) {
-        Ok(((name, path), unread)) => end(unread, Line::MakeFile { name, path }),
+    match read_field(alloc, unread) {
+        Ok((line, unread)) => read_text(alloc, unread).map(|text| (line, text)),
         Err(fault) => Err(fault),
     }
 }
 
-fn read_rename(alloc: Global, unread: Unread) -> Result<Line, LineSyntax>
-    ensures { IsAnswer (three name_of path_of name_of (λ name path to. lines.Rename name path to) unread.entry) result }
+// A name, bindings, and an ambition behind them.
+fn opening(alloc: Global, unread: Unread) -> Result<(Name, RawChoice, RawExpr), LineSyntax>
+    ensures { IsOrMemory is_memory (opening unread.entry) result }
 {
-    match read_name_and_path(alloc, unread) {
-        Ok(((name, path), unread)) => match read_name(alloc, unread) {
-            Ok((to, unread)) => end(unread, Line::Rename { name, path, to }),
-            Err(fault) => Err(fault),
-        },
+    match two_fields(alloc, unread) {
+        Ok(((name, choice), unread)) => ambition(alloc, unread).map(|ambition| (
+            name, choice, ambition,
+        )),
         Err(fault) => Err(fault),
     }
 }
 
-fn read_move(alloc: Global, unread: Unread) -> Result<Line, LineSyntax>
-    ensures { IsAnswer (three name_of path_of path_of (λ name path target. lines.Move name path target) unread.entry) result }
-{
-    match read_name_and_path(alloc, unread) {
-        Ok(((name, path), unread)) => match read_path(alloc, unread) {
-            Ok((target, unread)) => end(unread, Line::Move { name, path, target }),
-            Err(fault) => Err(fault),
-        },
-        Err(fault) => Err(fault),
-    }
-}
-
-fn read_remove(alloc: Global, unread: Unread) -> Result<Line, LineSyntax>
-    ensures { IsAnswer (two name_of path_of (λ name path. lines.Remove name path) unread.entry) result }
-{
-    match read_name_and_path(alloc, unread) {
-        Ok(((name, path), unread)) => end(unread, Line::Remove { name, path }),
-        Err(fault) => Err(fault),
-    }
-}
-
-fn read_delete(alloc: Global, unread: Unread) -> Result<Line, LineSyntax>
-    ensures { IsAnswer (three name_of path_of line_of (λ name path line. lines.Delete name path line) unread.entry) result }
-{
-    match read_name_and_path(alloc, unread) {
-        Ok(((name, path), unread)) => match read_line_field(unread) {
-            Ok((line, unread)) => end(unread, Line::Delete { name, path, line }),
-            Err(fault) => Err(fault),
-        },
-        Err(fault) => Err(fault),
-    }
-}
-
-fn read_show(alloc: Global, unread: Unread) -> Result<Line, LineSyntax>
-    ensures { IsAnswer (two name_of path_of (λ name path. lines.Show name path) unread.entry) result }
-{
-    match read_name_and_path(alloc, unread) {
-        Ok(((name, path), unread)) => end(unread, Line::Show { name, path }),
-        Err(fault) => Err(fault),
-    }
-}
-
-fn read_list(alloc: Global, unread: Unread) -> Result<Line, LineSyntax>
-    ensures { IsAnswer (two name_of path_of (λ name path. lines.List name path) unread.entry) result }
-{
-    match read_name_and_path(alloc, unread) {
-        Ok(((name, path), unread)) => end(unread, Line::List { name, path }),
-        Err(fault) => Err(fault),
-    }
-}
-
-fn read_refresh(alloc: Global, unread: Unread) -> Result<Line, LineSyntax>
-    ensures { IsAnswer (one name_of (λ name. lines.Refresh name) unread.entry) result }
-{
-    match read_name(alloc, unread) {
-        Ok((name, unread)) => end(unread, Line::Refresh { name }),
-        Err(fault) => Err(fault),
-    }
-}
-
-fn read_commit(alloc: Global, unread: Unread) -> Result<Line, LineSyntax>
-    ensures { IsAnswer (one name_of (λ name. lines.Commit name) unread.entry) result }
-{
-    match read_name(alloc, unread) {
-        Ok((name, unread)) => end(unread, Line::Commit { name }),
-        Err(fault) => Err(fault),
-    }
-}
-
-fn read_drop(alloc: Global, unread: Unread) -> Result<Line, LineSyntax>
-    ensures { IsAnswer (one name_of (λ name. lines.Discard name) unread.entry) result }
-{
-    match read_name(alloc, unread) {
-        Ok((name, unread)) => end(unread, Line::Discard { name }),
-        Err(fault) => Err(fault),
-    }
-}
-
-fn read_cat(alloc: Global, unread: Unread) -> Result<Line, LineSyntax>
-    ensures { IsAnswer (two bindings_of path_of (λ choice path. lines.Cat choice path) unread.entry) result }
-{
-    match read_choice_and_path(alloc, unread) {
-        Ok(((choice, path), unread)) => end(unread, Line::Cat { choice, path }),
-        Err(fault) => Err(fault),
-    }
-}
-
-fn read_checkout(alloc: Global, unread: Unread) -> Result<Line, LineSyntax>
-    ensures { IsAnswer (two name_of bindings_of (λ tree choice. lines.Checkout tree choice) unread.entry) result }
-{
-    match read_name_and_choice(alloc, unread) {
-        Ok(((tree, choice), unread)) => end(unread, Line::Checkout { tree, choice }),
-        Err(fault) => Err(fault),
-    }
-}
-
-fn read_alt(alloc: Global, unread: Unread) -> Result<Line, LineSyntax>
-    ensures { IsAnswer (three bindings_of token_of path_of (λ choice token path. lines.Alt choice token path) unread.entry) result }
-{
-    match read_choice_and_token(alloc, unread) {
-        Ok(((choice, token), unread)) => match read_path(alloc, unread) {
-            Ok((path, unread)) => end(
-                unread,
-                Line::Alt {
-                    choice,
-                    token,
-                    path,
-                },
-            ),
-            Err(fault) => Err(fault),
-        },
-        Err(fault) => Err(fault),
-    }
-}
-
-fn read_where(unread: Unread) -> Result<Line, LineSyntax>
-    ensures { IsAnswer (one number_of (λ line. lines.Presence line) unread.entry) result }
-{
-    match read_line_number(unread) {
-        Ok((line, unread)) => end(unread, Line::Presence { line }),
-        Err(fault) => Err(fault),
-    }
-}
-
-fn read_constraint(alloc: Global, unread: Unread) -> Result<Line, LineSyntax>
-    ensures { IsAnswer (go_on (expression unread.entry) (λ e. Ok (lines.Constraint e))) result }
-{
-    match read_expression(alloc, unread) {
-        Ok(expr) => Ok(Line::Constraint { expr }),
-        Err(fault) => Err(fault),
-    }
-}
-
-fn read_prefer(alloc: Global, unread: Unread) -> Result<Line, LineSyntax>
-    ensures { IsAnswer (go_on (expression unread.entry) (λ e. Ok (lines.Prefer e))) result }
-{
-    match read_expression(alloc, unread) {
-        Ok(expr) => Ok(Line::Prefer { expr }),
-        Err(fault) => Err(fault),
-    }
-}
-
-fn read_insert(alloc: Global, unread: Unread) -> Result<Line, LineSyntax>
-    ensures { IsAnswer (with_text (λ name path line text. lines.Insert name path line text) unread.entry) result }
-{
-    match read_name_and_path(alloc, unread) {
-        Ok(((name, path), unread)) => match read_line_and_text(alloc, unread) {
-            Ok((line, text)) => Ok(Line::Insert {
-                name,
-                path,
-                line,
-                text,
-            }),
-            Err(fault) => Err(fault),
-        },
-        Err(fault) => Err(fault),
-    }
-}
-
-fn read_replace(alloc: Global, unread: Unread) -> Result<Line, LineSyntax>
-    ensures { IsAnswer (with_text (λ name path line text. lines.Replace name path line text) unread.entry) result }
-{
-    match read_name_and_path(alloc, unread) {
-        Ok(((name, path), unread)) => match read_line_and_text(alloc, unread) {
-            Ok((line, text)) => Ok(Line::Replace {
-                name,
-                path,
-                line,
-                text,
-            }),
-            Err(fault) => Err(fault),
-        },
-        Err(fault) => Err(fault),
-    }
-}
-
-fn read_line_and_text(alloc: Global, unread: Unread) -> Result<(LineField, Text), LineSyntax>
-    ensures { IsAnswer (line_and_text unread.entry) result }
-{
-    match read_line_field(unread) {
-        Ok((line, unread)) => match read_text(alloc, unread) {
-            Ok(text) => Ok((line, text)),
-            Err(fault) => Err(fault),
-        },
-        Err(fault) => Err(fault),
-    }
-}
-
-fn read_open(alloc: Global, unread: Unread) -> Result<Line, LineSyntax>
-    ensures { IsAnswer (open_line unread.entry) result }
-{
-    match read_name_and_choice(alloc, unread) {
-        Ok(((name, choice), unread)) => match read_ambition(alloc, unread) {
-            Ok(ambition) => Ok(Line::OpenSession {
-                name,
-                choice,
-                ambition,
-            }),
-            Err(fault) => Err(fault),
-        },
-        Err(fault) => Err(fault),
-    }
-}
-
-fn read_ambition(alloc: Global, unread: Unread) -> Result<RawExpr, LineSyntax>
-    ensures { IsAnswer (ambition unread.entry) result }
+// An ambition behind its word.
+fn ambition(alloc: Global, unread: Unread) -> Result<RawExpr, LineSyntax>
+    ensures { IsOrMemory is_memory (ambition unread.entry) result }
 {
     match read_for(unread) {
         Ok(((), unread)) => read_expression(alloc, unread),
@@ -322,84 +162,25 @@ fn read_ambition(alloc: Global, unread: Unread) -> Result<RawExpr, LineSyntax>
     }
 }
 
-// A line that ends here.
-fn end(unread: Unread, line: Line) -> Result<Line, LineSyntax>
-    ensures { IsAnswer (at_end line unread.entry) result }
+// Two fields, one behind the other.
+fn two_fields<'a, A: Field, B: Field>(alloc: Global, unread: Unread<'a>) -> Got<'a, (A, B)>
+    ensures { IsOrMemory is_memory (two_fields A.kind B.kind unread.entry) result }
+{
+    match read_field(alloc, unread) {
+        Ok((first, unread)) => read_field(alloc, unread).map(|(second, unread)| (
+            (first, second),
+            unread,
+        )),
+        Err(fault) => Err(fault),
+    }
+}
+
+// What was read, where the line ends behind it.
+fn end<T: Drop>(unread: Unread, value: T) -> Result<T, LineSyntax>
+    ensures { IsOrMemory is_memory (at_end value unread.entry) result }
 {
     match unread.end() {
-        Ok(()) => Ok(line),
-        Err(fault) => Err(fault),
-    }
-}
-
-fn read_token_and_switch<'a>(alloc: Global, unread: Unread<'a>) -> Got<'a, (Text, bool)>
-    ensures { IsAnswer (two_fields token_of switch_of unread.entry) result }
-{
-    match read_token(alloc, unread) {
-        Ok((first, unread)) => match read_switch(unread) {
-            Ok((second, unread)) => Ok(((first, second), unread)),
-            Err(fault) => Err(fault),
-        },
-        Err(fault) => Err(fault),
-    }
-}
-
-fn read_name_and_new_path<'a>(alloc: Global, unread: Unread<'a>) -> Got<'a, (Name, Path)>
-    ensures { IsAnswer (two_fields name_of new_path_of unread.entry) result }
-{
-    match read_name(alloc, unread) {
-        Ok((first, unread)) => match read_new_path(alloc, unread) {
-            Ok((second, unread)) => Ok(((first, second), unread)),
-            Err(fault) => Err(fault),
-        },
-        Err(fault) => Err(fault),
-    }
-}
-
-fn read_name_and_path<'a>(alloc: Global, unread: Unread<'a>) -> Got<'a, (Name, Path)>
-    ensures { IsAnswer (two_fields name_of path_of unread.entry) result }
-{
-    match read_name(alloc, unread) {
-        Ok((first, unread)) => match read_path(alloc, unread) {
-            Ok((second, unread)) => Ok(((first, second), unread)),
-            Err(fault) => Err(fault),
-        },
-        Err(fault) => Err(fault),
-    }
-}
-
-fn read_choice_and_path<'a>(alloc: Global, unread: Unread<'a>) -> Got<'a, (RawChoice, Path)>
-    ensures { IsAnswer (two_fields bindings_of path_of unread.entry) result }
-{
-    match read_choice(alloc, unread) {
-        Ok((first, unread)) => match read_path(alloc, unread) {
-            Ok((second, unread)) => Ok(((first, second), unread)),
-            Err(fault) => Err(fault),
-        },
-        Err(fault) => Err(fault),
-    }
-}
-
-fn read_name_and_choice<'a>(alloc: Global, unread: Unread<'a>) -> Got<'a, (Name, RawChoice)>
-    ensures { IsAnswer (two_fields name_of bindings_of unread.entry) result }
-{
-    match read_name(alloc, unread) {
-        Ok((first, unread)) => match read_choice(alloc, unread) {
-            Ok((second, unread)) => Ok(((first, second), unread)),
-            Err(fault) => Err(fault),
-        },
-        Err(fault) => Err(fault),
-    }
-}
-
-fn read_choice_and_token<'a>(alloc: Global, unread: Unread<'a>) -> Got<'a, (RawChoice, Text)>
-    ensures { IsAnswer (two_fields bindings_of token_of unread.entry) result }
-{
-    match read_choice(alloc, unread) {
-        Ok((first, unread)) => match read_token(alloc, unread) {
-            Ok((second, unread)) => Ok(((first, second), unread)),
-            Err(fault) => Err(fault),
-        },
+        Ok(()) => Ok(value),
         Err(fault) => Err(fault),
     }
 }

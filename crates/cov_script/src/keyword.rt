@@ -1,7 +1,6 @@
 // The keywords of the forms.
-ghost use Rattle.std.specs.Prelude.{◌≡◌};
-ghost use Rattle.std.specs.Str.{bytes_eq};
-ghost use Rattle.cov_script.specs.Lines.{keyword_of, looked_up, rule_words, tree_words, line_words, session_words};
+ghost use Rattle.std.specs.Prelude.{◌≡◌, map};
+ghost use Rattle.cov_script.specs.Lines.{keyword_of, looked_up};
 
 /// The first field of a line.
 #[derive(Clone, Copy, Debug, PartialEq, Eq)]
@@ -31,118 +30,50 @@ pub(crate) enum Keyword {
     Where,
 }
 
+/// Each keyword with its bytes.
+const WORDS: [(&[u8], Keyword); 23] = [
+    (b"option", Keyword::Option),
+    (b"constraint", Keyword::Constraint),
+    (b"prefer", Keyword::Prefer),
+    (b"default", Keyword::Default),
+    (b"complete", Keyword::Complete),
+    (b"open", Keyword::Open),
+    (b"mkdir", Keyword::MakeDir),
+    (b"mkfile", Keyword::MakeFile),
+    (b"rename", Keyword::Rename),
+    (b"move", Keyword::Move),
+    (b"remove", Keyword::Remove),
+    (b"insert", Keyword::Insert),
+    (b"delete", Keyword::Delete),
+    (b"replace", Keyword::Replace),
+    (b"show", Keyword::Show),
+    (b"list", Keyword::List),
+    (b"refresh", Keyword::Refresh),
+    (b"commit", Keyword::Commit),
+    (b"drop", Keyword::Drop),
+    (b"cat", Keyword::Cat),
+    (b"checkout", Keyword::Checkout),
+    (b"alt", Keyword::Alt),
+    (b"where", Keyword::Where),
+];
+
 impl Keyword {
     pub(crate) fn read(bytes: &[u8]) -> Option<Keyword>
         ensures { result ≡ keyword_of bytes.now }
     {
-        if let Some(keyword) = rule_keyword(bytes) {
-            return Some(keyword);
+        look_up(&WORDS, bytes)
+    }
+}
+
+// The keyword whose bytes these are, None where none of the words is.
+fn look_up(mut words: &[(&[u8], Keyword)], bytes: &[u8]) -> Option<Keyword>
+    ensures { result ≡ looked_up (map (λ w. (w.0.now, w.1)) words.entry.now) bytes.now }
+{
+    while let [word, rest @ ..] = words {
+        if bytes == word.0 {
+            return Some(word.1);
         }
-        if let Some(keyword) = tree_keyword(bytes) {
-            return Some(keyword);
-        }
-        if let Some(keyword) = line_keyword(bytes) {
-            return Some(keyword);
-        }
-        session_keyword(bytes)
-    }
-}
-
-fn rule_keyword(bytes: &[u8]) -> Option<Keyword>
-    ensures { result ≡ looked_up rule_words bytes.now }
-{
-    if is(bytes, b"option") {
-        return Some(Keyword::Option);
-    }
-    if is(bytes, b"constraint") {
-        return Some(Keyword::Constraint);
-    }
-    if is(bytes, b"prefer") {
-        return Some(Keyword::Prefer);
-    }
-    if is(bytes, b"default") {
-        return Some(Keyword::Default);
-    }
-    if is(bytes, b"complete") {
-        return Some(Keyword::Complete);
-    }
-    if is(bytes, b"where") {
-        return Some(Keyword::Where);
+        words = rest;
     }
     None
-}
-
-fn tree_keyword(bytes: &[u8]) -> Option<Keyword>
-    ensures { result ≡ looked_up tree_words bytes.now }
-{
-    if is(bytes, b"mkdir") {
-        return Some(Keyword::MakeDir);
-    }
-    if is(bytes, b"mkfile") {
-        return Some(Keyword::MakeFile);
-    }
-    if is(bytes, b"rename") {
-        return Some(Keyword::Rename);
-    }
-    if is(bytes, b"move") {
-        return Some(Keyword::Move);
-    }
-    if is(bytes, b"remove") {
-        return Some(Keyword::Remove);
-    }
-    None
-}
-
-fn line_keyword(bytes: &[u8]) -> Option<Keyword>
-    ensures { result ≡ looked_up line_words bytes.now }
-{
-    if is(bytes, b"insert") {
-        return Some(Keyword::Insert);
-    }
-    if is(bytes, b"delete") {
-        return Some(Keyword::Delete);
-    }
-    if is(bytes, b"replace") {
-        return Some(Keyword::Replace);
-    }
-    if is(bytes, b"show") {
-        return Some(Keyword::Show);
-    }
-    if is(bytes, b"list") {
-        return Some(Keyword::List);
-    }
-    None
-}
-
-fn session_keyword(bytes: &[u8]) -> Option<Keyword>
-    ensures { result ≡ looked_up session_words bytes.now }
-{
-    if is(bytes, b"open") {
-        return Some(Keyword::Open);
-    }
-    if is(bytes, b"refresh") {
-        return Some(Keyword::Refresh);
-    }
-    if is(bytes, b"commit") {
-        return Some(Keyword::Commit);
-    }
-    if is(bytes, b"drop") {
-        return Some(Keyword::Drop);
-    }
-    if is(bytes, b"cat") {
-        return Some(Keyword::Cat);
-    }
-    if is(bytes, b"checkout") {
-        return Some(Keyword::Checkout);
-    }
-    if is(bytes, b"alt") {
-        return Some(Keyword::Alt);
-    }
-    None
-}
-
-fn is(bytes: &[u8], word: &[u8]) -> bool
-    ensures { result ≡ bytes_eq bytes.now word.now }
-{
-    bytes == word
 }

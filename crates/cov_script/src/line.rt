@@ -118,7 +118,7 @@ pub enum LineSyntax {
     /// of its kind, within an expression the place of the mistake there, the line's length for a missing field, and the
     /// space behind the last field where more follows.
     Syntax { at: u32 },
-    /// Its expression has more than 256 tokens.
+    /// Its expression has more than `MOST_TOKENS` tokens.
     TooLong,
     Memory,
 }

@@ -1,6 +1,7 @@
 // How a line is read.
 ghost use Rattle.std.specs.Prelude.{◌≡◌, ◌<◌, ◌^◌, length};
-ghost use Rattle.cov_script.specs.Fields.{IsAnswer};
+ghost use Rattle.cov_base.specs.Answers.{IsOrMemory};
+ghost use Rattle.cov_script.specs.Fields.{is_memory};
 ghost use Rattle.cov_script.specs.Lines.{form_of, spoken};
 
 use crate::form::read_behind;
@@ -13,7 +14,7 @@ use std::alloc::Global;
 /// the place of the first mistake from the left, or where its expression is too long.
 pub fn read_line(alloc: Global, bytes: &[u8]) -> Result<Line, LineSyntax>
     requires { length bytes.now < 2 ^ 32 }
-    ensures { IsAnswer (form_of bytes.now) result }
+    ensures { IsOrMemory is_memory (form_of bytes.now) result }
 {
     match bytes {
         [] | [b'#', ..] => Ok(Line::Nothing),
@@ -23,7 +24,7 @@ pub fn read_line(alloc: Global, bytes: &[u8]) -> Result<Line, LineSyntax>
 
 fn read_spoken(alloc: Global, bytes: &[u8]) -> Result<Line, LineSyntax>
     requires { length bytes.now < 2 ^ 32 }
-    ensures { IsAnswer (spoken bytes.now) result }
+    ensures { IsOrMemory is_memory (spoken bytes.now) result }
 {
     let (word, rest) = cut(bytes);
     match Keyword::read(word) {

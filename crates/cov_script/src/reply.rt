@@ -1,7 +1,7 @@
 // The texts of replies. Each function but `whole` gives one line with its end.
 ghost use Rattle.std.specs.Prelude.{◌≡◌, ◌<◌, ◌≤◌, ◌++◌, [], IfOk, OnOk, codes, get_or, length};
 ghost use Rattle.std.specs.List.{concat};
-ghost use Rattle.cov_script.specs.Replies.{option_reply, constraint_reply, prefer_reply, default_reply, complete_reply, open_reply, plain_reply, new_line_reply, count_reply, commit_reply, shown_line, cat_line, refused_reply, IsCodeOf};
+ghost use Rattle.cov_script.specs.Replies.{option_reply, constraint_reply, prefer_reply, default_reply, complete_reply, open_reply, plain_reply, new_line_reply, count_reply, commit_reply, shown_line, cat_line, refused_reply, numbered, IsCodeOf};
 
 use crate::code::{Code, code_text};
 use cov_base::{Choice, LineNo, LineRef, Memory, OptionId, Position, Text, Texts};
@@ -12,29 +12,28 @@ use std::alloc::Global;
 pub fn reply_option(alloc: Global, id: OptionId) -> Result<Text, Memory>
     ensures { IfOk result (λ text. text ≡ option_reply id) }
 {
-    let number = id.number();
-    Ok(Text::from(format!(in alloc; "ok option {number}\n")?))
+    numbered(alloc, "ok option ", id.number() as u64)
 }
 
 /// The reply to a constraint that is added, with its number from 1.
 pub fn reply_constraint(alloc: Global, number: u32) -> Result<Text, Memory>
     ensures { IfOk result (λ text. text ≡ constraint_reply number) }
 {
-    Ok(Text::from(format!(in alloc; "ok constraint {number}\n")?))
+    numbered(alloc, "ok constraint ", number as u64)
 }
 
 /// The reply to a preference that is added, with its number from 1.
 pub fn reply_prefer(alloc: Global, number: u32) -> Result<Text, Memory>
     ensures { IfOk result (λ text. text ≡ prefer_reply number) }
 {
-    Ok(Text::from(format!(in alloc; "ok prefer {number}\n")?))
+    numbered(alloc, "ok prefer ", number as u64)
 }
 
 /// The reply to a default that is added, with its number from 1.
 pub fn reply_default(alloc: Global, number: u32) -> Result<Text, Memory>
     ensures { IfOk result (λ text. text ≡ default_reply number) }
 {
-    Ok(Text::from(format!(in alloc; "ok default {number}\n")?))
+    numbered(alloc, "ok default ", number as u64)
 }
 
 /// The reply that tells a completion.
@@ -73,22 +72,21 @@ pub fn reply_plain(alloc: Global) -> Result<Text, Memory>
 pub fn reply_new_line(alloc: Global, index: u32) -> Result<Text, Memory>
     ensures { IfOk result (λ text. text ≡ new_line_reply index) }
 {
-    Ok(Text::from(format!(in alloc; "ok +{index}\n")?))
+    numbered(alloc, "ok +", index as u64)
 }
 
 /// The first line of a reply that has so many lines more.
 pub fn reply_count(alloc: Global, count: u64) -> Result<Text, Memory>
     ensures { IfOk result (λ text. text ≡ count_reply count) }
 {
-    Ok(Text::from(format!(in alloc; "ok {count}\n")?))
+    numbered(alloc, "ok ", count)
 }
 
 /// The reply to a commit, with its number in the history.
 pub fn reply_commit(alloc: Global, at: Position) -> Result<Text, Memory>
     ensures { IfOk result (λ text. text ≡ commit_reply at) }
 {
-    let at = at.number();
-    Ok(Text::from(format!(in alloc; "ok commit {at}\n")?))
+    numbered(alloc, "ok commit ", at.number() as u64)
 }
 
 /// A line of a file as a session sees it.
@@ -143,6 +141,13 @@ fn append_line(text: &mut Text, lines: &Texts, index: usize) -> Result<(), Memor
         Some(line) => text.append(line.as_slice()),
         None => unreachable!(),
     }
+}
+
+// A line of words and a number behind them.
+fn numbered(alloc: Global, words: &str, number: u64) -> Result<Text, Memory>
+    ensures { IfOk result (λ text. text ≡ numbered words.now number) }
+{
+    Ok(Text::from(format!(in alloc; "{words}{number}\n")?))
 }
 
 // A line of two texts with a space between them.

@@ -1,7 +1,8 @@
 // What is left of a line behind the fields that were read.
 ghost use Rattle.std.specs.Prelude.{◌≡◌, ◌+◌, ◌≤◌, ◌<◌, ◌^◌, List, [], ◌++◌, nat_eq, length, drop, position, IfSome, IfNone};
 ghost use Rattle.std.specs.List.{before_first, position_or_len};
-ghost use Rattle.cov_script.specs.Fields.{ahead, place, behind, first_field, behind_field, at_end, IsAnswer};
+ghost use Rattle.cov_base.specs.Answers.{IsOrMemory};
+ghost use Rattle.cov_script.specs.Fields.{ahead, place, behind, first_field, behind_field, at_end, is_memory};
 
 use crate::LineSyntax;
 use std::marker::Model;
@@ -57,7 +58,7 @@ impl<'a> Unread<'a> {
 
     /// Refuses what follows the last field.
     pub(crate) fn end(self) -> Result<(), LineSyntax>
-        ensures { IsAnswer (at_end tt self.entry) result }
+        ensures { IsOrMemory is_memory (at_end tt self.entry) result }
     {
         match self.bytes {
             [] => Ok(()),

@@ -20,8 +20,8 @@ returns-in_err-right-in-And-clause-unknown t c =
     rw (p.1, p.2, c.in-And.is, ← left.ensures, ← right.ensures)
     (unknown_right c.args.options.now.names (raw_formula left.result.now) (raw_formula right.result.now) c.in_err-right-in-And.field-0.0 c.in_ok-left-in-And.ensures.known c.in_err-right-in-And.ensures.unknown)
 
-pub returns-in_ok-new-in-And-2-clause-known : goal.returns-in_ok-new-in-And-2-clause-known
-returns-in_ok-new-in-And-2-clause-known t c =
+pub returns-in_ok-and-in-And-clause-known : goal.returns-in_ok-and-in-And-clause-known
+returns-in_ok-and-in-And-clause-known t c =
     let left = c.deref-in-And in
     let right = c.deref-in-And-2 in
     rw (c.in-And.is, ← left.ensures, ← right.ensures)
@@ -44,8 +44,8 @@ returns-in_err-right-in-Or-clause-unknown t c =
     rw (p.1, p.2, c.in-Or.is, ← left.ensures, ← right.ensures)
     (unknown_right c.args.options.now.names (raw_formula left.result.now) (raw_formula right.result.now) c.in_err-right-in-Or.field-0.0 c.in_ok-left-in-Or.ensures.known c.in_err-right-in-Or.ensures.unknown)
 
-pub returns-in_ok-new-in-Or-2-clause-known : goal.returns-in_ok-new-in-Or-2-clause-known
-returns-in_ok-new-in-Or-2-clause-known t c =
+pub returns-in_ok-or-in-Or-clause-known : goal.returns-in_ok-or-in-Or-clause-known
+returns-in_ok-or-in-Or-clause-known t c =
     let left = c.deref-in-Or in
     let right = c.deref-in-Or-2 in
     rw (c.in-Or.is, ← left.ensures, ← right.ensures)

@@ -1,5 +1,5 @@
 use Rattle.cov_expr.specs.declared.token.Token.TheVariants.{Word}
-use Rattle.cov_expr.proofs.Steps.{front_read}
+use Rattle.cov_expr.proofs.FrontReads.{front_read}
 use Rattle.cov_expr.proofs.spelling.read_front.Goals as goal
 
 pub returns-in_ok-word-in-Word : goal.returns-in_ok-word-in-Word

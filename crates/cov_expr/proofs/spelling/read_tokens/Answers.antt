@@ -2,10 +2,10 @@ use Rattle.std.proofs.Common.{ap, ◌∙◌, subst, arith, ◌+◌, length, leng
 use Rattle.std.proofs.lemmas.List.{drop-drop}
 use Rattle.cov_expr.specs.Reading.{read_lexed}
 use Rattle.cov_expr.specs.Readings.{state_of}
-use Rattle.cov_expr.specs.Steps.{HasTokens}
+use Rattle.cov_expr.specs.FrontReads.{HasTokens}
 use Rattle.cov_expr.specs.Tokens.{tokens_from}
 use Rattle.cov_expr.proofs.Fronts.{started-IsFront, front-nots}
-use Rattle.cov_expr.proofs.Steps.{read_at, led_on}
+use Rattle.cov_expr.proofs.FrontReads.{read_at, led_on}
 use Rattle.cov_expr.proofs.spelling.read_tokens.Goals as goal
 
 -- no more ! stand together than there are bytes
@@ -19,12 +19,12 @@ pub loop-at-preserved : goal.loop-at-preserved
 loop-at-preserved c =
     let bytes = c.args.bytes.now in
     let at = c.loop-at.at in
-    let step = c.in-Some.step in
-    let read = read_at bytes at (state_of c.loop-at.reading) c.in_ok-read_front.field-0 step c.in_ok-read_front.ensures c.in-Some.is in
-    let rest = drop-drop step.bytes at bytes in
+    let front = c.in-Some.front in
+    let read = read_at bytes at (state_of c.loop-at.reading) c.in_ok-read_front.field-0 front c.in_ok-read_front.ensures c.in-Some.is in
+    let rest = drop-drop front.bytes at bytes in
     record {
       within = omega (arith, read.1, length-drop at bytes);
-      tokens = subst (λ x. HasTokens (tokens_from (at + step.bytes) 0 x)) rest (read.2 at c.loop-at.invariant.tokens);
-      ahead = c.loop-at.invariant.ahead ∙ read.3 at (length bytes) ∙ ap (λ x. read_lexed (tokens_from (at + step.bytes) 0 x) (length bytes) (state_of step.reading)) rest;
-      led = led_on at step.bytes (state_of c.loop-at.reading) (state_of step.reading) read.0 c.loop-at.invariant.led read.4;
+      tokens = subst (λ x. HasTokens (tokens_from (at + front.bytes) 0 x)) rest (read.2 at c.loop-at.invariant.tokens);
+      ahead = c.loop-at.invariant.ahead ∙ read.3 at (length bytes) ∙ ap (λ x. read_lexed (tokens_from (at + front.bytes) 0 x) (length bytes) (state_of front.reading)) rest;
+      led = led_on at front.bytes (state_of c.loop-at.reading) (state_of front.reading) read.0 c.loop-at.invariant.led read.4;
     }

@@ -2,7 +2,7 @@ use Rattle.std.proofs.Common.{◌≡◌, ◌-◌, ◌≤◌, List, length, drop}
 use Rattle.std.specs.Prelude.{Some}
 use Rattle.cov_expr.specs.Reading.{start, run, read_lexed}
 use Rattle.cov_expr.specs.Readings.{state_of}
-use Rattle.cov_expr.specs.Steps.{HasTokens}
+use Rattle.cov_expr.specs.FrontReads.{HasTokens}
 use Rattle.cov_expr.specs.Tokens.{tokens_of, tokens_from}
 use Rattle.cov_expr.specs.declared.token.Token.{Token}
 use Rattle.cov_expr.proofs.spelling.read_tokens.Given as goal
