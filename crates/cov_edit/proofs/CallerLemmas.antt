@@ -1,12 +1,16 @@
 -- Lemmas on edits and their numbers, for the proofs of callers.
-use Rattle.std.proofs.Common.{◌≡◌, ◌∙◌, refl, ap, ℕ, ◌+◌, ◌≤◌, List, [], ◌∷◌, ◌++◌, length, length-append, arith}
+pub use Rattle.cov_edit.proofs.Examples.{absent_anchor, make_m}
+pub use Rattle.cov_edit.proofs.Replays.{all_within, fold-append, none_outside, numbers_from-append, replay-append, replay-commit}
+pub use Rattle.cov_edit.proofs.Rising.{all-rest, opened, rest-is, rest_of}
+pub use Rattle.cov_edit.proofs.TouchedNodes.{touched-rising}
+use Rattle.std.proofs.Common.{◌≡◌, ◌∙◌, refl, ap, ℕ, suc, ◌+◌, ◌≤◌, List, [], ◌∷◌, ◌++◌, length, arith}
 use Rattle.std.proofs.lemmas.List.Sums.{sum_by-append}
 use Rattle.cov_base.specs.Addresses.{address_in, with_line, with_lines}
 use Rattle.cov_base.specs.Rows.{Created}
 use Rattle.cov_edit.specs.declared.edit.Edit.{Edit}
 use Rattle.cov_edit.specs.declared.edit.Edit.TheVariants as edits
 use Rattle.cov_edit.specs.History.{text_bytes, edit_bytes}
-use Rattle.cov_edit.specs.Numbering.{Numbers, NumberedEdit, OnRows, Inserted, Deleted, node_number, line_number, nodes_made, anchors_of, numbered_from}
+use Rattle.cov_edit.specs.Numbering.{Numbers, OnRows, Inserted, Deleted, node_number, line_number, nodes_made, anchors_of, numbered_from}
 
 -- what edits make is what the first of them make and then the others
 pub anchors-append : (m : ℕ) (es fs : List Edit) → anchors_of m (es ++ fs) ≡ anchors_of m es ++ anchors_of m fs
@@ -54,3 +58,10 @@ numbered-append ns t node line k l m (edits.Delete file which ∷ es) fs e f =
 
 pub bytes-append : (es fs : List Edit) → text_bytes (es ++ fs) ≡ text_bytes es + text_bytes fs
 bytes-append es fs = sum_by-append edit_bytes es fs
+
+-- edits insert as many lines wherever their numbers begin
+pub anchors-same_count : (m n : ℕ) (es : List Edit) → length (anchors_of m es) ≡ length (anchors_of n es)
+anchors-same_count m n [] = refl
+anchors-same_count m n (edits.New kind parent name ∷ es) = anchors-same_count m n es
+anchors-same_count m n (edits.Delete file line ∷ es) = anchors-same_count m n es
+anchors-same_count m n (edits.Insert file after text ∷ es) = ap suc (anchors-same_count m n es)

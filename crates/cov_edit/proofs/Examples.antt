@@ -19,7 +19,7 @@ use Rattle.cov_edit.specs.Touched.{touched}
 abbrev read : List Bool → List Command → List (ℕ × List ℕ)
 read c history = map (λ l. (line_of l.address, l.text)) (lines_of (replay c history) 1)
 
-abbrev make_m : Edit
+abbrev pub make_m : Edit
 make_m = edits.New kinds.File (nodes.Old 0) (codes "m")
 
 -- a file with a line, and a second line after the first
@@ -37,7 +37,7 @@ outside_ambition : value (On 0) (false ∷ []) ≡ false
 outside_ambition = refl
 
 -- B is inserted after A where d is on, C after B everywhere, and X after A from a variant that doesn't show B
-abbrev absent_anchor : List Command
+abbrev pub absent_anchor : List Command
 absent_anchor =
     commands.Option (codes "d")
     ∷ commands.Commit 1 (true ∷ []) True (make_m ∷ edits.Insert (nodes.New 0) (lines.Old 0) (codes "A") ∷ [])

@@ -1,6 +1,7 @@
 -- Replays of longer histories.
 use Rattle.std.proofs.Common.{◌≡◌, ℕ, Bool, true, false, cond, List, [], ◌∷◌, ◌++◌, map, append_assoc, append-nil, refl, sym, ap, ◌∙◌}
 use Rattle.std.specs.List.{fold}
+pub use Rattle.std.proofs.lemmas.List.Sums.{fold-append}
 use Rattle.cov_expr.specs.Formula.{Formula, value}
 use Rattle.cov_edit.specs.declared.edit.Edit.{Edit}
 use Rattle.cov_edit.specs.declared.command.Command.{Command}
@@ -8,10 +9,6 @@ use Rattle.cov_edit.specs.declared.command.Command.TheVariants as commands
 use Rattle.cov_edit.specs.Numbering.{Numbers, NumberedEdit, numbers_from, numbers_after, no_numbers, numbers_of}
 use Rattle.cov_edit.specs.Variant.{Variant, bare, edited}
 use Rattle.cov_edit.specs.Replay.{applying, commit_changes, changes_from, changes_of, applied, committed, replay}
-
-pub fold-append : {A B : Type 0} (f : B → A → B) (b : B) (xs ys : List A) → fold f b (xs ++ ys) ≡ fold f (fold f b xs) ys
-fold-append f b [] ys = refl
-fold-append f b (x ∷ xs) ys = fold-append f (f b x) xs ys
 
 pub numbers_from-append : (ns : Numbers) (history later : List Command) → numbers_from ns (history ++ later) ≡ numbers_from (numbers_from ns history) later
 numbers_from-append ns [] later = refl

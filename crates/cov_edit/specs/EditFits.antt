@@ -1,13 +1,8 @@
 -- What the types keep of every edit: a name well spelt, a text that a line can have.
-use Rattle.std.specs.Prelude.{ℕ, Bool, true, ◌&&◌, not, nat_eq, nat_le, List, length}
-use Rattle.std.specs.List.{list_any}
-use Rattle.cov_base.specs.Spelling.{is_name}
+use Rattle.std.specs.Prelude.{Bool, true}
+use Rattle.cov_base.specs.Spelling.{is_line_text, is_name}
 use Rattle.cov_edit.specs.declared.edit.Edit.{Edit}
 use Rattle.cov_edit.specs.declared.edit.Edit.TheVariants as edits
-
--- whether bytes can be a line's text: at most 4,096 of them, and no end of a line
-abbrev pub is_line_text : List ℕ → Bool
-is_line_text bytes = nat_le (length bytes) 4096 && not (list_any (λ b. nat_eq b 10) bytes)
 
 -- whether the text that an edit inserts, if it inserts one, can be a line's
 abbrev pub has_line_text : Edit → Bool

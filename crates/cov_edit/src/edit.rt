@@ -5,7 +5,7 @@ ghost use Rattle.cov_edit.specs.EditFits.{has_line_text, fits_edit};
 use cov_base::{Kind, LineRef, Memory, Name, NodeRef, Text};
 use std::alloc::Global;
 
-/// One edit of a variant. The text of a line has at most 4,096 bytes and no byte 10.
+/// One edit of a variant. The text of a line has at most `MOST_TEXT_BYTES` bytes and no byte 10.
 #[derive(Debug, Drop)]
 pub enum Edit {
     /// Makes a file or directory in a directory.
@@ -50,13 +50,13 @@ impl Edit {
         }
     }
 
-    // Does nothing; it tells that a name is well spelt, which its type keeps.
+    // Does nothing; it tells that a name is well spelt, which its type keeps. A call on the name says so.
     pub(crate) fn spelling_is_kept(&self)
         ensures { fits_edit self.now ≡ has_line_text self.now }
     {
         match self {
             Edit::New { name, .. } => {
-                let _spelling = name.as_slice();
+                name.as_slice();
             }
             Edit::Insert { .. } | Edit::Delete { .. } => {}
         }

@@ -1,6 +1,7 @@
 -- The same edits on two variants that have the same lines of one file: they have the same again, renumbered.
 use Rattle.std.proofs.Common.{◌≡◌, ℕ, zero, suc, ◌+◌, ◌<◌, ◌≤◌, Bool, true, false, cond, ◌||◌, ◌&&◌, not, nat_eq, List, [], ◌∷◌, length, map, Some, None, option_map, refl, sym, ap, subst, ◌∙◌, arith}
 use Rattle.std.specs.List.{fold, filter, AllByRecursion}
+use Rattle.std.proofs.lemmas.Bool.{and_parts}
 use Rattle.std.proofs.lemmas.Bool.Decides.{nat_tests}
 use Rattle.cov_base.specs.Addresses.{stands_before, address_in, IsTable, IsLineOf, placed, AreInOrder}
 use Rattle.cov_base.specs.Rows.{Created}
@@ -10,17 +11,15 @@ use Rattle.cov_base.specs.declared.number.NodeRef.{NodeRef}
 use Rattle.cov_base.specs.declared.number.NodeRef.TheVariants as nodes
 use Rattle.cov_base.specs.declared.number.LineRef.{LineRef}
 use Rattle.cov_base.specs.declared.number.LineRef.TheVariants as lines
-use Rattle.cov_base.proofs.Ordered.{all-map, all-filter, all-placed, placed-in_order, filter-placed}
+use Rattle.cov_base.proofs.CallerLemmas.{all-map, all-filter, all-placed, placed-in_order, filter-placed, in_order-filter}
 use Rattle.cov_edit.specs.declared.edit.Edit.{Edit}
 use Rattle.cov_edit.specs.declared.edit.Edit.TheVariants as edits
 use Rattle.cov_edit.specs.Numbering.{Numbers, OnRows, Inserted, Deleted, node_number, line_number, anchors_of, numbered_from}
 use Rattle.cov_edit.specs.Variant.{Variant, Line, line_address, is_line, edited, lines_of}
+use Rattle.cov_view.proofs.CallerLemmas.{node-known, insert-accepted, delete-accepted}
 use Rattle.cov_view.specs.References.{is_head, is_known_node, is_known_line}
 use Rattle.cov_view.specs.Paths.{kind_of}
-use Rattle.cov_view.specs.Refusals.{when, first_of, has_node, is_dir, has_line, refusal, refused_from}
-use Rattle.cov_view.specs.declared.fault.EditFault.TheVariants as faults
-use Rattle.cov_history.proofs.Files.{in_order-filter}
-use Rattle.cov_history.proofs.Older.{insert-file, node-known}
+use Rattle.cov_view.specs.Refusals.{shows_line, refusal, refused_from}
 use Rattle.cov_history.proofs.Renumbering.{renumbered, address_renumbered, renumbered-low, renumbered-high, before-renumbered, bytes-renumbered}
 use Rattle.cov_history.proofs.Sessions.{edit-accepted, rest-accepted}
 use Rattle.cov_history.proofs.Standing.{line_of-more, next-behind}
@@ -45,49 +44,18 @@ accepted-known ns t node line k v [] h = tt
 accepted-known ns t node line k v (edits.New kind parent name ∷ es) h =
     accepted-known ns t (node + 1) line (k + 1) _ es (rest-accepted k (refusal ns v (edits.New kind parent name)) _ h)
 accepted-known ns t node line k v (edits.Insert file after text ∷ es) h =
-    let accepted = edit-accepted k (refusal ns v (edits.Insert file after text)) _ h in
-    (insert-file ns v file after text accepted, anchor accepted, accepted-known ns t node (line + 1) (k + 1) _ es (rest-accepted k (refusal ns v (edits.Insert file after text)) _ h))
+    let accepted = insert-accepted ns v file after text (edit-accepted k (refusal ns v (edits.Insert file after text)) _ h) in
+    (node-known ns v file accepted.0, by (is_head after) refl accepted.1, accepted-known ns t node (line + 1) (k + 1) _ es (rest-accepted k (refusal ns v (edits.Insert file after text)) _ h))
   where
-    m : ℕ
-    m = length ns.addresses
-
-    or : (a b c : Bool) → first_of (when a faults.NoSuchNode ∷ when b faults.NotFile ∷ when (not c) faults.NoSuchLine ∷ []) ≡ None → c ≡ true
-    or true b c j = absurd (cc)
-    or false true c j = absurd (cc)
-    or false false true j = refl
-    or false false false j = absurd (cc)
-
-    by : (a b c : Bool) → is_head after ≡ a → is_known_line m after ≡ b → (a || (b && c)) ≡ true → b ≡ true
-    by true b c e f j = sym f ∙ head-known m after e
-    by false true c e f j = refl
-    by false false c e f j = absurd (cc)
-
-    anchor : refusal ns v (edits.Insert file after text) ≡ None → is_known_line m after ≡ true
-    anchor j =
-        by (is_head after) (is_known_line m after) _ refl refl
-        (or (not (has_node ns v file)) (is_dir v.rows (node_number ns.nodes file)) (is_head after || has_line ns v (node_number ns.nodes file) after) j)
+    by : (b : Bool) → is_head after ≡ b → (b || shows_line ns v (node_number ns.nodes file) after) ≡ true → is_known_line (length ns.addresses) after ≡ true
+    by true e j = head-known (length ns.addresses) after e
+    by false e j = (and_parts (is_known_line (length ns.addresses) after) _ j).0
 accepted-known ns t node line k v (edits.Delete file which ∷ es) h =
-    let accepted = edit-accepted k (refusal ns v (edits.Delete file which)) _ h in (
-      node-known ns v file (own (has_node ns v file) (is_dir v.rows (node_number ns.nodes file)) (is_head which || not (has_line ns v (node_number ns.nodes file) which)) accepted),
-      first (is_known_line (length ns.addresses) which) _
-          (had (not (has_node ns v file)) (is_dir v.rows (node_number ns.nodes file)) (is_head which) (has_line ns v (node_number ns.nodes file) which) accepted),
+    let accepted = delete-accepted ns v file which (edit-accepted k (refusal ns v (edits.Delete file which)) _ h) in (
+      node-known ns v file accepted.0,
+      (and_parts (is_known_line (length ns.addresses) which) _ accepted.2).0,
       accepted-known ns t node line (k + 1) _ es (rest-accepted k (refusal ns v (edits.Delete file which)) _ h),
     )
-  where
-    own : (a b c : Bool) → first_of (when (not a) faults.NoSuchNode ∷ when b faults.NotFile ∷ when c faults.NoSuchLine ∷ []) ≡ None → a ≡ true
-    own true b c j = refl
-    own false b c j = absurd (cc)
-
-    had : (a b e c : Bool) → first_of (when a faults.NoSuchNode ∷ when b faults.NotFile ∷ when (e || not c) faults.NoSuchLine ∷ []) ≡ None → c ≡ true
-    had true b e c j = absurd (cc)
-    had false true e c j = absurd (cc)
-    had false false true c j = absurd (cc)
-    had false false false true j = refl
-    had false false false false j = absurd (cc)
-
-    first : (a b : Bool) → (a && b) ≡ true → a ≡ true
-    first true b j = refl
-    first false b j = absurd (cc)
 
 -- the lines of a variant are the first of a table, in order
 pub record IsInTable (t : List (List ℕ)) (n : ℕ) (v : Variant) : Type 0 where

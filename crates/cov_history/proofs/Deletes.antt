@@ -1,61 +1,23 @@
 -- A delete among the edits of a commit.
-use Rattle.std.proofs.Common.{◌≡◌, ℕ, zero, suc, ◌+◌, ◌<◌, ◌≤◌, Bool, true, false, cond, ◌||◌, ◌&&◌, not, nat_eq, nat_lt, List, [], ◌∷◌, ◌++◌, length, map, None, refl, sym, ap, ◌∙◌, arith}
+use Rattle.std.proofs.Common.{◌≡◌, ℕ, suc, ◌+◌, ◌<◌, ◌≤◌, Bool, true, false, cond, ◌||◌, ◌&&◌, nat_eq, List, [], ◌∷◌, ◌++◌, length, map, refl, sym, ap, ◌∙◌, arith}
 use Rattle.std.specs.Str.{bytes_eq}
 use Rattle.std.specs.List.{AllByRecursion}
 use Rattle.std.proofs.lemmas.Bool.Decides.{nat_tests}
-use Rattle.std.proofs.lemmas.Slice.Eq.{bytes_eq-Decides}
 use Rattle.cov_base.specs.Addresses.{stands_before, address_in, line_of, IsTable, IsLineOf, AreInOrder}
-use Rattle.cov_base.proofs.Ordered.{before-itself, all-both, all-filter}
-use Rattle.cov_base.proofs.Tables.{line_of-in, inside, one_address, address_in-beyond}
+use Rattle.cov_base.proofs.CallerLemmas.{before-itself, all-both, all-filter, in_order-filter, line_of-in, one_address, line_is}
 use Rattle.cov_order.specs.Orders.{has_line, AreLines}
 use Rattle.cov_expr.specs.Formula.{Formula}
 use Rattle.cov_edit.specs.declared.edit.Edit.{Edit}
 use Rattle.cov_edit.specs.declared.command.Command.{Command}
-use Rattle.cov_edit.specs.Numbering.{Numbers, node_number, numbers_of}
-use Rattle.cov_edit.specs.Variant.{Line, Variant, is_line}
-use Rattle.cov_view.specs.References.{is_head}
-use Rattle.cov_view.specs.Refusals.{when, first_of, has_node, is_dir, refusal}
-use Rattle.cov_view.specs.Refusals as refusals
-use Rattle.cov_view.specs.declared.fault.EditFault.TheVariants as faults
-use Rattle.cov_history.specs.Kept.{Kept, kept_address, kept_number, hidden, hidden_where, Holding, held_by, kept_of, file_kept, is_kept_anchor, Stands}
+use Rattle.cov_edit.specs.Numbering.{numbers_of}
+use Rattle.cov_edit.specs.Variant.{Line, is_line}
+use Rattle.cov_history.specs.Kept.{Kept, kept_address, kept_number, hidden, hidden_where, Holding, held_by, kept_of, file_kept, is_kept_anchor, IsHolding}
 use Rattle.cov_history.specs.Files.{dated, file_dated, file_order}
 use Rattle.cov_history.specs.Insertions.{table_of, lines_amid, held_amid}
 use Rattle.cov_history.specs.Deletions.{Deletion, the_delete, all_with, delete_file, delete_line, before_delete, behind_delete, hidden_by}
 use Rattle.cov_history.proofs.Standing.{holding-stands}
-use Rattle.cov_history.proofs.Files.{in_order-filter}
 use Rattle.cov_history.proofs.Inserts.{amid-append, is_table-of, amid-within, stands-amid}
 use Rattle.cov_history.proofs.Orders.{any-mapped, any-none}
-
--- an address in a table is that of the line with its number, if it isn't empty
-named : (t : List (List ℕ)) (line : ℕ) → IsTable t → 0 < length (address_in t line) → line_of (address_in t line) ≡ line
-named t zero table h = absurd (omega (arith, h))
-named t (suc x) table h = by (nat_lt x (length t)) refl
-  where
-    by : (b : Bool) → nat_lt x (length t) ≡ b → line_of (address_in t (suc x)) ≡ suc x
-    by true e = line_of-in t x table (grind (arith, nat_tests, e))
-    by false e =
-        let beyond : length t ≤ x = grind (arith, nat_tests, e) in
-        let none : length (address_in t (suc x)) ≡ 0 = ap length (address_in-beyond t x beyond) in
-        absurd (omega (arith, h, none))
-
--- a line of a table has the address of a number just where it is its own
-pub same-line : (t : List (List ℕ)) (n line : ℕ) (a : List ℕ) → IsTable t → n ≤ length t → IsLineOf t n a → bytes_eq a (address_in t line) ≡ nat_eq (line_of a) line
-same-line t n line a table below is = by (nat_eq (line_of a) line) refl
-  where
-    other : (b : Bool) → bytes_eq a (address_in t line) ≡ b → nat_eq (line_of a) line ≡ false → b ≡ false
-    other false f e = refl
-    other true f e =
-        let same : a ≡ address_in t line = (bytes_eq-Decides a (address_in t line)).0 f in
-        let some : 0 < length a = (inside t n a table below is).0 in
-        let there : length a ≡ length (address_in t line) = ap length same in
-        let number : line_of a ≡ line = ap line_of same ∙ named t line table (omega (arith, some, there)) in
-        absurd (grind (arith, nat_tests, number, e))
-
-    by : (b : Bool) → nat_eq (line_of a) line ≡ b → bytes_eq a (address_in t line) ≡ b
-    by true e =
-        let number : line_of a ≡ line = grind (arith, nat_tests, e) in
-        (bytes_eq-Decides a (address_in t line)).1 (one_address t n line a table below is number)
-    by false e = other (bytes_eq a (address_in t line)) refl e
 
 hidden-item : (test : Line → Bool) (q : ℕ) (within : Formula ℕ) (k : Kept Line) → (hidden_where test q within k).item ≡ k.item
 hidden-item test q within k = at (test k.item)
@@ -94,7 +56,7 @@ module _ (t : List (List ℕ)) (n file line q : ℕ) (within : Formula ℕ) (tab
   one-dated : (k : Kept Line) → nat_eq k.item.file file ≡ true → IsLineOf t n (kept_address k) → dated (after k) ≡ hidden_by line q within (dated k)
   one-dated k own is =
       ap (λ b. dated (cond (b && bytes_eq (kept_address k) (address_in t line)) (hidden q within k) k)) own
-      ∙ ap (λ b. dated (cond b (hidden q within k) k)) (same-line t n line (kept_address k) table below is)
+      ∙ ap (λ b. dated (cond b (hidden q within k) k)) (line_is t n line (kept_address k) table below is)
       ∙ at (nat_eq (kept_number k) line)
     where
       at : (b : Bool) → dated (cond b (hidden q within k) k) ≡ cond b (dated (hidden q within k)) (dated k)
@@ -154,17 +116,6 @@ delete-elsewhere history ambition d file h =
     file-behind history ambition d file
     ∙ elsewhere-same (delete_file history d) file (length history + 1) (address_in (table_of history (all_with d)) (delete_line history d)) ambition (before_delete history ambition d).lines h
 
--- an accepted delete has its line
-pub line-there : (ns : Numbers) (v : Variant) (d : Deletion) → refusal ns v (the_delete d) ≡ None → refusals.has_line ns v (node_number ns.nodes d.file) d.line ≡ true
-line-there ns v d h = at (not (has_node ns v d.file)) (is_dir v.rows (node_number ns.nodes d.file)) (is_head d.line) (refusals.has_line ns v (node_number ns.nodes d.file) d.line) h
-  where
-    at : (a b e c : Bool) → first_of (when a faults.NoSuchNode ∷ when b faults.NotFile ∷ when (e || not c) faults.NoSuchLine ∷ []) ≡ None → c ≡ true
-    at true b e c k = absurd (cc)
-    at false true e c k = absurd (cc)
-    at false false true c k = absurd (cc)
-    at false false false true k = refl
-    at false false false false k = absurd (cc)
-
 pub delete-order : (history : List Command) (ambition : Formula ℕ) (d : Deletion) (file : ℕ)
     → (file_order file (behind_delete history ambition d).lines ≡ file_order file (before_delete history ambition d).lines)
     × ((line : ℕ) → is_kept_anchor file line (behind_delete history ambition d).lines ≡ is_kept_anchor file line (before_delete history ambition d).lines)
@@ -213,7 +164,7 @@ lines-apart t n (k ∷ ks) table below o all =
         absurd (cc)
 
 -- the lines of a file have different numbers, from 1 on
-pub file-lines : (t : List (List ℕ)) (n q file : ℕ) (held : Holding) → IsTable t → n ≤ length t → Stands t n q held → AreLines (file_order file held.lines)
+pub file-lines : (t : List (List ℕ)) (n q file : ℕ) (held : Holding) → IsTable t → n ≤ length t → IsHolding t n q held → AreLines (file_order file held.lines)
 file-lines t n q file held table below s =
     lines-apart t n (file_kept file held.lines) table below
     (in_order-filter kept_address (λ k. nat_eq k.item.file file) held.lines s.in_order)

@@ -12,27 +12,15 @@ use Rattle.cov_edit.specs.declared.edit.Edit.TheVariants as edits
 use Rattle.cov_edit.specs.declared.command.Command.{Command}
 use Rattle.cov_edit.specs.declared.command.Command.TheVariants as commands
 use Rattle.cov_edit.specs.Numbering.{OnRows, Deleted}
+use Rattle.cov_edit.proofs.CallerLemmas.{make_m, absent_anchor as history}
 use Rattle.cov_history.specs.Verdict.{verdict}
 use Rattle.cov_history.specs.declared.refusal.Refusal.TheVariants as refusals
-use Rattle.cov_history.specs.Homes.{homes_of}
+use Rattle.cov_history.specs.FileOfLine.{file_of_line_in}
 use Rattle.cov_history.specs.Kept.{kept_number, kept_of, entries_of, kept_after, entries_after, lines_seen, rows_seen}
 
-abbrev make_m : Edit
-make_m = edits.New kinds.File (nodes.Old 0) (codes "m")
-
--- B is inserted after A where d is on, C after B everywhere, and X after A from a variant that doesn't show B
-abbrev history : List Command
-history =
-    commands.Option (codes "d")
-    ∷ commands.Commit 1 (true ∷ []) True (make_m ∷ edits.Insert (nodes.New 0) (lines.Old 0) (codes "A") ∷ [])
-    ∷ commands.Commit 2 (true ∷ []) (On 0) (edits.Insert (nodes.Old 1) (lines.Old 1) (codes "B") ∷ [])
-    ∷ commands.Commit 3 (true ∷ []) True (edits.Insert (nodes.Old 1) (lines.Old 2) (codes "C") ∷ [])
-    ∷ commands.Commit 4 (false ∷ []) True (edits.Insert (nodes.Old 1) (lines.Old 1) (codes "X") ∷ [])
-    ∷ []
-
 -- the file of each line by its number
-homes : homes_of history ≡ 1 ∷ 1 ∷ 1 ∷ 1 ∷ []
-homes = refl
+file_of_line : file_of_line_in history ≡ 1 ∷ 1 ∷ 1 ∷ 1 ∷ []
+file_of_line = refl
 
 -- the numbers of the lines in order
 all_kept : map kept_number (kept_of history) ≡ 1 ∷ 4 ∷ 2 ∷ 3 ∷ []

@@ -1,16 +1,15 @@
 -- The kept lines of one file.
 use Rattle.std.proofs.Common.{◌≡◌, ℕ, suc, ◌<◌, ◌≤◌, Bool, true, false, cond, ◌||◌, ◌&&◌, nat_eq, List, [], ◌∷◌, ◌++◌, length, take, ◌⊎◌, refl, sym, ap, inl, inr, ◌∙◌, arith}
 use Rattle.std.specs.List.{filter, list_any}
+pub use Rattle.std.proofs.lemmas.Bool.{or_right}
 use Rattle.std.proofs.lemmas.Bool.Decides.{nat_tests}
 use Rattle.cov_base.specs.Addresses.{stands_before, address_in, IsTable, IsLineOf, line_of, placed, number_by, AreInOrder, after_anchor_by}
-use Rattle.cov_base.proofs.Ordered.{all-map, all-filter, filter-placed}
-use Rattle.cov_base.proofs.Placing.{at_one, order-insert}
-use Rattle.cov_base.proofs.Tables.{line_of-in}
+use Rattle.cov_base.proofs.CallerLemmas.{any-filter, all-map, all-filter, filter-placed, in_order-filter, at_one, order-insert, line_of-in}
 use Rattle.cov_expr.specs.Formula.{Formula}
 use Rattle.cov_edit.specs.declared.command.Command.{Command}
 use Rattle.cov_edit.specs.Variant.{Variant, Line, line_address, lines_of}
 use Rattle.cov_edit.specs.Replay.{replay}
-use Rattle.cov_history.specs.Kept.{Kept, is_seen, kept_address, kept_number, new_line, Holding, kept_of, lines_seen, file_kept, is_kept_anchor, Stands}
+use Rattle.cov_history.specs.Kept.{Kept, is_seen, kept_address, kept_number, new_line, Holding, kept_of, lines_seen, file_kept, is_kept_anchor, IsHolding}
 use Rattle.cov_history.proofs.Seen.{seen-cons}
 use Rattle.cov_history.proofs.Replays.{replay-seen}
 
@@ -42,10 +41,6 @@ pub file-replay : (c : List Bool) (p file : ℕ) (history : List Command) → li
 file-replay c p file history =
     ap (λ (v : Variant). lines_of v file) (sym (replay-seen c p history)) ∙ file-seen c p file (kept_of history)
 
-pub or_right : (a b : Bool) → b ≡ true → (a || b) ≡ true
-or_right true b e = refl
-or_right false b e = e
-
 -- what is seen is kept
 pub any-seen : (c : List Bool) (p : ℕ) (test : Line → Bool) (ks : List (Kept Line)) → list_any test (lines_seen c p ks) ≡ true → list_any (λ k. test k.item) ks ≡ true
 any-seen c p test [] h = h
@@ -65,14 +60,6 @@ shown-kept c p file line history h =
     (any-seen c p (λ l. nat_eq (number_by line_address l) line) (file_kept file (kept_of history))
     (sym (ap (list_any (λ l. nat_eq (number_by line_address l) line)) (file-replay c p file history)) ∙ h))
 
-pub in_order-filter : {X : Type 0} (address : X → List ℕ) (p : X → Bool) (xs : List X) → AreInOrder address xs → AreInOrder address (filter p xs)
-in_order-filter address p [] o = tt
-in_order-filter address p (x ∷ xs) o = at (p x) (in_order-filter address p xs o.1)
-  where
-    at : (b : Bool) → AreInOrder address (filter p xs) → AreInOrder address (cond b (x ∷ filter p xs) (filter p xs))
-    at true rest = (all-filter (λ y. stands_before (address x) (address y) ≡ true) p xs o.0, rest)
-    at false rest = rest
-
 pub anchor-case : (file anchor : ℕ) (ks : List (Kept Line)) → is_kept_anchor file anchor ks ≡ true
     → (anchor ≡ 0) ⊎ (list_any (λ k. nat_eq (kept_number k) anchor) (file_kept file ks) ≡ true)
 anchor-case file anchor ks h = at (nat_eq anchor 0) refl h
@@ -83,7 +70,7 @@ anchor-case file anchor ks h = at (nat_eq anchor 0) refl h
     at false e k = inr k
 
 -- an anchor's number is at most the count of lines
-pub anchor-below : (t : List (List ℕ)) (n q file anchor : ℕ) (held : Holding) → IsTable t → n ≤ length t → Stands t n q held → is_kept_anchor file anchor held.lines ≡ true → anchor ≤ n
+pub anchor-below : (t : List (List ℕ)) (n q file anchor : ℕ) (held : Holding) → IsTable t → n ≤ length t → IsHolding t n q held → is_kept_anchor file anchor held.lines ≡ true → anchor ≤ n
 anchor-below t n q file anchor held table below s h = at (anchor-case file anchor held.lines h)
   where
     at : (anchor ≡ 0) ⊎ (list_any (λ k. nat_eq (kept_number k) anchor) (file_kept file held.lines) ≡ true) → anchor ≤ n
@@ -101,7 +88,7 @@ anchor-below t n q file anchor held table below s h = at (anchor-case file ancho
 
 -- the next line of a table goes directly after its anchor
 pub placed-anchor : (t : List (List ℕ)) (n q file anchor : ℕ) (within : Formula ℕ) (text : List ℕ) (held : Holding)
-    → IsTable t → n < length t → address_in t (suc n) ≡ address_in t anchor ++ suc n ∷ [] → Stands t n q held
+    → IsTable t → n < length t → address_in t (suc n) ≡ address_in t anchor ++ suc n ∷ [] → IsHolding t n q held
     → is_kept_anchor file anchor held.lines ≡ true
     → file_kept file (placed kept_address (new_line q within file (address_in t (suc n)) text) held.lines)
     ≡ after_anchor_by kept_number anchor (new_line q within file (address_in t (suc n)) text) (file_kept file held.lines)
@@ -123,14 +110,6 @@ pub placed-elsewhere : (q file other : ℕ) (within : Formula ℕ) (address text
 placed-elsewhere q file other within address text ks o h =
     filter-placed kept_address (λ k. nat_eq k.item.file other) (new_line q within file address text) ks o
     ∙ ap (λ b. cond b (placed kept_address (new_line q within file address text) (file_kept other ks)) (file_kept other ks)) h
-
-pub any-filter : {X : Type 0} (p t : X → Bool) (xs : List X) → list_any t (filter p xs) ≡ list_any (λ x. p x && t x) xs
-any-filter p t [] = refl
-any-filter p t (x ∷ xs) = at (p x) (any-filter p t xs)
-  where
-    at : (b : Bool) → list_any t (filter p xs) ≡ list_any (λ y. p y && t y) xs → list_any t (cond b (x ∷ filter p xs) (filter p xs)) ≡ ((b && t x) || list_any (λ y. p y && t y) xs)
-    at true rest = ap (λ b. t x || b) rest
-    at false rest = rest
 
 pub any-placed : {X : Type 0} (address : X → List ℕ) (t : X → Bool) (x : X) (xs : List X) → list_any t (placed address x xs) ≡ (t x || list_any t xs)
 any-placed address t x [] = refl

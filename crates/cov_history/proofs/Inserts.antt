@@ -2,43 +2,19 @@
 use Rattle.std.proofs.Common.{◌≡◌, ℕ, suc, ◌+◌, ◌<◌, ◌≤◌, true, false, nat_eq, List, [], ◌∷◌, ◌++◌, length, length-append, refl, sym, ap, subst, ◌∙◌, arith}
 use Rattle.std.specs.List.{fold}
 use Rattle.cov_base.specs.Addresses.{address_in, with_line, with_lines, line_of, IsTable, placed, after_anchor_by}
-use Rattle.cov_base.specs.Rows.{Created}
-use Rattle.cov_base.proofs.Tables.{line_of-in, length-with_lines, address_in-next}
+use Rattle.cov_base.proofs.CallerLemmas.{line_of-in, length-with_lines, address_in-next}
 use Rattle.cov_expr.specs.Formula.{Formula}
 use Rattle.cov_edit.specs.declared.edit.Edit.{Edit}
-use Rattle.cov_edit.specs.declared.edit.Edit.TheVariants as edits
 use Rattle.cov_edit.specs.declared.command.Command.{Command}
-use Rattle.cov_edit.specs.Numbering.{Numbers, OnRows, Inserted, Deleted, node_number, line_number, nodes_made, anchors_of, numbers_of, numbered_from}
+use Rattle.cov_edit.specs.Numbering.{nodes_made, anchors_of, numbers_of, numbered_from}
 use Rattle.cov_edit.specs.Variant.{Line}
-use Rattle.cov_edit.proofs.Replays.{fold-append}
-use Rattle.cov_history.specs.Kept.{Kept, kept_address, kept_number, Holding, held_after, held_by, file_kept, is_kept_anchor, Stands}
+use Rattle.std.proofs.lemmas.List.Sums.{fold-append}
+pub use Rattle.cov_edit.proofs.CallerLemmas.{anchors-append}
+use Rattle.cov_edit.proofs.CallerLemmas.{with_lines-append, numbered-append}
+use Rattle.cov_history.specs.Kept.{Kept, kept_address, kept_number, Holding, held_after, held_by, file_kept, is_kept_anchor, IsHolding}
 use Rattle.cov_history.specs.Insertions.{Insertion, the_insert, all_edits, lines_before, table_of, numbered_amid, lines_amid, held_amid, lines_begun, table_with, file_of, anchor_of, line_with, held_before, held_behind}
 use Rattle.cov_history.proofs.Standing.{AreNext, numbered-next, numbered-count, stands-edits, stands-opened, table-after, holding-stands}
 use Rattle.cov_history.proofs.Files.{anchor-below, placed-anchor, placed-elsewhere, anchor-stays, anchor-new}
-
-pub anchors-append : (m : ℕ) (es fs : List Edit) → anchors_of m (es ++ fs) ≡ anchors_of m es ++ anchors_of m fs
-anchors-append m [] fs = refl
-anchors-append m (edits.New kind parent name ∷ es) fs = anchors-append m es fs
-anchors-append m (edits.Delete file line ∷ es) fs = anchors-append m es fs
-anchors-append m (edits.Insert file after text ∷ es) fs = ap (λ l. line_number m after ∷ l) (anchors-append m es fs)
-
-with_lines-append : (t : List (List ℕ)) (ms ns : List ℕ) → with_lines t (ms ++ ns) ≡ with_lines (with_lines t ms) ns
-with_lines-append t [] ns = refl
-with_lines-append t (m ∷ ms) ns = with_lines-append (with_line t m) ms ns
-
--- edits after other edits are numbered after their nodes and lines
-numbered-append : (ns : Numbers) (t : List (List ℕ)) (node line last next m : ℕ) (es fs : List Edit) → last ≡ node + nodes_made es → next ≡ line + length (anchors_of m es)
-    → numbered_from ns t node line (es ++ fs) ≡ numbered_from ns t node line es ++ numbered_from ns t last next fs
-numbered-append ns t node line last next m [] fs d e =
-    let same_node : node ≡ last = omega (arith, d) in
-    let same_line : line ≡ next = omega (arith, e) in
-    ap (λ k. numbered_from ns t k line fs) same_node ∙ ap (λ k. numbered_from ns t last k fs) same_line
-numbered-append ns t node line last next m (edits.New kind parent name ∷ es) fs d e =
-    ap (λ l. OnRows (Created (node + 1) kind (node_number ns.nodes parent) name) ∷ l) (numbered-append ns t (node + 1) line last next m es fs (omega (arith, d)) e)
-numbered-append ns t node line last next m (edits.Insert file after text ∷ es) fs d e =
-    ap (λ l. Inserted (node_number ns.nodes file) (address_in t (line + 1)) text ∷ l) (numbered-append ns t node (line + 1) last next m es fs d (omega (arith, e)))
-numbered-append ns t node line last next m (edits.Delete file which ∷ es) fs d e =
-    ap (λ l. Deleted (node_number ns.nodes file) (address_in t (line_number (length ns.addresses) which)) ∷ l) (numbered-append ns t node line last next m es fs d e)
 
 -- what is held when more of a commit's edits are done
 pub amid-append : (history : List Command) (ambition : Formula ℕ) (es begun more : List Edit)
@@ -70,14 +46,14 @@ module _ (history : List Command) (begun later : List Edit) where
   pub amid-next : AreNext (table_of history (begun ++ later)) m (numbered_amid history (begun ++ later) begun)
   amid-next = numbered-next (numbers_of history) (table_of history (begun ++ later)) (numbers_of history).nodes m m begun amid-within
 
-  pub amid-opened : Stands (table_of history (begun ++ later)) m (length history + 1) (held_by history)
+  pub amid-opened : IsHolding (table_of history (begun ++ later)) m (length history + 1) (held_by history)
   amid-opened = stands-opened (numbers_of history) (begun ++ later) (length history) (held_by history) (holding-stands history).1
 
   -- what is held when the first edits are done stands
   pub stands-amid : (ambition : Formula ℕ)
-      → Stands (table_of history (begun ++ later)) (lines_amid history begun) (length history + 1) (held_amid history ambition (begun ++ later) begun)
+      → IsHolding (table_of history (begun ++ later)) (lines_amid history begun) (length history + 1) (held_amid history ambition (begun ++ later) begun)
   stands-amid ambition =
-      subst (λ n. Stands (table_of history (begun ++ later)) n (length history + 1) (held_amid history ambition (begun ++ later) begun))
+      subst (λ n. IsHolding (table_of history (begun ++ later)) n (length history + 1) (held_amid history ambition (begun ++ later) begun))
       (numbered-count (numbers_of history) (table_of history (begun ++ later)) (numbers_of history).nodes m m begun)
       (stands-edits (table_of history (begun ++ later)) m (length history + 1) ambition (held_by history) (numbered_amid history (begun ++ later) begun)
       (is_table-of history (begun ++ later)) amid-next amid-opened)
@@ -119,7 +95,7 @@ module _ (history : List Command) (i : Insertion) where
       (subst (λ t. address_in t (suc (length (with_lines before begun))) ≡ address_in t (anchor_of history i) ++ suc (length (with_lines before begun)) ∷ []) (sym the_table)
       (address_in-next (with_lines before begun) (anchor_of history i) later (omega (arith, h, count))))
 
-  pub stands_before_insert : (ambition : Formula ℕ) → Stands (table_with history i) (lines_begun history i) (length history + 1) (held_before history ambition i)
+  pub stands_before_insert : (ambition : Formula ℕ) → IsHolding (table_with history i) (lines_begun history i) (length history + 1) (held_before history ambition i)
   stands_before_insert ambition = stands-amid history i.begun (the_insert i ∷ i.later) ambition
 
   -- the insert places its line

@@ -1,5 +1,6 @@
 pub mod Alike
 pub mod Appends
+pub mod CallerLemmas
 pub mod Deletes
 pub mod Examples
 pub mod Files

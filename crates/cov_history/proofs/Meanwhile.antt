@@ -2,13 +2,13 @@
 use Rattle.std.proofs.Common.{◌≡◌, ℕ, suc, ◌+◌, ◌<◌, ◌≤◌, Bool, true, false, cond, ◌||◌, ◌&&◌, nat_eq, List, [], ◌∷◌, ◌++◌, length, map, take, drop, Option, Some, None, option_map, refl, sym, ap, subst, ◌∙◌, arith}
 use Rattle.std.specs.List.{filter, list_any, filter_map, cons_option, AllByRecursion}
 use Rattle.std.proofs.Math.Seq.{take-length}
+use Rattle.std.proofs.lemmas.Bool.{or_right}
 use Rattle.std.proofs.lemmas.Bool.Decides.{nat_tests}
 use Rattle.cov_base.specs.Addresses.{address_in, with_lines, IsTable, IsLineOf}
 use Rattle.cov_base.specs.declared.number.Kind.TheVariants as kinds
 use Rattle.cov_base.specs.declared.number.NodeRef.{NodeRef}
 use Rattle.cov_base.specs.declared.number.NodeRef.TheVariants as nodes
-use Rattle.cov_base.proofs.Ordered.{all-map, all-filter}
-use Rattle.cov_base.proofs.Tables.{inside, address_in-with_lines, length-with_lines}
+use Rattle.cov_base.proofs.CallerLemmas.{all-map, all-filter, inside, address_in-with_lines, length-with_lines}
 use Rattle.cov_expr.specs.Formula.{Formula, value, reach}
 use Rattle.cov_edit.specs.declared.edit.Edit.{Edit}
 use Rattle.cov_edit.specs.declared.edit.Edit.TheVariants as edits
@@ -19,9 +19,8 @@ use Rattle.cov_edit.specs.Numbering.{Numbers, anchors_of, numbers_after, numbers
 use Rattle.cov_edit.specs.Touched.{old_node, touched_by, has_number, have_common, touched, touch}
 use Rattle.cov_edit.specs.Variant.{Line, lines_of}
 use Rattle.cov_edit.specs.Replay.{replay}
-use Rattle.cov_edit.proofs.Replays.{replay-commit, all_within}
-use Rattle.cov_edit.proofs.TouchedNodes.{touched-rising}
-use Rattle.cov_rules.proofs.Deciding.{value_same, is_on-take, fails_on_each}
+use Rattle.cov_edit.proofs.CallerLemmas.{anchors-same_count, replay-commit, all_within, touched-rising}
+use Rattle.cov_rules.proofs.CallerLemmas.{value_same, is_on-take, fails_on_each}
 use Rattle.cov_view.specs.References.{is_known_node}
 use Rattle.cov_view.specs.Paths.{kind_of}
 use Rattle.cov_history.specs.Kept.{Kept, seen_at, is_seen, the_item, items_seen, held_by}
@@ -31,7 +30,8 @@ use Rattle.cov_history.specs.Reach.{AreReached, IsHeldInReach}
 use Rattle.cov_history.specs.Sessions.{Session, IsGood, seen, commit_of}
 use Rattle.cov_history.specs.Verdict.{IsLegal, verdict, when_full, size_refusals, has_no_edits, as_overtaken}
 use Rattle.cov_history.specs.declared.refusal.Refusal.TheVariants as refusals
-use Rattle.cov_view.specs.Refusals.{when, first_of}
+use Rattle.cov_view.specs.Refusals.{when}
+use Rattle.cov_view.proofs.CallerLemmas.{none-first, none-behind}
 use Rattle.cov_history.proofs.Alike.{AreKnown, accepted-known, IsInTable, line_renumbered, anchors-renumbered, IsAlike, edits-alike}
 use Rattle.cov_history.proofs.Inserts.{is_table-of}
 use Rattle.cov_history.proofs.Naming.{base-nodes}
@@ -83,13 +83,9 @@ any-one : (node : ℕ) (t : ℕ → Bool) (xs : List ℕ) → list_any (λ x. na
 any-one node t [] h k = absurd (cc)
 any-one node t (x ∷ xs) h k = at (nat_eq x node) refl h (λ j. any-one node t xs j k)
   where
-    or : (a b : Bool) → b ≡ true → (a || b) ≡ true
-    or true b j = refl
-    or false b j = j
-
     at : (b : Bool) → nat_eq x node ≡ b → (b || list_any (λ y. nat_eq y node) xs) ≡ true → (list_any (λ y. nat_eq y node) xs ≡ true → list_any t xs ≡ true) → (t x || list_any t xs) ≡ true
     at true e j rest = let is : node ≡ x = grind (arith, nat_tests, e) in ap (λ b. b || list_any t xs) (subst (λ y. t y ≡ true) is k)
-    at false e j rest = or (t x) (list_any t xs) (rest j)
+    at false e j rest = or_right (t x) (list_any t xs) (rest j)
 
 module _ (history : List Command) (ambition : Formula ℕ) (es : List Edit) (c : List Bool) (node : ℕ)
     (whole : length c ≡ option_count history) (valid : is_valid_in history c ≡ true) (inside : value ambition c ≡ true) (own : touch node es ≡ true) where
@@ -127,12 +123,6 @@ module _ (history : List Command) (ambition : Formula ℕ) (es : List Edit) (c :
       at false e j rest = (left-one k e, rest j)
 
 -- an accepted commit isn't overtaken
-last-none : {F : Type 0} (os : List (Option F)) (o : Option F) → first_of (os ++ o ∷ []) ≡ None → o ≡ None
-last-none [] None h = refl
-last-none [] (Some f) h = absurd (cc)
-last-none (None ∷ os) o h = last-none os o h
-last-none (Some f ∷ os) o h = absurd (cc)
-
 no-position : (o : Option ℕ) → as_overtaken o ≡ None → o ≡ None
 no-position None h = refl
 no-position (Some p) h = absurd (cc)
@@ -140,8 +130,9 @@ no-position (Some p) h = absurd (cc)
 not-overtaken : (history : List Command) (s : Session) → IsGood history s → verdict history (commit_of s) ≡ None → overtaken history s.base s.ambition s.edits ≡ None
 not-overtaken history s good accepted =
     no-position (overtaken history s.base s.ambition s.edits)
-    (last-none (when_full history ∷ (size_refusals history s.edits ++ when (has_no_edits s.edits) refusals.Empty ∷ [])) (as_overtaken (overtaken history s.base s.ambition s.edits))
-    (sym (good-passes history s good) ∙ accepted))
+    (none-first (as_overtaken (overtaken history s.base s.ambition s.edits)) []
+    (none-behind (when_full history ∷ (size_refusals history s.edits ++ when (has_no_edits s.edits) refusals.Empty ∷ [])) (as_overtaken (overtaken history s.base s.ambition s.edits) ∷ [])
+    (sym (good-passes history s good) ∙ accepted))).0
 
 -- a touched node of known edits is an old one
 named-low : (n node : ℕ) (file : NodeRef) (es : List Edit) → is_known_node n file ≡ true → has_number node (cons_option (old_node file) (filter_map touched_by es)) ≡ true
@@ -260,14 +251,8 @@ module _ (history : List Command) (s : Session) (c : List Bool) (file : ℕ) (le
       (edits-alike nb nh more tb th (is_table-of before s.edits) (is_table-of history s.edits) same file old (base-nodes s.base history)
       nb.nodes nh.nodes n m 0 (replay s.choice before) (replay c history) s.edits (omega arith) (omega arith) (omega arith) (omega arith)
       (let count = length-with_lines nb.addresses (anchors_of n s.edits) in omega (arith, count))
-      (let count = length-with_lines nh.addresses (anchors_of m s.edits) in let few = few-anchors m n s.edits in omega (arith, count, few))
+      (let count = length-with_lines nh.addresses (anchors_of m s.edits) in let few = anchors-same_count m n s.edits in omega (arith, count, few))
       known (replay-in_table s.choice before s.edits) (replay-in_table c history s.edits) start-alike)
-    where
-      few-anchors : (a b : ℕ) (es : List Edit) → length (anchors_of a es) ≡ length (anchors_of b es)
-      few-anchors a b [] = refl
-      few-anchors a b (edits.New kind parent name ∷ es) = few-anchors a b es
-      few-anchors a b (edits.Delete f which ∷ es) = few-anchors a b es
-      few-anchors a b (edits.Insert f after text ∷ es) = ap suc (few-anchors a b es)
 
   -- the commit shows of a file that it touches what its session saw
   pub commit-shows_file : (kind_of (replay c (history ++ commit_of s ∷ [])).rows file ≡ kind_of (seen s history).rows file)

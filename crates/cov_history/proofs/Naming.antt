@@ -2,12 +2,13 @@
 use Rattle.std.proofs.Common.{◌≡◌, ℕ, ◌+◌, ◌≤◌, Bool, true, false, cond, ◌&&◌, ◌||◌, not, nat_eq, nat_lt, nat_le, List, [], ◌∷◌, ◌++◌, length, map, take, drop, append_assoc, append-nil, Option, Some, None, refl, sym, ap, subst, ◌∙◌, arith}
 use Rattle.std.specs.List.{fold, list_any, AllByRecursion}
 use Rattle.std.proofs.lemmas.List.{take-append-drop}
+use Rattle.std.proofs.lemmas.Bool.{and_parts}
 use Rattle.std.proofs.lemmas.Bool.Decides.{nat_tests}
 use Rattle.cov_base.specs.Addresses.{address_in}
 use Rattle.cov_base.specs.Rows.{Row, Created, is_present}
 use Rattle.cov_base.specs.declared.number.NodeRef.{NodeRef}
 use Rattle.cov_base.specs.declared.number.NodeRef.TheVariants as nodes
-use Rattle.cov_base.proofs.Ordered.{all-map, all-append, all-filter, all-placed}
+use Rattle.cov_base.proofs.CallerLemmas.{all-map, all-append, all-filter, all-placed}
 use Rattle.cov_expr.specs.Formula.{Formula, value, reach}
 use Rattle.cov_edit.specs.declared.edit.Edit.{Edit}
 use Rattle.cov_edit.specs.declared.edit.Edit.TheVariants as edits
@@ -17,11 +18,11 @@ use Rattle.cov_edit.specs.History.{option_count, first_false_in}
 use Rattle.cov_edit.specs.Numbering.{Numbers, NumberedEdit, OnRows, Inserted, Deleted, node_number, line_number, nodes_made, no_numbers, numbers_after, numbers_from, numbers_of, numbered_from}
 use Rattle.cov_edit.specs.Variant.{Variant, Line, bare, line_address, is_line, edited}
 use Rattle.cov_edit.specs.Replay.{applying, commit_changes, changes_from, applied, replay}
-use Rattle.cov_edit.proofs.Replays.{fold-append, numbers_from-append, replay-append, replay-commit}
+use Rattle.cov_edit.proofs.CallerLemmas.{fold-append, numbers_from-append, replay-append, replay-commit}
+use Rattle.cov_view.proofs.CallerLemmas.{new-accepted, insert-accepted, delete-accepted, none-first, none-behind}
 use Rattle.cov_view.specs.References.{is_known_node, is_made_node}
-use Rattle.cov_view.specs.Refusals.{when, first_of, has_node, refusal, refused_from, first_refused}
+use Rattle.cov_view.specs.Refusals.{when, refusal, refused_from, first_refused}
 use Rattle.cov_view.specs.declared.fault.EditFault.{EditFault}
-use Rattle.cov_view.specs.declared.fault.EditFault.TheVariants as faults
 use Rattle.cov_history.specs.declared.refusal.Refusal.{Refusal}
 use Rattle.cov_history.specs.declared.refusal.Refusal.TheVariants as refusals
 use Rattle.cov_history.specs.Naming.{NamesOnlyMade}
@@ -71,16 +72,12 @@ present-below count node (r ∷ rows) h there = at (nat_eq r.node node) refl (λ
         omega (arith, own, same)
     at false e rest k = rest k
 
-and_left : (a b : Bool) → (a && b) ≡ true → a ≡ true
-and_left true b h = refl
-and_left false b h = absurd (cc)
-
 or_other : (a b : Bool) → a ≡ false → (a || b) ≡ true → b ≡ true
 or_other true b e h = absurd (cc)
 or_other false b e h = h
 
 known-made : (n made : ℕ) (node : NodeRef) (rows : List Row) → AreUpTo the_node (n + made) rows → (is_known_node n node && is_present rows (node_number n node)) ≡ true → is_made_node n made node ≡ true
-known-made n made (nodes.Old x) rows h there = and_left (nat_le x n) (is_present rows x) there
+known-made n made (nodes.Old x) rows h there = (and_parts (nat_le x n) (is_present rows x) there).0
 known-made n made (nodes.New i) rows h there =
     let no_root : nat_eq (n + 1 + i) 0 ≡ false = grind (arith, nat_tests) in
     let below : n + 1 + i ≤ n + made = present-below (n + made) (n + 1 + i) rows h (or_other (nat_eq (n + 1 + i) 0) (list_any (λ r. nat_eq r.node (n + 1 + i)) rows) no_root there) in
@@ -93,10 +90,6 @@ made-number n m made (nodes.New i) le h =
     let own : i + 1 ≤ made = grind (arith, nat_tests, one) in
     omega (arith, own)
 
-first-passes : {F : Type 0} (b : Bool) (f : F) (os : List (Option F)) → first_of (when (not b) f ∷ os) ≡ None → b ≡ true
-first-passes true f os h = refl
-first-passes false f os h = absurd (cc)
-
 -- accepted edits name what is made when it is their turn
 pub accepted-named : (ns : Numbers) (t : List (List ℕ)) (node made line k : ℕ) (v : Variant) (es : List Edit) → node ≡ ns.nodes + made → AreUpTo the_node (ns.nodes + made) v.rows
     → refused_from ns v k es (numbered_from ns t node line es) ≡ None → AreNamed ns.nodes made es
@@ -106,18 +99,18 @@ accepted-named ns t node made line k v (edits.New kind parent name ∷ es) e h a
     let own : node + 1 ≤ ns.nodes + made + 1 = omega (arith, e) in
     let more : ns.nodes + made + 1 ≡ ns.nodes + (made + 1) = omega arith in
     let row : Row = record { node = node + 1; kind = kind; parent = node_number ns.nodes parent; name = name } in (
-      known-made ns.nodes made parent v.rows h (first-passes (has_node ns v parent) faults.NoSuchNode _ (edit-accepted k (refusal ns v (edits.New kind parent name)) _ accepted)),
+      known-made ns.nodes made parent v.rows h (new-accepted ns v kind parent name (edit-accepted k (refusal ns v (edits.New kind parent name)) _ accepted)).0,
       accepted-named ns t (node + 1) (made + 1) line (k + 1) (edited v (OnRows (Created (node + 1) kind (node_number ns.nodes parent) name))) es next
           (subst (λ n. AreUpTo the_node n (v.rows ++ row ∷ [])) more (one-more the_node (ns.nodes + made) v.rows row own h))
           (rest-accepted k (refusal ns v (edits.New kind parent name)) _ accepted),
     )
 accepted-named ns t node made line k v (edits.Insert file after text ∷ es) e h accepted = (
-  known-made ns.nodes made file v.rows h (first-passes (has_node ns v file) faults.NoSuchNode _ (edit-accepted k (refusal ns v (edits.Insert file after text)) _ accepted)),
+  known-made ns.nodes made file v.rows h (insert-accepted ns v file after text (edit-accepted k (refusal ns v (edits.Insert file after text)) _ accepted)).0,
   accepted-named ns t node made (line + 1) (k + 1) (edited v (Inserted (node_number ns.nodes file) (address_in t (line + 1)) text)) es e h
       (rest-accepted k (refusal ns v (edits.Insert file after text)) _ accepted),
 )
 accepted-named ns t node made line k v (edits.Delete file which ∷ es) e h accepted = (
-  known-made ns.nodes made file v.rows h (first-passes (has_node ns v file) faults.NoSuchNode _ (edit-accepted k (refusal ns v (edits.Delete file which)) _ accepted)),
+  known-made ns.nodes made file v.rows h (delete-accepted ns v file which (edit-accepted k (refusal ns v (edits.Delete file which)) _ accepted)).0,
   accepted-named ns t node made line (k + 1) (edited v (Deleted (node_number ns.nodes file) (address_in t (line_number (length ns.addresses) which)))) es e h
       (rest-accepted k (refusal ns v (edits.Delete file which)) _ accepted),
 )
@@ -207,12 +200,6 @@ base-nodes base history =
     (nodes-grow (numbers_of (take base history)) (drop base history))
 
 -- an accepted commit's edits are accepted
-none-within : {F : Type 0} (os : List (Option F)) (o p : Option F) → first_of (os ++ o ∷ p ∷ []) ≡ None → o ≡ None
-none-within [] None p h = refl
-none-within [] (Some f) p h = absurd (cc)
-none-within (None ∷ os) o p h = none-within os o p h
-none-within (Some f ∷ os) o p h = absurd (cc)
-
 no-record : (refused : Option (ℕ × EditFault)) → as_bad_record refused ≡ None → refused ≡ None
 no-record None h = refl
 no-record (Some r) h = absurd (cc)
@@ -221,8 +208,12 @@ pub edits-accepted : (history : List Command) (base : ℕ) (choice : List Bool) 
     → first_refused (numbers_of (take base history)) (replay choice (take base history)) es ≡ None
 edits-accepted history base choice ambition es h =
     no-record (first_refused (numbers_of (take base history)) (replay choice (take base history)) es)
-    (none-within front (as_bad_record (first_refused (numbers_of (take base history)) (replay choice (take base history)) es)) (as_overtaken (overtaken history base ambition es)) h)
+    (none-first (as_bad_record (first_refused (numbers_of (take base history)) (replay choice (take base history)) es)) last
+    (none-behind front (as_bad_record (first_refused (numbers_of (take base history)) (replay choice (take base history)) es) ∷ last) h)).0
   where
+    last : List (Option Refusal)
+    last = as_overtaken (overtaken history base ambition es) ∷ []
+
     front : List (Option Refusal)
     front =
         when_full history ∷ when (nat_lt (length history) base) refusals.BadBase

@@ -1,8 +1,9 @@
 -- Edits that an older base accepts, and what the history holds now.
 use Rattle.std.proofs.Common.{◌≡◌, ℕ, zero, suc, ◌+◌, ◌<◌, ◌≤◌, Bool, true, false, cond, ◌||◌, ◌&&◌, not, nat_eq, List, [], ◌∷◌, ◌++◌, length, map, take, drop, None, ◌⊎◌, inl, inr, refl, sym, ap, subst, ◌∙◌, arith}
-use Rattle.std.specs.List.{fold, list_any, AllByRecursion}
+use Rattle.std.specs.List.{fold, list_any}
 use Rattle.std.proofs.Math.Seq.{take-length}
 use Rattle.std.proofs.lemmas.List.{take-append-drop}
+use Rattle.std.proofs.lemmas.Bool.{and_parts, or_right}
 use Rattle.std.proofs.lemmas.Bool.Decides.{nat_tests}
 use Rattle.cov_base.specs.Addresses.{address_in, line_of, IsTable, IsLineOf}
 use Rattle.cov_base.specs.Rows.{Created}
@@ -10,9 +11,7 @@ use Rattle.cov_base.specs.declared.number.NodeRef.{NodeRef}
 use Rattle.cov_base.specs.declared.number.NodeRef.TheVariants as nodes
 use Rattle.cov_base.specs.declared.number.LineRef.{LineRef}
 use Rattle.cov_base.specs.declared.number.LineRef.TheVariants as lines
-use Rattle.cov_base.proofs.Ordered.{all-map}
-use Rattle.cov_base.proofs.Placing.{at_one}
-use Rattle.cov_base.proofs.Tables.{line_of-in}
+use Rattle.cov_base.proofs.CallerLemmas.{all-map, at_one, line_of-in}
 use Rattle.cov_order.specs.Orders as orders
 use Rattle.cov_expr.specs.Formula.{Formula}
 use Rattle.cov_edit.specs.declared.edit.Edit.{Edit}
@@ -22,9 +21,10 @@ use Rattle.cov_edit.specs.declared.command.Command.TheVariants as commands
 use Rattle.cov_edit.specs.Numbering.{Numbers, NumberedEdit, OnRows, Inserted, Deleted, node_number, line_number, anchors_of, numbers_after, numbers_of, numbered_from, numbered}
 use Rattle.cov_edit.specs.Variant.{Variant, Line, line_address, is_line, edited}
 use Rattle.cov_edit.specs.Replay.{replay}
+use Rattle.cov_edit.proofs.CallerLemmas.{anchors-same_count}
+use Rattle.cov_view.proofs.CallerLemmas.{node-known, insert-accepted, delete-accepted, head-number, below-head}
 use Rattle.cov_view.specs.References.{is_head, is_known_node, is_known_line}
-use Rattle.cov_view.specs.Refusals.{when, first_of, has_node, is_dir, has_line, refusal, refused_from, first_refused}
-use Rattle.cov_view.specs.declared.fault.EditFault.TheVariants as faults
+use Rattle.cov_view.specs.Refusals.{shows_line, refusal, refused_from, first_refused}
 use Rattle.cov_history.specs.Kept.{Kept, kept_number, new_line, kept_after, hidden_where, Holding, held_after, held_from, held_by, kept_of, file_kept, is_kept_anchor}
 use Rattle.cov_history.specs.Files.{file_order}
 use Rattle.cov_history.specs.Insertions.{Insertion, the_insert, all_edits, lines_before, table_of, numbered_amid, held_amid, file_of, anchor_of, held_before}
@@ -32,13 +32,13 @@ use Rattle.cov_history.specs.Deletions.{Deletion, the_delete, all_with, delete_f
 use Rattle.cov_history.specs.Sessions.{Session, IsGood}
 use Rattle.cov_history.specs.Verdict.{IsLegalFrom, IsLegal}
 use Rattle.cov_history.proofs.Appends.{holding-goes_on, lines-edits}
-use Rattle.cov_history.proofs.Deletes.{order-hidden, line-there}
-use Rattle.cov_history.proofs.Files.{or_right, anchor-case, any-placed, anchor-stays, anchor-new}
+use Rattle.cov_history.proofs.Deletes.{order-hidden}
+use Rattle.cov_history.proofs.Files.{anchor-case, any-placed, anchor-stays, anchor-new}
 use Rattle.cov_history.proofs.Inserts.{is_table-of, amid-within}
 use Rattle.cov_history.proofs.Naming.{legal-named}
 use Rattle.cov_history.proofs.Orders.{any-mapped}
 use Rattle.cov_history.proofs.Replays.{replay-seen}
-use Rattle.cov_history.proofs.Sessions.{edit-accepted, rest-accepted, turn-accepted, anchor-there, head-number, line-shown}
+use Rattle.cov_history.proofs.Sessions.{edit-accepted, rest-accepted, turn-accepted, line-shown}
 use Rattle.cov_history.proofs.Shown.{replay-stands}
 
 -- a history that is legal was so before
@@ -94,22 +94,6 @@ new-line_now : (n m j : ℕ) (line : LineRef) → is_known_line n line ≡ true 
 new-line_now n m j (lines.Old x) h e = let low : x ≤ n = grind (arith, nat_tests, h) in absurd (omega (arith, low, e))
 new-line_now n m j (lines.New i) h e = omega (arith, e)
 
-and-true : (a b : Bool) → (a && b) ≡ true → (a ≡ true) × (b ≡ true)
-and-true true b h = (refl, h)
-and-true false b h = absurd (cc)
-
-pub node-known : (ns : Numbers) (v : Variant) (node : NodeRef) → has_node ns v node ≡ true → is_known_node ns.nodes node ≡ true
-node-known ns v node h = (and-true (is_known_node ns.nodes node) _ h).0
-
--- an edit that isn't refused has its file
-pub insert-file : (ns : Numbers) (v : Variant) (file : NodeRef) (after : LineRef) (text : List ℕ) → refusal ns v (edits.Insert file after text) ≡ None → is_known_node ns.nodes file ≡ true
-insert-file ns v file after text h =
-    node-known ns v file (at (has_node ns v file) (is_dir v.rows (node_number ns.nodes file)) (is_head after || has_line ns v (node_number ns.nodes file) after) h)
-  where
-    at : (a b c : Bool) → first_of (when (not a) faults.NoSuchNode ∷ when b faults.NotFile ∷ when (not c) faults.NoSuchLine ∷ []) ≡ None → a ≡ true
-    at true b c k = refl
-    at false b c k = absurd (cc)
-
 module _ (nb nh : Numbers) where
   abbrev mb : ℕ
   mb = length nb.addresses
@@ -119,14 +103,14 @@ module _ (nb nh : Numbers) where
 
   -- the lines that a variant has by references from the base are kept by the same references from now on
   abbrev pub AreKeptNow : Variant → List (Kept Line) → Type 0
-  AreKeptNow v ks = (file : NodeRef) (line : LineRef) → is_known_node nb.nodes file ≡ true → has_line nb v (node_number nb.nodes file) line ≡ true
+  AreKeptNow v ks = (file : NodeRef) (line : LineRef) → is_known_node nb.nodes file ≡ true → shows_line nb v (node_number nb.nodes file) line ≡ true
       → is_kept_anchor (node_number nh.nodes file) (line_number mh line) ks ≡ true
 
   insert-now : (q : ℕ) (within : Formula ℕ) (v : Variant) (ks : List (Kept Line)) (file : NodeRef) (ab ah text : List ℕ) (j : ℕ) → is_known_node nb.nodes file ≡ true
       → line_of ab ≡ mb + j + 1 → line_of ah ≡ mh + j + 1 → AreKeptNow v ks
       → AreKeptNow (edited v (Inserted (node_number nb.nodes file) ab text)) (kept_after q within ks (Inserted (node_number nh.nodes file) ah text))
   insert-now q within v ks file ab ah text j own eb eh kept other line known h =
-      let parts = and-true (is_known_line mb line) (list_any is_it (edited v (Inserted (node_number nb.nodes file) ab text)).lines) h in
+      let parts = and_parts (is_known_line mb line) (list_any is_it (edited v (Inserted (node_number nb.nodes file) ab text)).lines) h in
       at (is_it new) (list_any is_it v.lines) refl refl parts.0 (sym (any-placed line_address is_it new v.lines) ∙ parts.1)
     where
       is_it : Line → Bool
@@ -138,7 +122,7 @@ module _ (nb nh : Numbers) where
       at : (a b : Bool) → is_it new ≡ a → list_any is_it v.lines ≡ b → is_known_line mb line ≡ true → (a || b) ≡ true
           → is_kept_anchor (node_number nh.nodes other) (line_number mh line) (kept_after q within ks (Inserted (node_number nh.nodes file) ah text)) ≡ true
       at true b e f k t =
-          let two = and-true (nat_eq (node_number nb.nodes file) (node_number nb.nodes other)) (nat_eq (line_of ab) (line_number mb line)) e in
+          let two = and_parts (nat_eq (node_number nb.nodes file) (node_number nb.nodes other)) (nat_eq (line_of ab) (line_number mb line)) e in
           let first = two.0 in
           let second = two.1 in
           let same_file : node_number nb.nodes file ≡ node_number nb.nodes other = grind (arith, nat_tests, first) in
@@ -167,7 +151,7 @@ module _ (nb nh : Numbers) where
   delete-now : (q : ℕ) (within : Formula ℕ) (v : Variant) (ks : List (Kept Line)) (fb fh : ℕ) (ab ah : List ℕ) → AreKeptNow v ks
       → AreKeptNow (edited v (Deleted fb ab)) (kept_after q within ks (Deleted fh ah))
   delete-now q within v ks fb fh ab ah kept file line known h =
-      let parts = and-true (is_known_line mb line) (list_any is_it (edited v (Deleted fb ab)).lines) h in
+      let parts = and_parts (is_known_line mb line) (list_any is_it (edited v (Deleted fb ab)).lines) h in
       anchor-hidden (node_number nh.nodes file) (line_number mh line) (is_line fh ah) q within ks
       ∙ kept file line known (ap (λ b. b && list_any is_it v.lines) parts.0 ∙ filter-has is_it (λ l. not (is_line fb ab l)) v.lines parts.1)
     where
@@ -194,7 +178,7 @@ module _ (nb nh : Numbers) where
       (omega (arith, eb)) (omega (arith, eh)) (omega (arith, below_b)) (omega (arith, below_h))
       (rest-accepted k (refusal nb v (edits.Insert file after text)) _ accepted)
       (insert-now q within v ks file (address_in tb (lb + 1)) (address_in th (lh + 1)) text j
-      (insert-file nb v file after text (edit-accepted k (refusal nb v (edits.Insert file after text)) _ accepted)) nb_line nh_line kept)
+      (node-known nb v file (insert-accepted nb v file after text (edit-accepted k (refusal nb v (edits.Insert file after text)) _ accepted)).0) nb_line nh_line kept)
   edits-now q within tb th xb xh lb lh j k m v ks (edits.Delete file which ∷ begun) later is_tb is_th eb eh below_b below_h accepted kept =
       edits-now q within tb th xb xh lb lh j (k + 1) m (edited v (Deleted (node_number nb.nodes file) (address_in tb (line_number mb which))))
       (kept_after q within ks (Deleted (node_number nh.nodes file) (address_in th (line_number mh which)))) begun later is_tb is_th eb eh below_b below_h
@@ -216,7 +200,7 @@ start-now base history c legal (nodes.Old x) (lines.New j) known h =
     (λ l line e.
     let less : line.0 < length nb.addresses = line.1 in
     let number : line_of l.address ≡ suc line.0 = ap line_of line.2 ∙ line_of-in nb.addresses line.0 (is_table-nb base history) less in
-    let second = (and-true (nat_eq l.file x) (nat_eq (line_of l.address) (length nb.addresses + 1 + j)) e).1 in
+    let second = (and_parts (nat_eq l.file x) (nat_eq (line_of l.address) (length nb.addresses + 1 + j)) e).1 in
     let same : line_of l.address ≡ length nb.addresses + 1 + j = grind (arith, nat_tests, second) in
     omega (arith, less, number, same))
     (replay c (take base history)).lines (replay-stands c (take base history)).1))
@@ -225,11 +209,11 @@ start-now base history c legal (nodes.Old x) (lines.New j) known h =
     is_table-nb base history = is_table-of (take base history) []
 start-now base history c legal (nodes.New i) line known h =
     let nb : Numbers = numbers_of (take base history) in
-    let parts = and-true (is_known_line (length nb.addresses) line) _ h in
+    let parts = and_parts (is_known_line (length nb.addresses) line) _ h in
     absurd (at_one (λ l. nat_eq l.file (nb.nodes + 1 + i) && nat_eq (line_of l.address) (line_number (length nb.addresses) line)) ⊥ (replay c (take base history)).lines parts.1
     (all-map (λ l. l.file ≤ nb.nodes) (λ l. (nat_eq l.file (nb.nodes + 1 + i) && nat_eq (line_of l.address) (line_number (length nb.addresses) line)) ≡ true → ⊥)
     (λ l low e.
-    let first = (and-true (nat_eq l.file (nb.nodes + 1 + i)) (nat_eq (line_of l.address) (line_number (length nb.addresses) line)) e).0 in
+    let first = (and_parts (nat_eq l.file (nb.nodes + 1 + i)) (nat_eq (line_of l.address) (line_number (length nb.addresses) line)) e).0 in
     let same : l.file ≡ nb.nodes + 1 + i = grind (arith, nat_tests, first) in
     omega (arith, low, same))
     (replay c (take base history)).lines (legal-named c (take base history) (legal-take base [] history legal)).files))
@@ -257,28 +241,22 @@ module _ (history : List Command) (s : Session) (legal : IsLegal history) (good 
       (length nb.addresses) (length nh.addresses) 0 0 (length nb.addresses) (replay s.choice before) (kept_of history) begun later
       (is_table-of before (begun ++ later)) (is_table-of history (begun ++ later)) (omega arith) (omega arith)
       (amid-within before begun later)
-      (let within = amid-within history begun later in let same = anchors-few (length nb.addresses) (length nh.addresses) begun in omega (arith, within, same))
+      (let within = amid-within history begun later in let same = anchors-same_count (length nb.addresses) (length nh.addresses) begun in omega (arith, within, same))
       (ap (first_refused nb (replay s.choice before)) all ∙ good.accepted)
       (start-now s.base history s.choice legal))
-    where
-      anchors-few : (m n : ℕ) (es : List Edit) → length (anchors_of m es) ≡ length (anchors_of n es)
-      anchors-few m n [] = refl
-      anchors-few m n (edits.New kind parent name ∷ es) = anchors-few m n es
-      anchors-few m n (edits.Delete file which ∷ es) = anchors-few m n es
-      anchors-few m n (edits.Insert file after text ∷ es) = ap suc (anchors-few m n es)
 
   -- each insert of a good session has its anchor kept when it is its turn, also on an older base
   pub accepted-anchored : (i : Insertion) → all_edits i ≡ s.edits → is_kept_anchor (file_of history i) (anchor_of history i) (held_before history s.ambition i).lines ≡ true
   accepted-anchored i all =
       let nb : Numbers = numbers_of before in
-      let accepted = edit-at_base i.begun (the_insert i) i.later all in
-      at (is_head i.after) refl (anchor-there nb v i accepted) (λ h. amid-now i.begun (the_insert i ∷ i.later) all i.file i.after (insert-file nb v i.file i.after i.text accepted) h)
+      let accepted = insert-accepted nb v i.file i.after i.text (edit-at_base i.begun (the_insert i) i.later all) in
+      at (is_head i.after) refl accepted.1 (λ h. amid-now i.begun (the_insert i ∷ i.later) all i.file i.after (node-known nb v i.file accepted.0) h)
     where
       v : Variant
       v = fold edited (replay s.choice before) (numbered_amid before (all_edits i) i.begun)
 
-      at : (b : Bool) → is_head i.after ≡ b → (b || has_line (numbers_of before) v (node_number (numbers_of before).nodes i.file) i.after) ≡ true
-          → (has_line (numbers_of before) v (node_number (numbers_of before).nodes i.file) i.after ≡ true → is_kept_anchor (file_of history i) (anchor_of history i) (held_before history s.ambition i).lines ≡ true)
+      at : (b : Bool) → is_head i.after ≡ b → (b || shows_line (numbers_of before) v (node_number (numbers_of before).nodes i.file) i.after) ≡ true
+          → (shows_line (numbers_of before) v (node_number (numbers_of before).nodes i.file) i.after ≡ true → is_kept_anchor (file_of history i) (anchor_of history i) (held_before history s.ambition i).lines ≡ true)
           → is_kept_anchor (file_of history i) (anchor_of history i) (held_before history s.ambition i).lines ≡ true
       at true e k rest = subst (λ n. is_kept_anchor (file_of history i) n (held_before history s.ambition i).lines ≡ true) (sym (head-number (lines_before history) i.after e)) refl
       at false e k rest = rest k
@@ -287,36 +265,15 @@ module _ (history : List Command) (s : Session) (legal : IsLegal history) (good 
   pub accepted-there : (d : Deletion) → all_with d ≡ s.edits → orders.has_line (delete_line history d) (file_order (delete_file history d) (before_delete history s.ambition d).lines) ≡ true
   accepted-there d all =
       let nb : Numbers = numbers_of before in
-      let accepted = edit-at_base d.begun (the_delete d) d.later all in
-      let kept = amid-now d.begun (the_delete d ∷ d.later) all d.file d.line (delete-file nb v accepted) (line-there nb v d accepted) in
+      let accepted = delete-accepted nb v d.file d.line (edit-at_base d.begun (the_delete d) d.later all) in
+      let kept = amid-now d.begun (the_delete d ∷ d.later) all d.file d.line (node-known nb v d.file accepted.0) accepted.2 in
       any-mapped kept_number (delete_line history d) (file_kept (delete_file history d) (before_delete history s.ambition d).lines)
-      ∙ at (anchor-case (delete_file history d) (delete_line history d) (before_delete history s.ambition d).lines kept)
+      ∙ at accepted.1 (anchor-case (delete_file history d) (delete_line history d) (before_delete history s.ambition d).lines kept)
     where
       v : Variant
       v = fold edited (replay s.choice before) (numbered_amid before (all_with d) d.begun)
 
-      not-head : (ns : Numbers) (w : Variant) → refusal ns w (the_delete d) ≡ None → is_head d.line ≡ false
-      not-head ns w h = by (not (has_node ns w d.file)) (is_dir w.rows (node_number ns.nodes d.file)) (is_head d.line) (has_line ns w (node_number ns.nodes d.file) d.line) h
-        where
-          by : (a b e c : Bool) → first_of (when a faults.NoSuchNode ∷ when b faults.NotFile ∷ when (e || not c) faults.NoSuchLine ∷ []) ≡ None → e ≡ false
-          by true b e c k = absurd (cc)
-          by false true e c k = absurd (cc)
-          by false false true c k = absurd (cc)
-          by false false false c k = refl
-
-      delete-file : (ns : Numbers) (w : Variant) → refusal ns w (the_delete d) ≡ None → is_known_node ns.nodes d.file ≡ true
-      delete-file ns w h = node-known ns w d.file (by (has_node ns w d.file) (is_dir w.rows (node_number ns.nodes d.file)) (is_head d.line || not (has_line ns w (node_number ns.nodes d.file) d.line)) h)
-        where
-          by : (a b c : Bool) → first_of (when (not a) faults.NoSuchNode ∷ when b faults.NotFile ∷ when c faults.NoSuchLine ∷ []) ≡ None → a ≡ true
-          by true b c k = refl
-          by false b c k = absurd (cc)
-
-      above-head : (n : ℕ) (line : LineRef) → is_head line ≡ false → line_number n line ≡ 0 → ⊥
-      above-head n (lines.Old zero) h e = absurd (cc)
-      above-head n (lines.Old (suc x)) h e = omega (arith, e)
-      above-head n (lines.New i) h e = omega (arith, e)
-
-      at : (delete_line history d ≡ 0) ⊎ (list_any (λ k. nat_eq (kept_number k) (delete_line history d)) (file_kept (delete_file history d) (before_delete history s.ambition d).lines) ≡ true)
+      at : is_head d.line ≡ false → (delete_line history d ≡ 0) ⊎ (list_any (λ k. nat_eq (kept_number k) (delete_line history d)) (file_kept (delete_file history d) (before_delete history s.ambition d).lines) ≡ true)
           → list_any (λ k. nat_eq (kept_number k) (delete_line history d)) (file_kept (delete_file history d) (before_delete history s.ambition d).lines) ≡ true
-      at (inl e) = absurd (above-head (lines_before history) d.line (not-head (numbers_of before) v (edit-at_base d.begun (the_delete d) d.later all)) e)
-      at (inr e) = e
+      at no_head (inl e) = absurd (below-head (lines_before history) d.line no_head e)
+      at no_head (inr e) = e

@@ -3,9 +3,7 @@ use Rattle.std.proofs.Common.{◌≡◌, ℕ, zero, suc, ◌+◌, ◌<◌, ◌�
 use Rattle.std.specs.List.{filter, list_any, AllByRecursion}
 use Rattle.std.proofs.lemmas.Bool.Decides.{nat_tests}
 use Rattle.cov_base.specs.Addresses.{line_of, IsTable, IsLineOf, itself, after_anchor, after_anchor_by}
-use Rattle.cov_base.proofs.Ordered.{all-map, all-filter}
-use Rattle.cov_base.proofs.Placing.{map-after_anchor}
-use Rattle.cov_base.proofs.Tables.{line_of-in}
+use Rattle.cov_base.proofs.CallerLemmas.{any-map, all-map, all-filter, map-after_anchor, line_of-in}
 use Rattle.cov_order.specs.Orders.{has_line, is_anchor}
 use Rattle.cov_expr.specs.Formula.{Formula}
 use Rattle.cov_edit.specs.declared.command.Command.{Command}
@@ -13,7 +11,7 @@ use Rattle.cov_edit.specs.declared.command.Command.TheVariants as commands
 use Rattle.cov_edit.specs.Numbering.{Numbers, numbers_of}
 use Rattle.cov_edit.specs.Variant.{Line, lines_of}
 use Rattle.cov_edit.specs.Replay.{replay}
-use Rattle.cov_history.specs.Kept.{Kept, is_seen, kept_address, kept_number, Holding, held_from, held_by, kept_of, lines_seen, file_kept, is_kept_anchor, Stands}
+use Rattle.cov_history.specs.Kept.{Kept, is_seen, kept_address, kept_number, Holding, held_from, held_by, kept_of, lines_seen, file_kept, is_kept_anchor, IsHolding}
 use Rattle.cov_history.specs.Insertions.{Insertion, lines_begun, table_with, file_of, anchor_of, line_with, held_before, held_behind}
 use Rattle.cov_history.specs.Files.{DatedLine, dated_number, dated, file_dated, file_order, as_shown, dated_as_shown, is_dated_seen, dated_shown, Takes}
 use Rattle.cov_history.specs.Sessions.{has_commit}
@@ -60,8 +58,7 @@ insert-dated history ambition i h =
     numbered_line n = record { line = n; text = i.text; changes = (length history + 1, ambition) ∷ [] }
 
 pub any-mapped : {X : Type 0} (g : X → ℕ) (n : ℕ) (xs : List X) → has_line n (map g xs) ≡ list_any (λ x. nat_eq (g x) n) xs
-any-mapped g n [] = refl
-any-mapped g n (x ∷ xs) = ap (λ b. nat_eq (g x) n || b) (any-mapped g n xs)
+any-mapped g n xs = any-map (λ k. nat_eq k n) g xs
 
 pub any-none : {X : Type 0} (t : X → Bool) (xs : List X) → AllByRecursion (λ x. t x ≡ false) xs → list_any t xs ≡ false
 any-none t [] h = refl
@@ -73,7 +70,7 @@ order-anchor file (suc n) ks h =
     let above : nat_eq (suc n) 0 ≡ false = grind (arith, nat_tests) in
     any-mapped kept_number (suc n) (file_kept file ks) ∙ sym (ap (λ b. b || list_any (λ k. nat_eq (kept_number k) (suc n)) (file_kept file ks)) above) ∙ h
 
-order-fresh : (t : List (List ℕ)) (n q file : ℕ) (held : Holding) → IsTable t → n ≤ length t → Stands t n q held → has_line (n + 1) (file_order file held.lines) ≡ false
+order-fresh : (t : List (List ℕ)) (n q file : ℕ) (held : Holding) → IsTable t → n ≤ length t → IsHolding t n q held → has_line (n + 1) (file_order file held.lines) ≡ false
 order-fresh t n q file held table below s =
     any-mapped kept_number (n + 1) (file_kept file held.lines)
     ∙ any-none (λ k. nat_eq (kept_number k) (n + 1)) (file_kept file held.lines)

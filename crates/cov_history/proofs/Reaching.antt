@@ -1,11 +1,12 @@
 -- The options that the changes of what is held name.
-use Rattle.std.proofs.Common.{◌≡◌, ℕ, zero, suc, ◌+◌, ◌≤◌, Bool, true, false, cond, ◌||◌, not, nat_eq, nat_lt, nat_le, List, [], ◌∷◌, ◌++◌, length, length-append, append_assoc, append-nil, map, take, Option, Some, None, refl, sym, subst, arith}
+use Rattle.std.proofs.Common.{◌≡◌, ℕ, zero, suc, ◌+◌, ◌≤◌, Bool, true, false, cond, ◌||◌, not, nat_eq, nat_lt, nat_le, List, [], ◌∷◌, ◌++◌, length, length-append, append_assoc, append-nil, map, take, Option, None, refl, sym, subst, arith}
 use Rattle.std.specs.List.{fold, AllByRecursion}
 use Rattle.std.proofs.Math.Nat.{max-le}
 use Rattle.std.proofs.lemmas.List.{take-append-le}
+use Rattle.std.proofs.lemmas.Bool.{or_parts}
 use Rattle.std.proofs.lemmas.Bool.Decides.{nat_tests}
 use Rattle.cov_base.specs.Rows.{Row, RowChange, Created, Renamed, Moved, Removed, with_name, with_parent}
-use Rattle.cov_base.proofs.Ordered.{all-map, all-append, all-placed}
+use Rattle.cov_base.proofs.CallerLemmas.{all-map, all-append, all-placed}
 use Rattle.cov_expr.specs.Formula.{Formula, value, reach}
 use Rattle.cov_edit.specs.declared.edit.Edit.{Edit}
 use Rattle.cov_edit.specs.declared.command.Command.{Command}
@@ -14,7 +15,8 @@ use Rattle.cov_edit.specs.History.{option_count, first_false_in}
 use Rattle.cov_edit.specs.Numbering.{Numbers, NumberedEdit, OnRows, Inserted, Deleted, no_numbers, numbers_after, numbers_of, numbered}
 use Rattle.cov_edit.specs.Replay.{replay}
 use Rattle.cov_edit.specs.Variant.{Line, is_line}
-use Rattle.cov_view.specs.Refusals.{when, first_of, first_refused}
+use Rattle.cov_view.proofs.CallerLemmas.{none-first, none-when}
+use Rattle.cov_view.specs.Refusals.{when, first_refused}
 use Rattle.cov_history.specs.declared.refusal.Refusal.{Refusal}
 use Rattle.cov_history.specs.declared.refusal.Refusal.TheVariants as refusals
 use Rattle.cov_history.specs.Kept.{Kept, seen_at, new_item, hidden, taken_up, hidden_where, replaced_where, kept_address, new_line, is_row, rows_kept_after, Holding, nothing_held, held_after, held_from, held_by}
@@ -109,39 +111,28 @@ held-longer history later held h = record {
   of_lines = all-map (AreReached history) (AreReached (history ++ later)) (λ k j. all-map (IsReached history) (IsReached (history ++ later)) (reached-longer history later) k.changes j) held.lines h.of_lines;
 }
 
-first-none : {F : Type 0} (o : Option F) (os : List (Option F)) → first_of (o ∷ os) ≡ None → o ≡ None
-first-none None os h = refl
-first-none (Some f) os h = absurd (cc)
-
-others-none : {F : Type 0} (o : Option F) (os : List (Option F)) → first_of (o ∷ os) ≡ None → first_of os ≡ None
-others-none None os h = h
-others-none (Some f) os h = absurd (cc)
-
-when-none : {F : Type 0} (b : Bool) (f : F) → when b f ≡ None → b ≡ false
-when-none true f h = absurd (cc)
-when-none false f h = refl
-
-or_false : (a b : Bool) → (a || b) ≡ false → b ≡ false
-or_false true b h = absurd (cc)
-or_false false b h = h
-
 -- an accepted commit's base is in the history, and its ambition names only options declared there
 accepted-reach : (history : List Command) (base : ℕ) (choice : List Bool) (ambition : Formula ℕ) (es : List Edit) → verdict history (commands.Commit base choice ambition es) ≡ None
     → (base ≤ length history) × (reach ambition ≤ option_count (take base history))
 accepted-reach history base choice ambition es h =
-    let behind_full = others-none (when_full history) (bad_base ∷ bad_option ∷ others) h in
-    let at_base : nat_lt (length history) base ≡ false = when-none (nat_lt (length history) base) refusals.BadBase (first-none bad_base (bad_option ∷ others) behind_full) in
-    let named : nat_lt (option_count (take base history)) (reach ambition) ≡ false =
-    or_false (not (nat_eq (length choice) (option_count (take base history)))) (nat_lt (option_count (take base history)) (reach ambition))
-    (when-none (not (nat_eq (length choice) (option_count (take base history))) || nat_lt (option_count (take base history)) (reach ambition)) refusals.BadOption
-    (first-none bad_option others (others-none bad_base (bad_option ∷ others) behind_full))) in
+    let behind_full = none-first (when_full history) (bad_base ∷ bad_option ∷ others) h in
+    let behind_base = none-when (nat_lt (length history) base) refusals.BadBase (bad_option ∷ others) behind_full.1 in
+    let behind_option = none-when (differs || beyond) refusals.BadOption others behind_base.1 in
+    let at_base : nat_lt (length history) base ≡ false = behind_base.0 in
+    let named : nat_lt (option_count (take base history)) (reach ambition) ≡ false = (or_parts differs beyond behind_option.0).1 in
     (grind (arith, nat_tests, at_base), grind (arith, nat_tests, named))
   where
     bad_base : Option Refusal
     bad_base = when (nat_lt (length history) base) refusals.BadBase
 
+    differs : Bool
+    differs = not (nat_eq (length choice) (option_count (take base history)))
+
+    beyond : Bool
+    beyond = nat_lt (option_count (take base history)) (reach ambition)
+
     bad_option : Option Refusal
-    bad_option = when (not (nat_eq (length choice) (option_count (take base history))) || nat_lt (option_count (take base history)) (reach ambition)) refusals.BadOption
+    bad_option = when (differs || beyond) refusals.BadOption
 
     others : List (Option Refusal)
     others =

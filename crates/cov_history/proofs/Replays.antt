@@ -9,8 +9,8 @@ use Rattle.cov_edit.specs.declared.command.Command.TheVariants as commands
 use Rattle.cov_edit.specs.Numbering.{Numbers, NumberedEdit, OnRows, Inserted, Deleted, no_numbers, numbers_after, numbered}
 use Rattle.cov_edit.specs.Variant.{Variant, Line, line_address, is_line, lines_after, rows_after, edited}
 use Rattle.cov_edit.specs.Replay.{Change, applying, commit_changes, changes_from, applied, replay}
-use Rattle.cov_edit.proofs.Replays.{fold-append}
-use Rattle.cov_history.specs.Kept.{Kept, kept_address, kept_after, is_row, rows_kept_after, entries_after, Holding, nothing_held, held_after, held_from, held_by, lines_seen, rows_seen, variant_seen, Stands}
+use Rattle.cov_edit.proofs.CallerLemmas.{fold-append}
+use Rattle.cov_history.specs.Kept.{Kept, kept_address, kept_after, is_row, rows_kept_after, entries_after, Holding, nothing_held, held_after, held_from, held_by, lines_seen, rows_seen, variant_seen, IsHolding}
 use Rattle.cov_history.proofs.Seen.{seen-later, append-seen, append-before, hide-seen, hide-before, replace-seen, replace-before, place-seen, place-before}
 use Rattle.cov_history.proofs.Standing.{count_after, AreNext, stands-edit, stands-opened, stands-commit, stands-later, table-after, commit-next, no_table, nothing-stands}
 
@@ -77,7 +77,7 @@ module _ (c : List Bool) where
   pub edit-before : (p q : ℕ) (within : Formula ℕ) (held : Holding) (d : NumberedEdit) → p < q → variant_seen c p (held_after q within held d) ≡ variant_seen c p held
   edit-before p q within held d h = joined (rows-before p q within held.rows d h) (lines-before p q within held.lines d h)
 
-  pub edits-seen : (t : List (List ℕ)) (n q : ℕ) (within : Formula ℕ) (held : Holding) (ds : List NumberedEdit) → IsTable t → AreNext t n ds → Stands t n q held
+  pub edits-seen : (t : List (List ℕ)) (n q : ℕ) (within : Formula ℕ) (held : Holding) (ds : List NumberedEdit) → IsTable t → AreNext t n ds → IsHolding t n q held
       → variant_seen c q (fold (held_after q within) held ds) ≡ fold (applied c) (variant_seen c q held) (map (applying within) ds)
   edits-seen t n q within held [] table next s = refl
   edits-seen t n q within held (d ∷ ds) table next s =
@@ -100,10 +100,10 @@ module _ (c : List Bool) where
   history-before p q held ns (commands.Default option on ∷ history) h = history-before p (q + 1) held ns history (omega (arith, h))
 
   -- each position sees the same once nothing is newer
-  pub variant-later : (t : List (List ℕ)) (n p q : ℕ) (held : Holding) → q ≤ p → Stands t n q held → variant_seen c p held ≡ variant_seen c q held
+  pub variant-later : (t : List (List ℕ)) (n p q : ℕ) (held : Holding) → q ≤ p → IsHolding t n q held → variant_seen c p held ≡ variant_seen c q held
   variant-later t n p q held h s = joined (seen-later c p q held.rows h s.dated_rows) (seen-later c p q held.lines h s.dated_lines)
 
-  pub replay-from : (m p q : ℕ) (held : Holding) (ns : Numbers) (history : List Command) → p ≡ q + m → IsTable ns.addresses → Stands ns.addresses (length ns.addresses) q held
+  pub replay-from : (m p q : ℕ) (held : Holding) (ns : Numbers) (history : List Command) → p ≡ q + m → IsTable ns.addresses → IsHolding ns.addresses (length ns.addresses) q held
       → variant_seen c p (held_from q held ns history) ≡ fold (applied c) (variant_seen c q held) (changes_from ns (take m history))
   replay-from zero p q held ns history e table s =
       history-before p q held ns history (omega (arith, e)) ∙ variant-later ns.addresses (length ns.addresses) p q held (omega (arith, e)) s

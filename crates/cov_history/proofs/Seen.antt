@@ -3,7 +3,7 @@ use Rattle.std.proofs.Common.{◌≡◌, ℕ, ◌<◌, ◌≤◌, Bool, true, fa
 use Rattle.std.specs.List.{filter, AllByRecursion}
 use Rattle.std.proofs.lemmas.Bool.Decides.{nat_tests}
 use Rattle.cov_base.specs.Addresses.{stands_before, placed, AreInOrder}
-use Rattle.cov_base.proofs.Ordered.{filter-placed}
+use Rattle.cov_base.proofs.CallerLemmas.{filter-placed}
 use Rattle.cov_expr.specs.Formula.{Formula, Not, And, value}
 use Rattle.cov_history.specs.Kept.{Kept, seen_at, IsUpTo, is_seen, the_item, items_seen, new_item, hidden, taken_up, hidden_where, replaced_where}
 

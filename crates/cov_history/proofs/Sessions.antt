@@ -1,12 +1,13 @@
 -- Good sessions.
-use Rattle.std.proofs.Common.{◌≡◌, ℕ, zero, suc, ◌+◌, ◌≤◌, Bool, true, false, cond, ◌||◌, ◌&&◌, not, nat_eq, nat_lt, List, [], ◌∷◌, ◌++◌, length, length-append, take, drop, Option, Some, None, option_map, refl, sym, ap, subst, ◌∙◌, arith}
+use Rattle.std.proofs.Common.{◌≡◌, ℕ, suc, ◌+◌, ◌≤◌, Bool, true, false, cond, ◌||◌, ◌&&◌, not, nat_eq, nat_lt, List, [], ◌∷◌, ◌++◌, length, length-append, take, drop, Option, Some, None, option_map, refl, sym, ap, subst, ◌∙◌, arith}
 use Rattle.std.specs.List.{fold, list_all, list_any, position_or_len}
 use Rattle.std.proofs.lemmas.List.{take-append-drop, take-append-le}
+use Rattle.std.proofs.lemmas.Bool.{and_parts}
 use Rattle.std.proofs.lemmas.Bool.Decides.{nat_tests}
+use Rattle.cov_base.proofs.CallerLemmas.{any-filter}
 use Rattle.cov_base.specs.Addresses.{address_in, line_of}
 use Rattle.cov_base.specs.Rows.{Created}
 use Rattle.cov_base.specs.declared.number.LineRef.{LineRef}
-use Rattle.cov_base.specs.declared.number.LineRef.TheVariants as lines
 use Rattle.cov_expr.specs.Formula.{Formula, value, reach}
 use Rattle.cov_expr.specs.Validity.{is_valid, first_false}
 use Rattle.cov_edit.specs.declared.edit.Edit.{Edit}
@@ -17,19 +18,18 @@ use Rattle.cov_edit.specs.History.{option_count, constraints_of, is_valid_in}
 use Rattle.cov_edit.specs.Numbering.{Numbers, OnRows, Inserted, Deleted, no_numbers, node_number, line_number, numbers_from, numbers_of, numbered_from, numbered}
 use Rattle.cov_edit.specs.Variant.{Variant, edited}
 use Rattle.cov_edit.specs.Replay.{changes_from, applied, replay}
-use Rattle.cov_edit.proofs.Replays.{numbers_from-append, replay-append, replay-commit, all_within}
-use Rattle.cov_view.specs.References.{is_head, is_known_line}
-use Rattle.cov_view.specs.Refusals.{when, first_of, has_node, is_dir, has_line, refusal, refused_at, refused_from, first_refused}
+use Rattle.cov_edit.proofs.CallerLemmas.{numbers_from-append, replay-append, replay-commit, all_within}
+use Rattle.cov_view.proofs.CallerLemmas.{first-not_when}
+use Rattle.cov_view.specs.References.{is_known_line}
+use Rattle.cov_view.specs.Refusals.{when, first_of, shows_line, refusal, refused_at, refused_from, first_refused}
 use Rattle.cov_view.specs.declared.fault.EditFault.{EditFault}
-use Rattle.cov_view.specs.declared.fault.EditFault.TheVariants as faults
 use Rattle.cov_history.specs.declared.refusal.Refusal.{Refusal}
 use Rattle.cov_history.specs.declared.refusal.Refusal.TheVariants as refusals
 use Rattle.cov_history.specs.Kept.{Holding, variant_seen, kept_number, file_kept}
-use Rattle.cov_history.specs.Insertions.{Insertion, the_insert}
 use Rattle.cov_history.specs.Verdict.{verdict, as_invalid, as_bad_record, as_overtaken, has_no_edits, size_refusals, when_full}
 use Rattle.cov_history.specs.Overtaking.{overtaken}
 use Rattle.cov_history.specs.Sessions.{Session, IsGood, seen, commit_of, has_commit}
-use Rattle.cov_history.proofs.Files.{any-seen, any-filter}
+use Rattle.cov_history.proofs.Files.{any-seen}
 
 pub good-stays : (history later : List Command) (s : Session) → IsGood history s → IsGood (history ++ later) s
 good-stays history later s good =
@@ -57,10 +57,6 @@ module _ {F : Type 0} where
   first-behind [] os ps e = e
   first-behind (x ∷ xs) os ps e = first-cons x (xs ++ os) (xs ++ ps) (first-behind xs os ps e)
 
-  not_when : (b : Bool) (f : F) → b ≡ false → when b f ≡ None
-  not_when true f e = absurd (cc)
-  not_when false f e = refl
-
 all_pass : (c : List Bool) (es : List (Formula ℕ)) → list_all (λ e. value e c) es ≡ true → position_or_len (λ e. not (value e c)) es ≡ length es
 all_pass c [] h = refl
 all_pass c (e ∷ es) h = at (value e c) h (λ k. all_pass c es k)
@@ -86,13 +82,12 @@ good-passes history s good =
     let counted : nat_eq (length s.choice) (option_count (take s.base history)) ≡ true = grind (arith, nat_tests, count) in
     let reached : nat_lt (option_count (take s.base history)) (reach s.ambition) ≡ false = grind (arith, nat_tests, below) in
     first-cons (when_full history) (bad_base ∷ bad_option ∷ sizes ++ ends) (sizes ++ empty ∷ last ∷ [])
-    (first-skip bad_base (bad_option ∷ sizes ++ ends) (not_when (nat_lt (length history) s.base) refusals.BadBase at_base)
-    ∙ first-skip bad_option (sizes ++ ends)
-    (not_when (not (nat_eq (length s.choice) (option_count (take s.base history))) || nat_lt (option_count (take s.base history)) (reach s.ambition)) refusals.BadOption
-    (ap (λ b. not b || nat_lt (option_count (take s.base history)) (reach s.ambition)) counted ∙ reached))
+    (first-not_when (nat_lt (length history) s.base) refusals.BadBase (bad_option ∷ sizes ++ ends) at_base
+    ∙ first-not_when (not (nat_eq (length s.choice) (option_count (take s.base history))) || nat_lt (option_count (take s.base history)) (reach s.ambition)) refusals.BadOption (sizes ++ ends)
+    (ap (λ b. not b || nat_lt (option_count (take s.base history)) (reach s.ambition)) counted ∙ reached)
     ∙ first-behind sizes ends (empty ∷ last ∷ [])
     (first-skip invalid (outside ∷ empty ∷ bad_record ∷ last ∷ []) (none-false s.choice (constraints_of (take s.base history)) good.valid)
-    ∙ first-skip outside (empty ∷ bad_record ∷ last ∷ []) (not_when (not (value s.ambition s.choice)) refusals.OutsideAmbition (ap not good.in_ambition))
+    ∙ first-not_when (not (value s.ambition s.choice)) refusals.OutsideAmbition (empty ∷ bad_record ∷ last ∷ []) (ap not good.in_ambition)
     ∙ first-cons empty (bad_record ∷ last ∷ []) (last ∷ []) (first-skip bad_record (last ∷ []) (ap as_bad_record good.accepted))))
   where
     sizes : List (Option Refusal)
@@ -122,32 +117,24 @@ good-passes history s good =
     ends : List (Option Refusal)
     ends = invalid ∷ outside ∷ empty ∷ bad_record ∷ last ∷ []
 
--- commands without commits
-numbers-same : (ns : Numbers) (history : List Command) → has_commit history ≡ false → numbers_from ns history ≡ ns
-numbers-same ns [] h = refl
-numbers-same ns (commands.Commit base choice ambition es ∷ history) h = absurd (cc)
-numbers-same ns (commands.Option name ∷ history) h = numbers-same ns history h
-numbers-same ns (commands.Constraint expr ∷ history) h = numbers-same ns history h
-numbers-same ns (commands.Prefer expr ∷ history) h = numbers-same ns history h
-numbers-same ns (commands.Default option on ∷ history) h = numbers-same ns history h
-
-no-changes : (ns : Numbers) (history : List Command) → has_commit history ≡ false → changes_from ns history ≡ []
-no-changes ns [] h = refl
-no-changes ns (commands.Commit base choice ambition es ∷ history) h = absurd (cc)
-no-changes ns (commands.Option name ∷ history) h = no-changes ns history h
-no-changes ns (commands.Constraint expr ∷ history) h = no-changes ns history h
-no-changes ns (commands.Prefer expr ∷ history) h = no-changes ns history h
-no-changes ns (commands.Default option on ∷ history) h = no-changes ns history h
+-- commands without commits draw no numbers and change nothing
+no-commit : (ns : Numbers) (history : List Command) → has_commit history ≡ false → (numbers_from ns history ≡ ns) × (changes_from ns history ≡ [])
+no-commit ns [] h = (refl, refl)
+no-commit ns (commands.Commit base choice ambition es ∷ history) h = absurd (cc)
+no-commit ns (commands.Option name ∷ history) h = no-commit ns history h
+no-commit ns (commands.Constraint expr ∷ history) h = no-commit ns history h
+no-commit ns (commands.Prefer expr ∷ history) h = no-commit ns history h
+no-commit ns (commands.Default option on ∷ history) h = no-commit ns history h
 
 numbers-since : (base : ℕ) (history : List Command) → has_commit (drop base history) ≡ false → numbers_of history ≡ numbers_of (take base history)
 numbers-since base history h =
     ap numbers_of (sym (take-append-drop base history)) ∙ numbers_from-append no_numbers (take base history) (drop base history)
-    ∙ numbers-same (numbers_of (take base history)) (drop base history) h
+    ∙ (no-commit (numbers_of (take base history)) (drop base history) h).0
 
 replay-since : (c : List Bool) (base : ℕ) (history : List Command) → has_commit (drop base history) ≡ false → replay c history ≡ replay c (take base history)
 replay-since c base history h =
     ap (replay c) (sym (take-append-drop base history)) ∙ replay-append c (take base history) (drop base history)
-    ∙ ap (fold (applied c) (replay c (take base history))) (no-changes (numbers_of (take base history)) (drop base history) h)
+    ∙ ap (fold (applied c) (replay c (take base history))) (no-commit (numbers_of (take base history)) (drop base history) h).1
 
 pub commit-shows : (history : List Command) (s : Session) → IsGood history s → has_commit (drop s.base history) ≡ false → replay s.choice (history ++ commit_of s ∷ []) ≡ seen s history
 commit-shows history s good h =
@@ -180,33 +167,14 @@ turn-accepted ns t node line k v (edits.Delete file which ∷ begun) e later h =
     turn-accepted ns t node line (k + 1) (edited v (Deleted (node_number ns.nodes file) (address_in t (line_number (length ns.addresses) which)))) begun e later
     (rest-accepted k (refusal ns v (edits.Delete file which)) _ h)
 
--- an accepted insert has its anchor
-pub anchor-there : (ns : Numbers) (v : Variant) (i : Insertion) → refusal ns v (the_insert i) ≡ None → (is_head i.after || has_line ns v (node_number ns.nodes i.file) i.after) ≡ true
-anchor-there ns v i h = at (not (has_node ns v i.file)) (is_dir v.rows (node_number ns.nodes i.file)) (is_head i.after || has_line ns v (node_number ns.nodes i.file) i.after) h
-  where
-    at : (a b c : Bool) → first_of (when a faults.NoSuchNode ∷ when b faults.NotFile ∷ when (not c) faults.NoSuchLine ∷ []) ≡ None → c ≡ true
-    at true b c k = absurd (cc)
-    at false true c k = absurd (cc)
-    at false false true k = refl
-    at false false false k = absurd (cc)
-
-pub head-number : (n : ℕ) (after : LineRef) → is_head after ≡ true → line_number n after ≡ 0
-head-number n (lines.Old zero) h = refl
-head-number n (lines.Old (suc x)) h = absurd (cc)
-head-number n (lines.New i) h = absurd (cc)
-
-and_right : (a b : Bool) → (a && b) ≡ true → b ≡ true
-and_right true b h = h
-and_right false b h = absurd (cc)
-
 -- a line that a choice shows is kept
-pub line-shown : (c : List Bool) (p : ℕ) (held : Holding) (v : Variant) (ns : Numbers) (file : ℕ) (line : LineRef) → variant_seen c p held ≡ v → has_line ns v file line ≡ true
+pub line-shown : (c : List Bool) (p : ℕ) (held : Holding) (v : Variant) (ns : Numbers) (file : ℕ) (line : LineRef) → variant_seen c p held ≡ v → shows_line ns v file line ≡ true
     → list_any (λ k. nat_eq (kept_number k) (line_number (length ns.addresses) line)) (file_kept file held.lines) ≡ true
 line-shown c p held v ns file line shown h =
     any-filter (λ k. nat_eq k.item.file file) (λ k. nat_eq (kept_number k) number) held.lines
     ∙ any-seen c p (λ l. nat_eq l.file file && nat_eq (line_of l.address) number) held.lines
     (ap (λ (w : Variant). list_any (λ l. nat_eq l.file file && nat_eq (line_of l.address) number) w.lines) shown
-    ∙ and_right (is_known_line (length ns.addresses) line) (list_any (λ l. nat_eq l.file file && nat_eq (line_of l.address) number) v.lines) h)
+    ∙ (and_parts (is_known_line (length ns.addresses) line) (list_any (λ l. nat_eq l.file file && nat_eq (line_of l.address) number) v.lines) h).1)
   where
     number : ℕ
     number = line_number (length ns.addresses) line

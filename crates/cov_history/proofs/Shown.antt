@@ -3,7 +3,7 @@ use Rattle.std.proofs.Common.{◌≡◌, ℕ, Bool, true, List, [], ◌∷◌, l
 use Rattle.std.specs.List.{filter, AllByRecursion}
 use Rattle.std.proofs.Math.Seq.{take-length}
 use Rattle.cov_base.specs.Addresses.{stands_before, IsLineOf, AreInOrder}
-use Rattle.cov_base.proofs.Ordered.{all-filter}
+use Rattle.cov_base.proofs.CallerLemmas.{all-filter, in_order-filter}
 use Rattle.cov_edit.specs.declared.command.Command.{Command}
 use Rattle.cov_edit.specs.Numbering.{numbers_of}
 use Rattle.cov_edit.specs.Variant.{Variant, line_address}
@@ -11,7 +11,6 @@ use Rattle.cov_edit.specs.Replay.{replay}
 use Rattle.cov_history.specs.Kept.{Kept, is_seen, the_item, kept_address, kept_of}
 use Rattle.cov_history.proofs.Standing.{all-mapped, holding-stands}
 use Rattle.cov_history.proofs.Replays.{replay-seen}
-use Rattle.cov_history.proofs.Files.{in_order-filter}
 
 in_order-items : {X : Type 0} (address : X → List ℕ) (ks : List (Kept X)) → AreInOrder (λ k. address (the_item k)) ks → AreInOrder address (map the_item ks)
 in_order-items address [] o = tt

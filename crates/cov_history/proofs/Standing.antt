@@ -3,8 +3,7 @@ use Rattle.std.proofs.Common.{◌≡◌, ℕ, suc, ◌+◌, ◌<◌, ◌≤◌, 
 use Rattle.std.specs.List.{fold, AllByRecursion}
 use Rattle.cov_base.specs.Addresses.{stands_before, address_in, with_lines, IsTable, IsLineOf, AreInOrder}
 use Rattle.cov_base.specs.Rows.{Row, RowChange, Created, Renamed, Moved, Removed, with_name, with_parent}
-use Rattle.cov_base.proofs.Ordered.{all-map, all-append, all-placed, placed-in_order, new_after}
-use Rattle.cov_base.proofs.Tables.{inside, length-with_lines, is_table-with_lines, address_in-with_lines}
+use Rattle.cov_base.proofs.CallerLemmas.{all-map, all-append, all-placed, placed-in_order, new_after, inside, length-with_lines, is_table-with_lines, address_in-with_lines}
 use Rattle.cov_expr.specs.Formula.{Formula}
 use Rattle.cov_edit.specs.declared.edit.Edit.{Edit}
 use Rattle.cov_edit.specs.declared.edit.Edit.TheVariants as edits
@@ -12,7 +11,7 @@ use Rattle.cov_edit.specs.declared.command.Command.{Command}
 use Rattle.cov_edit.specs.declared.command.Command.TheVariants as commands
 use Rattle.cov_edit.specs.Numbering.{Numbers, NumberedEdit, OnRows, Inserted, Deleted, no_numbers, anchors_of, numbers_after, numbers_from, numbers_of, numbered_from, numbered}
 use Rattle.cov_edit.specs.Variant.{Line, is_line}
-use Rattle.cov_history.specs.Kept.{Kept, IsUpTo, new_item, hidden, taken_up, hidden_where, replaced_where, kept_address, new_line, is_row, rows_kept_after, Holding, nothing_held, held_after, held_from, held_by, Stands}
+use Rattle.cov_history.specs.Kept.{Kept, IsUpTo, new_item, hidden, taken_up, hidden_where, replaced_where, kept_address, new_line, is_row, rows_kept_after, Holding, nothing_held, held_after, held_from, held_by, IsHolding}
 
 -- how many lines there are after an edit
 abbrev pub count_after : ℕ → NumberedEdit → ℕ
@@ -112,8 +111,8 @@ next-behind t n a table below line =
     subst (λ b. stands_before b a ≡ false → stands_before a b ≡ true) (sym e.1)
     (new_after (suc n) e.0 a (inside t n a table (omega (arith, below)) line).1)
 
-pub stands-edit : (t : List (List ℕ)) (n q : ℕ) (within : Formula ℕ) (held : Holding) (d : NumberedEdit) → IsTable t → IsNext t n d → Stands t n q held
-    → Stands t (count_after n d) q (held_after q within held d)
+pub stands-edit : (t : List (List ℕ)) (n q : ℕ) (within : Formula ℕ) (held : Holding) (d : NumberedEdit) → IsTable t → IsNext t n d → IsHolding t n q held
+    → IsHolding t (count_after n d) q (held_after q within held d)
 stands-edit t n q within held (OnRows change) table next s = record {
   in_order = s.in_order;
   numbered_lines = s.numbered_lines;
@@ -144,13 +143,13 @@ stands-edit t n q within held (Deleted file address) table next s = record {
   dated_lines = all-mapped (IsDated q) (IsDated q) (hidden_where (is_line file address) q within) (hidden-dated (is_line file address) q within) held.lines s.dated_lines;
 }
 
-pub stands-edits : (t : List (List ℕ)) (n q : ℕ) (within : Formula ℕ) (held : Holding) (ds : List NumberedEdit) → IsTable t → AreNext t n ds → Stands t n q held
-    → Stands t (fold count_after n ds) q (fold (held_after q within) held ds)
+pub stands-edits : (t : List (List ℕ)) (n q : ℕ) (within : Formula ℕ) (held : Holding) (ds : List NumberedEdit) → IsTable t → AreNext t n ds → IsHolding t n q held
+    → IsHolding t (fold count_after n ds) q (fold (held_after q within) held ds)
 stands-edits t n q within held [] table next s = s
 stands-edits t n q within held (d ∷ ds) table next s =
     stands-edits t (count_after n d) q within (held_after q within held d) ds table next.1 (stands-edit t n q within held d table next.0 s)
 
-pub stands-later : (t : List (List ℕ)) (n p q : ℕ) (held : Holding) → p ≤ q → Stands t n p held → Stands t n q held
+pub stands-later : (t : List (List ℕ)) (n p q : ℕ) (held : Holding) → p ≤ q → IsHolding t n p held → IsHolding t n q held
 stands-later t n p q held h s = record {
   in_order = s.in_order;
   numbered_lines = s.numbered_lines;
@@ -158,7 +157,7 @@ stands-later t n p q held h s = record {
   dated_lines = all-map (IsDated p) (IsDated q) (dated-later p q h) held.lines s.dated_lines;
 }
 
-stands-with_lines : (t : List (List ℕ)) (anchors : List ℕ) (q : ℕ) (held : Holding) → Stands t (length t) q held → Stands (with_lines t anchors) (length t) q held
+stands-with_lines : (t : List (List ℕ)) (anchors : List ℕ) (q : ℕ) (held : Holding) → IsHolding t (length t) q held → IsHolding (with_lines t anchors) (length t) q held
 stands-with_lines t anchors q held s = record {
   in_order = s.in_order;
   numbered_lines = all-map (λ k. IsLineOf t (length t) (kept_address k)) (λ k. IsLineOf (with_lines t anchors) (length t) (kept_address k))
@@ -168,8 +167,8 @@ stands-with_lines t anchors q held s = record {
 }
 
 -- what stands before the edits of a commit, in the table after it
-pub stands-opened : (ns : Numbers) (es : List Edit) (q : ℕ) (held : Holding) → Stands ns.addresses (length ns.addresses) q held
-    → Stands (numbers_after ns es).addresses (length ns.addresses) (q + 1) held
+pub stands-opened : (ns : Numbers) (es : List Edit) (q : ℕ) (held : Holding) → IsHolding ns.addresses (length ns.addresses) q held
+    → IsHolding (numbers_after ns es).addresses (length ns.addresses) (q + 1) held
 stands-opened ns es q held s =
     stands-later (numbers_after ns es).addresses (length ns.addresses) q (q + 1) held (omega arith) (stands-with_lines ns.addresses (anchors_of (length ns.addresses) es) q held s)
 
@@ -182,18 +181,18 @@ commit-next ns es =
     let e = length-with_lines ns.addresses (anchors_of (length ns.addresses) es) in
     numbered-next ns (numbers_after ns es).addresses ns.nodes (length ns.addresses) (length ns.addresses) es (omega (arith, e))
 
-pub stands-commit : (ns : Numbers) (within : Formula ℕ) (es : List Edit) (q : ℕ) (held : Holding) → IsTable ns.addresses → Stands ns.addresses (length ns.addresses) q held
-    → Stands (numbers_after ns es).addresses (length (numbers_after ns es).addresses) (q + 1) (fold (held_after (q + 1) within) held (numbered ns es))
+pub stands-commit : (ns : Numbers) (within : Formula ℕ) (es : List Edit) (q : ℕ) (held : Holding) → IsTable ns.addresses → IsHolding ns.addresses (length ns.addresses) q held
+    → IsHolding (numbers_after ns es).addresses (length (numbers_after ns es).addresses) (q + 1) (fold (held_after (q + 1) within) held (numbered ns es))
 stands-commit ns within es q held table s =
     let count = numbered-count ns (numbers_after ns es).addresses ns.nodes (length ns.addresses) (length ns.addresses) es in
-    subst (λ n. Stands (numbers_after ns es).addresses n (q + 1) (fold (held_after (q + 1) within) held (numbered ns es)))
+    subst (λ n. IsHolding (numbers_after ns es).addresses n (q + 1) (fold (held_after (q + 1) within) held (numbered ns es)))
     (count ∙ sym (length-with_lines ns.addresses (anchors_of (length ns.addresses) es)))
     (stands-edits (numbers_after ns es).addresses (length ns.addresses) (q + 1) within held (numbered ns es) (table-after ns es table) (commit-next ns es) (stands-opened ns es q held s))
 
 -- what stands before a history stands, later, after it
-pub stands-from : (ns : Numbers) (p q : ℕ) (held : Holding) (history : List Command) → p ≡ q + length history → IsTable ns.addresses → Stands ns.addresses (length ns.addresses) q held
+pub stands-from : (ns : Numbers) (p q : ℕ) (held : Holding) (history : List Command) → p ≡ q + length history → IsTable ns.addresses → IsHolding ns.addresses (length ns.addresses) q held
     → IsTable (numbers_from ns history).addresses
-    × Stands (numbers_from ns history).addresses (length (numbers_from ns history).addresses) p (held_from q held ns history)
+    × IsHolding (numbers_from ns history).addresses (length (numbers_from ns history).addresses) p (held_from q held ns history)
 stands-from ns p q held [] e table s = (table, stands-later ns.addresses (length ns.addresses) q p held (omega (arith, e)) s)
 stands-from ns p q held (commands.Commit base choice ambition es ∷ history) e table s =
     stands-from (numbers_after ns es) p (q + 1) (fold (held_after (q + 1) ambition) held (numbered ns es)) history (omega (arith, e))
@@ -210,9 +209,9 @@ stands-from ns p q held (commands.Default option on ∷ history) e table s =
 pub no_table : IsTable []
 no_table n h = absurd (omega (arith, h))
 
-pub nothing-stands : Stands [] 0 0 nothing_held
+pub nothing-stands : IsHolding [] 0 0 nothing_held
 nothing-stands = record { in_order = tt; numbered_lines = tt; dated_rows = tt; dated_lines = tt }
 
 pub holding-stands : (history : List Command)
-    → IsTable (numbers_of history).addresses × Stands (numbers_of history).addresses (length (numbers_of history).addresses) (length history) (held_by history)
+    → IsTable (numbers_of history).addresses × IsHolding (numbers_of history).addresses (length (numbers_of history).addresses) (length history) (held_by history)
 holding-stands history = stands-from no_numbers (length history) 0 nothing_held history (omega arith) no_table nothing-stands

@@ -5,7 +5,7 @@ use Rattle.std.proofs.lemmas.Bool.Decides.{nat_tests}
 use Rattle.std.proofs.lemmas.List.Folds.{list_any-append}
 use Rattle.cov_base.specs.Addresses.{address_in, placed, IsTable}
 use Rattle.cov_base.specs.Rows.{Row}
-use Rattle.cov_base.proofs.Tables.{line_of-in, length-with_lines}
+use Rattle.cov_base.proofs.CallerLemmas.{line_of-in, length-with_lines}
 use Rattle.cov_order.specs.Orders.{has_line}
 use Rattle.cov_expr.specs.Formula.{Formula}
 use Rattle.cov_edit.specs.declared.edit.Edit.{Edit}
@@ -16,7 +16,7 @@ use Rattle.cov_edit.specs.Numbering.{Numbers, node_number, line_number, nodes_ma
 use Rattle.cov_edit.specs.Variant.{Line, is_line}
 use Rattle.cov_history.specs.Kept.{Kept, hidden_where, kept_address, kept_number, new_item, new_line, kept_after, is_row, entries_after, Holding, nothing_held, held_after, held_from, kept_of, file_kept, is_kept_anchor}
 use Rattle.cov_history.specs.Files.{file_order}
-use Rattle.cov_history.specs.Homes.{new_homes, homes_from, homes_of, AreHomes, IsWhole}
+use Rattle.cov_history.specs.FileOfLine.{new_file_of_line, file_of_line_from, file_of_line_in, AreFilesOfLines, IsWhole}
 use Rattle.cov_history.proofs.Appends.{lines-edits, rows-edits}
 use Rattle.cov_history.proofs.Deletes.{order-hidden, lines-apart}
 use Rattle.cov_history.proofs.Files.{anchor-case, anchor-stays, anchor-new}
@@ -24,25 +24,25 @@ use Rattle.cov_history.proofs.Orders.{any-mapped}
 use Rattle.cov_history.proofs.Standing.{table-after, no_table, holding-stands}
 
 -- each line's file
-pub homes-stay : (ks ks' : List (Kept Line)) → ((file line : ℕ) → is_kept_anchor file line ks ≡ true → is_kept_anchor file line ks' ≡ true) → (k : ℕ) (homes : List ℕ) → AreHomes ks k homes → AreHomes ks' k homes
-homes-stay ks ks' f k [] h = tt
-homes-stay ks ks' f k (file ∷ homes) h = (f file (k + 1) h.0, homes-stay ks ks' f (k + 1) homes h.1)
+pub files_of_lines-stay : (ks ks' : List (Kept Line)) → ((file line : ℕ) → is_kept_anchor file line ks ≡ true → is_kept_anchor file line ks' ≡ true) → (k : ℕ) (file_of_line : List ℕ) → AreFilesOfLines ks k file_of_line → AreFilesOfLines ks' k file_of_line
+files_of_lines-stay ks ks' f k [] h = tt
+files_of_lines-stay ks ks' f k (file ∷ file_of_line) h = (f file (k + 1) h.0, files_of_lines-stay ks ks' f (k + 1) file_of_line h.1)
 
-pub home-more : (ks : List (Kept Line)) (file k : ℕ) (homes : List ℕ) → AreHomes ks k homes → is_kept_anchor file (k + length homes + 1) ks ≡ true → AreHomes ks k (homes ++ file ∷ [])
-home-more ks file k [] h own = (subst (λ j. is_kept_anchor file j ks ≡ true) (let same : k + 0 + 1 ≡ k + 1 = omega arith in same) own, tt)
-home-more ks file k (x ∷ homes) h own =
-    (h.0, home-more ks file (k + 1) homes h.1 (subst (λ j. is_kept_anchor file j ks ≡ true) (let same : k + suc (length homes) + 1 ≡ k + 1 + length homes + 1 = omega arith in same) own))
+pub file_of_line-more : (ks : List (Kept Line)) (file k : ℕ) (file_of_line : List ℕ) → AreFilesOfLines ks k file_of_line → is_kept_anchor file (k + length file_of_line + 1) ks ≡ true → AreFilesOfLines ks k (file_of_line ++ file ∷ [])
+file_of_line-more ks file k [] h own = (subst (λ j. is_kept_anchor file j ks ≡ true) (let same : k + 0 + 1 ≡ k + 1 = omega arith in same) own, tt)
+file_of_line-more ks file k (x ∷ file_of_line) h own =
+    (h.0, file_of_line-more ks file (k + 1) file_of_line h.1 (subst (λ j. is_kept_anchor file j ks ≡ true) (let same : k + suc (length file_of_line) + 1 ≡ k + 1 + length file_of_line + 1 = omega arith in same) own))
 
 -- the file that is noted of a line has it
-pub home-has : (ks : List (Kept Line)) (n i : ℕ) (homes : List ℕ) (file : ℕ) → AreHomes ks n homes → slice_get homes i ≡ Some file → is_kept_anchor file (n + i + 1) ks ≡ true
-home-has ks n i [] file h e = absurd (cc)
-home-has ks n zero (f ∷ homes) file h e =
+pub file_of_line-has : (ks : List (Kept Line)) (n i : ℕ) (file_of_line : List ℕ) (file : ℕ) → AreFilesOfLines ks n file_of_line → slice_get file_of_line i ≡ Some file → is_kept_anchor file (n + i + 1) ks ≡ true
+file_of_line-has ks n i [] file h e = absurd (cc)
+file_of_line-has ks n zero (f ∷ file_of_line) file h e =
     let same : f ≡ file = cc in
     let first : n + 1 ≡ n + 0 + 1 = omega arith in
     subst (λ m. is_kept_anchor file m ks ≡ true) first (subst (λ g. is_kept_anchor g (n + 1) ks ≡ true) same h.0)
-home-has ks n (suc i) (f ∷ homes) file h e =
+file_of_line-has ks n (suc i) (f ∷ file_of_line) file h e =
     let next : n + 1 + i + 1 ≡ n + suc i + 1 = omega arith in
-    subst (λ m. is_kept_anchor file m ks ≡ true) next (home-has ks (n + 1) i homes file h.1 e)
+    subst (λ m. is_kept_anchor file m ks ≡ true) next (file_of_line-has ks (n + 1) i file_of_line file h.1 e)
 
 anchor-hidden : (test : Line → Bool) (q : ℕ) (within : Formula ℕ) (file line : ℕ) (ks : List (Kept Line)) → is_kept_anchor file line (map (hidden_where test q within) ks) ≡ is_kept_anchor file line ks
 anchor-hidden test q within file line ks =
@@ -51,56 +51,56 @@ anchor-hidden test q within file line ks =
     ∙ any-mapped kept_number line (file_kept file ks))
 
 -- edits keep each line in its file, and put each new one into its own
-homes-edits : (q : ℕ) (within : Formula ℕ) (ns : Numbers) (t : List (List ℕ)) (node line m : ℕ) (es : List Edit) (ks : List (Kept Line)) (homes : List ℕ)
-    → IsTable t → line + length (anchors_of m es) ≤ length t → length homes ≡ line → AreHomes ks 0 homes
-    → AreHomes (fold (kept_after q within) ks (numbered_from ns t node line es)) 0 (homes ++ new_homes ns.nodes es)
-homes-edits q within ns t node line m [] ks homes table low e h = subst (AreHomes ks 0) (sym (append-nil homes)) h
-homes-edits q within ns t node line m (edits.New kind parent name ∷ es) ks homes table low e h = homes-edits q within ns t (node + 1) line m es ks homes table low e h
-homes-edits q within ns t node line m (edits.Delete file which ∷ es) ks homes table low e h =
+file_of_line-edits : (q : ℕ) (within : Formula ℕ) (ns : Numbers) (t : List (List ℕ)) (node line m : ℕ) (es : List Edit) (ks : List (Kept Line)) (file_of_line : List ℕ)
+    → IsTable t → line + length (anchors_of m es) ≤ length t → length file_of_line ≡ line → AreFilesOfLines ks 0 file_of_line
+    → AreFilesOfLines (fold (kept_after q within) ks (numbered_from ns t node line es)) 0 (file_of_line ++ new_file_of_line ns.nodes es)
+file_of_line-edits q within ns t node line m [] ks file_of_line table low e h = subst (AreFilesOfLines ks 0) (sym (append-nil file_of_line)) h
+file_of_line-edits q within ns t node line m (edits.New kind parent name ∷ es) ks file_of_line table low e h = file_of_line-edits q within ns t (node + 1) line m es ks file_of_line table low e h
+file_of_line-edits q within ns t node line m (edits.Delete file which ∷ es) ks file_of_line table low e h =
     let test : Line → Bool = is_line (node_number ns.nodes file) (address_in t (line_number (length ns.addresses) which)) in
-    homes-edits q within ns t node line m es (map (hidden_where test q within) ks) homes table low e
-    (homes-stay ks (map (hidden_where test q within) ks) (λ f l i. anchor-hidden test q within f l ks ∙ i) 0 homes h)
-homes-edits q within ns t node line m (edits.Insert file after text ∷ es) ks homes table low e h =
+    file_of_line-edits q within ns t node line m es (map (hidden_where test q within) ks) file_of_line table low e
+    (files_of_lines-stay ks (map (hidden_where test q within) ks) (λ f l i. anchor-hidden test q within f l ks ∙ i) 0 file_of_line h)
+file_of_line-edits q within ns t node line m (edits.Insert file after text ∷ es) ks file_of_line table low e h =
     let f : ℕ = node_number ns.nodes file in
     let new : Kept Line = new_line q within f (address_in t (line + 1)) text in
     let next : suc line ≡ line + 1 = omega arith in
-    let place : line + 1 ≡ 0 + length homes + 1 = omega (arith, e) in
+    let place : line + 1 ≡ 0 + length file_of_line + 1 = omega (arith, e) in
     let number : kept_number new ≡ line + 1 =
     subst (λ n. kept_number (new_line q within f (address_in t n) text) ≡ n) next (line_of-in t line table (omega (arith, low))) in
-    let more : length (homes ++ f ∷ []) ≡ line + 1 = (let all = length-append homes (f ∷ []) in omega (arith, all, e)) in
-    subst (AreHomes (fold (kept_after q within) (placed kept_address new ks) (numbered_from ns t node (line + 1) es)) 0) (append_assoc homes (f ∷ []) (new_homes ns.nodes es))
-    (homes-edits q within ns t node (line + 1) m es (placed kept_address new ks) (homes ++ f ∷ []) table (omega (arith, low)) more
-    (home-more (placed kept_address new ks) f 0 homes
-    (homes-stay ks (placed kept_address new ks) (λ g l i. anchor-stays g l new ks i) 0 homes h)
-    (anchor-new f (0 + length homes + 1) new ks refl (number ∙ place))))
+    let more : length (file_of_line ++ f ∷ []) ≡ line + 1 = (let all = length-append file_of_line (f ∷ []) in omega (arith, all, e)) in
+    subst (AreFilesOfLines (fold (kept_after q within) (placed kept_address new ks) (numbered_from ns t node (line + 1) es)) 0) (append_assoc file_of_line (f ∷ []) (new_file_of_line ns.nodes es))
+    (file_of_line-edits q within ns t node (line + 1) m es (placed kept_address new ks) (file_of_line ++ f ∷ []) table (omega (arith, low)) more
+    (file_of_line-more (placed kept_address new ks) f 0 file_of_line
+    (files_of_lines-stay ks (placed kept_address new ks) (λ g l i. anchor-stays g l new ks i) 0 file_of_line h)
+    (anchor-new f (0 + length file_of_line + 1) new ks refl (number ∙ place))))
 
-pub new-homes-count : (n m : ℕ) (es : List Edit) → length (new_homes n es) ≡ length (anchors_of m es)
-new-homes-count n m [] = refl
-new-homes-count n m (edits.New kind parent name ∷ es) = new-homes-count n m es
-new-homes-count n m (edits.Delete file line ∷ es) = new-homes-count n m es
-new-homes-count n m (edits.Insert file after text ∷ es) = ap (λ k. suc k) (new-homes-count n m es)
+pub new-files_of_lines-count : (n m : ℕ) (es : List Edit) → length (new_file_of_line n es) ≡ length (anchors_of m es)
+new-files_of_lines-count n m [] = refl
+new-files_of_lines-count n m (edits.New kind parent name ∷ es) = new-files_of_lines-count n m es
+new-files_of_lines-count n m (edits.Delete file line ∷ es) = new-files_of_lines-count n m es
+new-files_of_lines-count n m (edits.Insert file after text ∷ es) = ap (λ k. suc k) (new-files_of_lines-count n m es)
 
 -- more of a history keeps each line in its file, and puts each new one into its own
-homes-along : (q : ℕ) (ns : Numbers) (held : Holding) (history : List Command) (homes : List ℕ) → IsTable ns.addresses → length homes ≡ length ns.addresses → AreHomes held.lines 0 homes
-    → AreHomes (held_from q held ns history).lines 0 (homes ++ homes_from ns.nodes history) × (length (homes ++ homes_from ns.nodes history) ≡ length (numbers_from ns history).addresses)
-homes-along q ns held [] homes table e h = (subst (AreHomes held.lines 0) (sym (append-nil homes)) h, ap length (append-nil homes) ∙ e)
-homes-along q ns held (commands.Option name ∷ history) homes table e h = homes-along (q + 1) ns held history homes table e h
-homes-along q ns held (commands.Constraint expr ∷ history) homes table e h = homes-along (q + 1) ns held history homes table e h
-homes-along q ns held (commands.Prefer expr ∷ history) homes table e h = homes-along (q + 1) ns held history homes table e h
-homes-along q ns held (commands.Default option on ∷ history) homes table e h = homes-along (q + 1) ns held history homes table e h
-homes-along q ns held (commands.Commit base choice ambition es ∷ history) homes table e h =
+file_of_line-along : (q : ℕ) (ns : Numbers) (held : Holding) (history : List Command) (file_of_line : List ℕ) → IsTable ns.addresses → length file_of_line ≡ length ns.addresses → AreFilesOfLines held.lines 0 file_of_line
+    → AreFilesOfLines (held_from q held ns history).lines 0 (file_of_line ++ file_of_line_from ns.nodes history) × (length (file_of_line ++ file_of_line_from ns.nodes history) ≡ length (numbers_from ns history).addresses)
+file_of_line-along q ns held [] file_of_line table e h = (subst (AreFilesOfLines held.lines 0) (sym (append-nil file_of_line)) h, ap length (append-nil file_of_line) ∙ e)
+file_of_line-along q ns held (commands.Option name ∷ history) file_of_line table e h = file_of_line-along (q + 1) ns held history file_of_line table e h
+file_of_line-along q ns held (commands.Constraint expr ∷ history) file_of_line table e h = file_of_line-along (q + 1) ns held history file_of_line table e h
+file_of_line-along q ns held (commands.Prefer expr ∷ history) file_of_line table e h = file_of_line-along (q + 1) ns held history file_of_line table e h
+file_of_line-along q ns held (commands.Default option on ∷ history) file_of_line table e h = file_of_line-along (q + 1) ns held history file_of_line table e h
+file_of_line-along q ns held (commands.Commit base choice ambition es ∷ history) file_of_line table e h =
     let m : ℕ = length ns.addresses in
     let t : List (List ℕ) = (numbers_after ns es).addresses in
     let after : Holding = fold (held_after (q + 1) ambition) held (numbered ns es) in
-    let later : List ℕ = homes_from (ns.nodes + nodes_made es) history in
+    let later : List ℕ = file_of_line_from (ns.nodes + nodes_made es) history in
     let grown : length t ≡ m + length (anchors_of m es) = length-with_lines ns.addresses (anchors_of m es) in
-    let count : length (homes ++ new_homes ns.nodes es) ≡ length t =
-    (let all = length-append homes (new_homes ns.nodes es) in let new = new-homes-count ns.nodes m es in omega (arith, all, new, grown, e)) in
-    subst (λ xs. AreHomes (held_from (q + 1) after (numbers_after ns es) history).lines 0 xs × (length xs ≡ length (numbers_from (numbers_after ns es) history).addresses))
-    (append_assoc homes (new_homes ns.nodes es) later)
-    (homes-along (q + 1) (numbers_after ns es) after history (homes ++ new_homes ns.nodes es) (table-after ns es table) count
-    (subst (λ ks. AreHomes ks 0 (homes ++ new_homes ns.nodes es)) (sym (lines-edits (q + 1) ambition held (numbered ns es)))
-    (homes-edits (q + 1) ambition ns t ns.nodes m m es held.lines homes (table-after ns es table) (omega (arith, grown)) e h)))
+    let count : length (file_of_line ++ new_file_of_line ns.nodes es) ≡ length t =
+    (let all = length-append file_of_line (new_file_of_line ns.nodes es) in let new = new-files_of_lines-count ns.nodes m es in omega (arith, all, new, grown, e)) in
+    subst (λ xs. AreFilesOfLines (held_from (q + 1) after (numbers_after ns es) history).lines 0 xs × (length xs ≡ length (numbers_from (numbers_after ns es) history).addresses))
+    (append_assoc file_of_line (new_file_of_line ns.nodes es) later)
+    (file_of_line-along (q + 1) (numbers_after ns es) after history (file_of_line ++ new_file_of_line ns.nodes es) (table-after ns es table) count
+    (subst (λ ks. AreFilesOfLines ks 0 (file_of_line ++ new_file_of_line ns.nodes es)) (sym (lines-edits (q + 1) ambition held (numbered ns es)))
+    (file_of_line-edits (q + 1) ambition ns t ns.nodes m m es held.lines file_of_line (table-after ns es table) (omega (arith, grown)) e h)))
 
 -- there is a row of each node up to a number
 abbrev HasRows : ℕ → List (Kept Row) → Type 0
@@ -153,10 +153,10 @@ pub holding-whole : (history : List Command) → IsWhole history
 holding-whole history =
     let t = (numbers_of history).addresses in
     let stands = holding-stands history in
-    let homes = homes-along 0 no_numbers nothing_held history [] no_table refl tt in
+    let file_of_line = file_of_line-along 0 no_numbers nothing_held history [] no_table refl tt in
     record {
-      counted = homes.1;
-      lines = λ before file e. has before file (home-has (kept_of history) 0 before (homes_of history) file homes.0 e);
+      counted = file_of_line.1;
+      lines = λ before file e. has before file (file_of_line-has (kept_of history) 0 before (file_of_line_in history) file file_of_line.0 e);
       once = lines-apart t (length t) (kept_of history) stands.0 (omega arith) stands.1.in_order stands.1.numbered_lines;
       rows = rows-along 0 no_numbers nothing_held history none-made;
     }

@@ -149,7 +149,7 @@ abbrev pub is_kept_anchor : ℕ → ℕ → List (Kept Line) → Bool
 is_kept_anchor file anchor ks = nat_eq anchor 0 || list_any (λ k. nat_eq (kept_number k) anchor) (file_kept file ks)
 
 -- what is held stands in order, has the first lines of a table, and no change beyond a position
-pub record Stands (table : List (List ℕ)) (count p : ℕ) (held : Holding) : Type 0 where
+pub record IsHolding (table : List (List ℕ)) (count p : ℕ) (held : Holding) : Type 0 where
   pub in_order : AreInOrder kept_address held.lines
   pub numbered_lines : AllByRecursion (λ k. IsLineOf table count (kept_address k)) held.lines
   pub dated_rows : AllByRecursion (λ k. IsUpTo p k.changes) held.rows

@@ -16,7 +16,7 @@ use Rattle.cov_rules.specs.Completion.{Incomplete}
 use Rattle.cov_history.specs.Completing.{completed_in}
 use Rattle.cov_history.specs.Overtaking.{overtaken}
 use Rattle.cov_edit.specs.Replay.{replay}
-use Rattle.cov_history.specs.Kept.{kept_number, kept_after, entries_after, held_from, held_by, kept_of, entries_of, lines_seen, rows_seen, variant_seen, file_kept, is_kept_anchor, Stands}
+use Rattle.cov_history.specs.Kept.{kept_number, kept_after, entries_after, held_from, held_by, kept_of, entries_of, lines_seen, rows_seen, variant_seen, file_kept, is_kept_anchor, IsHolding}
 use Rattle.cov_view.specs.Refusals.{when, first_of}
 use Rattle.cov_history.specs.declared.refusal.Refusal.TheVariants as refusals
 use Rattle.cov_history.specs.Naming.{NamesOnlyMade}
@@ -27,7 +27,7 @@ use Rattle.cov_history.specs.Files.{dated_number, file_dated, file_order, as_sho
 use Rattle.cov_history.specs.Deletions.{Deletion, all_with, delete_file, delete_line, before_delete, behind_delete, hidden_by}
 use Rattle.cov_history.specs.Insertions.{Insertion, all_edits, lines_begun, file_of, anchor_of, line_with, held_before, held_behind}
 use Rattle.cov_history.specs.Insertions.{held_amid}
-use Rattle.cov_history.specs.Homes.{IsWhole}
+use Rattle.cov_history.specs.FileOfLine.{IsWhole}
 
 -- at each position, the lines seen on a choice are those of the replay of the history up to there
 abbrev pub LinesFollowReplay : Type 0
@@ -44,7 +44,7 @@ HoldingFollowsReplay = (c : List Bool) (p : ℕ) (history : List Command) → va
 -- what a history holds is in order, has no line but the history's, and no change that is later than the history
 abbrev pub HoldingStands : Type 0
 HoldingStands = (history : List Command)
-    → IsTable (numbers_of history).addresses × Stands (numbers_of history).addresses (length (numbers_of history).addresses) (length history) (held_by history)
+    → IsTable (numbers_of history).addresses × IsHolding (numbers_of history).addresses (length (numbers_of history).addresses) (length history) (held_by history)
 
 -- what a history holds has each line that the history inserts, once, and in its file, and a row of each node that it makes
 abbrev pub HoldingIsWhole : Type 0

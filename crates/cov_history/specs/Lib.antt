@@ -1,7 +1,7 @@
 pub mod Completing
 pub mod Deletions
+pub mod FileOfLine
 pub mod Files
-pub mod Homes
 pub mod Insertions
 pub mod Kept
 pub mod Laws

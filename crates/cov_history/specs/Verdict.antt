@@ -1,15 +1,16 @@
 -- Which commands a history accepts.
 use Rattle.std.specs.Prelude.{◌≡◌, ℕ, ◌+◌, Bool, true, false, ◌&&◌, ◌||◌, not, nat_eq, nat_lt, nat_le, List, [], ◌∷◌, ◌++◌, length, take, Option, Some, None}
-use Rattle.std.specs.Str.{bytes_eq}
 use Rattle.std.specs.List.{list_any}
 use Rattle.cov_base.specs.Choices.{all_choices}
+use Rattle.cov_base.specs.declared.limits.Limits.{Limits}
 use Rattle.cov_expr.specs.Formula.{Formula, value, reach}
+use Rattle.cov_expr.specs.Options.{is_declared}
 use Rattle.cov_edit.specs.declared.edit.Edit.{Edit}
 use Rattle.cov_edit.specs.declared.command.Command.{Command}
 use Rattle.cov_edit.specs.declared.command.Command.TheVariants as commands
 use Rattle.cov_edit.specs.Fits.{fits_command}
 use Rattle.cov_edit.specs.History.{options_of, option_count, constraints_of, preferences_of, defaults_of, is_valid_in, first_false_in, text_bytes, byte_count}
-use Rattle.cov_edit.specs.Limits.{limits_of, most_commands, most_edits, most_commit_bytes, most_bytes}
+use Rattle.cov_edit.specs.Limits.{limits_of}
 use Rattle.cov_edit.specs.Numbering.{numbers_of, nodes_made, anchors_of, line_count, node_count}
 use Rattle.cov_edit.specs.Replay.{replay}
 use Rattle.cov_view.specs.Refusals.{when, first_of, first_refused}
@@ -49,21 +50,31 @@ rule_refusals history count standing =
 abbrev pub leaves_variant : List Command → Formula ℕ → Bool
 leaves_variant history expr = list_any (λ c. is_valid_in history c && value expr c) (all_choices (option_count history))
 
--- the refusals of edits that are too many, make too many lines or nodes, or have too much text
-abbrev pub size_refusals : List Command → List Edit → List (Option Refusal)
-size_refusals history es =
-    when (nat_lt most_edits (length es)) refusals.TooManyEdits
-    ∷ when (nat_lt (limits_of history).lines (line_count history + length (anchors_of 0 es))) refusals.TooManyLines
-    ∷ when (nat_lt (limits_of history).nodes (node_count history + nodes_made es)) refusals.TooManyNodes
-    ∷ when (nat_lt most_commit_bytes (text_bytes es) || nat_lt most_bytes (byte_count history + text_bytes es)) refusals.TooManyBytes
+-- the refusals where there would be too many lines or nodes, or a commit or all together would have too many bytes of text
+abbrev pub amount_refusals : Limits → ℕ → ℕ → ℕ → ℕ → List (Option Refusal)
+amount_refusals limits lines nodes commit_bytes bytes =
+    when (nat_lt limits.lines lines) refusals.TooManyLines
+    ∷ when (nat_lt limits.nodes nodes) refusals.TooManyNodes
+    ∷ when (nat_lt limits.commit_bytes commit_bytes || nat_lt limits.bytes bytes) refusals.TooManyBytes
     ∷ []
+
+-- the refusals of edits that are too many, make too many lines or nodes, or have too much text, so many lines, nodes and bytes being there
+abbrev pub refusals_by_size : Limits → ℕ → ℕ → ℕ → List Edit → List (Option Refusal)
+refusals_by_size limits lines nodes bytes es =
+    when (nat_lt limits.edits (length es)) refusals.TooManyEdits
+    ∷ amount_refusals limits (lines + length (anchors_of 0 es)) (nodes + nodes_made es) (text_bytes es) (bytes + text_bytes es)
+
+-- the same after a history
+abbrev pub size_refusals : List Command → List Edit → List (Option Refusal)
+size_refusals history es = refusals_by_size (limits_of history) (line_count history) (node_count history) (byte_count history) es
+
+-- the refusals of an option by its name, so many being allowed and these declared
+abbrev pub name_refusals : ℕ → List (List ℕ) → List ℕ → List (Option Refusal)
+name_refusals most names name = when (nat_le most (length names)) refusals.Full ∷ when (is_declared names name) refusals.Exists ∷ []
 
 -- the refusals of a command, in order, but that of a full history
 abbrev pub refusals_of : List Command → Command → List (Option Refusal)
-refusals_of history (commands.Option name) =
-    when (nat_le (limits_of history).options (option_count history)) refusals.Full
-    ∷ when (list_any (bytes_eq name) (options_of history)) refusals.Exists
-    ∷ []
+refusals_of history (commands.Option name) = name_refusals (limits_of history).options (options_of history) name
 refusals_of history (commands.Constraint expr) =
     rule_refusals history (reach expr) (length (constraints_of history)) ++ when (not (leaves_variant history expr)) refusals.NoVariantLeft ∷ []
 refusals_of history (commands.Prefer expr) = rule_refusals history (reach expr) (length (preferences_of history))
@@ -81,7 +92,7 @@ refusals_of history (commands.Commit base choice ambition es) =
 
 -- the refusal of a history that has as many commands as it holds
 abbrev pub when_full : List Command → Option Refusal
-when_full history = when (nat_le most_commands (length history)) refusals.Full
+when_full history = when (nat_le (limits_of history).commands (length history)) refusals.Full
 
 -- the first refusal of a command after a history; none where it is accepted
 abbrev pub verdict : List Command → Command → Option Refusal

@@ -2,6 +2,7 @@
 use Rattle.std.proofs.Common.{◌≡◌, ℕ, Bool, true, false, ◌&&◌, ◌||◌, not, List, length, Option, Some, None, is_some, refl, sym, ap, ◌∙◌}
 use Rattle.std.specs.Option.{option_map_or}
 use Rattle.std.specs.List.{fold}
+use Rattle.std.proofs.lemmas.Bool.{and_parts}
 use Rattle.cov_base.specs.Addresses.{IsTable}
 use Rattle.cov_base.specs.declared.number.Kind.{Kind}
 use Rattle.cov_base.specs.declared.number.Kind.TheVariants as kinds
@@ -14,7 +15,6 @@ use Rattle.cov_view.specs.Lines.{is_among}
 use Rattle.cov_view.specs.Seen.{Seen, row_at, kind_in, has_line_in, has_child, new_fault, line_fault, seen_fault, seen_after, AreRows}
 use Rattle.cov_view.specs.Views.{Shows, table_after, next_by_number}
 use Rattle.cov_view.specs.declared.row.ViewRow.{ViewRow}
-use Rattle.cov_view.proofs.Naming.{and-left, and-right}
 use Rattle.cov_view.proofs.Refusing.{file_row, made_lines}
 use Rattle.cov_view.proofs.Showing.{there-made, shows-new}
 use Rattle.cov_view.proofs.Inserts.{anchor-made, shows-insert}
@@ -64,12 +64,11 @@ module _ (ns : Numbers) (table : List (List ℕ)) (s : Seen) (v : Variant) (show
       let both : had ≡ true = is_had (kind_in s.rows file) had accepted in
       let file_is : kind_in s.rows file ≡ Some kinds.File = is_file (kind_in s.rows file) had accepted in
       let row = file_row s.rows file file_is in
-      let no_head : is_head line ≡ false = isn't (is_head line) (and-left (not (is_head line)) (has_line_in s.rows file line) both) in
+      let no_head : is_head line ≡ false = isn't (is_head line) (and_parts (not (is_head line)) (has_line_in s.rows file line) both).0 in
       let among : is_among line row.0.lines ≡ true =
       sym (ap (λ o. option_map_or (λ (q : ViewRow). is_among line q.lines) o false) row.1)
-      ∙ and-right (not (is_head line)) (has_line_in s.rows file line) both in
+      ∙ (and_parts (not (is_head line)) (has_line_in s.rows file line) both).1 in
       shows-delete ns table s v shows tab file line
       (there-made ns s file shows.made (ap is_some file_is))
-      no_head
       (anchor-made (length ns.addresses) s.lines_made line row.0.lines (ap (λ b. b || is_among line row.0.lines) no_head ∙ among) (made_lines ns table s v shows file row.0 row.1))
       once

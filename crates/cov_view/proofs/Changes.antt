@@ -1,7 +1,9 @@
 -- Rows that change.
 use Rattle.std.proofs.Common.{◌≡◌, ℕ, suc, ◌+◌, ◌<◌, ◌≤◌, Bool, true, false, cond, ◌||◌, not, nat_lt, List, [], ◌∷◌, ◌++◌, length, get_or, set, Some, None, Result, Ok, Err, OnOk, OnErr, option_map, position, refl, sym, ap, subst, ◌∙◌, arith}
 use Rattle.std.specs.List.{position_or_len}
+use Rattle.std.proofs.lemmas.Bool.{or_from, or_parts}
 use Rattle.std.proofs.lemmas.Bool.Decides.{nat_tests}
+use Rattle.std.proofs.lemmas.Bool.{or_parts, or_from}
 use Rattle.cov_base.specs.declared.number.Kind.TheVariants as kinds
 use Rattle.cov_base.specs.declared.number.NodeRef.{NodeRef}
 use Rattle.cov_base.specs.declared.number.NodeRef.TheVariants as nodes
@@ -9,10 +11,6 @@ use Rattle.cov_view.specs.References.{is_root, same_node, is_new_below}
 use Rattle.cov_view.specs.Seen.{row_at, has_row, kind_in, at_row, with_lines_by, AreRows}
 use Rattle.cov_view.specs.declared.line.ViewLine.{ViewLine}
 use Rattle.cov_view.specs.declared.row.ViewRow.{ViewRow}
-
-pub on_ok : {A F : Type 0} (r : Result A F) (P Q : Type 0) → (P → Q) → OnOk r P → OnOk r Q
-on_ok (Ok x) P Q f h = f h
-on_ok (Err e) P Q f h = tt
 
 set_first : (node : NodeRef) (f : ViewRow → ViewRow) (rows : List ViewRow) (d : ViewRow) → position_or_len (λ r. same_node r.node node) rows < length rows
     → set rows (position_or_len (λ r. same_node r.node node) rows) (f (get_or rows (position_or_len (λ r. same_node r.node node) rows) d)) ≡ at_row node f rows
@@ -62,23 +60,16 @@ module _ (node : NodeRef) (f : ViewRow → ViewRow) (rows : List ViewRow) where
   pub none_found : position (λ r. same_node r.node node) rows ≡ None → at_row node f rows ≡ rows
   none_found h = none_case (nat_lt (position_or_len (λ r. same_node r.node node) rows) (length rows)) refl h
 
+-- the row that is found gets other lines
+pub lines_set : (node : NodeRef) (f : List ViewLine → List ViewLine) (rows : List ViewRow) (d : ViewRow) (i : ℕ) (ls : List ViewLine) → position (λ r. same_node r.node node) rows ≡ Some i
+    → ls ≡ f (get_or rows i d).lines → set rows i (with_lines_by (λ old. ls) (get_or rows i d)) ≡ at_row node (with_lines_by f) rows
+lines_set node f rows d i ls found is = ap (λ new. set rows i (with_lines_by (λ old. new) (get_or rows i d))) is ∙ set_found node (with_lines_by f) rows d i found
+
 pub same_node-sym : (a b : NodeRef) → same_node a b ≡ same_node b a
 same_node-sym (nodes.Old x) (nodes.Old y) = grind (arith, nat_tests)
 same_node-sym (nodes.Old x) (nodes.New j) = refl
 same_node-sym (nodes.New i) (nodes.Old y) = refl
 same_node-sym (nodes.New i) (nodes.New j) = grind (arith, nat_tests)
-
-or_both : (a b : Bool) → a ≡ false → b ≡ false → (a || b) ≡ false
-or_both false b e f = f
-or_both true b e f = absurd (cc)
-
-left : (a b : Bool) → (a || b) ≡ false → a ≡ false
-left false b e = refl
-left true b e = absurd (cc)
-
-right : (a b : Bool) → (a || b) ≡ false → b ≡ false
-right false b e = e
-right true b e = absurd (cc)
 
 has_row-lines : (n node : NodeRef) (f : List ViewLine → List ViewLine) (rows : List ViewRow) → has_row (at_row node (with_lines_by f) rows) n ≡ has_row rows n
 has_row-lines n node f [] = refl
@@ -99,9 +90,9 @@ rows-lines made node f (r ∷ rows) h = at (same_node r.node node) (rows-lines m
     at false rest = (h.0, h.1, has_row-lines r.node node f rows ∙ h.2, rest)
 
 has_row-append : (n : NodeRef) (rows : List ViewRow) (r : ViewRow) → has_row rows n ≡ false → same_node r.node n ≡ false → has_row (rows ++ r ∷ []) n ≡ false
-has_row-append n [] r h e = or_both (same_node r.node n) false e refl
+has_row-append n [] r h e = or_from (same_node r.node n) false e refl
 has_row-append n (q ∷ rows) r h e =
-    or_both (same_node q.node n) (has_row (rows ++ r ∷ []) n) (left (same_node q.node n) (has_row rows n) h) (has_row-append n rows r (right (same_node q.node n) (has_row rows n) h) e)
+    or_from (same_node q.node n) (has_row (rows ++ r ∷ []) n) (or_parts (same_node q.node n) (has_row rows n) h).0 (has_row-append n rows r (or_parts (same_node q.node n) (has_row rows n) h).1 e)
 
 -- a new node's row joins the rows
 pub rows-append : (made : ℕ) (rows : List ViewRow) (r : ViewRow) → AreRows made rows → is_root r.node ≡ false → is_new_below made r.node ≡ true → has_row rows r.node ≡ false
@@ -110,8 +101,8 @@ rows-append made [] r h root below fresh = (root, below, refl, tt)
 rows-append made (q ∷ rows) r h root below fresh = (
   h.0,
   h.1,
-  has_row-append q.node rows r h.2 (same_node-sym r.node q.node ∙ left (same_node q.node r.node) (has_row rows r.node) fresh),
-  rows-append made rows r h.3 root below (right (same_node q.node r.node) (has_row rows r.node) fresh),
+  has_row-append q.node rows r h.2 (same_node-sym r.node q.node ∙ (or_parts (same_node q.node r.node) (has_row rows r.node) fresh).0),
+  rows-append made rows r h.3 root below (or_parts (same_node q.node r.node) (has_row rows r.node) fresh).1,
 )
 
 below_more : (made : ℕ) (node : NodeRef) → is_new_below made node ≡ true → is_new_below (made + 1) node ≡ true
@@ -129,7 +120,7 @@ not_next made (nodes.New i) h = grind (arith, nat_tests, h)
 -- the next node made isn't there yet
 pub next_fresh : (made : ℕ) (rows : List ViewRow) → AreRows made rows → has_row rows (nodes.New made) ≡ false
 next_fresh made [] h = refl
-next_fresh made (r ∷ rows) h = or_both (same_node r.node (nodes.New made)) (has_row rows (nodes.New made)) (not_next made r.node h.1) (next_fresh made rows h.3)
+next_fresh made (r ∷ rows) h = or_from (same_node r.node (nodes.New made)) (has_row rows (nodes.New made)) (not_next made r.node h.1) (next_fresh made rows h.3)
 
 row_none : (rows : List ViewRow) (node : NodeRef) → option_map (λ (r : ViewRow). r.kind) (row_at rows node) ≡ None → has_row rows node ≡ false
 row_none [] node h = refl

@@ -1,27 +1,24 @@
 -- A view still shows its variant after a line was taken out of both.
-use Rattle.std.proofs.Common.{◌≡◌, ℕ, zero, suc, ◌+◌, ◌≤◌, Bool, true, false, cond, ◌&&◌, not, nat_eq, List, [], ◌∷◌, length, map, refl, sym, ap, ◌∙◌, arith}
-use Rattle.std.specs.Bool.{Decides}
-use Rattle.std.specs.Cmp.Lexicographic.{bytes_decides}
+use Rattle.std.proofs.Common.{◌≡◌, ℕ, ◌+◌, ◌≤◌, Bool, true, false, cond, ◌&&◌, not, nat_eq, List, [], ◌∷◌, length, map, refl, sym, ap, ◌∙◌, arith}
 use Rattle.std.specs.List.{filter, AllByRecursion}
 use Rattle.std.specs.Str.{bytes_eq}
-use Rattle.std.proofs.lemmas.Bool.Decides.{nat_tests, same_from_decides}
+use Rattle.std.proofs.lemmas.Bool.Decides.{nat_tests}
+use Rattle.std.proofs.lemmas.Bool.{and_parts}
 use Rattle.cov_base.specs.declared.number.NodeRef.{NodeRef}
 use Rattle.cov_base.specs.declared.number.LineRef.{LineRef}
-use Rattle.cov_base.specs.declared.number.LineRef.TheVariants as lines
 use Rattle.cov_base.specs.Addresses.{address_in, line_of, IsTable, IsLineOf}
-use Rattle.cov_base.proofs.Ordered.{all-map, all-both, all-filter}
-use Rattle.cov_base.proofs.Tables.{line_of-in, one_address}
+use Rattle.cov_base.proofs.CallerLemmas.{all-map, all-both, all-filter, in_order-filter, line_is}
 use Rattle.cov_edit.specs.declared.edit.Edit.TheVariants as edits
 use Rattle.cov_edit.specs.Numbering.{Numbers, Deleted, node_number, line_number}
 use Rattle.cov_edit.specs.Variant.{Variant, Line, line_address, is_line, lines_of, edited}
-use Rattle.cov_view.specs.References.{is_head, same_node, same_line, is_made_node, is_made_line}
+use Rattle.cov_view.specs.References.{same_node, same_line, is_made_node, is_made_line}
 use Rattle.cov_view.specs.Lines.{without_ref}
 use Rattle.cov_view.specs.Seen.{Seen, with_lines_by, seen_after, AreRows}
 use Rattle.cov_view.specs.Views.{line_by_number, by_number, ShowsLines, IsMade, Shows}
 use Rattle.cov_view.specs.declared.line.ViewLine.{ViewLine}
 use Rattle.cov_view.specs.declared.row.ViewRow.{ViewRow}
-use Rattle.cov_view.proofs.Naming.{and-left, same-node, same-line, node-same, made-known, made-known_line, made-line_number}
-use Rattle.cov_view.proofs.Inserts.{in_order-filter, rows-same, all-at_row}
+use Rattle.cov_view.proofs.Naming.{same-node, same-line, node-same, made-known, made-known_line}
+use Rattle.cov_view.proofs.Inserts.{rows-same, all-at_row}
 
 filter-same : {X : Type 0} (p q : X → Bool) (xs : List X) → AllByRecursion (λ x. p x ≡ q x) xs → filter p xs ≡ filter q xs
 filter-same p q [] h = refl
@@ -68,30 +65,9 @@ module _ {X : Type 0} (p : X → Bool) where
       at true false e h rest = ap (λ a. cond a (x ∷ filter p rest_of) (filter p rest_of)) e ∙ ap (λ l. x ∷ l) rest
       at false false e h rest = ap (λ a. cond a (x ∷ filter p rest_of) (filter p rest_of)) e ∙ rest
 
-below_head : (n : ℕ) (line : LineRef) → is_head line ≡ false → line_number n line ≡ 0 → ⊥
-below_head n (lines.Old zero) h e = absurd (cc)
-below_head n (lines.Old (suc x)) h e = omega (arith, e)
-below_head n (lines.New i) h e = omega (arith, e)
-
--- a line of a table is another exactly where their numbers are the same
-same-address : (t : List (List ℕ)) (number : ℕ) (address : List ℕ) → IsTable t → (number ≡ 0 → ⊥) → number ≤ length t → IsLineOf t (length t) address
-    → bytes_eq address (address_in t number) ≡ nat_eq (line_of address) number
-same-address t zero address table some below line = absurd (some refl)
-same-address t (suc x) address table some below line =
-    same_from_decides (bytes_eq address (address_in t (suc x))) (nat_eq (line_of address) (suc x)) (bytes_decides address (address_in t (suc x))) by_number'
-  where
-    own : line_of (address_in t (suc x)) ≡ suc x
-    own = line_of-in t x table (omega (arith, below))
-
-    by_number' : Decides (nat_eq (line_of address) (suc x)) (address ≡ address_in t (suc x))
-    by_number' = (
-      (λ e. let k : line_of address ≡ suc x = grind (arith, nat_tests, e) in one_address t (length t) (suc x) address table (omega arith) line k),
-      (λ e. let k : line_of address ≡ suc x = ap line_of e ∙ own in grind (arith, nat_tests, k)),
-    )
-
 module _ (ns : Numbers) (table : List (List ℕ)) (s : Seen) (v : Variant) (shows : Shows ns table s v) (tab : IsTable table)
     (file : NodeRef) (line : LineRef) (file_made : is_made_node ns.nodes s.nodes_made file ≡ true)
-    (no_head : is_head line ≡ false) (line_made : is_made_line (length ns.addresses) s.lines_made line ≡ true) where
+    (line_made : is_made_line (length ns.addresses) s.lines_made line ≡ true) where
   -- the number of the line
   abbrev N : ℕ
   N = line_number (length ns.addresses) line
@@ -100,13 +76,10 @@ module _ (ns : Numbers) (table : List (List ℕ)) (s : Seen) (v : Variant) (show
   abbrev v' : Variant
   v' = edited v (Deleted (node_number ns.nodes file) (address_in table N))
 
-  in_table : N ≤ length table
-  in_table = let h = made-line_number (length ns.addresses) s.lines_made line line_made in let k = shows.counted in omega (arith, h, k)
-
   by-number : (f : ℕ) → AllByRecursion (λ (l : Line). not (is_line f (address_in table N) l) ≡ not (nat_eq l.file f && nat_eq (line_of l.address) N)) v.lines
   by-number f =
       all-map (λ (l : Line). IsLineOf table (length table) l.address) (λ l. not (is_line f (address_in table N) l) ≡ not (nat_eq l.file f && nat_eq (line_of l.address) N))
-      (λ l h. ap (λ b. not (nat_eq l.file f && b)) (same-address table N l.address tab (below_head (length ns.addresses) line no_head) in_table h)) v.lines shows.addresses
+      (λ l h. ap (λ b. not (nat_eq l.file f && b)) (line_is table (length table) N l.address tab (omega arith) h)) v.lines shows.addresses
 
   line_known : (ls : List ViewLine) → AllByRecursion (λ l. is_made_line (length ns.addresses) s.lines_made l.line ≡ true) ls
       → AllByRecursion (λ (l : ViewLine). not (nat_eq (line_number (length ns.addresses) l.line) N) ≡ not (same_line l.line line)) ls
@@ -142,17 +115,17 @@ module _ (ns : Numbers) (table : List (List ℕ)) (s : Seen) (v : Variant) (show
       v.lines)
       ∙ h kind
 
-  abbrev Kept : ViewRow → Type 0
-  Kept r = ShowsLines ns v r × IsMade ns s r
+  abbrev Stays : ViewRow → Type 0
+  Stays r = ShowsLines ns v r × IsMade ns s r
 
   -- after a line was taken out
   pub shows-delete : AreRows s.nodes_made s.rows → Shows ns table (seen_after s (edits.Delete file line)) v'
   shows-delete once = record {
     rows = shows.rows ∙ sym (rows-same ns file (without_ref line) s.rows);
-    lines = all-at_row Kept (ShowsLines ns v') file (with_lines_by (without_ref line))
+    lines = all-at_row Stays (ShowsLines ns v') file (with_lines_by (without_ref line))
         (λ r e p. own-lines r e p.1.1 p.0)
-        (λ r e p. other-lines r e (and-left (is_made_node ns.nodes s.nodes_made r.node) (is_made_node ns.nodes s.nodes_made r.parent) p.1.0) p.0)
-        s.nodes_made s.rows once (all-both (ShowsLines ns v) (IsMade ns s) Kept (λ r h k. (h, k)) s.rows shows.lines shows.made);
+        (λ r e p. other-lines r e (and_parts (is_made_node ns.nodes s.nodes_made r.node) (is_made_node ns.nodes s.nodes_made r.parent) p.1.0).0 p.0)
+        s.nodes_made s.rows once (all-both (ShowsLines ns v) (IsMade ns s) Stays (λ r h k. (h, k)) s.rows shows.lines shows.made);
     made = all-at_row (IsMade ns s) (IsMade ns (seen_after s (edits.Delete file line))) file (with_lines_by (without_ref line))
         (λ r e p. (p.0, all-filter (λ (l : ViewLine). is_made_line (length ns.addresses) s.lines_made l.line ≡ true) (λ l. not (same_line l.line line)) r.lines p.1))
         (λ r e p. p)

@@ -6,50 +6,39 @@ use Rattle.std.specs.List.{position_from}
 use Rattle.std.specs.Map.{lookup}
 use Rattle.std.specs.Option.{option_copied, option_or}
 use Rattle.std.specs.Str.{bytes_eq}
-use Rattle.std.proofs.lemmas.Bool.Decides.{nat_tests}
 use Rattle.std.proofs.lemmas.Iterator.Adapters.{position_from-zero}
 use Rattle.cov_base.specs.declared.number.NodeRef.{NodeRef}
-use Rattle.cov_base.specs.declared.number.NodeRef.TheVariants as nodes
-use Rattle.cov_view.specs.Keys.{key_of, node_of, is_child_key, AreChildren}
+use Rattle.cov_view.specs.Keys.{is_child_key, AreChildren}
 use Rattle.cov_view.specs.References.{same_node}
 use Rattle.cov_view.specs.Seen.{at_row, with_lines_by}
 use Rattle.cov_view.specs.declared.children.ChildKey.{ChildKey}
 use Rattle.cov_view.specs.declared.line.ViewLine.{ViewLine}
 use Rattle.cov_view.specs.declared.row.ViewRow.{ViewRow}
-use Rattle.cov_view.specs.declared.rows.NodeKey.{NodeKey}
-use Rattle.cov_view.specs.declared.rows.NodeKey.TheVariants as keys
 use Rattle.cov_view.proofs.Keys.{same_key, agrees}
+use Rattle.cov_view.proofs.Naming.{node-same}
 
 -- whether a row is that of a name in a directory
 abbrev pub is_child : NodeRef → List ℕ → ViewRow → Bool
 is_child dir name r = same_node r.parent dir && bytes_eq r.name name
 
 -- whether a key is the one that is asked for
-abbrev pub is_asked : NodeKey → List ℕ → ChildKey NodeKey (Vec ℕ) → Bool
+abbrev pub is_asked : NodeRef → List ℕ → ChildKey NodeRef (Vec ℕ) → Bool
 is_asked dir name key = same_key dir key.dir && bytes_eq name key.name.items
 
-node-back : (key : NodeKey) → key_of (node_of key) ≡ key
-node-back (keys.Old x) = refl
-node-back (keys.New i) = refl
-
-node-there : (node : NodeRef) → node_of (key_of node) ≡ node
-node-there (nodes.Old x) = refl
-node-there (nodes.New i) = refl
-
 -- the key of a name in a directory is that which is asked for
-pub asked : (dir : NodeRef) (name : List ℕ) → is_asked (key_of dir) name ≡ is_child_key dir name
+pub asked : (dir : NodeRef) (name : List ℕ) → is_asked dir name ≡ is_child_key dir name
 asked dir name i key = at key i
   where
-    at : (key : ChildKey NodeKey (Vec ℕ)) → is_asked (key_of dir) name key ≡ is_child_key dir name key
-    at key = λ j. (ap (same_key (key_of dir)) (sym (node-back key.dir)) ∙ agrees dir (node_of key.dir)) j && nat_list_eq_equiv.symm name key.name.items j
+    at : (key : ChildKey NodeRef (Vec ℕ)) → is_asked dir name key ≡ is_child_key dir name key
+    at key = λ j. agrees dir key.dir j && nat_list_eq_equiv.symm name key.name.items j
 
 -- whether two keys are the same, as they are compared
-abbrev pub same_child : ChildKey NodeKey (Vec ℕ) → ChildKey NodeKey (Vec ℕ) → Bool
+abbrev pub same_child : ChildKey NodeRef (Vec ℕ) → ChildKey NodeRef (Vec ℕ) → Bool
 same_child key = is_asked key.dir key.name.items
 
 -- what is asked for a row is its name in its directory
-pub asked_row : (r : ViewRow) (dir : NodeKey) (name : List ℕ) → dir ≡ key_of r.parent → name ≡ r.name → is_asked dir name ≡ is_child_key r.parent r.name
-asked_row r dir name d n = (λ i. is_asked (d i) (n i)) ∙ asked r.parent r.name
+pub asked_row : (r : ViewRow) (name : List ℕ) → name ≡ r.name → is_asked r.parent name ≡ is_child_key r.parent r.name
+asked_row r name same = ap (is_asked r.parent) same ∙ asked r.parent r.name
 
 pub none_is : {A : Type 0} (o : Option A) → is_some o ≡ false → o ≡ None
 none_is None e = refl
@@ -88,23 +77,17 @@ module _ {K : Type 0} where
       at false rest = rest
 
 -- a new name in a directory is found at the row that joins
-pub children_added : (rows : List ViewRow) (places : List (ChildKey NodeKey (Vec ℕ) × ℕ)) (r : ViewRow) (key : ChildKey NodeKey (Vec ℕ)) → key.dir ≡ key_of r.parent → key.name.items ≡ r.name
+pub children_added : (rows : List ViewRow) (places : List (ChildKey NodeRef (Vec ℕ) × ℕ)) (r : ViewRow) (key : ChildKey NodeRef (Vec ℕ)) → key.dir ≡ r.parent → key.name.items ≡ r.name
     → AreChildren rows places → AreChildren (rows ++ r ∷ []) (places ++ (key, length rows) ∷ [])
 children_added rows places r key dir_is name_is h = λ dir name.
     let same : is_child_key dir name key ≡ is_child dir name r =
-    (λ i. same_node ((ap node_of dir_is ∙ node-there r.parent) i) dir && bytes_eq (name_is i) name) in
+    (λ i. same_node (dir_is i) dir && bytes_eq (name_is i) name) in
     lookup-append (is_child_key dir name) places (key, length rows)
     ∙ (λ i. option_or (h dir name i) (cond (same i) (Some (length rows)) None))
     ∙ sym (position-append (is_child dir name) rows r)
 
-same_node-is : (a b : NodeRef) → same_node a b ≡ true → a ≡ b
-same_node-is (nodes.Old x) (nodes.Old y) h = let e : x ≡ y = grind (arith, nat_tests, h) in ap nodes.Old e
-same_node-is (nodes.Old x) (nodes.New j) h = absurd (cc)
-same_node-is (nodes.New i) (nodes.Old y) h = absurd (cc)
-same_node-is (nodes.New i) (nodes.New j) h = let e : i ≡ j = grind (arith, nat_tests, h) in ap nodes.New e
-
 -- a name that a directory has already stays where it was found
-pub children_known : (rows : List ViewRow) (places : List (ChildKey NodeKey (Vec ℕ) × ℕ)) (r : ViewRow) → is_some (lookup (is_child_key r.parent r.name) places) ≡ true
+pub children_known : (rows : List ViewRow) (places : List (ChildKey NodeRef (Vec ℕ) × ℕ)) (r : ViewRow) → is_some (lookup (is_child_key r.parent r.name) places) ≡ true
     → AreChildren rows places → AreChildren (rows ++ r ∷ []) places
 children_known rows places r known h = λ dir name. h dir name ∙ stays dir name (same_node r.parent dir) (bytes_eq r.name name) refl refl ∙ sym (position-append (is_child dir name) rows r)
   where
@@ -121,7 +104,7 @@ children_known rows places r known h = λ dir name. h dir name ∙ stays dir nam
     stays dir name true true d n =
         let there : is_some (position (is_child r.parent r.name) rows) ≡ true = sym (ap is_some (h r.parent r.name)) ∙ known in
         first (position (is_child dir name) rows) (Some (length rows))
-        (sym (λ i. is_some (position (is_child (same_node-is r.parent dir d i) ((bytes_decides r.name name).0 n i)) rows)) ∙ there)
+        (sym (λ i. is_some (position (is_child (node-same r.parent dir d i) ((bytes_decides r.name name).0 n i)) rows)) ∙ there)
     stays dir name true false d n = alone (position (is_child dir name) rows)
     stays dir name false b d n = alone (position (is_child dir name) rows)
 
@@ -135,13 +118,13 @@ position_from-lines p node f same k (r ∷ rows) = at (same_node r.node node) (p
     at true rest = ap (λ b. cond b (Some k) (position_from p (k + 1) rows)) (same r)
     at false rest = ap (cond (p r) (Some k)) rest
 
-pub children_lines : (node : NodeRef) (f : List ViewLine → List ViewLine) (rows : List ViewRow) (places : List (ChildKey NodeKey (Vec ℕ) × ℕ)) → AreChildren rows places → AreChildren (at_row node (with_lines_by f) rows) places
+pub children_lines : (node : NodeRef) (f : List ViewLine → List ViewLine) (rows : List ViewRow) (places : List (ChildKey NodeRef (Vec ℕ) × ℕ)) → AreChildren rows places → AreChildren (at_row node (with_lines_by f) rows) places
 children_lines node f rows places h = λ dir name.
     h dir name ∙ position_from-zero (is_child dir name) rows
     ∙ sym (position_from-zero (is_child dir name) (at_row node (with_lines_by f) rows) ∙ position_from-lines (is_child dir name) node f (λ r. refl) 0 rows)
 
 -- other lines leave the names as they are
-pub children_kept : {A F : Type 0} (q : Result A F) (node : NodeRef) (f : List ViewLine → List ViewLine) (old new : List ViewRow) (places : List (ChildKey NodeKey (Vec ℕ) × ℕ))
+pub children_kept : {A F : Type 0} (q : Result A F) (node : NodeRef) (f : List ViewLine → List ViewLine) (old new : List ViewRow) (places : List (ChildKey NodeRef (Vec ℕ) × ℕ))
     → OnOk q (new ≡ at_row node (with_lines_by f) old) → OnErr q (new ≡ old) → AreChildren old places → AreChildren new places
 children_kept (Ok x) node f old new places ok err h = subst (λ (rows : List ViewRow). AreChildren rows places) (sym ok) (children_lines node f old places h)
 children_kept (Err e) node f old new places ok err h = subst (λ (rows : List ViewRow). AreChildren rows places) (sym err) h

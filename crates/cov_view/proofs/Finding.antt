@@ -3,6 +3,7 @@ use Rattle.std.proofs.Common.{◌≡◌, ℕ, zero, suc, Bool, true, false, cond
 use Rattle.std.specs.Str.{bytes_eq}
 use Rattle.std.specs.List.{find, AllByRecursion}
 use Rattle.std.proofs.lemmas.Bool.Decides.{nat_tests}
+use Rattle.std.proofs.lemmas.Bool.{and_parts}
 use Rattle.cov_base.specs.declared.number.Kind.{Kind}
 use Rattle.cov_base.specs.declared.number.Kind.TheVariants as kinds
 use Rattle.cov_base.specs.declared.number.NodeRef.{NodeRef}
@@ -11,13 +12,13 @@ use Rattle.cov_base.specs.Rows.{Row, row_of}
 use Rattle.cov_edit.specs.Numbering.{Numbers, node_number}
 use Rattle.cov_edit.specs.Variant.{Variant}
 use Rattle.cov_view.specs.References.{is_root, is_dir_kind, same_node, is_known_node, is_made_node}
-use Rattle.cov_view.specs.Refusals.{has_node, is_dir}
+use Rattle.cov_view.specs.Refusals.{shows_node, is_dir}
 use Rattle.cov_view.specs.Paths.{from_number, child_node, path_node, kind_of, shown_kind, AreLinesOf}
 use Rattle.cov_view.specs.Seen.{Seen, row_at, kind_in, child_in, from_node, node_at, file_lines, lines_in}
 use Rattle.cov_view.specs.Views.{row_by_number, IsMade, Shows}
 use Rattle.cov_view.specs.declared.line.ViewLine.{ViewLine}
 use Rattle.cov_view.specs.declared.row.ViewRow.{ViewRow}
-use Rattle.cov_view.proofs.Naming.{and-right, same-node, row-known, row-unknown, below_root, kind_below, there-known, kind_is_dir, dir}
+use Rattle.cov_view.proofs.Naming.{same-node, row-known, row-unknown, below_root, kind_below, there-known, kind_is_dir, dir}
 use Rattle.cov_view.proofs.Refusing.{file_row, shown_lines, made_lines, here, is_dir-rows}
 use Rattle.cov_view.proofs.Showing.{there-made}
 
@@ -81,7 +82,7 @@ module _ (ns : Numbers) (s : Seen) where
       → option_map (node_number ns.nodes) (child_in rows dir name) ≡ child_node (map (row_by_number ns) rows) (node_number ns.nodes dir) name
   child-shown dir name [] known made = refl
   child-shown dir name (r ∷ rows) known made =
-      let own = and-right (is_made_node ns.nodes s.nodes_made r.node) (is_made_node ns.nodes s.nodes_made r.parent) made.0.0 in
+      let own = (and_parts (is_made_node ns.nodes s.nodes_made r.node) (is_made_node ns.nodes s.nodes_made r.parent) made.0.0).1 in
       ap (λ b. option_map (node_number ns.nodes) (option_map (λ (q : ViewRow). q.node) (cond (b && bytes_eq r.name name) (Some r) (find (λ (q : ViewRow). same_node q.parent dir && bytes_eq q.name name) rows))))
       (same-node ns.nodes s.nodes_made r.parent dir own known)
       ∙ at (nat_eq (node_number ns.nodes r.parent) (node_number ns.nodes dir) && bytes_eq r.name name) (child-shown dir name rows known made.1)
@@ -157,10 +158,10 @@ module _ (ns : Numbers) (table : List (List ℕ)) (s : Seen) (v : Variant) (show
       ∙ ap (λ (rows : List Row). cond (is_known_node ns.nodes node) (kind_of rows (node_number ns.nodes node)) None) (sym shows.rows)
 
   -- a node that isn't there
-  pub absent-shown : (node : NodeRef) → kind_in s.rows node ≡ None → has_node ns v node ≡ false
+  pub absent-shown : (node : NodeRef) → kind_in s.rows node ≡ None → shows_node ns v node ≡ false
   absent-shown node h = here ns table s v shows node ∙ ap is_some h
 
-  pub there-shown : (node : NodeRef) (k : Kind) → kind_in s.rows node ≡ Some k → has_node ns v node ≡ true
+  pub there-shown : (node : NodeRef) (k : Kind) → kind_in s.rows node ≡ Some k → shows_node ns v node ≡ true
   there-shown node k h = here ns table s v shows node ∙ ap is_some h
 
   pub dir-shown : (node : NodeRef) (k : Kind) → kind_in s.rows node ≡ Some k → is_dir v.rows (node_number ns.nodes node) ≡ is_dir_kind k

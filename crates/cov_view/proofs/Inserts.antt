@@ -1,14 +1,13 @@
 -- A view still shows its variant after a line was inserted into both.
 use Rattle.std.proofs.Common.{◌≡◌, ℕ, zero, suc, ◌+◌, ◌<◌, ◌≤◌, Bool, true, false, cond, ◌||◌, nat_eq, List, [], ◌∷◌, ◌++◌, length, map, Some, ◌⊎◌, inl, inr, refl, sym, ap, subst, ◌∙◌, arith}
-use Rattle.std.specs.List.{filter, list_any, AllByRecursion}
+use Rattle.std.specs.List.{list_any, AllByRecursion}
 use Rattle.std.proofs.lemmas.Bool.Decides.{nat_tests}
+use Rattle.std.proofs.lemmas.Bool.{and_parts, or_parts}
 use Rattle.cov_base.specs.declared.number.NodeRef.{NodeRef}
 use Rattle.cov_base.specs.declared.number.LineRef.{LineRef}
 use Rattle.cov_base.specs.declared.number.LineRef.TheVariants as lines
-use Rattle.cov_base.specs.Addresses.{stands_before, address_in, with_line, line_of, IsTable, IsLineOf, placed, number_by, AreInOrder, after_first, after_anchor_by}
-use Rattle.cov_base.proofs.Ordered.{all-map, all-both, all-filter, all-placed, placed-in_order, filter-placed, new_after}
-use Rattle.cov_base.proofs.Placing.{at_one, map-after_anchor, order-insert}
-use Rattle.cov_base.proofs.Tables.{line_of-in, inside, is_table-with_line, length-with_line, address_in-with_line, address_in-next}
+use Rattle.cov_base.specs.Addresses.{stands_before, address_in, with_line, line_of, IsTable, IsLineOf, placed, number_by, after_first, after_anchor_by}
+use Rattle.cov_base.proofs.CallerLemmas.{all-map, all-both, all-filter, all-placed, placed-in_order, filter-placed, in_order-filter, new_after, at_one, map-after_anchor, order-insert, line_of-in, inside, is_table-with_line, length-with_line, address_in-with_line, address_in-next, any-map}
 use Rattle.cov_edit.specs.declared.edit.Edit.TheVariants as edits
 use Rattle.cov_edit.specs.Numbering.{Numbers, Inserted, node_number, line_number}
 use Rattle.cov_edit.specs.Variant.{Variant, Line, line_address, lines_of, edited}
@@ -18,16 +17,9 @@ use Rattle.cov_view.specs.Seen.{Seen, row_at, has_row, at_row, with_lines_by, se
 use Rattle.cov_view.specs.Views.{row_by_number, line_by_number, by_number, ShowsLines, IsMade, Shows}
 use Rattle.cov_view.specs.declared.line.ViewLine.{ViewLine}
 use Rattle.cov_view.specs.declared.row.ViewRow.{ViewRow}
-use Rattle.cov_view.proofs.Naming.{and-left, same-node, same-line, node-same, line-same, made-known, made-known_line, made-number, made-line_number, made-more_line}
-use Rattle.cov_view.proofs.Refusing.{any-map, among-known}
-
-pub in_order-filter : {X : Type 0} (address : X → List ℕ) (p : X → Bool) (xs : List X) → AreInOrder address xs → AreInOrder address (filter p xs)
-in_order-filter address p [] o = tt
-in_order-filter address p (x ∷ xs) o = at (p x) (in_order-filter address p xs o.1)
-  where
-    at : (b : Bool) → AreInOrder address (filter p xs) → AreInOrder address (cond b (x ∷ filter p xs) (filter p xs))
-    at true rest = (all-filter (λ y. stands_before (address x) (address y) ≡ true) p xs o.0, rest)
-    at false rest = rest
+use Rattle.cov_view.proofs.Naming.{same-node, same-line, node-same, line-same, made-known, made-known_line, made-number, made-line_number, made-more_line}
+use Rattle.cov_view.proofs.CallerLemmas.{head-number}
+use Rattle.cov_view.proofs.Refusing.{among-known}
 
 pub rows-same : (ns : Numbers) (file : NodeRef) (f : List ViewLine → List ViewLine) (rows : List ViewRow) → map (row_by_number ns) (at_row file (with_lines_by f) rows) ≡ map (row_by_number ns) rows
 rows-same ns file f [] = refl
@@ -42,15 +34,9 @@ module _ (P Q : ViewRow → Type 0) (node : NodeRef) (f : ViewRow → ViewRow)
     (one : (r : ViewRow) → same_node r.node node ≡ true → P r → Q (f r)) (other : (r : ViewRow) → same_node r.node node ≡ false → P r → Q r) where
   all-others : (rows : List ViewRow) → has_row rows node ≡ false → AllByRecursion P rows → AllByRecursion Q rows
   all-others [] h all = tt
-  all-others (r ∷ rows) h all = (other r (left (same_node r.node node) (has_row rows node) h) all.0, all-others rows (right (same_node r.node node) (has_row rows node) h) all.1)
-    where
-      left : (a b : Bool) → (a || b) ≡ false → a ≡ false
-      left false b e = refl
-      left true b e = absurd (cc)
-
-      right : (a b : Bool) → (a || b) ≡ false → b ≡ false
-      right false b e = e
-      right true b e = absurd (cc)
+  all-others (r ∷ rows) h all =
+      let apart = or_parts (same_node r.node node) (has_row rows node) h in
+      (other r apart.0 all.0, all-others rows apart.1 all.1)
 
   -- what the changed row has and what all others have
   pub all-at_row : (made : ℕ) (rows : List ViewRow) → AreRows made rows → AllByRecursion P rows → AllByRecursion Q (at_row node f rows)
@@ -119,11 +105,6 @@ after-number n made (lines.New i) q ls all known =
     after_anchor-below (λ (l : ViewLine). line_number n l.line) (n + 1 + i) q ls (λ e. omega (arith, e))
     ∙ sym (after_first-same (λ l. same_line l.line (lines.New i)) (λ l. nat_eq (line_number n l.line) (n + 1 + i)) q ls
     (all-map (λ l. is_made_line n made l.line ≡ true) (λ l. same_line l.line (lines.New i) ≡ nat_eq (line_number n l.line) (n + 1 + i)) (λ l h. same-line n made l.line (lines.New i) h known) ls all))
-
-head-number : (n : ℕ) (after : LineRef) → is_head after ≡ true → line_number n after ≡ 0
-head-number n (lines.Old zero) h = refl
-head-number n (lines.Old (suc x)) h = absurd (cc)
-head-number n (lines.New i) h = absurd (cc)
 
 head-made : (n made : ℕ) (after : LineRef) → is_head after ≡ true → is_made_line n made after ≡ true
 head-made n made (lines.Old zero) h = grind (arith, nat_tests)
@@ -200,9 +181,9 @@ module _ (ns : Numbers) (table : List (List ℕ)) (s : Seen) (v : Variant) (show
           → (line_number (length ns.addresses) after ≡ 0) ⊎ (list_any (λ k. nat_eq (number_by line_address k) (line_number (length ns.addresses) after)) ls ≡ true)
       at true e k = inl (head-number (length ns.addresses) after e)
       at false e k = inr
-          (any-map by_number (λ p. nat_eq p.0 (line_number (length ns.addresses) after)) ls
+          (sym (any-map (λ p. nat_eq p.0 (line_number (length ns.addresses) after)) by_number ls)
           ∙ ap (list_any (λ p. nat_eq p.0 (line_number (length ns.addresses) after))) shown
-          ∙ sym (any-map (line_by_number ns) (λ p. nat_eq p.0 (line_number (length ns.addresses) after)) r.lines)
+          ∙ any-map (λ p. nat_eq p.0 (line_number (length ns.addresses) after)) (line_by_number ns) r.lines
           ∙ among-known (length ns.addresses) s.lines_made after r.lines after_known made ∙ k)
 
   -- the lines of the file with the new one
@@ -243,8 +224,8 @@ module _ (ns : Numbers) (table : List (List ℕ)) (s : Seen) (v : Variant) (show
       ∙ h kind
 
   -- what is used of each row
-  abbrev Kept : ViewRow → Type 0
-  Kept r = ShowsLines ns v r × IsMade ns s r × (same_node r.node file ≡ true → (is_head after || is_among after r.lines) ≡ true)
+  abbrev Stays : ViewRow → Type 0
+  Stays r = ShowsLines ns v r × IsMade ns s r × (same_node r.node file ≡ true → (is_head after || is_among after r.lines) ≡ true)
 
   abbrev IsMadeLine : ViewLine → Type 0
   IsMadeLine l = is_made_line (length ns.addresses) (s.lines_made + 1) l.line ≡ true
@@ -259,9 +240,9 @@ module _ (ns : Numbers) (table : List (List ℕ)) (s : Seen) (v : Variant) (show
       (edited v (Inserted (node_number ns.nodes file) (line_address (next_line ns table file after text)) text))
   shows-insert once anchor = record {
     rows = shows.rows ∙ sym (rows-same ns file (after_ref after (next_seen s text)) s.rows);
-    lines = all-at_row Kept (ShowsLines ns (edited v (Inserted (node_number ns.nodes file) (line_address (next_line ns table file after text)) text))) file (with_lines_by (after_ref after (next_seen s text)))
+    lines = all-at_row Stays (ShowsLines ns (edited v (Inserted (node_number ns.nodes file) (line_address (next_line ns table file after text)) text))) file (with_lines_by (after_ref after (next_seen s text)))
         (λ r e p. own-lines r e p.1.1 (p.2 e) p.0)
-        (λ r e p. other-lines r e (and-left (is_made_node ns.nodes s.nodes_made r.node) (is_made_node ns.nodes s.nodes_made r.parent) p.1.0) p.0)
+        (λ r e p. other-lines r e (and_parts (is_made_node ns.nodes s.nodes_made r.node) (is_made_node ns.nodes s.nodes_made r.parent) p.1.0).0 p.0)
         s.nodes_made s.rows once all_kept;
     made = all-at_row (IsMade ns s) (IsMade ns (seen_after s (edits.Insert file after text))) file (with_lines_by (after_ref after (next_seen s text)))
         (λ r e p. (p.0, all-after_ref IsMadeLine after (next_seen s text) r.lines (grind (arith, nat_tests)) (more r.lines p.1)))
@@ -283,9 +264,9 @@ module _ (ns : Numbers) (table : List (List ℕ)) (s : Seen) (v : Variant) (show
       anchors : AllByRecursion (λ (r : ViewRow). same_node r.node file ≡ true → (is_head after || is_among after r.lines) ≡ true) s.rows
       anchors = only-found s.nodes_made file (λ r. (is_head after || is_among after r.lines) ≡ true) s.rows once anchor
 
-      all_kept : AllByRecursion Kept s.rows
+      all_kept : AllByRecursion Stays s.rows
       all_kept =
-          all-both (λ (r : ViewRow). ShowsLines ns v r × IsMade ns s r) (λ r. same_node r.node file ≡ true → (is_head after || is_among after r.lines) ≡ true) Kept
+          all-both (λ (r : ViewRow). ShowsLines ns v r × IsMade ns s r) (λ r. same_node r.node file ≡ true → (is_head after || is_among after r.lines) ≡ true) Stays
           (λ r h k. (h.0, h.1, k)) s.rows
           (all-both (ShowsLines ns v) (IsMade ns s) (λ (r : ViewRow). ShowsLines ns v r × IsMade ns s r) (λ r h k. (h, k)) s.rows shows.lines shows.made)
           anchors

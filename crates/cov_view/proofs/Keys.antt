@@ -1,5 +1,5 @@
 -- Rows by their keys.
-use Rattle.std.proofs.Common.{◌≡◌, ℕ, suc, ◌+◌, ◌≤◌, Bool, true, false, cond, ◌||◌, not, nat_lt, List, [], ◌∷◌, ◌++◌, length, map, slice_get, Some, None, is_some, Result, Ok, Err, OnOk, OnErr, position, refl, sym, ap, ◌∙◌, arith}
+use Rattle.std.proofs.Common.{◌≡◌, ℕ, suc, ◌+◌, ◌≤◌, Bool, true, false, cond, ◌||◌, not, nat_lt, List, [], ◌∷◌, ◌++◌, length, map, slice_get, Some, None, Result, Ok, Err, OnOk, OnErr, position, refl, sym, ap, ◌∙◌, arith}
 use Rattle.std.specs.List.{find, list_any, position_or_len}
 use Rattle.std.proofs.lemmas.Bool.Decides.{nat_tests}
 use Rattle.std.proofs.lemmas.List.{length-map}
@@ -7,45 +7,43 @@ use Rattle.std.proofs.lemmas.List.Folds.{find_at}
 use Rattle.indexmap.specs.IndexSet.{insert_key}
 use Rattle.cov_base.specs.declared.number.NodeRef.{NodeRef}
 use Rattle.cov_base.specs.declared.number.NodeRef.TheVariants as nodes
-use Rattle.cov_view.specs.Keys.{key_of}
 use Rattle.cov_view.specs.References.{same_node}
 use Rattle.cov_view.specs.Seen.{has_row, at_row, with_lines_by}
 use Rattle.cov_view.specs.declared.line.ViewLine.{ViewLine}
 use Rattle.cov_view.specs.declared.row.ViewRow.{ViewRow}
-use Rattle.cov_view.specs.contracts.rows.NodeKeyPartialEq.TheImpl.{eq-value}
-use Rattle.cov_view.specs.declared.rows.NodeKey.{NodeKey}
+use Rattle.cov_base.specs.contracts.number.NodeRefPartialEq.TheImpl.{eq-value}
 
 -- the keys of rows
-abbrev pub keys_of : List ViewRow → List NodeKey
-keys_of rows = map (λ row. key_of row.node) rows
+abbrev pub keys_of : List ViewRow → List NodeRef
+keys_of rows = map (λ row. row.node) rows
 
-module _ (e : NodeKey → NodeKey → Bool) (agrees : (a b : NodeRef) → e (key_of a) (key_of b) ≡ same_node b a) (node : NodeRef) where
-  place_or_len : (rows : List ViewRow) → position_or_len (e (key_of node)) (keys_of rows) ≡ position_or_len (λ r. same_node r.node node) rows
+module _ (e : NodeRef → NodeRef → Bool) (agrees : (a b : NodeRef) → e a b ≡ same_node b a) (node : NodeRef) where
+  place_or_len : (rows : List ViewRow) → position_or_len (e node) (keys_of rows) ≡ position_or_len (λ r. same_node r.node node) rows
   place_or_len [] = refl
   place_or_len (r ∷ rows) =
-      ap (λ b. cond (not b) (1 + position_or_len (e (key_of node)) (keys_of rows)) 0) (agrees node r.node)
+      ap (λ b. cond (not b) (1 + position_or_len (e node) (keys_of rows)) 0) (agrees node r.node)
       ∙ ap (λ n. cond (not (same_node r.node node)) (1 + n) 0) (place_or_len rows)
 
   -- a key stands where its node's row does
-  pub keyed : (rows : List ViewRow) → position (e (key_of node)) (keys_of rows) ≡ position (λ r. same_node r.node node) rows
-  keyed rows i = cond (nat_lt (place_or_len rows i) (length-map rows (λ row. key_of row.node) i)) (Some (place_or_len rows i)) None
+  pub keyed : (rows : List ViewRow) → position (e node) (keys_of rows) ≡ position (λ r. same_node r.node node) rows
+  keyed rows i = cond (nat_lt (place_or_len rows i) (length-map rows (λ row. row.node) i)) (Some (place_or_len rows i)) None
 
-  any-key : (rows : List ViewRow) → list_any (e (key_of node)) (keys_of rows) ≡ has_row rows node
+  any-key : (rows : List ViewRow) → list_any (e node) (keys_of rows) ≡ has_row rows node
   any-key [] = refl
-  any-key (r ∷ rows) = ap (λ b. b || list_any (e (key_of node)) (keys_of rows)) (agrees node r.node) ∙ ap (λ b. same_node r.node node || b) (any-key rows)
+  any-key (r ∷ rows) = ap (λ b. b || list_any (e node) (keys_of rows)) (agrees node r.node) ∙ ap (λ b. same_node r.node node || b) (any-key rows)
 
   -- a new key goes last
-  pub key_added : (rows : List ViewRow) → has_row rows node ≡ false → insert_key e (keys_of rows) (key_of node) ≡ keys_of rows ++ key_of node ∷ []
-  key_added rows fresh = ap (λ b. cond b (keys_of rows) (keys_of rows ++ key_of node ∷ [])) (any-key rows ∙ fresh)
+  pub key_added : (rows : List ViewRow) → has_row rows node ≡ false → insert_key e (keys_of rows) node ≡ keys_of rows ++ node ∷ []
+  key_added rows fresh = ap (λ b. cond b (keys_of rows) (keys_of rows ++ node ∷ [])) (any-key rows ∙ fresh)
 
 -- other lines leave the keys as they are
 pub keys-lines : (node : NodeRef) (f : List ViewLine → List ViewLine) (rows : List ViewRow) → keys_of (at_row node (with_lines_by f) rows) ≡ keys_of rows
 keys-lines node f [] = refl
 keys-lines node f (r ∷ rows) = at (same_node r.node node) (keys-lines node f rows)
   where
-    at : (b : Bool) → keys_of (at_row node (with_lines_by f) rows) ≡ keys_of rows → keys_of (cond b (with_lines_by f r ∷ rows) (r ∷ at_row node (with_lines_by f) rows)) ≡ key_of r.node ∷ keys_of rows
+    at : (b : Bool) → keys_of (at_row node (with_lines_by f) rows) ≡ keys_of rows → keys_of (cond b (with_lines_by f r ∷ rows) (r ∷ at_row node (with_lines_by f) rows)) ≡ r.node ∷ keys_of rows
     at true rest = refl
-    at false rest = ap (λ ks. key_of r.node ∷ ks) rest
+    at false rest = ap (λ ks. r.node ∷ ks) rest
 
 pub keys-kept : {A F : Type 0} (r : Result A F) (node : NodeRef) (f : List ViewLine → List ViewLine) (old new : List ViewRow)
     → OnOk r (new ≡ at_row node (with_lines_by f) old) → OnErr r (new ≡ old) → keys_of new ≡ keys_of old
@@ -77,20 +75,11 @@ module _ (p : ViewRow → Bool) where
       at true e k = absurd (cc)
       at false e k = no_row rows (grind (arith, nat_tests, e))
 
-  -- a row is found exactly where one passes
-  pub is_found : (rows : List ViewRow) → is_some (find p rows) ≡ list_any p rows
-  is_found [] = refl
-  is_found (r ∷ rows) = at (p r) (is_found rows)
-    where
-      at : (b : Bool) → is_some (find p rows) ≡ list_any p rows → is_some (cond b (Some r) (find p rows)) ≡ (b || list_any p rows)
-      at true rest = refl
-      at false rest = rest
-
 -- whether two keys are the same, as they are compared
-abbrev pub same_key : NodeKey → NodeKey → Bool
+abbrev pub same_key : NodeRef → NodeRef → Bool
 same_key = eq-value.it
 
-pub agrees : (a b : NodeRef) → same_key (key_of a) (key_of b) ≡ same_node b a
+pub agrees : (a b : NodeRef) → same_key a b ≡ same_node b a
 agrees (nodes.Old x) (nodes.Old y) = grind (arith, nat_tests)
 agrees (nodes.Old x) (nodes.New j) = refl
 agrees (nodes.New i) (nodes.Old y) = refl

@@ -1,4 +1,5 @@
 pub mod Applying
+pub mod CallerLemmas
 pub mod Changes
 pub mod Deletes
 pub mod Directories

@@ -3,6 +3,8 @@ use Rattle.std.proofs.Common.{◌≡◌, ℕ, zero, suc, ◌+◌, ◌<◌, ◌�
 use Rattle.std.specs.List.{list_any, AllByRecursion}
 use Rattle.std.specs.Str.{bytes_eq}
 use Rattle.std.proofs.lemmas.Bool.Decides.{nat_tests}
+use Rattle.std.proofs.lemmas.Bool.{and_parts}
+use Rattle.cov_base.proofs.CallerLemmas.{is_some-map}
 use Rattle.cov_base.specs.declared.number.Kind.{Kind}
 use Rattle.cov_base.specs.declared.number.Kind.TheVariants as kinds
 use Rattle.cov_base.specs.declared.number.NodeRef.{NodeRef}
@@ -16,18 +18,6 @@ use Rattle.cov_view.specs.Refusals.{row_is_dir, is_dir, has_name}
 use Rattle.cov_view.specs.Seen.{Seen, row_at, kind_in, has_child}
 use Rattle.cov_view.specs.Views.{row_by_number, IsMade}
 use Rattle.cov_view.specs.declared.row.ViewRow.{ViewRow}
-
-pub and-left : (a b : Bool) → (a && b) ≡ true → a ≡ true
-and-left true b h = refl
-and-left false b h = absurd (cc)
-
-pub and-right : (a b : Bool) → (a && b) ≡ true → b ≡ true
-and-right true b h = h
-and-right false b h = absurd (cc)
-
-pub and-both : (a b : Bool) → a ≡ true → b ≡ true → (a && b) ≡ true
-and-both true b h k = k
-and-both false b h k = absurd (cc)
 
 -- of references to what is made, two are the same where their numbers are
 pub same-node : (n made : ℕ) (a b : NodeRef) → is_made_node n made a ≡ true → is_known_node n b ≡ true → same_node a b ≡ nat_eq (node_number n a) (node_number n b)
@@ -100,7 +90,7 @@ module _ (ns : Numbers) (s : Seen) where
       → option_map (row_by_number ns) (row_at rows node) ≡ row_of (map (row_by_number ns) rows) (node_number ns.nodes node)
   row-known node [] known made = refl
   row-known node (r ∷ rows) known made =
-      let own = and-left (is_made_node ns.nodes s.nodes_made r.node) (is_made_node ns.nodes s.nodes_made r.parent) made.0.0 in
+      let own = (and_parts (is_made_node ns.nodes s.nodes_made r.node) (is_made_node ns.nodes s.nodes_made r.parent) made.0.0).0 in
       option_map-cond (row_by_number ns) (same_node r.node node) r (row_at rows node)
       ∙ ap (λ b. cond b (Some (row_by_number ns r)) (option_map (row_by_number ns) (row_at rows node))) (same-node ns.nodes s.nodes_made r.node node own known)
       ∙ ap (λ o. cond (nat_eq (node_number ns.nodes r.node) (node_number ns.nodes node)) (Some (row_by_number ns r)) o) (row-known node rows known made.1)
@@ -108,7 +98,7 @@ module _ (ns : Numbers) (s : Seen) where
   pub row-unknown : (node : NodeRef) (rows : List ViewRow) → is_known_node ns.nodes node ≡ false → AllByRecursion (IsMade ns s) rows → row_at rows node ≡ None
   row-unknown node [] unknown made = refl
   row-unknown node (r ∷ rows) unknown made =
-      let own = and-left (is_made_node ns.nodes s.nodes_made r.node) (is_made_node ns.nodes s.nodes_made r.parent) made.0.0 in
+      let own = (and_parts (is_made_node ns.nodes s.nodes_made r.node) (is_made_node ns.nodes s.nodes_made r.parent) made.0.0).0 in
       ap (λ b. cond b (Some r) (row_at rows node)) (other-node ns.nodes s.nodes_made r.node node own unknown) ∙ row-unknown node rows unknown made.1
 
   -- whether a directory has a name, by references and by numbers
@@ -116,7 +106,7 @@ module _ (ns : Numbers) (s : Seen) where
       → has_name (map (row_by_number ns) rows) (node_number ns.nodes dir) name ≡ has_child rows dir name
   child-known dir name [] known made = refl
   child-known dir name (r ∷ rows) known made =
-      let own = and-right (is_made_node ns.nodes s.nodes_made r.node) (is_made_node ns.nodes s.nodes_made r.parent) made.0.0 in
+      let own = (and_parts (is_made_node ns.nodes s.nodes_made r.node) (is_made_node ns.nodes s.nodes_made r.parent) made.0.0).1 in
       ap (λ b. (b && bytes_eq r.name name) || has_name (map (row_by_number ns) rows) (node_number ns.nodes dir) name) (sym (same-node ns.nodes s.nodes_made r.parent dir own known))
       ∙ ap (λ b. (same_node r.parent dir && bytes_eq r.name name) || b) (child-known dir name rows known made.1)
 
@@ -127,10 +117,6 @@ any-row (r ∷ rows) n = at (nat_eq r.node n) (any-row rows n)
     at : (b : Bool) → list_any (λ q. nat_eq q.node n) rows ≡ is_some (row_of rows n) → (b || list_any (λ q. nat_eq q.node n) rows) ≡ is_some (cond b (Some r) (row_of rows n))
     at true rest = refl
     at false rest = rest
-
-is_some-map : {X Y : Type 0} (g : X → Y) (o : Option X) → is_some (option_map g o) ≡ is_some o
-is_some-map g None = refl
-is_some-map g (Some x) = refl
 
 -- whether a kind is there and is that of directories
 abbrev pub kind_is_dir : Option Kind → Bool
@@ -179,7 +165,7 @@ module _ (ns : Numbers) (s : Seen) (rows : List ViewRow) (made : AllByRecursion 
 
   -- what is there is known
   pub there-known : (node : NodeRef) → is_some (kind_in rows node) ≡ true → is_known_node ns.nodes node ≡ true
-  there-known node h = and-left (is_known_node ns.nodes node) (is_present (map (row_by_number ns) rows) (node_number ns.nodes node)) (there node ∙ h)
+  there-known node h = (and_parts (is_known_node ns.nodes node) (is_present (map (row_by_number ns) rows) (node_number ns.nodes node)) (there node ∙ h)).0
 
   dir_root : (node : NodeRef) → is_root node ≡ true → is_dir (map (row_by_number ns) rows) (node_number ns.nodes node) ≡ kind_is_dir (kind_in rows node)
   dir_root (nodes.Old zero) root = refl

@@ -1,7 +1,7 @@
 -- Where a line is put.
 use Rattle.std.proofs.Common.{◌≡◌, ℕ, ◌+◌, false, cond, List, ◌∷◌, length, Some, None, position, sym, ap, ◌∙◌}
 use Rattle.std.specs.List.{insert}
-use Rattle.cov_base.proofs.Inserting.{insert_behind, insert_last}
+use Rattle.cov_base.proofs.CallerLemmas.{insert_behind, insert_last}
 use Rattle.cov_base.specs.Addresses.{after_first}
 use Rattle.cov_base.specs.declared.number.LineRef.{LineRef}
 use Rattle.cov_view.specs.References.{is_head, same_line}

@@ -1,7 +1,8 @@
 -- What a view refuses is what each variant that it shows refuses.
 use Rattle.std.proofs.Common.{◌≡◌, ℕ, Bool, true, false, cond, ◌&&◌, ◌||◌, not, nat_eq, List, [], ◌∷◌, length, map, Option, Some, None, is_some, option_map, refl, sym, ap, subst, ◌∙◌}
 use Rattle.std.specs.Option.{option_map_or}
-use Rattle.std.specs.List.{filter, list_any, AllByRecursion}
+use Rattle.std.specs.List.{list_any, AllByRecursion}
+use Rattle.cov_base.proofs.CallerLemmas.{any-filter, any-map}
 use Rattle.cov_base.specs.declared.number.Kind.{Kind}
 use Rattle.cov_base.specs.declared.number.Kind.TheVariants as kinds
 use Rattle.cov_base.specs.declared.number.NodeRef.{NodeRef}
@@ -13,7 +14,7 @@ use Rattle.cov_edit.specs.declared.edit.Edit.TheVariants as edits
 use Rattle.cov_edit.specs.Numbering.{Numbers, node_number, line_number}
 use Rattle.cov_edit.specs.Variant.{Variant, Line, lines_of}
 use Rattle.cov_view.specs.References.{is_root, is_head, is_dir_kind, same_node, same_line, is_known_line, is_made_line}
-use Rattle.cov_view.specs.Refusals.{when, first_of, has_node, is_dir, has_line, has_name, refusal}
+use Rattle.cov_view.specs.Refusals.{when, first_of, shows_node, is_dir, shows_line, has_name, refusal}
 use Rattle.cov_view.specs.Lines.{is_among}
 use Rattle.cov_view.specs.Seen.{Seen, row_at, kind_in, has_child, has_line_in, new_fault, line_fault, seen_fault}
 use Rattle.cov_view.specs.Views.{row_by_number, line_by_number, by_number, ShowsLines, IsMade, Shows, FaultBy}
@@ -31,18 +32,6 @@ found P (q ∷ rows) node r all e = at (same_node q.node node) refl e (λ k. fou
     at : (b : Bool) → same_node q.node node ≡ b → cond b (Some q) (row_at rows node) ≡ Some r → (row_at rows node ≡ Some r → P r × (same_node r.node node ≡ true)) → P r × (same_node r.node node ≡ true)
     at true t k rest = let same : q ≡ r = cc in subst (λ (x : ViewRow). P x × (same_node x.node node ≡ true)) same (all.0, t)
     at false t k rest = rest k
-
-pub any-filter : {X : Type 0} (p t : X → Bool) (xs : List X) → list_any (λ x. p x && t x) xs ≡ list_any t (filter p xs)
-any-filter p t [] = refl
-any-filter p t (x ∷ xs) = at (p x) (any-filter p t xs)
-  where
-    at : (b : Bool) → list_any (λ y. p y && t y) xs ≡ list_any t (filter p xs) → ((b && t x) || list_any (λ y. p y && t y) xs) ≡ list_any t (cond b (x ∷ filter p xs) (filter p xs))
-    at true rest = ap (λ c. t x || c) rest
-    at false rest = rest
-
-pub any-map : {X Y : Type 0} (g : X → Y) (t : Y → Bool) (xs : List X) → list_any (λ x. t (g x)) xs ≡ list_any t (map g xs)
-any-map g t [] = refl
-any-map g t (x ∷ xs) = ap (λ b. t (g x) || b) (any-map g t xs)
 
 module _ (n made : ℕ) (line : LineRef) where
   pub among-known : (ls : List ViewLine) → is_known_line n line ≡ true → AllByRecursion (λ l. is_made_line n made l.line ≡ true) ls
@@ -90,15 +79,15 @@ module _ (ns : Numbers) (table : List (List ℕ)) (s : Seen) (v : Variant) (show
   made_lines file r at = (found (IsMade ns s) s.rows file r shows.made at).0.1
 
   pub line-there : (file : NodeRef) (after : LineRef) → kind_in s.rows file ≡ Some kinds.File
-      → has_line ns v (node_number ns.nodes file) after ≡ has_line_in s.rows file after
+      → shows_line ns v (node_number ns.nodes file) after ≡ has_line_in s.rows file after
   line-there file after h =
       let r = file_row s.rows file h in
       let number = line_number (length ns.addresses) after in
       ap (λ b. is_known_line (length ns.addresses) after && b)
-      (any-filter (λ (l : Line). nat_eq l.file (node_number ns.nodes file)) (λ l. nat_eq (line_of l.address) number) v.lines
-      ∙ any-map by_number (λ p. nat_eq p.0 number) (lines_of v (node_number ns.nodes file))
+      (sym (any-filter (λ (l : Line). nat_eq l.file (node_number ns.nodes file)) (λ l. nat_eq (line_of l.address) number) v.lines)
+      ∙ sym (any-map (λ p. nat_eq p.0 number) by_number (lines_of v (node_number ns.nodes file)))
       ∙ ap (list_any (λ p. nat_eq p.0 number)) (shown_lines file r.0 r.1 r.2)
-      ∙ sym (any-map (line_by_number ns) (λ p. nat_eq p.0 number) r.0.lines))
+      ∙ any-map (λ p. nat_eq p.0 number) (line_by_number ns) r.0.lines)
       ∙ among (length ns.addresses) s.lines_made after r.0.lines (made_lines file r.0 r.1)
       ∙ sym (ap (λ o. option_map_or (λ (q : ViewRow). is_among after q.lines) o false) r.1)
 
@@ -135,37 +124,33 @@ module _ (ns : Numbers) (table : List (List ℕ)) (s : Seen) (v : Variant) (show
   pub is_dir-rows : (node : NodeRef) → is_dir v.rows (node_number ns.nodes node) ≡ is_dir (map (row_by_number ns) s.rows) (node_number ns.nodes node)
   is_dir-rows node = ap (λ (rows : List Row). is_dir rows (node_number ns.nodes node)) shows.rows
 
-  pub here : (node : NodeRef) → has_node ns v node ≡ is_some (kind_in s.rows node)
-  here node = ap (λ (rows : List Row). has_node ns (record { rows = rows; lines = v.lines }) node) shows.rows ∙ there ns s s.rows shows.made node
+  pub here : (node : NodeRef) → shows_node ns v node ≡ is_some (kind_in s.rows node)
+  here node = ap (λ (rows : List Row). shows_node ns (record { rows = rows; lines = v.lines }) node) shows.rows ∙ there ns s s.rows shows.made node
 
   -- a view refuses an edit where the variant does, for the same reason
   pub refused-as : (e : Edit) → refusal ns v e ≡ seen_fault s.rows e
   refused-as (edits.New kind parent name) =
-      refuse_new (kind_in s.rows parent) (has_node ns v parent) (is_dir v.rows (node_number ns.nodes parent)) (has_name v.rows (node_number ns.nodes parent) name) (has_child s.rows parent name)
+      refuse_new (kind_in s.rows parent) (shows_node ns v parent) (is_dir v.rows (node_number ns.nodes parent)) (has_name v.rows (node_number ns.nodes parent) name) (has_child s.rows parent name)
       (here parent)
       (λ h. is_dir-rows parent ∙ dir ns s s.rows shows.made parent h)
       (λ h. ap (λ (rows : List Row). has_name rows (node_number ns.nodes parent) name) shows.rows ∙ child-known ns s parent name s.rows (there-known ns s s.rows shows.made parent h) shows.made)
   refused-as (edits.Insert file after text) =
-      refuse_line (kind_in s.rows file) (has_node ns v file) (is_dir v.rows (node_number ns.nodes file)) (is_head after || has_line ns v (node_number ns.nodes file) after) (is_head after || has_line_in s.rows file after)
+      refuse_line (kind_in s.rows file) (shows_node ns v file) (is_dir v.rows (node_number ns.nodes file)) (is_head after || shows_line ns v (node_number ns.nodes file) after) (is_head after || has_line_in s.rows file after)
       (here file)
       (λ h. is_dir-rows file ∙ dir ns s s.rows shows.made file h)
       (λ h. ap (λ b. is_head after || b) (line-there file after h))
   refused-as (edits.Delete file line) =
-      ap (λ b. first_of (when (not (has_node ns v file)) faults.NoSuchNode ∷ when (is_dir v.rows (node_number ns.nodes file)) faults.NotFile ∷ when b faults.NoSuchLine ∷ [])) (no_line (is_head line))
-      ∙ refuse_line (kind_in s.rows file) (has_node ns v file) (is_dir v.rows (node_number ns.nodes file)) (not (is_head line) && has_line ns v (node_number ns.nodes file) line) (not (is_head line) && has_line_in s.rows file line)
+      ap (λ b. first_of (when (not (shows_node ns v file)) faults.NoSuchNode ∷ when (is_dir v.rows (node_number ns.nodes file)) faults.NotFile ∷ when b faults.NoSuchLine ∷ [])) (no_line (is_head line))
+      ∙ refuse_line (kind_in s.rows file) (shows_node ns v file) (is_dir v.rows (node_number ns.nodes file)) (not (is_head line) && shows_line ns v (node_number ns.nodes file) line) (not (is_head line) && has_line_in s.rows file line)
       (here file)
       (λ h. is_dir-rows file ∙ dir ns s s.rows shows.made file h)
       (λ h. ap (λ b. not (is_head line) && b) (line-there file line h))
     where
-      no_line : (head : Bool) → (head || not (has_line ns v (node_number ns.nodes file) line)) ≡ not (not head && has_line ns v (node_number ns.nodes file) line)
+      no_line : (head : Bool) → (head || not (shows_line ns v (node_number ns.nodes file) line)) ≡ not (not head && shows_line ns v (node_number ns.nodes file) line)
       no_line true = refl
       no_line false = refl
 
 -- a fault that is the refusal, or want of memory
 pub fault-by : (f : EditFault) (refused : Option EditFault) → refused ≡ Some f → FaultBy f refused
-fault-by faults.NoSuchNode refused h = h
-fault-by faults.NotFile refused h = h
-fault-by faults.NotDirectory refused h = h
-fault-by faults.NameTaken refused h = h
-fault-by faults.NoSuchLine refused h = h
 fault-by faults.Memory refused h = tt
+fault-by f refused h = h

@@ -2,12 +2,13 @@
 use Rattle.std.proofs.Common.{◌≡◌, ℕ, zero, suc, ◌+◌, ◌≤◌, Bool, true, false, cond, nat_eq, nat_lt, List, [], ◌∷◌, ◌++◌, map, Option, Some, None, is_some, option_map, refl, sym, ap, subst, ◌∙◌, arith}
 use Rattle.std.specs.List.{filter, AllByRecursion}
 use Rattle.std.proofs.lemmas.Bool.Decides.{nat_tests}
+use Rattle.std.proofs.lemmas.Bool.{and_from, and_parts}
 use Rattle.cov_base.specs.declared.number.Kind.{Kind}
 use Rattle.cov_base.specs.declared.number.Kind.TheVariants as kinds
 use Rattle.cov_base.specs.declared.number.NodeRef.{NodeRef}
 use Rattle.cov_base.specs.declared.number.NodeRef.TheVariants as nodes
 use Rattle.cov_base.specs.Rows.{Row, Created}
-use Rattle.cov_base.proofs.Ordered.{all-map, all-append}
+use Rattle.cov_base.proofs.CallerLemmas.{all-map, all-append}
 use Rattle.cov_edit.specs.declared.edit.Edit.TheVariants as edits
 use Rattle.cov_edit.specs.Numbering.{Numbers, OnRows, node_number}
 use Rattle.cov_edit.specs.Variant.{Variant, Line, edited}
@@ -15,7 +16,7 @@ use Rattle.cov_view.specs.References.{is_root, is_made_node}
 use Rattle.cov_view.specs.Seen.{Seen, row_at, kind_in, seen_after}
 use Rattle.cov_view.specs.Views.{row_by_number, by_number, ShowsLines, IsMade, Shows}
 use Rattle.cov_view.specs.declared.row.ViewRow.{ViewRow}
-use Rattle.cov_view.proofs.Naming.{and-left, and-right, and-both, node-same, made-more}
+use Rattle.cov_view.proofs.Naming.{node-same, made-more}
 use Rattle.cov_view.proofs.Refusing.{found}
 
 map-append : {X Y : Type 0} (g : X → Y) (xs : List X) (x : X) → map g (xs ++ x ∷ []) ≡ map g xs ++ g x ∷ []
@@ -40,7 +41,7 @@ there-made ns s node made h = at (is_root node) refl h
     of_row (Some r) e k =
         let own = found (IsMade ns s) s.rows node r made e in
         subst (λ (n : NodeRef). is_made_node ns.nodes s.nodes_made n ≡ true) (node-same r.node node own.1)
-        (and-left (is_made_node ns.nodes s.nodes_made r.node) (is_made_node ns.nodes s.nodes_made r.parent) own.0.0)
+        (and_parts (is_made_node ns.nodes s.nodes_made r.node) (is_made_node ns.nodes s.nodes_made r.parent) own.0.0).0
 
     at : (b : Bool) → is_root node ≡ b → is_some (cond b (Some kinds.Dir) (option_map (λ (r : ViewRow). r.kind) (row_at s.rows node))) ≡ true → is_made_node ns.nodes s.nodes_made node ≡ true
     at true e k = of_root node e
@@ -62,12 +63,12 @@ module _ (ns : Numbers) (table : List (List ℕ)) (s : Seen) (v : Variant) (show
     lines = all-append (ShowsLines ns v) s.rows (next_row s kind parent name ∷ []) shows.lines ((λ e. ap (map by_number) none), tt);
     made = all-append (IsMade ns (seen_after s (edits.New kind parent name))) s.rows (next_row s kind parent name ∷ [])
         (all-map (IsMade ns s) (IsMade ns (seen_after s (edits.New kind parent name))) (λ r h. (
-          and-both (is_made_node ns.nodes (s.nodes_made + 1) r.node) (is_made_node ns.nodes (s.nodes_made + 1) r.parent)
-              (made-more ns.nodes s.nodes_made r.node (and-left (is_made_node ns.nodes s.nodes_made r.node) (is_made_node ns.nodes s.nodes_made r.parent) h.0))
-              (made-more ns.nodes s.nodes_made r.parent (and-right (is_made_node ns.nodes s.nodes_made r.node) (is_made_node ns.nodes s.nodes_made r.parent) h.0)),
+          and_from (is_made_node ns.nodes (s.nodes_made + 1) r.node) (is_made_node ns.nodes (s.nodes_made + 1) r.parent)
+              (made-more ns.nodes s.nodes_made r.node (and_parts (is_made_node ns.nodes s.nodes_made r.node) (is_made_node ns.nodes s.nodes_made r.parent) h.0).0)
+              (made-more ns.nodes s.nodes_made r.parent (and_parts (is_made_node ns.nodes s.nodes_made r.node) (is_made_node ns.nodes s.nodes_made r.parent) h.0).1),
           h.1,
         )) s.rows shows.made)
-        ((and-both (nat_lt s.nodes_made (s.nodes_made + 1)) (is_made_node ns.nodes (s.nodes_made + 1) parent) (grind (arith, nat_tests)) (made-more ns.nodes s.nodes_made parent known), tt), tt);
+        ((and_from (nat_lt s.nodes_made (s.nodes_made + 1)) (is_made_node ns.nodes (s.nodes_made + 1) parent) (grind (arith, nat_tests)) (made-more ns.nodes s.nodes_made parent known), tt), tt);
     in_order = shows.in_order;
     files = all-map (λ (l : Line). l.file ≤ ns.nodes + s.nodes_made) (λ l. l.file ≤ ns.nodes + (s.nodes_made + 1)) (λ l h. omega (arith, h)) v.lines shows.files;
     addresses = shows.addresses;

@@ -9,7 +9,7 @@ use Rattle.cov_base.specs.Rows.{Row, row_of}
 use Rattle.cov_edit.specs.Numbering.{Numbers, node_number}
 use Rattle.cov_edit.specs.Variant.{Variant, lines_of}
 use Rattle.cov_view.specs.References.{is_known_node, is_made_line}
-use Rattle.cov_view.specs.Refusals.{has_node, is_dir}
+use Rattle.cov_view.specs.Refusals.{shows_node, is_dir}
 use Rattle.cov_view.specs.Views.{line_by_number, by_number}
 use Rattle.cov_view.specs.declared.line.ViewLine.{ViewLine}
 
@@ -37,7 +37,7 @@ shown_kind ns v node = if is_known_node ns.nodes node then kind_of v.rows (node_
 
 -- lines are those of a file that the variant has, and name none but lines that a history or so many insertions made
 pub record AreLinesOf (ns : Numbers) (lines_made : ℕ) (v : Variant) (file : NodeRef) (ls : List ViewLine) : Type 0 where
-  pub there : has_node ns v file ≡ true
+  pub there : shows_node ns v file ≡ true
   pub is_file : is_dir v.rows (node_number ns.nodes file) ≡ false
   pub lines : map (line_by_number ns) ls ≡ map by_number (lines_of v (node_number ns.nodes file))
   pub made : AllByRecursion (λ l. is_made_line (length ns.addresses) lines_made l.line ≡ true) ls

@@ -26,8 +26,8 @@ first_of (Some f ∷ fs) = Some f
 first_of (None ∷ fs) = first_of fs
 
 -- whether a variant has the node that a reference names; the root is always there
-abbrev pub has_node : Numbers → Variant → NodeRef → Bool
-has_node ns v node = is_known_node ns.nodes node && is_present v.rows (node_number ns.nodes node)
+abbrev pub shows_node : Numbers → Variant → NodeRef → Bool
+shows_node ns v node = is_known_node ns.nodes node && is_present v.rows (node_number ns.nodes node)
 
 -- whether a row is there and is a directory's
 abbrev pub row_is_dir : Option Row → Bool
@@ -40,8 +40,8 @@ is_dir rows zero = true
 is_dir rows (suc node) = row_is_dir (row_of rows (suc node))
 
 -- whether a file has the line that a reference names
-abbrev pub has_line : Numbers → Variant → ℕ → LineRef → Bool
-has_line ns v file line =
+abbrev pub shows_line : Numbers → Variant → ℕ → LineRef → Bool
+shows_line ns v file line =
     is_known_line (length ns.addresses) line
     && list_any (λ l. nat_eq l.file file && nat_eq (line_of l.address) (line_number (length ns.addresses) line)) v.lines
 
@@ -53,19 +53,19 @@ has_name rows dir name = list_any (λ r. nat_eq r.parent dir && bytes_eq r.name 
 abbrev pub refusal : Numbers → Variant → Edit → Option EditFault
 refusal ns v (edits.New kind parent name) =
     let dir = node_number ns.nodes parent in
-    first_of (when (not (has_node ns v parent)) faults.NoSuchNode
+    first_of (when (not (shows_node ns v parent)) faults.NoSuchNode
     ∷ when (not (is_dir v.rows dir)) faults.NotDirectory
     ∷ when (has_name v.rows dir name) faults.NameTaken ∷ [])
 refusal ns v (edits.Insert file after text) =
     let f = node_number ns.nodes file in
-    first_of (when (not (has_node ns v file)) faults.NoSuchNode
+    first_of (when (not (shows_node ns v file)) faults.NoSuchNode
     ∷ when (is_dir v.rows f) faults.NotFile
-    ∷ when (not (is_head after || has_line ns v f after)) faults.NoSuchLine ∷ [])
+    ∷ when (not (is_head after || shows_line ns v f after)) faults.NoSuchLine ∷ [])
 refusal ns v (edits.Delete file line) =
     let f = node_number ns.nodes file in
-    first_of (when (not (has_node ns v file)) faults.NoSuchNode
+    first_of (when (not (shows_node ns v file)) faults.NoSuchNode
     ∷ when (is_dir v.rows f) faults.NotFile
-    ∷ when (is_head line || not (has_line ns v f line)) faults.NoSuchLine ∷ [])
+    ∷ when (is_head line || not (shows_line ns v f line)) faults.NoSuchLine ∷ [])
 
 -- whether an edit may want memory; what only takes away doesn't
 abbrev pub takes_memory : Edit → Bool

@@ -5,6 +5,7 @@ ghost use Rattle.cov_view.specs.References.{same_node};
 ghost use Rattle.cov_view.specs.Seen.{at_row, with_lines_by};
 
 use crate::ViewLine;
+use crate::line::{delete, insert_after};
 use crate::row::ViewRow;
 use cov_base::{LineRef, Memory, NodeRef};
 
@@ -38,7 +39,7 @@ pub(crate) fn insert_line(
     ensures err { OnErr result (rows.new ≡ rows.old) }
 {
     match place {
-        Some(at) => rows[at].lines.insert_after(after, line),
+        Some(at) => insert_after(&mut rows[at].lines, after, line),
         None => Ok(()),
     }
 }
@@ -54,7 +55,7 @@ pub(crate) fn delete_line(
     ensures { rows.new ≡ at_row file.now (with_lines_by (without_ref line.now)) rows.old }
 {
     match place {
-        Some(at) => rows[at].lines.delete(line),
+        Some(at) => delete(&mut rows[at].lines, line),
         None => {}
     }
 }

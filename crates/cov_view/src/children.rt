@@ -4,7 +4,6 @@ ghost use Rattle.std.specs.Map.{lookup};
 ghost use Rattle.cov_view.specs.Keys.{is_child_key, AreChildren};
 
 use crate::row::ViewRow;
-use crate::rows::{NodeKey, key_of};
 use cov_base::{Memory, NodeRef};
 use indexmap::{Equivalent, IndexMap};
 use std::alloc::Global;
@@ -39,7 +38,7 @@ impl<D: Eq + Hash> Equivalent<ChildKey<D, Vec<u8>>> for &ChildKey<D, &[u8]> {
 /// The place of the first row of each name in each directory.
 #[derive(Debug, Drop)]
 pub(crate) struct Children {
-    places: IndexMap<ChildKey<NodeKey, Vec<u8>>, usize>,
+    places: IndexMap<ChildKey<NodeRef, Vec<u8>>, usize>,
 }
 
 impl Children {
@@ -55,8 +54,7 @@ impl Children {
     pub(crate) fn place(&self, dir: &NodeRef, name: &[u8]) -> Option<usize>
         ensures { result ≡ lookup (is_child_key dir.now name.now) self.now.places.entries }
     {
-        let dir = key_of(dir);
-        self.places.get(&ChildKey { dir, name }).copied()
+        self.places.get(&ChildKey { dir: *dir, name }).copied()
     }
 
     /// Notes the row that joins others, unless they have its name in its directory.
@@ -66,14 +64,14 @@ impl Children {
         ensures err { OnErr result (self.new.places.entries ≡ self.old.places.entries) }
     {
         let key = ChildKey {
-            dir: key_of(&row.parent),
+            dir: row.parent,
             name: row.name.as_slice(),
         };
         if self.places.contains_key(&key) {
             return Ok(());
         }
         let key = ChildKey {
-            dir: key_of(&row.parent),
+            dir: row.parent,
             name: Vec::from_slice(*self.places.allocator(), row.name.as_slice())?,
         };
         self.places.insert(key, rows.len())?;

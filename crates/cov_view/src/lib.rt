@@ -10,5 +10,5 @@ mod rows;
 mod view;
 
 pub use fault::{EditFault, ReadFaultOfView};
-pub use line::{ViewLine, ViewLines};
+pub use line::{ViewLine, ViewLines, is_head};
 pub use view::View;

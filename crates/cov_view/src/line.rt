@@ -1,13 +1,10 @@
 // The lines of one file.
-ghost use Rattle.std.specs.Prelude.{◌≡◌, ◌≤◌, ◌==◌, ◌&&◌, ◌||◌, not, [], ◌∷◌, ◌++◌, length, slice_get, position, IfOk, OnOk, OnErr};
+ghost use Rattle.std.specs.Prelude.{◌≡◌, ◌≤◌, ◌&&◌, ◌||◌, not, length, position, IfOk, OnOk, OnErr};
 ghost use Rattle.std.specs.List.{insert};
-ghost use Rattle.std.specs.Option.{option_copied};
 ghost use Rattle.cov_view.specs.References.{is_head, same_line};
 ghost use Rattle.cov_view.specs.Lines.{is_among, after_ref, without_ref};
 
-use cov_base::{LineRef, Memory, Text};
-use std::alloc::Global;
-use std::marker::Model;
+use cov_base::{LineRef, List, Memory, Text};
 
 /// A line of a file.
 #[derive(Debug, Drop)]
@@ -29,97 +26,51 @@ impl ViewLine {
 }
 
 /// The lines of a file, in order.
-#[derive(Debug, Drop)]
-pub struct ViewLines {
-    items: Vec<ViewLine>,
+pub type ViewLines = List<ViewLine>;
+
+/// The same lines, in memory of their own.
+pub(crate) fn copied(lines: &ViewLines) -> Result<ViewLines, Memory>
+    ensures { IfOk result (λ copy. copy ≡ lines.now) }
+{
+    let mut copy = ViewLines::new(lines.allocator());
+    'lines: for line in lines.as_slice() {
+        copy.push(line.copy()?)?;
+    }
+    Ok(copy)
 }
 
-impl Model for ViewLines {
-    ghost use Rattle.std.specs.Prelude.{List};
-    ghost use Rattle.cov_view.specs.declared.line.ViewLine.{ViewLine};
-
-    ghost Value = { List ViewLine };
-
-    ghost view = { λ l. l.items.items };
+/// Whether a line can be put directly after one of a file.
+pub(crate) fn has_anchor(lines: &[ViewLine], after: &LineRef) -> bool
+    ensures { result ≡ (is_head after.now || is_among after.now lines.now) }
+{
+    is_head(after) || is_among(lines, after)
 }
 
-impl ViewLines {
-    pub fn new(alloc: Global) -> ViewLines
-        ensures { result ≡ [] }
-    {
-        ViewLines {
-            items: Vec::new(alloc),
-        }
-    }
+/// Whether a line is one of a file; the head isn't.
+pub(crate) fn holds_line(lines: &[ViewLine], line: &LineRef) -> bool
+    ensures { result ≡ (not (is_head line.now) && is_among line.now lines.now) }
+{
+    !is_head(line) && is_among(lines, line)
+}
 
-    pub fn push(&mut self, line: ViewLine) -> Result<(), Memory>
-        ensures ok { OnOk result (self.new ≡ self.old ++ line ∷ []) }
-        ensures err { OnErr result (self.new ≡ self.old) }
-    {
-        self.items.push(line)?;
-        Ok(())
-    }
+/// Puts a line directly after its anchor, or first where that is the head.
+pub(crate) fn insert_after(
+    lines: &mut ViewLines,
+    after: &LineRef,
+    line: ViewLine,
+) -> Result<(), Memory>
+    ensures ok { OnOk result (lines.new ≡ after_ref after.now line lines.old) }
+    ensures err { OnErr result (lines.new ≡ lines.old) }
+{
+    let at = place(lines.as_slice(), after);
+    lines.insert(at, line)
+}
 
-    pub fn len(&self) -> usize
-        ensures { result ≡ length self.now }
-    {
-        self.items.len()
-    }
-
-    pub fn is_empty(&self) -> bool
-        ensures { result ≡ (length self.now == 0) }
-    {
-        self.items.is_empty()
-    }
-
-    /// The line at an index, None exactly where the index isn't below the length.
-    pub fn get(&self, index: usize) -> Option<&ViewLine>
-        ensures { option_copied result ≡ slice_get self.now index }
-    {
-        self.items.get(index)
-    }
-
-    /// The same lines, in memory of their own.
-    pub fn copy(&self) -> Result<ViewLines, Memory>
-        ensures { IfOk result (λ lines. lines ≡ self.now) }
-    {
-        let mut copied = ViewLines::new(*self.items.allocator());
-        'lines: for line in &self.items {
-            copied.push(line.copy()?)?;
-        }
-        Ok(copied)
-    }
-
-    // Whether a line can be put directly after this one.
-    pub(crate) fn has_anchor(&self, after: &LineRef) -> bool
-        ensures { result ≡ (is_head after.now || is_among after.now self.now) }
-    {
-        is_head(after) || is_among(&self.items, after)
-    }
-
-    // Whether a line is one of these; the head isn't.
-    pub(crate) fn has_line(&self, line: &LineRef) -> bool
-        ensures { result ≡ (not (is_head line.now) && is_among line.now self.now) }
-    {
-        !is_head(line) && is_among(&self.items, line)
-    }
-
-    // Puts a line directly after its anchor, or first where that is the head.
-    pub(crate) fn insert_after(&mut self, after: &LineRef, line: ViewLine) -> Result<(), Memory>
-        ensures ok { OnOk result (self.new ≡ after_ref after.now line self.old) }
-        ensures err { OnErr result (self.new ≡ self.old) }
-    {
-        let at = place(&self.items, after);
-        self.items.insert(at, line)?;
-        Ok(())
-    }
-
-    // Takes a line out, without memory and in one pass over the lines.
-    pub(crate) fn delete(&mut self, line: &LineRef)
-        ensures { self.new ≡ without_ref line.now self.old }
-    {
-        self.items.retain(|other| !same_line(&other.line, line));
-    }
+/// Takes a line out, without memory and in one pass over the lines.
+pub(crate) fn delete(lines: &mut ViewLines, line: &LineRef)
+    ensures { lines.new ≡ without_ref line.now lines.old }
+{
+    lines.retain(|other| !same_line(&other.line, line));
 }
 
 // The index at which a line directly after an anchor stands.
@@ -148,7 +99,8 @@ fn is_among(lines: &[ViewLine], line: &LineRef) -> bool
     lines.iter().any(|other| same_line(&other.line, line))
 }
 
-pub(crate) fn is_head(line: &LineRef) -> bool
+/// Whether a reference names the head of a file, which stands before its lines and is none of them.
+pub fn is_head(line: &LineRef) -> bool
     ensures { result ≡ is_head line.now }
 {
     match line {

@@ -3,9 +3,8 @@ ghost use Rattle.std.specs.Prelude.{◌≡◌, ◌&&◌, ◌||◌, not};
 ghost use Rattle.cov_view.specs.References.{is_root, is_head};
 ghost use Rattle.cov_view.specs.Seen.{has_line_in};
 
-use crate::ViewLines;
-use crate::line::is_head;
 use crate::rows::Rows;
+use crate::{ViewLines, line};
 use cov_base::{Kind, LineRef, Name, NodeRef};
 
 /// A node but the root, with its lines.
@@ -19,21 +18,21 @@ pub struct ViewRow {
 }
 
 /// Whether a line can be put directly after one of a file.
-pub(crate) fn has_anchor(rows: &Rows, file: &NodeRef, after: &LineRef) -> bool
+pub(crate) fn shows_anchor(rows: &Rows, file: &NodeRef, after: &LineRef) -> bool
     ensures { result ≡ (is_head after.now || has_line_in rows.now file.now after.now) }
 {
     match rows.get(file) {
-        Some(row) => row.lines.has_anchor(after),
-        None => is_head(after),
+        Some(row) => line::has_anchor(row.lines.as_slice(), after),
+        None => line::is_head(after),
     }
 }
 
 /// Whether a file has a line that can be taken out; the head can't.
-pub(crate) fn has_line(rows: &Rows, file: &NodeRef, line: &LineRef) -> bool
+pub(crate) fn shows_line(rows: &Rows, file: &NodeRef, line: &LineRef) -> bool
     ensures { result ≡ (not (is_head line.now) && has_line_in rows.now file.now line.now) }
 {
     match rows.get(file) {
-        Some(row) => row.lines.has_line(line),
+        Some(row) => line::holds_line(row.lines.as_slice(), line),
         None => false,
     }
 }

@@ -3,7 +3,6 @@ ghost use Rattle.std.specs.Prelude.{◌≡◌, ◌<◌, ◌&&◌, [], ◌∷◌,
 ghost use Rattle.std.specs.List.{find};
 ghost use Rattle.std.specs.Option.{option_copied};
 ghost use Rattle.std.specs.Str.{bytes_eq};
-ghost use Rattle.cov_view.specs.Keys.{key_of};
 ghost use Rattle.cov_view.specs.Lines.{after_ref, without_ref};
 ghost use Rattle.cov_view.specs.References.{same_node};
 ghost use Rattle.cov_view.specs.Seen.{row_at, has_row, has_child, child_in, at_row, with_lines_by};
@@ -12,37 +11,30 @@ use crate::ViewLine;
 use crate::changing::{append_line, delete_line, insert_line};
 use crate::children::Children;
 use crate::row::ViewRow;
-use cov_base::{LineRef, Memory, NodeNo, NodeRef};
+use cov_base::{LineRef, Memory, NodeRef};
 use indexmap::IndexSet;
 use std::alloc::Global;
 use std::marker::Model;
 
-/// What a node is found by.
-#[derive(Clone, Copy, Debug, PartialEq, Eq, Hash)]
-pub(crate) enum NodeKey {
-    Old(NodeNo),
-    New(u32),
-}
-
-/// The rows in the order in which they were added; the i-th key is that of row i, and each name in a directory is found
+/// The rows in the order in which they were added; the i-th key is the node of row i, and each name in a directory is found
 /// at its first row.
 #[derive(Debug, Drop)]
 pub(crate) struct Rows {
     rows: Vec<ViewRow>,
-    keys: IndexSet<NodeKey>,
+    keys: IndexSet<NodeRef>,
     children: Children,
 }
 
 impl Model for Rows {
     ghost use Rattle.std.specs.Prelude.{◌≡◌, List, map};
     ghost use Rattle.cov_view.specs.declared.row.ViewRow.{ViewRow};
-    ghost use Rattle.cov_view.specs.Keys.{key_of, AreChildren};
+    ghost use Rattle.cov_view.specs.Keys.{AreChildren};
 
     ghost Value = { List ViewRow };
 
     ghost view = { λ r. r.rows.items };
 
-    ghost invariant = { λ r. (r.keys.keys ≡ map (λ row. key_of row.node) r.rows.items) × AreChildren r.rows.items r.children.places.entries };
+    ghost invariant = { λ r. (r.keys.keys ≡ map (λ row. row.node) r.rows.items) × AreChildren r.rows.items r.children.places.entries };
 }
 
 impl Rows {
@@ -69,7 +61,7 @@ impl Rows {
         self.rows.reserve(1)?;
         self.keys.reserve(1)?;
         self.children.note(self.rows.as_slice(), &row)?;
-        match self.keys.insert(key_of(&row.node)) {
+        match self.keys.insert(row.node) {
             Ok(_) => {}
             Err(_) => unreachable!(),
         }
@@ -84,7 +76,7 @@ impl Rows {
         ensures place { result ≡ position (λ r. same_node r.node node.now) self.now }
         ensures within { IfSome result (λ at. at < length self.now) }
     {
-        self.keys.get_index_of(&key_of(node))
+        self.keys.get_index_of(node)
     }
 
     /// The row of a node.
@@ -158,14 +150,5 @@ impl Rows {
     {
         let place = self.place(file);
         delete_line(&mut self.rows, file, place, line);
-    }
-}
-
-pub(crate) fn key_of(node: &NodeRef) -> NodeKey
-    ensures { result ≡ key_of node.now }
-{
-    match node {
-        NodeRef::Old(number) => NodeKey::Old(*number),
-        NodeRef::New(index) => NodeKey::New(*index),
     }
 }

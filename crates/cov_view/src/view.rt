@@ -9,12 +9,13 @@ ghost use Rattle.cov_edit.specs.Numbering.{Numbers, node_number, nodes_made, anc
 ghost use Rattle.cov_edit.specs.Variant.{Variant, edited};
 ghost use Rattle.cov_view.specs.References.{is_made_node};
 ghost use Rattle.cov_view.specs.Lines.{after_ref, without_ref};
-ghost use Rattle.cov_view.specs.Refusals.{has_node, is_dir, refusal, takes_memory};
+ghost use Rattle.cov_view.specs.Refusals.{shows_node, is_dir, refusal, takes_memory};
 ghost use Rattle.cov_view.specs.Paths.{path_node, shown_kind, AreLinesOf};
 ghost use Rattle.cov_view.specs.Seen.{Seen, kind_in, node_at, lines_in, has_child, new_fault, line_fault, seen_fault, seen_after, at_row, with_lines_by, AreRows};
 ghost use Rattle.cov_view.specs.Views.{Shows, table_after, next_by_number, FaultBy};
 
-use crate::row::{ViewRow, has_anchor, has_line, is_root};
+use crate::line::copied;
+use crate::row::{ViewRow, is_root, shows_anchor, shows_line};
 use crate::rows::Rows;
 use crate::{EditFault, ReadFaultOfView, ViewLine, ViewLines};
 use cov_base::{Kind, LineNo, LineRef, Memory, Name, NodeNo, NodeRef, Path, Text};
@@ -157,8 +158,8 @@ impl View {
         ensures absent { IsErrOf result ReadFaultOfView.NoSuchNode → kind_in self.now.rows file ≡ None }
         ensures not_file { IsErrOf result ReadFaultOfView.NotFile → kind_in self.now.rows file ≡ Some Dir }
         ensures shown { IfOk result (λ lines. (ns : Numbers) (table : List (List ℕ)) (v : Variant) → Shows ns table self.now v → AreLinesOf ns self.now.lines_made v file lines) }
-        ensures absent_shown { IsErrOf result ReadFaultOfView.NoSuchNode → (ns : Numbers) (table : List (List ℕ)) (v : Variant) → Shows ns table self.now v → has_node ns v file ≡ false }
-        ensures not_file_shown { IsErrOf result ReadFaultOfView.NotFile → (ns : Numbers) (table : List (List ℕ)) (v : Variant) → Shows ns table self.now v → (has_node ns v file && is_dir v.rows (node_number ns.nodes file)) ≡ true }
+        ensures absent_shown { IsErrOf result ReadFaultOfView.NoSuchNode → (ns : Numbers) (table : List (List ℕ)) (v : Variant) → Shows ns table self.now v → shows_node ns v file ≡ false }
+        ensures not_file_shown { IsErrOf result ReadFaultOfView.NotFile → (ns : Numbers) (table : List (List ℕ)) (v : Variant) → Shows ns table self.now v → (shows_node ns v file && is_dir v.rows (node_number ns.nodes file)) ≡ true }
     {
         self.lines_of(&file)
     }
@@ -177,7 +178,7 @@ impl View {
         };
         match row.kind {
             Kind::Dir => Err(ReadFaultOfView::NotFile),
-            Kind::File => match row.lines.copy() {
+            Kind::File => match copied(&row.lines) {
                 Ok(lines) => Ok(lines),
                 Err(Memory) => Err(ReadFaultOfView::Memory),
             },
@@ -220,9 +221,9 @@ impl View {
         match edit {
             Edit::New { parent, name, .. } => self.new_fault(parent, name.as_slice()),
             Edit::Insert { file, after, .. } => {
-                self.line_fault(file, has_anchor(rows, file, after))
+                self.line_fault(file, shows_anchor(rows, file, after))
             }
-            Edit::Delete { file, line } => self.line_fault(file, has_line(rows, file, line)),
+            Edit::Delete { file, line } => self.line_fault(file, shows_line(rows, file, line)),
         }
     }
 

@@ -1,19 +1,13 @@
-use Rattle.std.proofs.Common.{◌≡◌, List, [], ◌∷◌, ◌++◌, get_or, set, sym, ap, ◌∙◌}
+use Rattle.std.proofs.Common.{[], ◌∷◌, ◌++◌, sym, ◌∙◌}
+use Rattle.std.proofs.lemmas.Result.{on_ok_weaker}
 use Rattle.cov_view.specs.Seen.{with_lines_by}
-use Rattle.cov_view.specs.declared.line.ViewLine.{ViewLine}
-use Rattle.cov_view.specs.declared.row.ViewRow.{ViewRow}
-use Rattle.cov_view.proofs.Changes.{on_ok, set_found, none_found}
+use Rattle.cov_view.proofs.Changes.{lines_set, none_found}
 use Rattle.cov_view.proofs.changing.append_line.Goals as goal
 
 pub returns-in-Some-clause-ok : goal.returns-in-Some-clause-ok
 returns-in-Some-clause-ok c =
-    let rows = c.args.rows.now in
-    let old = get_or rows c.in-Some.at c.index-rows-at.result in
-    let change : List ViewLine → List ViewLine = (λ ls. ls ++ c.args.line ∷ []) in
-    on_ok c.push.result (c.push.new.self ≡ change old.lines) _
-    (λ e.
-    ap (λ (ls : List ViewLine). set rows c.in-Some.at (let r : ViewRow = record { node = old.node; kind = old.kind; parent = old.parent; name = old.name; lines = ls } in r)) e
-    ∙ set_found c.args.file.now (with_lines_by change) rows c.index-rows-at.result c.in-Some.at (sym c.requires ∙ c.in-Some.is))
+    on_ok_weaker c.push.result
+    (lines_set c.args.file.now (λ ls. ls ++ c.args.line ∷ []) c.args.rows.now c.index-rows-at.result c.in-Some.at c.push.new.self (sym c.requires ∙ c.in-Some.is))
     c.push.ensures.ok
 
 pub returns-in-None-clause-ok : goal.returns-in-None-clause-ok

@@ -1,6 +1,6 @@
 use Rattle.std.proofs.Common.{ap, ◌∙◌}
 use Rattle.std.specs.Map.{lookup}
-use Rattle.cov_view.proofs.Directories.{is_asked, asked}
+use Rattle.cov_view.proofs.Directories.{asked}
 use Rattle.cov_view.proofs.children.Children.place.Goals as goal
 
 pub returns : goal.returns
@@ -9,5 +9,4 @@ returns c =
     let name = c.args.name.now in
     let places = c.args.self.now.places.entries in
     c.copied.ensures ∙ c.get.ensures.value
-    ∙ ap (λ k. lookup (is_asked k name) places) c.key_of-dir.ensures
     ∙ ap (λ test. lookup test places) (asked dir name)

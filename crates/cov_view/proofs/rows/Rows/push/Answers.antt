@@ -1,7 +1,7 @@
 use Rattle.std.proofs.Common.{List, [], ◌∷◌, ◌++◌, ap, sym, subst, ◌∙◌}
 use Rattle.std.proofs.lemmas.List.{map-append}
 use Rattle.indexmap.specs.IndexSet.{insert_key}
-use Rattle.cov_view.specs.Keys.{key_of, AreChildren}
+use Rattle.cov_view.specs.Keys.{AreChildren}
 use Rattle.cov_view.specs.Seen.{has_row}
 use Rattle.cov_view.specs.declared.row.ViewRow.{ViewRow}
 use Rattle.cov_view.proofs.Keys.{keys_of, same_key, agrees, key_added}
@@ -16,10 +16,9 @@ invariant_of-self-2 c =
     let row : ViewRow = c.args.row in
     let joined = c.in-Ok-push.ensures.items ∙ ap (λ (rs : List ViewRow). rs ++ row ∷ []) c.reserve.ensures.items in (
       c.in-Ok.ensures.keys
-          ∙ ap (insert_key same_key c.reserve-2.new.self.keys) c.key_of.ensures
-          ∙ ap (λ ks. insert_key same_key ks (key_of row.node)) (c.reserve-2.ensures.keys ∙ c.self.invariant.0)
+          ∙ ap (λ ks. insert_key same_key ks row.node) (c.reserve-2.ensures.keys ∙ c.self.invariant.0)
           ∙ key_added same_key agrees row.node rows (ap (λ (rs : List ViewRow). has_row rs row.node) c.self.view_is ∙ c.requires)
-          ∙ sym (map-append (λ (r : ViewRow). key_of r.node) rows (row ∷ []))
+          ∙ sym (map-append (λ (r : ViewRow). r.node) rows (row ∷ []))
           ∙ ap keys_of (sym joined),
       subst (λ (rs : List ViewRow). AreChildren rs c.note.new.self.places.entries) (ap (λ (rs : List ViewRow). rs ++ row ∷ []) c.as_slice.ensures.value ∙ sym c.in-Ok-push.ensures.items) c.in_ok-note.ensures.ok,
     )

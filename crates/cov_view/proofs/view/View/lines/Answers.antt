@@ -1,13 +1,13 @@
 use Rattle.std.proofs.Common.{◌≡◌, List, ℕ, Some}
+use Rattle.std.proofs.lemmas.Bool.{and_from}
 use Rattle.cov_base.specs.declared.number.Kind.TheVariants as kinds
 use Rattle.cov_edit.specs.Numbering.{Numbers, node_number}
 use Rattle.cov_edit.specs.Variant.{Variant}
 use Rattle.cov_view.specs.Paths.{AreLinesOf}
-use Rattle.cov_view.specs.Refusals.{has_node, is_dir}
+use Rattle.cov_view.specs.Refusals.{shows_node, is_dir}
 use Rattle.cov_view.specs.Seen.{kind_in, lines_in}
 use Rattle.cov_view.specs.Views.{Shows}
 use Rattle.cov_view.proofs.Finding.{ok, lines-shown, absent-shown, there-shown, dir-shown}
-use Rattle.cov_view.proofs.Naming.{and-both}
 use Rattle.cov_view.proofs.view.View.lines.Goals as goal
 
 pub returns-clause-shown : goal.returns-clause-shown
@@ -27,6 +27,6 @@ pub returns-clause-not_file_shown : goal.returns-clause-not_file_shown
 returns-clause-not_file_shown c = λ fault ns table v shows.
     let s = c.args.self.now in
     let file = c.args.file in
-    and-both (has_node ns v file) (is_dir v.rows (node_number ns.nodes file))
+    and_from (shows_node ns v file) (is_dir v.rows (node_number ns.nodes file))
     (there-shown ns table s v shows file kinds.Dir (c.lines_of.ensures.not_file fault))
     (dir-shown ns table s v shows file kinds.Dir (c.lines_of.ensures.not_file fault))

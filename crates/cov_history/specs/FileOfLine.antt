@@ -12,30 +12,30 @@ use Rattle.cov_history.specs.Kept.{Kept, kept_number, is_row, kept_of, entries_o
 use Rattle.cov_history.specs.Files.{file_order}
 
 -- the files of the lines that edits insert, n nodes having been made before
-abbrev pub new_homes : ℕ → List Edit → List ℕ
-new_homes n [] = []
-new_homes n (edits.New kind parent name ∷ es) = new_homes n es
-new_homes n (edits.Insert file after text ∷ es) = node_number n file ∷ new_homes n es
-new_homes n (edits.Delete file line ∷ es) = new_homes n es
+abbrev pub new_file_of_line : ℕ → List Edit → List ℕ
+new_file_of_line n [] = []
+new_file_of_line n (edits.New kind parent name ∷ es) = new_file_of_line n es
+new_file_of_line n (edits.Insert file after text ∷ es) = node_number n file ∷ new_file_of_line n es
+new_file_of_line n (edits.Delete file line ∷ es) = new_file_of_line n es
 
 -- the files of the lines that more of a history inserts, n nodes having been made before
-abbrev pub homes_from : ℕ → List Command → List ℕ
-homes_from n [] = []
-homes_from n (commands.Commit base choice ambition es ∷ history) = new_homes n es ++ homes_from (n + nodes_made es) history
-homes_from n (_ ∷ history) = homes_from n history
+abbrev pub file_of_line_from : ℕ → List Command → List ℕ
+file_of_line_from n [] = []
+file_of_line_from n (commands.Commit base choice ambition es ∷ history) = new_file_of_line n es ++ file_of_line_from (n + nodes_made es) history
+file_of_line_from n (_ ∷ history) = file_of_line_from n history
 
 -- the file into which a history inserts its line 1, its line 2 and so on
-abbrev pub homes_of : List Command → List ℕ
-homes_of history = homes_from 0 history
+abbrev pub file_of_line_in : List Command → List ℕ
+file_of_line_in history = file_of_line_from 0 history
 
 -- the lines after the first so many are among the kept ones of these files, in order
-abbrev pub AreHomes : List (Kept Line) → ℕ → List ℕ → Type 0
-AreHomes kept n [] = Unit {0}
-AreHomes kept n (file ∷ files) = (is_kept_anchor file (n + 1) kept ≡ true) × AreHomes kept (n + 1) files
+abbrev pub AreFilesOfLines : List (Kept Line) → ℕ → List ℕ → Type 0
+AreFilesOfLines kept n [] = Unit {0}
+AreFilesOfLines kept n (file ∷ files) = (is_kept_anchor file (n + 1) kept ≡ true) × AreFilesOfLines kept (n + 1) files
 
 -- what a history holds has each line that the history inserts, once, and in its file, and a row of each node that it makes
 pub record IsWhole (history : List Command) : Type 0 where
-  pub counted : length (homes_of history) ≡ line_count history
-  pub lines : (before file : ℕ) → slice_get (homes_of history) before ≡ Some file → has_line (before + 1) (file_order file (kept_of history)) ≡ true
+  pub counted : length (file_of_line_in history) ≡ line_count history
+  pub lines : (before file : ℕ) → slice_get (file_of_line_in history) before ≡ Some file → has_line (before + 1) (file_order file (kept_of history)) ≡ true
   pub once : AreLines (map kept_number (kept_of history))
   pub rows : (node : ℕ) → 0 < node → node ≤ (numbers_of history).nodes → list_any (λ k. is_row node k.item) (entries_of history) ≡ true
