@@ -2,7 +2,7 @@
 use Rattle.std.proofs.Common.{◌≡◌, ℕ, zero, suc, ◌+◌, ◌<◌, ◌≤◌, true, false, ◌==◌, nat_lt, Option, None, List, [], ◌∷◌, length, take, drop, inr, refl, sym, ap, subst, ◌∙◌, arith}
 use Rattle.std.specs.List.{AllByRecursion}
 use Rattle.std.proofs.lemmas.Bool.Decides.{nat_tests}
-use Rattle.cov_base.proofs.Ordered.{all-map}
+use Rattle.cov_base.proofs.CallerLemmas.{all-map}
 use Rattle.cov_dd.specs.declared.triple.Triple.{Triple}
 use Rattle.cov_expr.specs.Formula.{Formula}
 use Rattle.cov_edit.specs.declared.edit.Edit.{Edit}
@@ -13,8 +13,8 @@ use Rattle.cov_history.specs.Overtaking.{overtaken_from}
 use Rattle.cov_engine.specs.Marks.{AreMarks}
 use Rattle.cov_engine.specs.Overtakers.{IsFirstOf, IsOvertaker, is_beyond, IsAfter}
 use Rattle.cov_engine.specs.Visibility.{item_of}
-use Rattle.cov_engine.specs.declared.kept.Made.{Made}
-use Rattle.cov_engine.proofs.Homes.{item-suc}
+use Rattle.cov_engine.specs.declared.store.CommitMark.{CommitMark}
+use Rattle.cov_engine.proofs.FileOfLine.{item-suc}
 
 pub all-drop : {X : Type 0} (P : X → Type 0) (n : ℕ) (xs : List X) → AllByRecursion P xs → AllByRecursion P (drop n xs)
 all-drop P zero [] h = h
@@ -23,12 +23,12 @@ all-drop P (suc n) [] h = h
 all-drop P (suc n) (x ∷ xs) h = all-drop P n xs h.1
 
 -- each position is before those that follow
-abbrev AreAscending : List Made → Type 0
+abbrev AreAscending : List CommitMark → Type 0
 AreAscending [] = Unit {0}
 AreAscending (m ∷ ms) = AllByRecursion (λ k. m.position < k.position) ms × AreAscending ms
 
 module _ (ts : List Triple) (count : ℕ) where
-  marks-above : (p : ℕ) (later : List Command) (ms : List Made) → AreMarks ts count p later ms → AllByRecursion (λ m. p < m.position) ms
+  marks-above : (p : ℕ) (later : List Command) (ms : List CommitMark) → AreMarks ts count p later ms → AllByRecursion (λ m. p < m.position) ms
   marks-above p [] ms h = subst (AllByRecursion (λ m. p < m.position)) (sym h) tt
   marks-above p (commands.Option name ∷ later) ms h = all-map (λ m. p + 1 < m.position) (λ m. p < m.position) (λ m low. omega (arith, low)) ms (marks-above (p + 1) later ms h)
   marks-above p (commands.Constraint expr ∷ later) ms h = all-map (λ m. p + 1 < m.position) (λ m. p < m.position) (λ m low. omega (arith, low)) ms (marks-above (p + 1) later ms h)
@@ -41,7 +41,7 @@ module _ (ts : List Triple) (count : ℕ) where
   )
 
   -- the positions of commits rise
-  marks-ascend : (p : ℕ) (later : List Command) (ms : List Made) → AreMarks ts count p later ms → AreAscending ms
+  marks-ascend : (p : ℕ) (later : List Command) (ms : List CommitMark) → AreMarks ts count p later ms → AreAscending ms
   marks-ascend p [] ms h = subst AreAscending (sym h) tt
   marks-ascend p (commands.Option name ∷ later) ms h = marks-ascend (p + 1) later ms h
   marks-ascend p (commands.Constraint expr ∷ later) ms h = marks-ascend (p + 1) later ms h
@@ -54,7 +54,7 @@ module _ (ts : List Triple) (count : ℕ) where
   )
 
 -- up to one that doesn't come after a base, none does
-front-low : (base n : ℕ) (ms : List Made) → AreAscending ms → n ≤ length ms → is_beyond base (item_of ms n) ≡ false → AllByRecursion (λ m. m.position ≤ base) (take n ms)
+front-low : (base n : ℕ) (ms : List CommitMark) → AreAscending ms → n ≤ length ms → is_beyond base (item_of ms n) ≡ false → AllByRecursion (λ m. m.position ≤ base) (take n ms)
 front-low base zero [] up few end = tt
 front-low base zero (m ∷ ms) up few end = tt
 front-low base (suc n) [] up few end = absurd (omega (arith, few))
@@ -62,7 +62,7 @@ front-low base (suc zero) (m ∷ ms) up few end =
     let last : nat_lt base m.position ≡ false = ap (is_beyond base) (sym (item-suc (m ∷ ms) 0)) ∙ end in
     (grind (arith, nat_tests, last), none ms)
   where
-    none : (ks : List Made) → AllByRecursion (λ k. k.position ≤ base) (take 0 ks)
+    none : (ks : List CommitMark) → AllByRecursion (λ k. k.position ≤ base) (take 0 ks)
     none [] = tt
     none (k ∷ ks) = tt
 front-low base (suc (suc n)) (m ∷ []) up few end = absurd (omega (arith, few))
@@ -74,7 +74,7 @@ front-low base (suc (suc n)) (m ∷ k ∷ ms) up few end =
     (omega (arith, first, above), rest)
 
 -- the first of commits that overtakes comes behind those that don't come after the base
-first-behind : (ts : List Triple) (base within : ℕ) (nodes : List ℕ) (found : Option ℕ) (n : ℕ) (ms : List Made) → AllByRecursion (λ m. m.position ≤ base) (take n ms)
+first-behind : (ts : List Triple) (base within : ℕ) (nodes : List ℕ) (found : Option ℕ) (n : ℕ) (ms : List CommitMark) → AllByRecursion (λ m. m.position ≤ base) (take n ms)
     → IsFirstOf ts base within nodes (drop n ms) found → IsFirstOf ts base within nodes ms found
 first-behind ts base within nodes found zero [] low first = first
 first-behind ts base within nodes found zero (m ∷ ms) low first = first
@@ -83,7 +83,7 @@ first-behind ts base within nodes found (suc n) (m ∷ ms) low first =
     let early : m.position ≤ base = low.0 in
     inr ((λ over. let after = over.after in absurd (omega (arith, early, after))), first-behind ts base within nodes found n ms low.1 first)
 
-all-low : (base n : ℕ) (ms : List Made) → AllByRecursion (λ m. m.position ≤ base) (take n ms) → drop n ms ≡ [] → AllByRecursion (λ m. m.position ≤ base) ms
+all-low : (base n : ℕ) (ms : List CommitMark) → AllByRecursion (λ m. m.position ≤ base) (take n ms) → drop n ms ≡ [] → AllByRecursion (λ m. m.position ≤ base) ms
 all-low base zero [] low none = tt
 all-low base zero (m ∷ ms) low none = absurd (cc)
 all-low base (suc n) [] low none = tt
@@ -91,7 +91,7 @@ all-low base (suc n) (m ∷ ms) low none = (low.0, all-low base n ms low.1 none)
 
 -- where no commit comes after the base, none overtakes
 module _ (ts : List Triple) (count : ℕ) (history : List Command) (base : ℕ) (ambition : Formula ℕ) (es : List Edit) where
-  none-after : (p : ℕ) (later : List Command) (ms : List Made) → base ≤ p → AreMarks ts count p later ms → AllByRecursion (λ m. m.position ≤ base) ms → overtaken_from history ambition es p later ≡ None
+  none-after : (p : ℕ) (later : List Command) (ms : List CommitMark) → base ≤ p → AreMarks ts count p later ms → AllByRecursion (λ m. m.position ≤ base) ms → overtaken_from history ambition es p later ≡ None
   none-after p [] ms le are low = refl
   none-after p (commands.Option name ∷ later) ms le are low = none-after (p + 1) later ms (omega (arith, le)) are low
   none-after p (commands.Constraint expr ∷ later) ms le are low = none-after (p + 1) later ms (omega (arith, le)) are low
@@ -103,7 +103,7 @@ module _ (ts : List Triple) (count : ℕ) (history : List Command) (base : ℕ) 
       let early : m.position ≤ base = low.0 in
       absurd (omega (arith, at, early, le))
 
-  none-from : (k p : ℕ) (later : List Command) (ms : List Made) → p + k ≡ base → AreMarks ts count p later ms → AllByRecursion (λ m. m.position ≤ base) ms
+  none-from : (k p : ℕ) (later : List Command) (ms : List CommitMark) → p + k ≡ base → AreMarks ts count p later ms → AllByRecursion (λ m. m.position ≤ base) ms
       → overtaken_from history ambition es base (drop k later) ≡ None
   none-from zero p later ms at are low =
       let here : p ≡ base = omega (arith, at) in
@@ -125,14 +125,14 @@ no-item [] h = refl
 no-item (x ∷ xs) h = let none : length (x ∷ xs) ≡ 0 = grind (arith, nat_tests, h) in absurd (omega (arith, none))
 
 -- so where there is none behind those up to the base
-pub none-overtakes : (ts : List Triple) (valid : ℕ) (commits later : List Made) (base : ℕ) (ambition : Formula ℕ) (es : List Edit) → IsAfter base commits later → later ≡ []
+pub none-overtakes : (ts : List Triple) (valid : ℕ) (commits later : List CommitMark) (base : ℕ) (ambition : Formula ℕ) (es : List Edit) → IsAfter base commits later → later ≡ []
     → IsOvertaker ts valid commits base ambition es None
 none-overtakes ts valid commits later base ambition es after none = λ history most named low marks all.
     sym (none-from ts (option_count history) history base ambition es base 0 history commits (omega arith) marks
     (all-low base after.count commits (front-low base after.count commits (marks-ascend ts (option_count history) 0 history commits marks) after.few after.end) (sym after.is ∙ none)))
 
 -- the first of the commits after a base that overtakes is the first of all
-pub later-overtaker : (ts us : List Triple) (valid within : ℕ) (commits later : List Made) (base : ℕ) (ambition : Formula ℕ) (es : List Edit) (nodes : List ℕ) (found : Option ℕ) → IsAfter base commits later
+pub later-overtaker : (ts us : List Triple) (valid within : ℕ) (commits later : List CommitMark) (base : ℕ) (ambition : Formula ℕ) (es : List Edit) (nodes : List ℕ) (found : Option ℕ) → IsAfter base commits later
     → (IsFirstOf us base within nodes commits found → IsOvertaker ts valid commits base ambition es found) → IsFirstOf us base within nodes later found → IsOvertaker ts valid commits base ambition es found
 later-overtaker ts us valid within commits later base ambition es nodes found after all first = λ history most named low marks are.
     all (first-behind us base within nodes found after.count commits
@@ -140,5 +140,5 @@ later-overtaker ts us valid within commits later base ambition es nodes found af
     (subst (λ ms. IsFirstOf us base within nodes ms found) after.is first))
     history most named low marks are
 
-pub later-all : (P : Made → Type 0) (base : ℕ) (commits later : List Made) → IsAfter base commits later → AllByRecursion P commits → AllByRecursion P later
+pub later-all : (P : CommitMark → Type 0) (base : ℕ) (commits later : List CommitMark) → IsAfter base commits later → AllByRecursion P commits → AllByRecursion P later
 later-all P base commits later after h = subst (AllByRecursion P) (sym after.is) (all-drop P after.count commits h)

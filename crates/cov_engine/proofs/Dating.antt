@@ -4,11 +4,10 @@ use Rattle.std.specs.List.{AllByRecursion, find}
 use Rattle.std.proofs.lemmas.Bool.Decides.{nat_tests}
 use Rattle.cov_base.specs.Addresses.{after_first, after_anchor_by}
 use Rattle.cov_dd.specs.declared.triple.Triple.{Triple}
-use Rattle.cov_dd.specs.Diagrams.{node_count, span, value_in, Stands}
-use Rattle.cov_dd.proofs.CallerLemmas.{stands_weaker}
-use Rattle.cov_dd.proofs.Nodes.{constant_stands}
+use Rattle.cov_dd.specs.Diagrams.{diagram_size, span, value_in, Stands}
+use Rattle.cov_dd.proofs.CallerLemmas.{stands_weaker, constant_stands}
 use Rattle.cov_expr.specs.Formula.{Formula, False, Not, And, value}
-use Rattle.cov_file.specs.Dated.{DatedLine as FileLine, dated_number as file_number, node_at, numbers_of, new_line, with_line, changed, with_change, node_of, IsAlike, AreAlike}
+use Rattle.cov_file.specs.Dated.{DatedLine as FileLine, dated_number as file_number, vis_at, line_numbers_of, new_line, with_line, changed, with_change, vis_of, IsAlike, AreAlike}
 use Rattle.cov_order.specs.Orders.{has_line}
 use Rattle.cov_history.specs.Kept.{seen_at}
 use Rattle.cov_history.specs.Files.{DatedLine, dated_number}
@@ -37,11 +36,11 @@ module _ (ts : List Triple) (count : ℕ) where
   alike-dated (d ∷ ds) (l ∷ ls) (l' ∷ ls') a h = (alike-one d l l' a.0 h.0, alike-dated ds ls ls' a.1 h.1)
 
   -- they have the same numbers
-  pub dated-numbers : (ds : List DatedLine) (ls : List FileLine) → AreDated ts count ds ls → numbers_of ls ≡ map dated_number ds
+  pub dated-numbers : (ds : List DatedLine) (ls : List FileLine) → AreDated ts count ds ls → line_numbers_of ls ≡ map dated_number ds
   dated-numbers [] [] h = refl
   dated-numbers [] (l ∷ ls) h = absurd h
   dated-numbers (d ∷ ds) [] h = absurd h
-  dated-numbers (d ∷ ds) (l ∷ ls) h = ap (λ n. n ∷ numbers_of ls) h.0.line ∙ ap (λ ns. dated_number d ∷ ns) (dated-numbers ds ls h.1)
+  dated-numbers (d ∷ ds) (l ∷ ls) h = ap (λ n. n ∷ line_numbers_of ls) h.0.line ∙ ap (λ ns. dated_number d ∷ ns) (dated-numbers ds ls h.1)
 
   -- with a line more after the same anchor they are dated again
   after-first : (anchor : ℕ) (d : DatedLine) (l : FileLine) (ds : List DatedLine) (ls : List FileLine) → IsDated ts count d l → AreDated ts count ds ls
@@ -98,7 +97,7 @@ module _ (ts : List Triple) (count : ℕ) where
       put : FileLine
       put = record { line = l.line; text = l.text; changes = (q, vis) ∷ l.changes }
 
-      by : nat_eq d.line line ≡ true → (p : ℕ) (b : Bool) → Stands ts (cond b vis (node_at l.changes p)) 0 count (value (cond b (And (seen_at d.changes q) (Not within)) (seen_at d.changes p)))
+      by : nat_eq d.line line ≡ true → (p : ℕ) (b : Bool) → Stands ts (cond b vis (vis_at l.changes p)) 0 count (value (cond b (And (seen_at d.changes q) (Not within)) (seen_at d.changes p)))
       by is p true = stands_weaker 0 count (value (And (seen_at d.changes q) (Not within))) (omega arith) (omega arith) (λ c. refl) (right is)
       by is p false = h.nodes p
 
@@ -120,7 +119,7 @@ module _ (ts : List Triple) (count : ℕ) where
       all (d ∷ ds) (l ∷ ls) r h = (hidden-one q line vis within d l h.0 r.0, all ds ls r.1 h.1)
 
 -- the node at a position of each line
-pub dated-nodes : (ts : List Triple) (count p : ℕ) (ds : List DatedLine) (ls : List FileLine) → AreDated ts count ds ls → AllByRecursion (λ l. node_at l.changes p < node_count ts) ls
+pub dated-nodes : (ts : List Triple) (count p : ℕ) (ds : List DatedLine) (ls : List FileLine) → AreDated ts count ds ls → AllByRecursion (λ l. vis_at l.changes p < diagram_size ts) ls
 dated-nodes ts count p [] [] h = tt
 dated-nodes ts count p [] (l ∷ ls) h = absurd h
 dated-nodes ts count p (d ∷ ds) [] h = absurd h
@@ -134,7 +133,7 @@ AreOnce (d ∷ ds) = (has_line d.line (map dated_number ds) ≡ false) × AreOnc
 module _ (ts : List Triple) (count p line : ℕ) where
   -- the node of a line by its number, FALSE where there is none
   abbrev pub node_by : List FileLine → ℕ
-  node_by ls = unwrap_or (node_of line p ls) 0
+  node_by ls = unwrap_or (vis_of line p ls) 0
 
   not-among : (ds : List DatedLine) → has_line line (map dated_number ds) ≡ false → (P : DatedLine → Type 0) → AllByRecursion (λ d. nat_eq d.line line ≡ true → P d) ds
   not-among [] h P = tt
@@ -156,7 +155,7 @@ module _ (ts : List Triple) (count p line : ℕ) where
   node-right (d ∷ ds) (l ∷ ls) once h = at (nat_eq d.line line) (nat_eq l.line line) refl (ap (λ n. nat_eq n line) (sym h.0.line)) (node-right ds ls once.1 h.1)
     where
       at : (b b' : Bool) → nat_eq d.line line ≡ b → b ≡ b' → AllByRecursion (IsThat ls) ds
-          → AllByRecursion (λ e. nat_eq e.line line ≡ true → (c : List Bool) → value_in ts (unwrap_or (option_map (λ (k : FileLine). node_at k.changes p) (cond b' (Some l) (find (λ k. nat_eq k.line line) ls))) 0) c ≡ value (seen_at e.changes p) c) (d ∷ ds)
+          → AllByRecursion (λ e. nat_eq e.line line ≡ true → (c : List Bool) → value_in ts (unwrap_or (option_map (λ (k : FileLine). vis_at k.changes p) (cond b' (Some l) (find (λ k. nat_eq k.line line) ls))) 0) c ≡ value (seen_at e.changes p) c) (d ∷ ds)
       at true true is same rest =
           let number : d.line ≡ line = grind (arith, nat_tests, is) in
           ((λ e c. (h.0.nodes p).value c), not-among ds (ap (λ n. has_line n (map dated_number ds)) (sym number) ∙ once.0) _)
@@ -165,24 +164,24 @@ module _ (ts : List Triple) (count p line : ℕ) where
       at false false is same rest = ((λ e. absurd (cc)), rest)
 
   -- it is of the table and names only the first so many options
-  pub node-low : (ds : List DatedLine) (ls : List FileLine) → AreDated ts count ds ls → (node_by ls < node_count ts) × (span ts (node_by ls) ≤ count)
+  pub node-low : (ds : List DatedLine) (ls : List FileLine) → AreDated ts count ds ls → (node_by ls < diagram_size ts) × (span ts (node_by ls) ≤ count)
   node-low [] [] h = let s = false-stands ts count in (s.within, s.below)
   node-low [] (l ∷ ls) h = absurd h
   node-low (d ∷ ds) [] h = absurd h
   node-low (d ∷ ds) (l ∷ ls) h = at (nat_eq l.line line) (node-low ds ls h.1)
     where
-      at : (b : Bool) → (node_by ls < node_count ts) × (span ts (node_by ls) ≤ count)
-          → let r = unwrap_or (option_map (λ (k : FileLine). node_at k.changes p) (cond b (Some l) (find (λ k. nat_eq k.line line) ls))) 0 in (r < node_count ts) × (span ts r ≤ count)
+      at : (b : Bool) → (node_by ls < diagram_size ts) × (span ts (node_by ls) ≤ count)
+          → let r = unwrap_or (option_map (λ (k : FileLine). vis_at k.changes p) (cond b (Some l) (find (λ k. nat_eq k.line line) ls))) 0 in (r < diagram_size ts) × (span ts r ≤ count)
       at true rest = ((h.0.nodes p).within, (h.0.nodes p).below)
       at false rest = rest
 
   -- where no line has the number, it is FALSE
-  pub node-none : (ls : List FileLine) → has_line line (numbers_of ls) ≡ false → node_by ls ≡ 0
+  pub node-none : (ls : List FileLine) → has_line line (line_numbers_of ls) ≡ false → node_by ls ≡ 0
   node-none [] h = refl
   node-none (l ∷ ls) h = at (nat_eq l.line line) h (λ k. node-none ls k)
     where
-      at : (b : Bool) → (b || has_line line (numbers_of ls)) ≡ false → (has_line line (numbers_of ls) ≡ false → node_by ls ≡ 0)
-          → unwrap_or (option_map (λ (k : FileLine). node_at k.changes p) (cond b (Some l) (find (λ k. nat_eq k.line line) ls))) 0 ≡ 0
+      at : (b : Bool) → (b || has_line line (line_numbers_of ls)) ≡ false → (has_line line (line_numbers_of ls) ≡ false → node_by ls ≡ 0)
+          → unwrap_or (option_map (λ (k : FileLine). vis_at k.changes p) (cond b (Some l) (find (λ k. nat_eq k.line line) ls))) 0 ≡ 0
       at true k rest = absurd (cc)
       at false k rest = rest k
 

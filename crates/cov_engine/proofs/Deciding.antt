@@ -2,46 +2,48 @@
 use Rattle.std.proofs.Common.{◌≡◌, ℕ, zero, suc, ◌+◌, ◌-◌, ◌<◌, ◌≤◌, Bool, true, false, cond, ◌&&◌, List, [], ◌∷◌, ◌++◌, length, take, drop, replicate, length-append, Option, Some, ◌⊎◌, inl, inr, refl, sym, ap, subst, ◌∙◌, arith}
 use Rattle.std.specs.List.{list_any, AllByRecursion}
 use Rattle.std.proofs.lemmas.List.{length-take, length-replicate}
+use Rattle.std.proofs.lemmas.Bool.{and_from}
 use Rattle.cov_base.specs.Choices.{all_choices, is_on}
+use Rattle.cov_base.specs.declared.limits.TheConstants.{CHOICE_WIDTH}
 use Rattle.cov_dd.specs.declared.triple.Triple.{Triple}
-use Rattle.cov_dd.specs.Diagrams.{node_count, value_in, Extends}
+use Rattle.cov_dd.specs.Diagrams.{diagram_size, value_in, Extends}
 use Rattle.cov_dd.proofs.CallerLemmas.{extends_trans}
-use Rattle.cov_base.proofs.Ordered.{all-map}
+use Rattle.cov_base.proofs.CallerLemmas.{all-map}
 use Rattle.cov_expr.specs.Formula.{Formula, value, reach}
 use Rattle.cov_rules.specs.Installing.{reach_of}
-use Rattle.cov_rules.proofs.Deciding.{value_same, is_valid_same, is_on-take, is_on-padded, none_passes, fails_on_each}
+use Rattle.cov_rules.proofs.CallerLemmas.{value_same, is_valid_same, is_on-take, is_on-padded, none_passes, fails_on_each}
 use Rattle.cov_edit.specs.declared.edit.Edit.{Edit}
 use Rattle.cov_edit.specs.declared.command.Command.{Command}
 use Rattle.cov_edit.specs.declared.command.Command.TheVariants as commands
 use Rattle.cov_edit.specs.History.{option_count, constraints_of, is_valid_in}
 use Rattle.cov_edit.specs.Touched.{have_common, touched, AreRising}
-use Rattle.cov_edit.proofs.TouchedNodes.{touched-rising}
+use Rattle.cov_edit.proofs.CallerLemmas.{touched-rising}
 use Rattle.cov_engine.specs.Marks.{IsMark, AreMarks}
 use Rattle.cov_engine.specs.Overtakers.{AreApart, Overtakes, IsFirstOf, IsOvertaker}
 use Rattle.cov_history.specs.Overtaking.{share_choice, overtakes, overtaken_from, overtaken}
-use Rattle.cov_engine.specs.declared.kept.Made.{Made}
+use Rattle.cov_engine.specs.declared.store.CommitMark.{CommitMark}
 use Rattle.cov_engine.proofs.Marking.{marks-grown}
 
 -- a test that reads only the first options of a choice fails on each choice of 128 options just where it fails on each of so many
-module _ (count : ℕ) (f : List Bool → Bool) (most : count ≤ 128) (reads : (c d : List Bool) → ((o : ℕ) → o < count → is_on c o ≡ is_on d o) → f c ≡ f d) where
-  pub apart-none : ((c : List Bool) → length c ≡ 128 → f c ≡ false) → list_any f (all_choices count) ≡ false
+module _ (count : ℕ) (f : List Bool → Bool) (most : count ≤ CHOICE_WIDTH) (reads : (c d : List Bool) → ((o : ℕ) → o < count → is_on c o ≡ is_on d o) → f c ≡ f d) where
+  pub apart-none : ((c : List Bool) → length c ≡ CHOICE_WIDTH → f c ≡ false) → list_any f (all_choices count) ≡ false
   apart-none none = none_passes count f (λ c long.
-      let padded : List Bool = c ++ replicate (128 - count) false in
-      let full : length padded ≡ 128 = omega (arith, most, long, length-append c (replicate (128 - count) false), length-replicate (128 - count) false) in
-      reads c padded (λ o lt. sym (is_on-padded c (128 - count) o)) ∙ none padded full)
+      let padded : List Bool = c ++ replicate (CHOICE_WIDTH - count) false in
+      let full : length padded ≡ CHOICE_WIDTH = omega (arith, most, long, length-append c (replicate (CHOICE_WIDTH - count) false), length-replicate (CHOICE_WIDTH - count) false) in
+      reads c padded (λ o lt. sym (is_on-padded c (CHOICE_WIDTH - count) o)) ∙ none padded full)
 
-  pub none-apart : list_any f (all_choices count) ≡ false → (c : List Bool) → length c ≡ 128 → f c ≡ false
+  pub none-apart : list_any f (all_choices count) ≡ false → (c : List Bool) → length c ≡ CHOICE_WIDTH → f c ≡ false
   none-apart none c long =
       reads c (take count c) (λ o lt. sym (is_on-take count c o lt))
       ∙ fails_on_each count f none (take count c) (omega (arith, long, most, length-take count c))
 
 module _ (history : List Command) (ts : List Triple) (base within : ℕ) (ambition : Formula ℕ) (es : List Edit)
-    (most : option_count history ≤ 128) (named : reach_of (constraints_of history) ≤ option_count history) (own : reach ambition ≤ option_count history)
+    (most : option_count history ≤ CHOICE_WIDTH) (named : reach_of (constraints_of history) ≤ option_count history) (own : reach ambition ≤ option_count history)
     (is : (c : List Bool) → value_in ts within c ≡ (is_valid_in history c && value ambition c)) where
   abbrev count : ℕ
   count = option_count history
 
-  module _ (other : Formula ℕ) (m : Made) (p : ℕ) (fs : List Edit) (mark : IsMark ts count p other fs m) where
+  module _ (other : Formula ℕ) (m : CommitMark) (p : ℕ) (fs : List Edit) (mark : IsMark ts count p other fs m) where
     -- what the mark's node and the valid choices of the ambition have in common
     abbrev shared : List Bool → Bool
     shared c = is_valid_in history c && (value other c && value ambition c)
@@ -73,12 +75,8 @@ module _ (history : List Command) (ts : List Triple) (base within : ℕ) (ambiti
     yes-overtakes : (old : ℕ) (choice : List Bool) → Overtakes ts base within (touched es) m → overtakes history ambition es (commands.Commit old choice other fs) ≡ true
     yes-overtakes old choice h = at (share_choice history other ambition) refl
       where
-        both : (a b : Bool) → a ≡ true → b ≡ true → (a && b) ≡ true
-        both true b e f = f
-        both false b e f = absurd (cc)
-
         at : (b : Bool) → share_choice history other ambition ≡ b → overtakes history ambition es (commands.Commit old choice other fs) ≡ true
-        at true e = both (have_common (touched fs) (touched es)) (share_choice history other ambition) (ap (λ xs. have_common xs (touched es)) (sym mark.touches) ∙ h.common) e
+        at true e = and_from (have_common (touched fs) (touched es)) (share_choice history other ambition) (ap (λ xs. have_common xs (touched es)) (sym mark.touches) ∙ h.common) e
         at false e = absurd (h.shared (apart e))
 
     not-overtakes : (old : ℕ) (choice : List Bool) → base < p → (Overtakes ts base within (touched es) m → ⊥) → overtakes history ambition es (commands.Commit old choice other fs) ≡ false
@@ -94,7 +92,7 @@ module _ (history : List Command) (ts : List Triple) (base within : ℕ) (ambiti
         }))
 
   -- after the base
-  marks-after : (p : ℕ) (later : List Command) (marks : List Made) (found : Option ℕ) → base ≤ p → AreMarks ts count p later marks → IsFirstOf ts base within (touched es) marks found
+  marks-after : (p : ℕ) (later : List Command) (marks : List CommitMark) (found : Option ℕ) → base ≤ p → AreMarks ts count p later marks → IsFirstOf ts base within (touched es) marks found
       → found ≡ overtaken_from history ambition es p later
   marks-after p [] marks found le are first = subst (λ ms. IsFirstOf ts base within (touched es) ms found) are first
   marks-after p (commands.Option name ∷ later) marks found le are first = marks-after (p + 1) later marks found (omega (arith, le)) are first
@@ -114,7 +112,7 @@ module _ (history : List Command) (ts : List Triple) (base within : ℕ) (ambiti
           rest h.1 ∙ sym (ap (λ b. cond b (Some (p + 1)) (overtaken_from history ambition es (p + 1) later)) (not-overtakes other m (p + 1) fs are.0 old choice (omega (arith, le)) h.0))
 
   -- up to the base, no mark overtakes
-  marks-decide : (k p : ℕ) (later : List Command) (marks : List Made) (found : Option ℕ) → p + k ≡ base → AreMarks ts count p later marks → IsFirstOf ts base within (touched es) marks found
+  marks-decide : (k p : ℕ) (later : List Command) (marks : List CommitMark) (found : Option ℕ) → p + k ≡ base → AreMarks ts count p later marks → IsFirstOf ts base within (touched es) marks found
       → found ≡ overtaken_from history ambition es base (drop k later)
   marks-decide zero p later marks found at are first =
       let here : p ≡ base = omega (arith, at) in
@@ -138,8 +136,8 @@ module _ (history : List Command) (ts : List Triple) (base within : ℕ) (ambiti
       by (inl h) rest = let after = h.0.after in let position = are.0.position in absurd (omega (arith, after, position, at))
       by (inr h) rest = rest h.1
 
-pub marks-overtaken : (history : List Command) (ts : List Triple) (marks : List Made) (base within : ℕ) (ambition : Formula ℕ) (es : List Edit) (found : Option ℕ)
-    → option_count history ≤ 128 → reach_of (constraints_of history) ≤ option_count history → reach ambition ≤ option_count history
+pub marks-overtaken : (history : List Command) (ts : List Triple) (marks : List CommitMark) (base within : ℕ) (ambition : Formula ℕ) (es : List Edit) (found : Option ℕ)
+    → option_count history ≤ CHOICE_WIDTH → reach_of (constraints_of history) ≤ option_count history → reach ambition ≤ option_count history
     → AreMarks ts (option_count history) 0 history marks
     → ((c : List Bool) → value_in ts within c ≡ (is_valid_in history c && value ambition c))
     → IsFirstOf ts base within (touched es) marks found → found ≡ overtaken history base ambition es
@@ -147,18 +145,18 @@ marks-overtaken history ts marks base within ambition es found most named own ar
     marks-decide history ts base within ambition es most named own is base 0 history marks found (omega arith) are first
 
 -- so with a table that grew, and the conjunction of the node of all valid choices and that of the ambition
-pub first-overtaker : (ts ts' us : List Triple) (valid node within : ℕ) (commits : List Made) (base : ℕ) (ambition : Formula ℕ) (es some : List Edit) (nodes nodes' : List ℕ)
-    → valid < node_count ts → Extends ts ts' → Extends ts' us → ((c : List Bool) → value_in ts' node c ≡ value ambition c)
+pub first-overtaker : (ts ts' us : List Triple) (valid node within : ℕ) (commits : List CommitMark) (base : ℕ) (ambition : Formula ℕ) (es : List Edit) (nodes nodes' : List ℕ)
+    → valid < diagram_size ts → Extends ts ts' → Extends ts' us → ((c : List Bool) → value_in ts' node c ≡ value ambition c)
     → ((c : List Bool) → value_in us within c ≡ (value_in ts' valid c && value_in ts' node c))
-    → nodes' ≡ nodes → nodes ≡ touched some → some ≡ es → (found : Option ℕ) → IsFirstOf us base within nodes' commits found → IsOvertaker ts valid commits base ambition es found
-first-overtaker ts ts' us valid node within commits base ambition es some nodes nodes' known grown more own both there are is found first = λ history most named low marks all.
+    → nodes' ≡ nodes → nodes ≡ touched es → (found : Option ℕ) → IsFirstOf us base within nodes' commits found → IsOvertaker ts valid commits base ambition es found
+first-overtaker ts ts' us valid node within commits base ambition es nodes nodes' known grown more own both there are found first = λ history most named low marks all.
     marks-overtaken history us commits base within ambition es found most named low
     (marks-grown ts us (option_count history) (option_count history) (extends_trans ts ts' us grown more) (omega arith) 0 history commits marks)
     (λ c. both c ∙ (λ i. (grown.value valid known c ∙ all c) i && own c i))
-    (subst (λ ns. IsFirstOf us base within ns commits found) (there ∙ are ∙ ap touched is) first)
+    (subst (λ ns. IsFirstOf us base within ns commits found) (there ∙ are) first)
 
-pub nodes-grown : (ts us : List Triple) (commits : List Made) → Extends ts us → AllByRecursion (λ m. m.node < node_count ts) commits → AllByRecursion (λ m. m.node < node_count us) commits
-nodes-grown ts us commits grown h = all-map (λ m. m.node < node_count ts) (λ m. m.node < node_count us) (λ m low. let more = grown.count in omega (arith, low, more)) commits h
+pub nodes-grown : (ts us : List Triple) (commits : List CommitMark) → Extends ts us → AllByRecursion (λ m. m.node < diagram_size ts) commits → AllByRecursion (λ m. m.node < diagram_size us) commits
+nodes-grown ts us commits grown h = all-map (λ m. m.node < diagram_size ts) (λ m. m.node < diagram_size us) (λ m low. let more = grown.count in omega (arith, low, more)) commits h
 
 pub touched-own : (es : List Edit) (nodes nodes' : List ℕ) → nodes' ≡ nodes → nodes ≡ touched es → AreRising nodes'
 touched-own es nodes nodes' e f = subst AreRising (sym (e ∙ f)) (touched-rising es).0

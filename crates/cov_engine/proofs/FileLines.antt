@@ -9,7 +9,7 @@ use Rattle.cov_base.specs.declared.number.NodeRef.TheVariants as nodes
 use Rattle.cov_base.specs.declared.number.LineRef.{LineRef}
 use Rattle.cov_base.specs.declared.number.LineRef.TheVariants as lines
 use Rattle.cov_base.specs.Addresses.{line_of}
-use Rattle.cov_base.proofs.Ordered.{all-map, all-filter}
+use Rattle.cov_base.proofs.CallerLemmas.{all-map, all-filter}
 use Rattle.cov_dd.specs.declared.triple.Triple.{Triple}
 use Rattle.cov_edit.specs.declared.command.Command.{Command}
 use Rattle.cov_edit.specs.History.{option_count}
@@ -17,22 +17,21 @@ use Rattle.cov_edit.specs.Numbering.{Numbers, line_number}
 use Rattle.cov_edit.specs.Variant.{Variant, Line, lines_of}
 use Rattle.cov_edit.specs.Replay.{replay}
 use Rattle.cov_file.specs.declared.row.FileRow.{FileRow}
-use Rattle.cov_file.specs.Dated.{DatedLine as FileLine, row_of, is_visible, rows_at}
+use Rattle.cov_file.specs.Dated.{DatedLine as FileLine, file_row_of, is_visible, rows_at}
 use Rattle.cov_view.specs.declared.line.ViewLine.{ViewLine}
 use Rattle.cov_view.specs.declared.row.ViewRow.{ViewRow}
 use Rattle.cov_view.specs.References.{same_node, is_made_line}
 use Rattle.cov_view.specs.Seen.{has_row, kind_in, at_row, with_lines_by}
 use Rattle.cov_view.specs.Views.{ShowsLines, line_by_number, by_number}
-use Rattle.cov_view.proofs.Changes.{not_there}
-use Rattle.cov_engine.specs.declared.kept.Made.{Made}
-use Rattle.cov_engine.specs.declared.entry.Entry.{Entry}
+use Rattle.cov_view.proofs.CallerLemmas.{not_there}
+use Rattle.cov_engine.specs.declared.store.CommitMark.{CommitMark}
+use Rattle.cov_engine.specs.declared.stored_file.StoredFile.{StoredFile}
 use Rattle.cov_history.specs.Kept.{kept_of}
 use Rattle.cov_history.specs.Files.{DatedLine, ShownLine, as_shown, dated_as_shown, dated_shown, is_dated_seen, file_dated}
 use Rattle.cov_engine.specs.Nodes.{AreDated}
-use Rattle.cov_engine.specs.Showing.{with_row, with_lines, with_entry, AreFresh}
+use Rattle.cov_engine.specs.Showing.{with_row, with_lines, with_stored_file, AreFresh}
 use Rattle.cov_engine.specs.Holdings.{IsFileOf}
-use Rattle.cov_history.proofs.Standing.{all-mapped}
-use Rattle.cov_history.proofs.Orders.{file-shows}
+use Rattle.cov_history.proofs.CallerLemmas.{all-mapped, file-shows}
 
 last-changed : (rows : List ViewRow) (r : ViewRow) (file : NodeRef) (f : ViewRow → ViewRow) → has_row rows file ≡ false → same_node r.node file ≡ true → at_row file f (rows ++ r ∷ []) ≡ rows ++ f r ∷ []
 last-changed [] r file f h same = ap (λ b. cond b (f r ∷ []) (r ∷ [])) same
@@ -99,11 +98,11 @@ dated-rows ts c at count [] [] h = refl
 dated-rows ts c at count [] (l ∷ ls) h = absurd h
 dated-rows ts c at count (d ∷ ds) [] h = absurd h
 dated-rows ts c at count (d ∷ ds) (l ∷ ls) h =
-    ap (λ b. map row_pair (map row_of (cond b (l ∷ filter (is_visible ts c at) ls) (filter (is_visible ts c at) ls)))) ((h.0.nodes at).value c)
+    ap (λ b. map row_pair (map file_row_of (cond b (l ∷ filter (is_visible ts c at) ls) (filter (is_visible ts c at) ls)))) ((h.0.nodes at).value c)
     ∙ one (is_dated_seen c at d) (dated-rows ts c at count ds ls h.1)
   where
     one : (b : Bool) → map row_pair (rows_at ts c at ls) ≡ map pair (dated_shown c at ds)
-        → map row_pair (map row_of (cond b (l ∷ filter (is_visible ts c at) ls) (filter (is_visible ts c at) ls)))
+        → map row_pair (map file_row_of (cond b (l ∷ filter (is_visible ts c at) ls) (filter (is_visible ts c at) ls)))
         ≡ map pair (map dated_as_shown (cond b (d ∷ filter (is_dated_seen c at) ds) (filter (is_dated_seen c at) ds)))
     one true ih = λ i. (h.0.line i, h.0.text i) ∷ ih i
     one false ih = ih
@@ -113,7 +112,7 @@ module _ (c : List Bool) (at : ℕ) (numbers : Numbers) (history : List Command)
   abbrev pub Shown : ViewRow → Type 0
   Shown r = ShowsLines numbers (replay c (take at history)) r × AllByRecursion (λ l. is_made_line (length numbers.addresses) 0 l.line ≡ true) r.lines
 
-module _ (ts : List Triple) (c : List Bool) (at : ℕ) (commits : List Made) (numbers : Numbers) (history : List Command) (low : AllByRecursion (λ l. line_of l.address ≤ length numbers.addresses) (replay c (take at history)).lines) where
+module _ (ts : List Triple) (c : List Bool) (at : ℕ) (commits : List CommitMark) (numbers : Numbers) (history : List Command) (low : AllByRecursion (λ l. line_of l.address ≤ length numbers.addresses) (replay c (take at history)).lines) where
   abbrev IsShown : ViewRow → Type 0
   IsShown = Shown c at numbers history low
 
@@ -125,8 +124,8 @@ module _ (ts : List Triple) (c : List Bool) (at : ℕ) (commits : List Made) (nu
       ∙ sym (dated-rows ts c at (option_count history) (file_dated file (kept_of history)) ls are)
       ∙ sym (by-row numbers (rows_at ts c at ls))
 
-  kinds-lines : (k : Kind) (e : Entry) (rows : List ViewRow) → kind_in rows (nodes.Old e.node) ≡ None → AllByRecursion IsShown rows → IsFileOf history ts e
-      → AllByRecursion IsShown (with_lines ts c at commits k e (rows ++ record { node = nodes.Old e.node; kind = k; parent = nodes.Old e.parent; name = e.name; lines = [] } ∷ []))
+  kinds-lines : (k : Kind) (e : StoredFile) (rows : List ViewRow) → kind_in rows (nodes.Old e.node) ≡ None → AllByRecursion IsShown rows → IsFileOf history ts e
+      → AllByRecursion IsShown (with_lines ts c at k e (rows ++ record { node = nodes.Old e.node; kind = k; parent = nodes.Old e.parent; name = e.name; lines = [] } ∷ []))
   kinds-lines kinds.File e rows fresh shown file =
       let r : ViewRow = record { node = nodes.Old e.node; kind = kinds.File; parent = nodes.Old e.parent; name = e.name; lines = [] } in
       let own : List FileRow = rows_at ts c at e.file.lines in
@@ -146,9 +145,9 @@ module _ (ts : List Triple) (c : List Bool) (at : ℕ) (commits : List Made) (nu
   either-lines true rows added h k = k
   either-lines false rows added h k = h
 
-  -- so do the rows of all entries
-  pub entries-lines : (rows : List ViewRow) (es : List Entry) → AllByRecursion IsShown rows → AreFresh ts c at commits rows es → AllByRecursion (IsFileOf history ts) es
-      → AllByRecursion IsShown (fold (with_entry ts c at commits) rows es)
-  entries-lines rows [] shown fresh files = shown
-  entries-lines rows (e ∷ es) shown fresh files =
-      entries-lines (with_entry ts c at commits rows e) es (either-lines _ rows _ shown (kinds-lines e.kind e rows fresh.0 shown files.0)) fresh.1 files.1
+  -- so do the rows of all stored files
+  pub stored-lines : (rows : List ViewRow) (es : List StoredFile) → AllByRecursion IsShown rows → AreFresh ts c at commits rows es → AllByRecursion (IsFileOf history ts) es
+      → AllByRecursion IsShown (fold (with_stored_file ts c at commits) rows es)
+  stored-lines rows [] shown fresh files = shown
+  stored-lines rows (e ∷ es) shown fresh files =
+      stored-lines (with_stored_file ts c at commits rows e) es (either-lines _ rows _ shown (kinds-lines e.kind e rows fresh.0 shown files.0)) fresh.1 files.1

@@ -6,7 +6,7 @@ use Rattle.cov_base.specs.Addresses.{address_in}
 use Rattle.cov_base.specs.Rows.{Row, Created}
 use Rattle.cov_base.specs.declared.number.NodeRef.{NodeRef}
 use Rattle.cov_base.specs.declared.number.NodeRef.TheVariants as nodes
-use Rattle.cov_base.proofs.Ordered.{all-map, all-filter, all-append}
+use Rattle.cov_base.proofs.CallerLemmas.{all-map, all-filter, all-append}
 use Rattle.cov_dd.specs.declared.triple.Triple.{Triple}
 use Rattle.cov_expr.specs.Formula.{Formula}
 use Rattle.cov_edit.specs.declared.edit.Edit.{Edit}
@@ -18,13 +18,13 @@ use Rattle.cov_view.specs.References.{same_node}
 use Rattle.cov_view.specs.Seen.{row_at, kind_in}
 use Rattle.cov_view.specs.Views.{row_by_number}
 use Rattle.cov_view.specs.declared.row.ViewRow.{ViewRow}
-use Rattle.cov_engine.specs.declared.kept.Made.{Made}
-use Rattle.cov_engine.specs.declared.entry.Entry.{Entry}
+use Rattle.cov_engine.specs.declared.store.CommitMark.{CommitMark}
+use Rattle.cov_engine.specs.declared.stored_file.StoredFile.{StoredFile}
 use Rattle.cov_history.specs.Kept.{Kept, new_item, is_seen, the_item, Holding, nothing_held, held_after, held_from, entries_of, rows_seen}
-use Rattle.cov_engine.specs.Showing.{with_entry, AreFresh}
-use Rattle.cov_engine.specs.Holdings.{entry_kept}
-use Rattle.cov_history.proofs.Standing.{all-mapped}
-use Rattle.cov_engine.proofs.Holdings.{entries-rows}
+use Rattle.cov_engine.specs.Showing.{with_stored_file, AreFresh}
+use Rattle.cov_engine.specs.Holdings.{kept_row}
+use Rattle.cov_history.proofs.CallerLemmas.{all-mapped}
+use Rattle.cov_engine.proofs.Holdings.{stored-rows}
 
 -- rows of the nodes after the first so many, in order and up to a last
 abbrev pub NodesFrom : ℕ → ℕ → List (Kept Row) → Type 0
@@ -76,24 +76,24 @@ not-yet : (n node : ℕ) (rows : List ViewRow) → node ≡ suc n → AreOfFirst
 not-yet n node rows e h =
     subst (λ i. kind_in rows (nodes.Old i) ≡ None) (sym e) (ap (λ (o : Option ViewRow). option_map (λ (r : ViewRow). r.kind) o) (no-row n rows h))
 
-module _ (ts : List Triple) (c : List Bool) (at : ℕ) (commits : List Made) where
-  with-next : (n : ℕ) (rows : List ViewRow) (e : Entry) → e.node ≡ suc n → AreOfFirst n rows → AreOfFirst (suc n) (with_entry ts c at commits rows e)
+module _ (ts : List Triple) (c : List Bool) (at : ℕ) (commits : List CommitMark) where
+  with-next : (n : ℕ) (rows : List ViewRow) (e : StoredFile) → e.node ≡ suc n → AreOfFirst n rows → AreOfFirst (suc n) (with_stored_file ts c at commits rows e)
   with-next n rows e is h =
       let own : e.node ≤ suc n = omega (arith, is) in
-      let added : AllByRecursion (λ (r : Row). r.node ≤ suc n) (map (row_by_number no_numbers) rows ++ rows_seen c at (entry_kept commits e ∷ [])) =
-      all-append (λ (r : Row). r.node ≤ suc n) (map (row_by_number no_numbers) rows) (rows_seen c at (entry_kept commits e ∷ []))
+      let added : AllByRecursion (λ (r : Row). r.node ≤ suc n) (map (row_by_number no_numbers) rows ++ rows_seen c at (kept_row commits e ∷ [])) =
+      all-append (λ (r : Row). r.node ≤ suc n) (map (row_by_number no_numbers) rows) (rows_seen c at (kept_row commits e ∷ []))
       (all-map (λ (r : Row). r.node ≤ n) (λ (r : Row). r.node ≤ suc n) (λ r below. omega (arith, below)) (map (row_by_number no_numbers) rows) h)
-      (all-mapped (λ (k : Kept Row). k.item.node ≤ suc n) (λ (r : Row). r.node ≤ suc n) the_item (λ k below. below) (filter (is_seen c at) (entry_kept commits e ∷ []))
-      (all-filter (λ (k : Kept Row). k.item.node ≤ suc n) (is_seen c at) (entry_kept commits e ∷ []) (own, tt))) in
-      subst (AllByRecursion (λ (r : Row). r.node ≤ suc n)) (sym (entries-rows no_numbers ts c at commits rows (e ∷ []))) added
+      (all-mapped (λ (k : Kept Row). k.item.node ≤ suc n) (λ (r : Row). r.node ≤ suc n) the_item (λ k below. below) (filter (is_seen c at) (kept_row commits e ∷ []))
+      (all-filter (λ (k : Kept Row). k.item.node ≤ suc n) (is_seen c at) (kept_row commits e ∷ []) (own, tt))) in
+      subst (AllByRecursion (λ (r : Row). r.node ≤ suc n)) (sym (stored-rows no_numbers ts c at commits rows (e ∷ []))) added
 
-  fresh-from : (n m : ℕ) (rows : List ViewRow) (es : List Entry) → AreOfFirst n rows → NodesFrom n m (map (entry_kept commits) es) → AreFresh ts c at commits rows es
+  fresh-from : (n m : ℕ) (rows : List ViewRow) (es : List StoredFile) → AreOfFirst n rows → NodesFrom n m (map (kept_row commits) es) → AreFresh ts c at commits rows es
   fresh-from n m rows [] h counted = tt
   fresh-from n m rows (e ∷ es) h counted =
-      (not-yet n e.node rows counted.0 h, fresh-from (suc n) m (with_entry ts c at commits rows e) es (with-next n rows e counted.0 h) counted.1)
+      (not-yet n e.node rows counted.0 h, fresh-from (suc n) m (with_stored_file ts c at commits rows e) es (with-next n rows e counted.0 h) counted.1)
 
--- where the entries are the rows that a history holds, each is of a node that isn't shown before it
-pub held-fresh : (ts : List Triple) (c : List Bool) (at : ℕ) (commits : List Made) (entries : List Entry) (history : List Command) → entries_of history ≡ map (entry_kept commits) entries
-    → AreFresh ts c at commits [] entries
-held-fresh ts c at commits entries history rows =
-    fresh-from ts c at commits 0 (numbers_of history).nodes [] entries tt (subst (NodesFrom 0 (numbers_of history).nodes) rows (history-nodes 0 no_numbers nothing_held history refl))
+-- where the stored files are the rows that a history holds, each is of a node that isn't shown before it
+pub held-fresh : (ts : List Triple) (c : List Bool) (at : ℕ) (commits : List CommitMark) (stored : List StoredFile) (history : List Command) → entries_of history ≡ map (kept_row commits) stored
+    → AreFresh ts c at commits [] stored
+held-fresh ts c at commits stored history rows =
+    fresh-from ts c at commits 0 (numbers_of history).nodes [] stored tt (subst (NodesFrom 0 (numbers_of history).nodes) rows (history-nodes 0 no_numbers nothing_held history refl))

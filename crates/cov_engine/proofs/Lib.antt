@@ -1,17 +1,17 @@
 pub mod After
-pub mod Amid
+pub mod CallerLemmas
 pub mod Committed
 pub mod Dating
 pub mod Deciding
-pub mod Entries
 pub mod FileLines
+pub mod FileOfLine
 pub mod Fresh
 pub mod Holdings
-pub mod Homes
 pub mod Installed
 pub mod Judged
 pub mod Marking
 pub mod Marks
+pub mod MidCommit
 pub mod Named
 pub mod Nodes
 pub mod Planned
@@ -21,5 +21,6 @@ pub mod Ruling
 pub mod Showing
 pub mod Started
 pub mod States
+pub mod StoredFiles
 pub mod Views
 pub mod Visibilities

@@ -1,8 +1,8 @@
 -- The nodes that a commit's edits name, and the files of the lines that a history holds.
-use Rattle.std.proofs.Common.{◌≡◌, ℕ, ◌+◌, ◌<◌, ◌≤◌, ◌^◌, Bool, true, false, cond, None, List, [], ◌∷◌, ◌++◌, length, take, append_assoc, append-nil, refl, sym, ap, subst, arith}
+use Rattle.std.proofs.Common.{◌≡◌, ℕ, ◌+◌, ◌<◌, ◌≤◌, ◌^◌, Bool, true, false, cond, None, List, [], ◌∷◌, ◌++◌, length, take, refl, sym, ap, subst, arith}
 use Rattle.std.specs.List.{fold, AllByRecursion}
 use Rattle.cov_base.specs.Addresses.{address_in}
-use Rattle.cov_base.proofs.Ordered.{all-map, all-placed}
+use Rattle.cov_base.proofs.CallerLemmas.{all-map, all-placed}
 use Rattle.cov_expr.specs.Formula.{Formula}
 use Rattle.cov_edit.specs.declared.edit.Edit.{Edit}
 use Rattle.cov_edit.specs.declared.edit.Edit.TheVariants as edits
@@ -10,18 +10,15 @@ use Rattle.cov_edit.specs.declared.command.Command.{Command}
 use Rattle.cov_edit.specs.declared.command.Command.TheVariants as commands
 use Rattle.cov_edit.specs.Numbering.{Numbers, Inserted, Deleted, node_number, line_number, nodes_made, no_numbers, numbers_after, numbers_of, numbered_from}
 use Rattle.cov_edit.specs.Replay.{replay}
-use Rattle.cov_edit.proofs.Replays.{numbers_from-append}
+use Rattle.cov_edit.proofs.CallerLemmas.{numbers_from-append}
 use Rattle.cov_view.specs.Refusals.{first_refused}
 use Rattle.cov_history.specs.Kept.{Kept, hidden, hidden_where, kept_address, new_line, kept_after, Holding, kept_of}
 use Rattle.cov_history.specs.Sessions.{has_commit}
 use Rattle.cov_edit.specs.Variant.{Line, is_line}
-use Rattle.cov_engine.specs.Drawing.{AreNear}
-use Rattle.cov_history.specs.Verdict.{verdict, IsLegalFrom, IsLegal}
-use Rattle.cov_history.proofs.Appends.{commit-lines}
-use Rattle.cov_history.proofs.Standing.{all-mapped}
-use Rattle.cov_history.proofs.Orders.{no_commit-holds}
-use Rattle.cov_engine.proofs.States.{numbers-kept}
-use Rattle.cov_history.proofs.Naming.{the_node, AreNamed, made-number, nodes-replay, base-nodes, edits-accepted, further, accepted-named}
+use Rattle.cov_engine.specs.Staging.{AreNear}
+use Rattle.cov_history.specs.Verdict.{verdict, IsLegal}
+use Rattle.cov_history.proofs.CallerLemmas.{commit-lines, all-mapped, no_commit-holds, the_node, AreNamed, made-number, nodes-replay, base-nodes, edits-accepted, further, accepted-named}
+use Rattle.cov_engine.proofs.States.{numbers-kept, along-legal}
 
 -- an accepted commit's edits name nodes of its base, or nodes that they make
 pub edits-named : (history : List Command) (base : ℕ) (choice : List Bool) (es : List Edit)
@@ -33,7 +30,7 @@ edits-named history base choice es accepted =
     (further the_node nb.nodes (nb.nodes + 0) (replay choice (take base history)).rows (omega arith) (nodes-replay choice (take base history)))
     accepted
 
--- the numbers of the nodes that such edits name are small, drawn after more nodes than those of the base
+-- the numbers of the nodes that such edits name are small, counted after more nodes than those of the base
 pub named-near : (n m made : ℕ) (es : List Edit) → n ≤ m → m + (made + nodes_made es) < 2 ^ 32 → AreNamed n made es → AreNear m es
 named-near n m made [] le few named = tt
 named-near n m made (edits.New kind parent name ∷ es) le few named =
@@ -87,10 +84,6 @@ as-before history k none h =
 
 files-one : (history : List Command) (k : Command) → verdict history k ≡ None → AreInFiles (numbers_of history).nodes (kept_of history)
     → AreInFiles (numbers_of (history ++ k ∷ [])).nodes (kept_of (history ++ k ∷ []))
-files-one history (commands.Option name) accepted h = as-before history (commands.Option name) refl h
-files-one history (commands.Constraint expr) accepted h = as-before history (commands.Constraint expr) refl h
-files-one history (commands.Prefer expr) accepted h = as-before history (commands.Prefer expr) refl h
-files-one history (commands.Default option on) accepted h = as-before history (commands.Default option on) refl h
 files-one history (commands.Commit base choice ambition es) accepted h =
     let ns : Numbers = numbers_of history in
     let more : (numbers_of (history ++ commands.Commit base choice ambition es ∷ [])).nodes ≡ ns.nodes + nodes_made es =
@@ -100,12 +93,7 @@ files-one history (commands.Commit base choice ambition es) accepted h =
     (numbers_of (history ++ commands.Commit base choice ambition es ∷ [])).nodes (kept_of history) es (base-nodes base history) (omega (arith, more))
     (edits-named history base choice es (edits-accepted history base choice ambition es accepted))
     (more-files ns.nodes (numbers_of (history ++ commands.Commit base choice ambition es ∷ [])).nodes (kept_of history) (omega (arith, more)) h))
-
-files-from : (before history : List Command) → IsLegalFrom before history → AreInFiles (numbers_of before).nodes (kept_of before)
-    → AreInFiles (numbers_of (before ++ history)).nodes (kept_of (before ++ history))
-files-from before [] legal h = subst (λ hs. AreInFiles (numbers_of hs).nodes (kept_of hs)) (sym (append-nil before)) h
-files-from before (k ∷ history) legal h =
-    subst (λ hs. AreInFiles (numbers_of hs).nodes (kept_of hs)) (append_assoc before (k ∷ []) history) (files-from (before ++ k ∷ []) history legal.2 (files-one before k legal.1 h))
+files-one history k accepted h = as-before history k refl h
 
 pub legal-files : (history : List Command) → IsLegal history → AreInFiles (numbers_of history).nodes (kept_of history)
-legal-files history legal = files-from [] history legal tt
+legal-files history legal = along-legal (λ hs. AreInFiles (numbers_of hs).nodes (kept_of hs)) files-one [] history legal tt

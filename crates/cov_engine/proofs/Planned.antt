@@ -1,89 +1,88 @@
--- The nodes of lines before a commit, and the steps that are planned for it.
+-- The nodes of lines before a commit, and the plans of its edits.
 use Rattle.std.proofs.Common.{◌≡◌, ℕ, zero, suc, ◌+◌, ◌<◌, ◌≤◌, max, Bool, true, false, cond, ◌&&◌, not, nat_eq, List, [], ◌∷◌, ◌++◌, length, get_or, Some, unwrap_or, option_map, append-nil, append_assoc, refl, sym, ap, subst, ◌∙◌, arith}
 use Rattle.std.specs.List.{AllByRecursion, find}
 use Rattle.std.proofs.lemmas.Bool.Decides.{nat_tests}
 use Rattle.cov_dd.specs.declared.triple.Triple.{Triple}
-use Rattle.cov_dd.specs.Diagrams.{node_count, span, value_in, Extends, Stands}
+use Rattle.cov_dd.specs.Diagrams.{diagram_size, span, value_in, Extends, Stands}
 use Rattle.cov_dd.specs.Combinations.{joint_span}
-use Rattle.cov_dd.proofs.CallerLemmas.{extends_trans, stands_later, stands_weaker}
-use Rattle.cov_dd.proofs.Nodes.{some_nodes}
+use Rattle.cov_dd.proofs.CallerLemmas.{extends_trans, stands_later, stands_weaker, some_nodes}
 use Rattle.cov_edit.specs.declared.edit.Edit.{Edit}
 use Rattle.cov_edit.specs.declared.edit.Edit.TheVariants as edits
 use Rattle.cov_edit.specs.Numbering.{node_number, line_number, anchors_of}
 use Rattle.cov_base.specs.declared.number.NodeRef.{NodeRef}
 use Rattle.cov_base.specs.declared.number.LineRef.{LineRef}
-use Rattle.cov_base.proofs.Ordered.{all-map}
-use Rattle.cov_file.specs.Dated.{DatedLine as FileLine, node_at, node_of}
-use Rattle.cov_engine.specs.Drawing.{AreNumbered}
+use Rattle.cov_base.proofs.CallerLemmas.{all-map}
+use Rattle.cov_file.specs.Dated.{DatedLine as FileLine, vis_at, vis_of}
+use Rattle.cov_engine.specs.Staging.{AreNumbered}
 use Rattle.cov_engine.specs.Nodes.{old_node, HasNodesIn}
-use Rattle.cov_engine.specs.Stepping.{ArePlanned, IsPlannedBehind}
-use Rattle.cov_engine.specs.declared.entry.Entry.{Entry}
-use Rattle.cov_engine.specs.declared.step.Step.{Step}
-use Rattle.cov_engine.specs.declared.step.Step.TheVariants as steps
-use Rattle.cov_engine.proofs.Entries.{IsOutside, Below, Above}
-use Rattle.cov_engine.proofs.Rooms.{rest_of, rest-is}
+use Rattle.cov_engine.specs.Carrying.{ArePlanned, IsPlannedBehind}
+use Rattle.cov_engine.specs.declared.stored_file.StoredFile.{StoredFile}
+use Rattle.cov_engine.specs.declared.edit_plan.EditPlan.{EditPlan}
+use Rattle.cov_engine.specs.declared.edit_plan.EditPlan.TheVariants as plans
+use Rattle.cov_engine.proofs.StoredFiles.{IsOutside, Below, Above}
+use Rattle.cov_edit.proofs.CallerLemmas.{rest_of, rest-is}
 
-differs-outside : (k file : ℕ) (e : Entry) (es : List Entry) → e.node ≡ k + 1 → IsOutside k (suc (length es)) file → nat_eq e.node file ≡ false
+differs-outside : (k file : ℕ) (e : StoredFile) (es : List StoredFile) → e.node ≡ k + 1 → IsOutside k (suc (length es)) file → nat_eq e.node file ≡ false
 differs-outside k file e es is (Below h) = grind (arith, nat_tests, is, h)
 differs-outside k file e es is (Above h) = grind (arith, nat_tests, is, h)
 
-rest-outside : (k file : ℕ) (es : List Entry) → IsOutside k (suc (length es)) file → IsOutside (k + 1) (length es) file
+rest-outside : (k file : ℕ) (es : List StoredFile) → IsOutside k (suc (length es)) file → IsOutside (k + 1) (length es) file
 rest-outside k file es (Below h) = Below (omega (arith, h))
 rest-outside k file es (Above h) = Above (omega (arith, h))
 
--- a file without an entry has no node for a line
-pub old-outside : (p k file line : ℕ) (es : List Entry) → AreNumbered k es → IsOutside k (length es) file → old_node p es file line ≡ 0
+-- a file without a stored file has no node for a line
+pub old-outside : (p k file line : ℕ) (es : List StoredFile) → AreNumbered k es → IsOutside k (length es) file → old_node p es file line ≡ 0
 old-outside p k file line [] numbered out = refl
 old-outside p k file line (e ∷ es) numbered out =
-    ap (λ b. cond b (unwrap_or (node_of line p e.file.lines) 0) (old_node p es file line)) (differs-outside k file e es numbered.0 out)
+    ap (λ b. cond b (unwrap_or (vis_of line p e.file.lines) 0) (old_node p es file line)) (differs-outside k file e es numbered.0 out)
     ∙ old-outside p (k + 1) file line es numbered.1 (rest-outside k file es out)
 
--- a file's node for a line is that of its entry
-pub old-at : (p k file line i : ℕ) (es : List Entry) (d : Entry) → AreNumbered k es → file ≡ k + 1 + i → i < length es
-    → old_node p es file line ≡ unwrap_or (node_of line p (get_or es i d).file.lines) 0
+-- a file's node for a line is that of its stored file
+pub old-at : (p k file line i : ℕ) (es : List StoredFile) (d : StoredFile) → AreNumbered k es → file ≡ k + 1 + i → i < length es
+    → old_node p es file line ≡ unwrap_or (vis_of line p (get_or es i d).file.lines) 0
 old-at p k file line i [] d numbered is h = absurd (omega (arith, h))
 old-at p k file line zero (e ∷ es) d numbered is h =
     let it : e.node ≡ k + 1 = numbered.0 in
     let same : nat_eq e.node file ≡ true = grind (arith, nat_tests, it, is) in
-    ap (λ b. cond b (unwrap_or (node_of line p e.file.lines) 0) (old_node p es file line)) same
+    ap (λ b. cond b (unwrap_or (vis_of line p e.file.lines) 0) (old_node p es file line)) same
 old-at p k file line (suc i) (e ∷ es) d numbered is h =
     let it : e.node ≡ k + 1 = numbered.0 in
     let differs : nat_eq e.node file ≡ false = grind (arith, nat_tests, it, is) in
-    ap (λ b. cond b (unwrap_or (node_of line p e.file.lines) 0) (old_node p es file line)) differs
+    ap (λ b. cond b (unwrap_or (vis_of line p e.file.lines) 0) (old_node p es file line)) differs
     ∙ old-at p (k + 1) file line i es d numbered.1 (omega (arith, is)) (omega (arith, h))
 
-node-within : (ts : List Triple) (p line : ℕ) (ls : List FileLine) → AllByRecursion (λ l. node_at l.changes p < node_count ts) ls → unwrap_or (node_of line p ls) 0 < node_count ts
+node-within : (ts : List Triple) (p line : ℕ) (ls : List FileLine) → AllByRecursion (λ l. vis_at l.changes p < diagram_size ts) ls → unwrap_or (vis_of line p ls) 0 < diagram_size ts
 node-within ts p line [] all = let some = some_nodes ts in omega (arith, some)
 node-within ts p line (l ∷ ls) all = at (nat_eq l.line line) (node-within ts p line ls all.1)
   where
-    at : (b : Bool) → unwrap_or (node_of line p ls) 0 < node_count ts
-        → unwrap_or (option_map (λ (k : FileLine). node_at k.changes p) (cond b (Some l) (find (λ k. nat_eq k.line line) ls))) 0 < node_count ts
+    at : (b : Bool) → unwrap_or (vis_of line p ls) 0 < diagram_size ts
+        → unwrap_or (option_map (λ (k : FileLine). vis_at k.changes p) (cond b (Some l) (find (λ k. nat_eq k.line line) ls))) 0 < diagram_size ts
     at true rest = all.0
     at false rest = rest
 
--- it is a node of the table of which the entries' nodes are
-pub old-within : (ts : List Triple) (p file line : ℕ) (es : List Entry) → AllByRecursion (HasNodesIn ts p) es → old_node p es file line < node_count ts
+-- it is a node of the table of which the stored files' nodes are
+pub old-within : (ts : List Triple) (p file line : ℕ) (es : List StoredFile) → AllByRecursion (HasNodesIn ts p) es → old_node p es file line < diagram_size ts
 old-within ts p file line [] all = let some = some_nodes ts in omega (arith, some)
 old-within ts p file line (e ∷ es) all = at (nat_eq e.node file) (old-within ts p file line es all.1)
   where
-    at : (b : Bool) → old_node p es file line < node_count ts → cond b (unwrap_or (node_of line p e.file.lines) 0) (old_node p es file line) < node_count ts
+    at : (b : Bool) → old_node p es file line < diagram_size ts → cond b (unwrap_or (vis_of line p e.file.lines) 0) (old_node p es file line) < diagram_size ts
     at true rest = node-within ts p line e.file.lines all.0.nodes
     at false rest = rest
 
--- no change of an entry is beyond the position
-pub newest-within : (ts : List Triple) (p : ℕ) (es : List Entry) → AllByRecursion (HasNodesIn ts p) es → AllByRecursion (λ e. e.file.newest ≤ p) es
+-- no change of a stored file is beyond the position
+pub newest-within : (ts : List Triple) (p : ℕ) (es : List StoredFile) → AllByRecursion (HasNodesIn ts p) es → AllByRecursion (λ e. e.file.newest ≤ p) es
 newest-within ts p es all = all-map (HasNodesIn ts p) (λ e. e.file.newest ≤ p) (λ e h. h.newest) es all
 
--- the entries' nodes are of a longer table too
-pub nodes-later : (ts us : List Triple) (p : ℕ) (es : List Entry) → Extends ts us → AllByRecursion (HasNodesIn ts p) es → AllByRecursion (HasNodesIn us p) es
+-- the stored files' nodes are of a longer table too
+pub nodes-later : (ts us : List Triple) (p : ℕ) (es : List StoredFile) → Extends ts us → AllByRecursion (HasNodesIn ts p) es → AllByRecursion (HasNodesIn us p) es
 nodes-later ts us p es x all =
     all-map (HasNodesIn ts p) (HasNodesIn us p)
     (λ e h. record {
-      nodes = all-map (λ l. node_at l.changes p < node_count ts) (λ l. node_at l.changes p < node_count us) (λ l less. let more = x.count in omega (arith, less, more)) e.file.lines h.nodes;
+      nodes = all-map (λ l. vis_at l.changes p < diagram_size ts) (λ l. vis_at l.changes p < diagram_size us) (λ l less. let more = x.count in omega (arith, less, more)) e.file.lines h.nodes;
       newest = h.newest;
     }) es all
 
-taken-later : (ts new us : List Triple) (old a vis least : ℕ) → Extends ts new → Extends new us → old < node_count ts → a < node_count ts
+taken-later : (ts new us : List Triple) (old a vis least : ℕ) → Extends ts new → Extends new us → old < diagram_size ts → a < diagram_size ts
     → Stands new vis least (joint_span ts old a) (λ c. value_in ts old c && not (value_in ts a c)) → Stands us vis 0 (joint_span us old a) (λ c. value_in us old c && not (value_in us a c))
 taken-later ts new us old a vis least x y within_old within_a s =
     let z : Extends ts us = extends_trans ts new us x y in
@@ -94,24 +93,24 @@ taken-later ts new us old a vis least x y within_old within_a s =
     (λ c. ap (λ b. b && not (value_in ts a c)) (sym (z.value old within_old c)) ∙ ap (λ b. value_in us old c && not b) (sym (z.value a within_a c)))
     (stands_later y s)
 
-module _ (p : ℕ) (entries : List Entry) (n m ambition : ℕ) where
-  -- a delete's step goes behind others
-  pub delete-planned : (ts new : List Triple) (made old vis least : ℕ) (file : NodeRef) (line : LineRef) (before behind : List Step) (edit : Edit) (step : Step)
-      → Extends ts new → AllByRecursion (HasNodesIn ts p) entries → ambition < node_count ts → old ≡ old_node p entries (node_number n file) (line_number m line)
+module _ (p : ℕ) (stored : List StoredFile) (n m ambition : ℕ) where
+  -- a delete's plan goes behind others
+  pub delete-planned : (ts new : List Triple) (made old vis least : ℕ) (file : NodeRef) (line : LineRef) (before behind : List EditPlan) (edit : Edit) (plan : EditPlan)
+      → Extends ts new → AllByRecursion (HasNodesIn ts p) stored → ambition < diagram_size ts → old ≡ old_node p stored (node_number n file) (line_number m line)
       → Stands new vis least (joint_span ts old ambition) (λ c. value_in ts old c && not (value_in ts ambition c))
-      → edit ≡ edits.Delete file line → step ≡ steps.Delete (node_number n file) (line_number m line) vis → behind ≡ before ++ step ∷ []
-      → IsPlannedBehind p entries n m ambition new made edit before behind
-  delete-planned ts new made old vis least file line before behind edit step x nodes within is stands ee se put = (
-    step ∷ [],
+      → edit ≡ edits.Delete file line → plan ≡ plans.Delete (node_number n file) (line_number m line) vis → behind ≡ before ++ plan ∷ []
+      → IsPlannedBehind p stored n m ambition new made edit before behind
+  delete-planned ts new made old vis least file line before behind edit plan x nodes within is stands ee se put = (
+    plan ∷ [],
     put,
     λ us y es ss planned.
-        subst (λ e. ArePlanned p entries n m ambition us made (e ∷ es) (step ∷ ss)) (sym ee) (
+        subst (λ e. ArePlanned p stored n m ambition us made (e ∷ es) (plan ∷ ss)) (sym ee) (
           vis,
           ss,
           ap (λ s. s ∷ ss) se,
           subst (λ k. Stands us vis 0 (joint_span us k ambition) (λ c. value_in us k c && not (value_in us ambition c))) is
-              (taken-later ts new us old ambition vis least x y (subst (λ k. k < node_count ts) (sym is) (old-within ts p (node_number n file) (line_number m line) entries nodes)) within stands),
-          subst (λ k. ArePlanned p entries n m ambition us k es ss) (ap (λ e. made + length (anchors_of 0 (e ∷ []))) ee ∙ (let zero_more : made + 0 ≡ made = omega arith in zero_more)) planned,
+              (taken-later ts new us old ambition vis least x y (subst (λ k. k < diagram_size ts) (sym is) (old-within ts p (node_number n file) (line_number m line) stored nodes)) within stands),
+          subst (λ k. ArePlanned p stored n m ambition us k es ss) (ap (λ e. made + length (anchors_of 0 (e ∷ []))) ee ∙ (let zero_more : made + 0 ≡ made = omega arith in zero_more)) planned,
         ),
   )
 
@@ -127,21 +126,21 @@ module _ (made next : ℕ) (edit d : Edit) (more : next ≡ made + length (ancho
       subst (λ rest. next + length (anchors_of 0 rest) < most) (sym (rest-is e es))
       (let both = anchors-first e es in let one : length (anchors_of 0 (edit ∷ [])) ≡ length (anchors_of 0 (e ∷ [])) = ap (λ x. length (anchors_of 0 (x ∷ []))) is in omega (arith, few, more, both, one))
 
-  module _ (p : ℕ) (entries : List Entry) (n m ambition : ℕ) where
-    -- with the steps of the rest behind those of an edit, all are planned
-    pub planned-rest : (ts us : List Triple) (ahead : List Edit) (old new ss : List Step) → edit ≡ get_or ahead 0 d → 1 ≤ length ahead → Extends ts us
-        → IsPlannedBehind p entries n m ambition ts made edit old new → ArePlanned p entries n m ambition us next (rest_of ahead) ss
-        → (all : List Step) × (new ++ ss ≡ old ++ all) × ArePlanned p entries n m ambition us made ahead all
+  module _ (p : ℕ) (stored : List StoredFile) (n m ambition : ℕ) where
+    -- with the plans of the rest behind those of an edit, all are planned
+    pub planned-rest : (ts us : List Triple) (ahead : List Edit) (old new ss : List EditPlan) → edit ≡ get_or ahead 0 d → 1 ≤ length ahead → Extends ts us
+        → IsPlannedBehind p stored n m ambition ts made edit old new → ArePlanned p stored n m ambition us next (rest_of ahead) ss
+        → (all : List EditPlan) × (new ++ ss ≡ old ++ all) × ArePlanned p stored n m ambition us made ahead all
     planned-rest ts us [] old new ss is h x behind planned = absurd (omega (arith, h))
     planned-rest ts us (e ∷ es) old new ss is h x behind planned = (
       behind.0 ++ ss,
       ap (λ l. l ++ ss) behind.1 ∙ append_assoc old behind.0 ss,
-      subst (λ y. ArePlanned p entries n m ambition us made (y ∷ es) (behind.0 ++ ss)) is
-          (behind.2 us x es ss (subst (λ k. ArePlanned p entries n m ambition us k es ss) more (subst (λ rest. ArePlanned p entries n m ambition us next rest ss) (rest-is e es) planned))),
+      subst (λ y. ArePlanned p stored n m ambition us made (y ∷ es) (behind.0 ++ ss)) is
+          (behind.2 us x es ss (subst (λ k. ArePlanned p stored n m ambition us k es ss) more (subst (λ rest. ArePlanned p stored n m ambition us next rest ss) (rest-is e es) planned))),
     )
 
--- with no edit ahead, what there is are the steps
-pub planned-end : (p : ℕ) (entries : List Entry) (n m ambition : ℕ) (us : List Triple) (made start : ℕ) (es ahead : List Edit) (ss : List Step) → length ahead < 1
-    → ((rest : List Step) → ArePlanned p entries n m ambition us made ahead rest → ArePlanned p entries n m ambition us start es (ss ++ rest)) → ArePlanned p entries n m ambition us start es ss
-planned-end p entries n m ambition us made start es [] ss h on = subst (ArePlanned p entries n m ambition us start es) (append-nil ss) (on [] refl)
-planned-end p entries n m ambition us made start es (e ∷ ahead) ss h on = absurd (omega (arith, h))
+-- with no edit ahead, what there is are the plans
+pub planned-end : (p : ℕ) (stored : List StoredFile) (n m ambition : ℕ) (us : List Triple) (made start : ℕ) (es ahead : List Edit) (ss : List EditPlan) → length ahead < 1
+    → ((rest : List EditPlan) → ArePlanned p stored n m ambition us made ahead rest → ArePlanned p stored n m ambition us start es (ss ++ rest)) → ArePlanned p stored n m ambition us start es ss
+planned-end p stored n m ambition us made start es [] ss h on = subst (ArePlanned p stored n m ambition us start es) (append-nil ss) (on [] refl)
+planned-end p stored n m ambition us made start es (e ∷ ahead) ss h on = absurd (omega (arith, h))

@@ -1,39 +1,26 @@
 -- Room for what edits do to files, counted edit by edit.
-use Rattle.std.proofs.Common.{◌≡◌, ℕ, zero, suc, ◌+◌, ◌-◌, ◌<◌, ◌≤◌, Bool, true, false, cond, ◌&&◌, ◌||◌, nat_eq, List, [], ◌∷◌, ◌++◌, length, map, take, drop, get_or, is_none, Option, Some, None, refl, sym, ap, subst, ◌∙◌, arith}
+use Rattle.std.proofs.Common.{◌≡◌, ℕ, suc, ◌+◌, ◌-◌, ◌<◌, ◌≤◌, Bool, true, false, cond, ◌&&◌, ◌||◌, nat_eq, List, [], ◌∷◌, ◌++◌, length, map, take, get_or, is_none, Option, Some, None, refl, sym, ap, subst, ◌∙◌, arith}
 use Rattle.std.specs.List.{AllByRecursion}
+use Rattle.std.proofs.lemmas.List.{take-map, length-map}
 use Rattle.std.proofs.lemmas.Bool.{or_right}
 use Rattle.std.proofs.lemmas.Bool.Decides.{nat_tests}
 use Rattle.std.proofs.lemmas.List.Folds.{list_any-append}
-use Rattle.cov_base.proofs.Ordered.{all-map}
+use Rattle.cov_base.proofs.CallerLemmas.{all-map}
+use Rattle.cov_edit.proofs.CallerLemmas.{rest_of, opened}
+use Rattle.cov_base.specs.declared.number.Kind.{Kind}
 use Rattle.cov_base.specs.declared.number.NodeRef.{NodeRef}
 use Rattle.cov_base.specs.declared.number.LineRef.{LineRef}
+use Rattle.cov_base.specs.declared.limits.TheConstants.{LIMITS}
 use Rattle.cov_edit.specs.declared.edit.Edit.{Edit}
 use Rattle.cov_edit.specs.declared.edit.Edit.TheVariants as edits
 use Rattle.cov_edit.specs.Numbering.{node_number, line_number}
-use Rattle.cov_file.specs.Dated.{numbers_of}
+use Rattle.cov_file.specs.Dated.{line_numbers_of}
 use Rattle.cov_file.specs.Rooms.{IsMade}
 use Rattle.cov_order.specs.Orders.{has_line}
-use Rattle.cov_engine.specs.declared.entry.Entry.{Entry}
-use Rattle.cov_engine.specs.Drawing.{Stored, stored, new_entries, inserts_into, deletes_from, touches, AreNumbered, HasRoom, IsReadyBut}
-use Rattle.cov_engine.specs.Stepping.{IsChangedIn, IsExpectingInsert, IsExpectingDelete, ExpectsInsert, ExpectsDelete}
-use Rattle.cov_engine.proofs.Entries.{AreNumbers, to-numbers, from-numbers, node-stored, all-pairs}
-
--- the edits after the first
-abbrev pub rest_of : List Edit → List Edit
-rest_of es = take (length es - 1) (drop 1 es)
-
-all-there : (es : List Edit) → take (length es) es ≡ es
-all-there [] = refl
-all-there (e ∷ es) = ap (λ l. e ∷ l) (all-there es)
-
-pub rest-is : (e : Edit) (es : List Edit) → rest_of (e ∷ es) ≡ es
-rest-is e es =
-    let less : length (e ∷ es) - 1 ≡ length es = omega arith in
-    ap (λ n. take n es) less ∙ all-there es
-
-pub all-rest : (P : Edit → Type 0) (es : List Edit) → AllByRecursion P es → AllByRecursion P (rest_of es)
-all-rest P [] h = tt
-all-rest P (e ∷ es) h = subst (AllByRecursion P) (sym (rest-is e es)) h.1
+use Rattle.cov_engine.specs.declared.stored_file.StoredFile.{StoredFile}
+use Rattle.cov_engine.specs.Staging.{Contents, contents, new_files, inserts_into, deletes_from, touches, AreNumbered, HasRoom}
+use Rattle.cov_engine.specs.Carrying.{IsChangedIn, IsExpectingInsert, IsExpectingDelete, Expects}
+use Rattle.cov_engine.proofs.StoredFiles.{AreNumbers, to-numbers, from-numbers, node-contents, all-pairs}
 
 inserts-few : (n node : ℕ) (es : List Edit) → inserts_into n node es ≤ length es
 inserts-few n node [] = omega arith
@@ -64,10 +51,19 @@ moved false false false false h = h
 listed-more : (which line : ℕ) (lines : List ℕ) → has_line which (lines ++ line ∷ []) ≡ (has_line which lines || (nat_eq line which || false))
 listed-more which line lines = list_any-append (λ n. nat_eq n which) lines (line ∷ [])
 
+-- a stored file has room for what edits do to its file but for those ahead, and they are counted for it
+pub record IsReadyBut (n m : ℕ) (es ahead : List Edit) (e : StoredFile) : Type 0 where
+  pub inserts : inserts_into n e.node es ≤ e.file.room.inserts + inserts_into n e.node ahead
+  pub counted : inserts_into n e.node es ≤ e.coming.inserts + inserts_into n e.node ahead
+  pub listed : (line : ℕ) → deletes_from n m e.node line es ≡ true → (deletes_from n m e.node line ahead || has_line line e.coming.deletes) ≡ true
+  pub changes : (line : ℕ) → deletes_from n m e.node line es ≡ true → has_line line (line_numbers_of e.file.lines) ≡ true
+      → (deletes_from n m e.node line ahead || has_line line e.file.room.changes) ≡ true
+  pub position : touches n e.node es ≡ true → (touches n e.node ahead || is_none e.file.room.position) ≡ true
+
 module _ (n m : ℕ) (es ahead : List Edit) where
-  made : (e : Entry) → inserts_into n e.node es ≤ e.coming.inserts + inserts_into n e.node ahead
+  made : (e : StoredFile) → inserts_into n e.node es ≤ e.coming.inserts + inserts_into n e.node ahead
       → ((line : ℕ) → deletes_from n m e.node line es ≡ true → (deletes_from n m e.node line ahead || has_line line e.coming.deletes) ≡ true)
-      → IsMade e.file.room (numbers_of e.file.lines) e.coming.inserts e.coming.deletes → IsReadyBut n m es ahead e
+      → IsMade e.file.room (line_numbers_of e.file.lines) e.coming.inserts e.coming.deletes → IsReadyBut n m es ahead e
   made e counted listed room = record {
     inserts = let enough = room.inserts in omega (arith, counted, enough);
     counted = counted;
@@ -77,12 +73,12 @@ module _ (n m : ℕ) (es ahead : List Edit) where
     position = λ touched. or_right (touches n e.node ahead) (is_none e.file.room.position) (ap is_none room.position);
   }
 
-  insert-here : (file : NodeRef) (after : LineRef) (text : List ℕ) (old new : Entry) → length es ≤ 16384 → nat_eq (node_number n file) old.node ≡ true → IsExpectingInsert old new
+  insert-here : (file : NodeRef) (after : LineRef) (text : List ℕ) (old new : StoredFile) → length es ≤ LIMITS.edits → nat_eq (node_number n file) old.node ≡ true → IsExpectingInsert old new
       → IsReadyBut n m es (edits.Insert file after text ∷ ahead) old → IsReadyBut n m es ahead new
   insert-here file after text old new few here h ready = made new counted listed h.room
     where
       node : new.node ≡ old.node
-      node = node-stored new old h.row
+      node = node-contents new old h.row
 
       more : inserts_into n old.node es ≤ old.coming.inserts + suc (inserts_into n old.node ahead)
       more = subst (λ b. inserts_into n old.node es ≤ old.coming.inserts + cond b (suc (inserts_into n old.node ahead)) (inserts_into n old.node ahead)) here ready.counted
@@ -100,7 +96,7 @@ module _ (n m : ℕ) (es ahead : List Edit) where
           subst (λ k. deletes_from n m k line es ≡ true → (deletes_from n m k line ahead || has_line line new.coming.deletes) ≡ true) (sym node)
           (subst (λ ls. deletes_from n m old.node line es ≡ true → (deletes_from n m old.node line ahead || has_line line ls) ≡ true) (sym h.deletes) (ready.listed line))
 
-  insert-elsewhere : (file : NodeRef) (after : LineRef) (text : List ℕ) (e : Entry) → nat_eq (node_number n file) e.node ≡ false
+  insert-elsewhere : (file : NodeRef) (after : LineRef) (text : List ℕ) (e : StoredFile) → nat_eq (node_number n file) e.node ≡ false
       → IsReadyBut n m es (edits.Insert file after text ∷ ahead) e → IsReadyBut n m es ahead e
   insert-elsewhere file after text e differs ready = record {
     inserts = subst (λ b. inserts_into n e.node es ≤ e.file.room.inserts + cond b (suc (inserts_into n e.node ahead)) (inserts_into n e.node ahead)) differs ready.inserts;
@@ -110,7 +106,7 @@ module _ (n m : ℕ) (es ahead : List Edit) where
     position = λ touched. subst (λ b. ((b || touches n e.node ahead) || is_none e.file.room.position) ≡ true) differs (ready.position touched);
   }
 
-  insert-one : (file : NodeRef) (after : LineRef) (text : List ℕ) → length es ≤ 16384 → (old new : Entry) → IsChangedIn (node_number n file) IsExpectingInsert old new
+  insert-one : (file : NodeRef) (after : LineRef) (text : List ℕ) → length es ≤ LIMITS.edits → (old new : StoredFile) → IsChangedIn (node_number n file) IsExpectingInsert old new
       → IsReadyBut n m es (edits.Insert file after text ∷ ahead) old → IsReadyBut n m es ahead new
   insert-one file after text few old new h ready = by (nat_eq old.node (node_number n file)) refl
     where
@@ -119,12 +115,12 @@ module _ (n m : ℕ) (es ahead : List Edit) where
       by false e =
           subst (IsReadyBut n m es ahead) (sym (h.elsewhere e)) (insert-elsewhere file after text old (flip old.node (node_number n file) false e) ready)
 
-  delete-here : (file : NodeRef) (line : LineRef) (old new : Entry) → IsExpectingDelete (line_number m line) old new
+  delete-here : (file : NodeRef) (line : LineRef) (old new : StoredFile) → IsExpectingDelete (line_number m line) old new
       → IsReadyBut n m es (edits.Delete file line ∷ ahead) old → IsReadyBut n m es ahead new
   delete-here file line old new h ready = made new counted listed h.room
     where
       node : new.node ≡ old.node
-      node = node-stored new old h.row
+      node = node-contents new old h.row
 
       counted : inserts_into n new.node es ≤ new.coming.inserts + inserts_into n new.node ahead
       counted =
@@ -138,7 +134,7 @@ module _ (n m : ℕ) (es ahead : List Edit) where
           subst (λ b. (deletes_from n m old.node which ahead || b) ≡ true) (sym (ap (has_line which) h.deletes ∙ listed-more which (line_number m line) old.coming.deletes))
           (moved (nat_eq (node_number n file) old.node) (nat_eq (line_number m line) which) (deletes_from n m old.node which ahead) (has_line which old.coming.deletes) (ready.listed which deleted)))
 
-  delete-elsewhere : (file : NodeRef) (line : LineRef) (e : Entry) → nat_eq (node_number n file) e.node ≡ false
+  delete-elsewhere : (file : NodeRef) (line : LineRef) (e : StoredFile) → nat_eq (node_number n file) e.node ≡ false
       → IsReadyBut n m es (edits.Delete file line ∷ ahead) e → IsReadyBut n m es ahead e
   delete-elsewhere file line e differs ready = record {
     inserts = ready.inserts;
@@ -150,7 +146,7 @@ module _ (n m : ℕ) (es ahead : List Edit) where
     position = λ touched. subst (λ b. ((b || touches n e.node ahead) || is_none e.file.room.position) ≡ true) differs (ready.position touched);
   }
 
-  delete-one : (file : NodeRef) (line : LineRef) (old new : Entry) → IsChangedIn (node_number n file) (IsExpectingDelete (line_number m line)) old new
+  delete-one : (file : NodeRef) (line : LineRef) (old new : StoredFile) → IsChangedIn (node_number n file) (IsExpectingDelete (line_number m line)) old new
       → IsReadyBut n m es (edits.Delete file line ∷ ahead) old → IsReadyBut n m es ahead new
   delete-one file line old new h ready = by (nat_eq old.node (node_number n file)) refl
     where
@@ -158,72 +154,64 @@ module _ (n m : ℕ) (es ahead : List Edit) where
       by true e = delete-here file line old new (h.here e) ready
       by false e = subst (IsReadyBut n m es ahead) (sym (h.elsewhere e)) (delete-elsewhere file line old (flip old.node (node_number n file) false e) ready)
 
-  -- once an insert is expected, there is room but for the edits after it
-  pub insert-expected : (edit : Edit) (file : NodeRef) (after : LineRef) (text : List ℕ) (place : ℕ) (old new : List Entry) → edit ≡ edits.Insert file after text → place ≡ node_number n file
-      → ExpectsInsert place old new → length es ≤ 16384 → AllByRecursion (IsReadyBut n m es (edit ∷ ahead)) old → AllByRecursion (IsReadyBut n m es ahead) new
-  insert-expected edit file after text place old new is there pairs few ready =
-      all-pairs (IsChangedIn (node_number n file) IsExpectingInsert) (IsReadyBut n m es (edits.Insert file after text ∷ ahead)) (IsReadyBut n m es ahead) (insert-one file after text few) old new
-      (subst (λ k. ExpectsInsert k old new) there pairs) (subst (λ x. AllByRecursion (IsReadyBut n m es (x ∷ ahead)) old) is ready)
+  new-row : (kind : Kind) (parent : NodeRef) (name : List ℕ) (e : StoredFile) → IsReadyBut n m es (edits.New kind parent name ∷ ahead) e → IsReadyBut n m es ahead e
+  new-row kind parent name e ready = record {
+    inserts = ready.inserts;
+    counted = ready.counted;
+    listed = ready.listed;
+    changes = ready.changes;
+    position = ready.position;
+  }
 
-  -- so once a delete is
-  pub delete-expected : (edit : Edit) (file : NodeRef) (line : LineRef) (place which : ℕ) (old new : List Entry) → edit ≡ edits.Delete file line → place ≡ node_number n file → which ≡ line_number m line
-      → ExpectsDelete place which old new → AllByRecursion (IsReadyBut n m es (edit ∷ ahead)) old → AllByRecursion (IsReadyBut n m es ahead) new
-  delete-expected edit file line place which old new is there that pairs ready =
-      all-pairs (IsChangedIn (node_number n file) (IsExpectingDelete (line_number m line))) (IsReadyBut n m es (edits.Delete file line ∷ ahead)) (IsReadyBut n m es ahead) (delete-one file line) old new
-      (subst (λ l. ExpectsDelete (node_number n file) l old new) that (subst (λ k. ExpectsDelete k which old new) there pairs))
-      (subst (λ x. AllByRecursion (IsReadyBut n m es (x ∷ ahead)) old) is ready)
+  -- once what an edit does is expected, there is room but for the edits after it
+  pub expected : (edit : Edit) (old new : List StoredFile) → Expects n m edit old new → length es ≤ LIMITS.edits
+      → AllByRecursion (IsReadyBut n m es (edit ∷ ahead)) old → AllByRecursion (IsReadyBut n m es ahead) new
+  expected (edits.New kind parent name) old new same few ready =
+      subst (AllByRecursion (IsReadyBut n m es ahead)) (sym same) (all-map (IsReadyBut n m es (edits.New kind parent name ∷ ahead)) (IsReadyBut n m es ahead) (new-row kind parent name) old ready)
+  expected (edits.Insert file after text) old new pairs few ready =
+      all-pairs (IsChangedIn (node_number n file) IsExpectingInsert) (IsReadyBut n m es (edits.Insert file after text ∷ ahead)) (IsReadyBut n m es ahead) (insert-one file after text few) old new pairs ready
+  expected (edits.Delete file line) old new pairs few ready =
+      all-pairs (IsChangedIn (node_number n file) (IsExpectingDelete (line_number m line))) (IsReadyBut n m es (edits.Delete file line ∷ ahead)) (IsReadyBut n m es ahead) (delete-one file line) old new pairs ready
 
-pub ready-rest : (n m : ℕ) (es ahead : List Edit) (edit d : Edit) (old new : List Entry) → edit ≡ get_or ahead 0 d → 1 ≤ length ahead
-    → ((rest : List Edit) → AllByRecursion (IsReadyBut n m es (edit ∷ rest)) old → AllByRecursion (IsReadyBut n m es rest) new)
+pub ready-rest : (n m : ℕ) (es ahead : List Edit) (edit d : Edit) (old new : List StoredFile) → edit ≡ get_or ahead 0 d → 1 ≤ length ahead → Expects n m edit old new → length es ≤ LIMITS.edits
     → AllByRecursion (IsReadyBut n m es ahead) old → AllByRecursion (IsReadyBut n m es (rest_of ahead)) new
-ready-rest n m es [] edit d old new is h step ready = absurd (omega (arith, h))
-ready-rest n m es (e ∷ ahead) edit d old new is h step ready =
-    subst (λ rest. AllByRecursion (IsReadyBut n m es rest) new) (sym (rest-is e ahead))
-    (step ahead (subst (λ x. AllByRecursion (IsReadyBut n m es (x ∷ ahead)) old) (sym is) ready))
+ready-rest n m es ahead edit d old new is h expects few ready =
+    expected n m es (rest_of ahead) edit old new expects few (subst (λ xs. AllByRecursion (IsReadyBut n m es xs) old) (opened edit d ahead is h) ready)
 
 none-is : (o : Option ℕ) → is_none o ≡ true → o ≡ None
 none-is None h = refl
 none-is (Some p) h = absurd (cc)
 
-ready-all : (n m : ℕ) (es : List Edit) (e : Entry) → IsReadyBut n m es [] e → HasRoom n m es e
+ready-all : (n m : ℕ) (es : List Edit) (e : StoredFile) → IsReadyBut n m es [] e → HasRoom n m es e
 ready-all n m es e ready = record {
   inserts = let enough = ready.inserts in omega (arith, enough);
   changes = ready.changes;
   position = λ touched. none-is e.file.room.position (ready.position touched);
 }
 
-pub ready-end : (n m : ℕ) (es ahead : List Edit) (entries : List Entry) → length ahead < 1 → AllByRecursion (IsReadyBut n m es ahead) entries → AllByRecursion (HasRoom n m es) entries
-ready-end n m es [] entries h ready = all-map (IsReadyBut n m es []) (HasRoom n m es) (ready-all n m es) entries ready
-ready-end n m es (e ∷ ahead) entries h ready = absurd (omega (arith, h))
+pub ready-end : (n m : ℕ) (es ahead : List Edit) (stored : List StoredFile) → length ahead < 1 → AllByRecursion (IsReadyBut n m es ahead) stored → AllByRecursion (HasRoom n m es) stored
+ready-end n m es [] stored h ready = all-map (IsReadyBut n m es []) (HasRoom n m es) (ready-all n m es) stored ready
+ready-end n m es (e ∷ ahead) stored h ready = absurd (omega (arith, h))
 
-map-take : (n : ℕ) (es fs : List Entry) → map stored es ≡ map stored fs → map stored (take n es) ≡ map stored (take n fs)
-map-take n es fs h = taken n es ∙ ap (take n) h ∙ sym (taken n fs)
-  where
-    taken : (n : ℕ) (es : List Entry) → map stored (take n es) ≡ take n (map stored es)
-    taken zero es = refl
-    taken (suc n) [] = refl
-    taken (suc n) (e ∷ es) = ap (λ l. stored e ∷ l) (taken n es)
+map-take : (n : ℕ) (es fs : List StoredFile) → map contents es ≡ map contents fs → map contents (take n es) ≡ map contents (take n fs)
+map-take n es fs h = sym (take-map contents n es) ∙ ap (take n) h ∙ take-map contents n fs
 
--- the entries of the front are the same but for their room
-pub front-stored : (old drawn now : List Entry) → take (length old) drawn ≡ old → map stored now ≡ map stored drawn → map stored (take (length old) now) ≡ map stored old
-front-stored old drawn now front same = map-take (length old) now drawn same ∙ ap (map stored) front
+-- the stored files of the front are the same but for their room
+pub front-contents : (old staged now : List StoredFile) → take (length old) staged ≡ old → map contents now ≡ map contents staged → map contents (take (length old) now) ≡ map contents old
+front-contents old staged now front same = map-take (length old) now staged same ∙ ap (map contents) front
 
-numbers-append : (k n commit made : ℕ) (es : List Edit) → made ≡ k → AreNumbers k (new_entries n commit made es)
+numbers-append : (k n commit made : ℕ) (es : List Edit) → made ≡ k → AreNumbers k (new_files n commit made es)
 numbers-append k n commit made [] e = tt
 numbers-append k n commit made (edits.New kind parent name ∷ es) e = (omega (arith, e), numbers-append (k + 1) n commit (made + 1) es (omega (arith, e)))
 numbers-append k n commit made (edits.Insert file after text ∷ es) e = numbers-append k n commit made es e
 numbers-append k n commit made (edits.Delete file line ∷ es) e = numbers-append k n commit made es e
 
-numbers-both : (k end : ℕ) (ss ts : List Stored) → end ≡ k + length ss → AreNumbers k ss → AreNumbers end ts → AreNumbers k (ss ++ ts)
+numbers-both : (k end : ℕ) (ss ts : List Contents) → end ≡ k + length ss → AreNumbers k ss → AreNumbers end ts → AreNumbers k (ss ++ ts)
 numbers-both k end [] ts e h g = let same : end ≡ k = omega (arith, e) in subst (λ n. AreNumbers n ts) same g
 numbers-both k end (s ∷ ss) ts e h g = (h.0, numbers-both (k + 1) end ss ts (omega (arith, e)) h.1 g)
 
-pub map-length : (es : List Entry) → length (map stored es) ≡ length es
-map-length [] = refl
-map-length (e ∷ es) = ap (λ n. suc n) (map-length es)
-
--- the entries that are drawn go on with the numbers
-pub drawn-numbers : (n commit : ℕ) (old now : List Entry) (es : List Edit) → map stored now ≡ map stored old ++ new_entries n commit (length old) es → AreNumbered 0 old → AreNumbered 0 now
-drawn-numbers n commit old now es e h =
+-- the stored files that are staged go on with the numbers
+pub staged-numbers : (n commit : ℕ) (old now : List StoredFile) (es : List Edit) → map contents now ≡ map contents old ++ new_files n commit (length old) es → AreNumbered 0 old → AreNumbered 0 now
+staged-numbers n commit old now es e h =
     from-numbers 0 now (subst (AreNumbers 0) (sym e)
-    (numbers-both 0 (length old) (map stored old) (new_entries n commit (length old) es) (let all = map-length old in omega (arith, all)) (to-numbers 0 old h) (numbers-append (length old) n commit (length old) es refl)))
+    (numbers-both 0 (length old) (map contents old) (new_files n commit (length old) es) (let all = length-map old contents in omega (arith, all)) (to-numbers 0 old h) (numbers-append (length old) n commit (length old) es refl)))

@@ -1,7 +1,8 @@
 -- Rules of a history that grows, and the verdict on one more.
-use Rattle.std.proofs.Common.{◌≡◌, ℕ, ◌+◌, ◌<◌, ◌≤◌, ◌^◌, Bool, true, false, not, nat_le, nat_lt, List, [], ◌∷◌, ◌++◌, length, take, Option, Some, None, Result, Ok, Err, OnOk, IfOk, if◌then◌else◌, append-nil, refl, sym, ap, subst, ◌∙◌, arith}
+use Rattle.std.proofs.Common.{◌≡◌, ℕ, ◌+◌, ◌<◌, ◌≤◌, Bool, true, false, not, nat_le, nat_lt, List, [], ◌∷◌, ◌++◌, length, take, Option, Some, None, Result, Ok, Err, IfOk, if◌then◌else◌, append-nil, refl, sym, ap, subst, ◌∙◌, arith}
 use Rattle.std.proofs.lemmas.Bool.Decides.{nat_tests}
 use Rattle.std.proofs.lemmas.List.{take_all, take-append-le, length-append, length-map, map-append}
+use Rattle.cov_base.specs.declared.limits.TheConstants.{CHOICE_WIDTH, LIMITS}
 use Rattle.cov_dd.specs.declared.triple.Triple.{Triple}
 use Rattle.cov_dd.specs.Diagrams.{Extends}
 use Rattle.cov_expr.specs.Formula.{Formula, reach}
@@ -9,7 +10,6 @@ use Rattle.cov_edit.specs.declared.edit.Edit.{Edit}
 use Rattle.cov_edit.specs.declared.command.Command.{Command}
 use Rattle.cov_edit.specs.declared.command.Command.TheVariants as commands
 use Rattle.cov_edit.specs.History.{option_count, constraints_of, preferences_of, defaults_of}
-use Rattle.cov_edit.specs.Limits.{most_commands}
 use Rattle.cov_rules.specs.Completion.{AreBelow, completed, completed_by, fallbacks, literals}
 use Rattle.cov_rules.specs.Growth.{Follows, constraints_in, preferences_in, defaults_in}
 use Rattle.cov_rules.specs.Installing.{Standing, RulesValue, Holds, literal, expressions, expressions_at}
@@ -19,11 +19,10 @@ use Rattle.cov_rules.specs.declared.rules.Installed.{Installed}
 use Rattle.cov_rules.specs.declared.rules.Rule.{Rule}
 use Rattle.cov_rules.specs.declared.rules.Rule.TheVariants as rules
 use Rattle.cov_rules.specs.declared.rules.RuleFault.TheVariants as faults
-use Rattle.cov_rules.proofs.CallerLemmas.{holds_later}
-use Rattle.cov_rules.proofs.Growing.{stay_below}
+use Rattle.cov_rules.proofs.CallerLemmas.{holds_later, stay_below}
 use Rattle.cov_view.specs.Refusals.{when, first_of}
-use Rattle.cov_engine.specs.declared.entry.Entry.{Entry}
-use Rattle.cov_engine.specs.declared.kept.Made.{Made}
+use Rattle.cov_engine.specs.declared.stored_file.StoredFile.{StoredFile}
+use Rattle.cov_engine.specs.declared.store.CommitMark.{CommitMark}
 use Rattle.cov_engine.specs.declared.ready.Ready.{Ready}
 use Rattle.cov_engine.specs.declared.ready.Ready.TheVariants as ready
 use Rattle.cov_history.specs.declared.refusal.Refusal.{Refusal}
@@ -38,27 +37,18 @@ use Rattle.cov_history.specs.Verdict.{RefusedBy, leaves_variant, verdict}
 -- the rules of a longer history
 pub constraints-append : (history later : List Command) → constraints_of (history ++ later) ≡ constraints_of history ++ constraints_of later
 constraints-append [] later = refl
-constraints-append (commands.Option name ∷ history) later = constraints-append history later
 constraints-append (commands.Constraint expr ∷ history) later = ap (λ exprs. expr ∷ exprs) (constraints-append history later)
-constraints-append (commands.Prefer expr ∷ history) later = constraints-append history later
-constraints-append (commands.Default option on ∷ history) later = constraints-append history later
-constraints-append (commands.Commit base choice ambition es ∷ history) later = constraints-append history later
+constraints-append (k ∷ history) later = constraints-append history later
 
 preferences-append : (history later : List Command) → preferences_of (history ++ later) ≡ preferences_of history ++ preferences_of later
 preferences-append [] later = refl
-preferences-append (commands.Option name ∷ history) later = preferences-append history later
-preferences-append (commands.Constraint expr ∷ history) later = preferences-append history later
 preferences-append (commands.Prefer expr ∷ history) later = ap (λ exprs. expr ∷ exprs) (preferences-append history later)
-preferences-append (commands.Default option on ∷ history) later = preferences-append history later
-preferences-append (commands.Commit base choice ambition es ∷ history) later = preferences-append history later
+preferences-append (k ∷ history) later = preferences-append history later
 
 defaults-append : (history later : List Command) → defaults_of (history ++ later) ≡ defaults_of history ++ defaults_of later
 defaults-append [] later = refl
-defaults-append (commands.Option name ∷ history) later = defaults-append history later
-defaults-append (commands.Constraint expr ∷ history) later = defaults-append history later
-defaults-append (commands.Prefer expr ∷ history) later = defaults-append history later
 defaults-append (commands.Default option on ∷ history) later = ap (λ ds. (option, on) ∷ ds) (defaults-append history later)
-defaults-append (commands.Commit base choice ambition es ∷ history) later = defaults-append history later
+defaults-append (k ∷ history) later = defaults-append history later
 
 literals-append : (ds es : List (ℕ × Bool)) → literals (ds ++ es) ≡ literals ds ++ literals es
 literals-append ds es = map-append (λ (d : ℕ × Bool). literal d.0 d.1) ds es
@@ -112,7 +102,7 @@ no-rules ts s ce pe de holds below = record {
     nothing p = ap constraints_of (sym (take_all p [] (omega arith)))
 
 -- the rules of a history with a command more that is none
-pub rules-same : (history : List Command) (k : Command) (ts : List Triple) (s : Standing) → rule_in k ≡ None → option_count history ≤ option_count (history ++ k ∷ []) → option_count (history ++ k ∷ []) ≤ 128
+pub rules-same : (history : List Command) (k : Command) (ts : List Triple) (s : Standing) → rule_in k ≡ None → option_count history ≤ option_count (history ++ k ∷ []) → option_count (history ++ k ∷ []) ≤ CHOICE_WIDTH
     → AreRulesOf history ts s → AreRulesOf (history ++ k ∷ []) ts s
 rules-same history k ts s none more most are = by k none (constraints-append history (k ∷ [])) (preferences-append history (k ∷ [])) (defaults-append history (k ∷ [])) (λ q. constraints-at q history k)
   where
@@ -184,8 +174,8 @@ counted true = refl
 counted false = refl
 
 -- the verdict on a rule is that of the rules that stand
-module _ (history : List Command) (ts : List Triple) (s : Standing) (are : AreRulesOf history ts s) (few : length history < 2 ^ 20) where
-  not_full : nat_le most_commands (length history) ≡ false
+module _ (history : List Command) (ts : List Triple) (s : Standing) (are : AreRulesOf history ts s) (few : length history < LIMITS.commands) where
+  not_full : nat_le LIMITS.commands (length history) ≡ false
   not_full = grind (arith, nat_tests, few)
 
   constraint_count : length (constraints_of history) ≡ length s.constraints
@@ -205,21 +195,21 @@ module _ (history : List Command) (ts : List Triple) (s : Standing) (are : AreRu
   on-rule (commands.Constraint expr) rule is may =
       let same : rules.Constraint expr ≡ rule = cc in
       subst (λ q. verdict history (commands.Constraint expr) ≡ as_refusal (refusal (option_count history) s q)) same
-      (full_or_bad (nat_le most_commands (length history)) (nat_lt (option_count history) (reach expr)) _ not_full (declared (reach expr) may)
-      ∙ judged (nat_le 256 (length (constraints_of history))) (leaves_variant history expr)
-      ∙ (λ j. as_refusal (if nat_le 256 (constraint_count j) then Some faults.Full else (if is_met (option_count history) (sym are.constraints j) expr then None else Some faults.NoVariantLeft))))
+      (full_or_bad (nat_le LIMITS.commands (length history)) (nat_lt (option_count history) (reach expr)) _ not_full (declared (reach expr) may)
+      ∙ judged (nat_le LIMITS.rules (length (constraints_of history))) (leaves_variant history expr)
+      ∙ (λ j. as_refusal (if nat_le LIMITS.rules (constraint_count j) then Some faults.Full else (if is_met (option_count history) (sym are.constraints j) expr then None else Some faults.NoVariantLeft))))
   on-rule (commands.Prefer expr) rule is may =
       let same : rules.Prefer expr ≡ rule = cc in
       subst (λ q. verdict history (commands.Prefer expr) ≡ as_refusal (refusal (option_count history) s q)) same
-      (full_or_bad (nat_le most_commands (length history)) (nat_lt (option_count history) (reach expr)) _ not_full (declared (reach expr) may)
-      ∙ counted (nat_le 256 (length (preferences_of history)))
-      ∙ (λ j. as_refusal (if nat_le 256 (preference_count j) then Some faults.Full else (if true then None else Some faults.NoVariantLeft))))
+      (full_or_bad (nat_le LIMITS.commands (length history)) (nat_lt (option_count history) (reach expr)) _ not_full (declared (reach expr) may)
+      ∙ counted (nat_le LIMITS.rules (length (preferences_of history)))
+      ∙ (λ j. as_refusal (if nat_le LIMITS.rules (preference_count j) then Some faults.Full else (if true then None else Some faults.NoVariantLeft))))
   on-rule (commands.Default option on) rule is may =
       let same : rules.Default option on ≡ rule = cc in
       subst (λ q. verdict history (commands.Default option on) ≡ as_refusal (refusal (option_count history) s q)) same
-      (full_or_bad (nat_le most_commands (length history)) (nat_lt (option_count history) (option + 1)) _ not_full (declared (option + 1) (omega (arith, may)))
-      ∙ counted (nat_le 256 (length (defaults_of history)))
-      ∙ (λ j. as_refusal (if nat_le 256 (default_count j) then Some faults.Full else (if true then None else Some faults.NoVariantLeft))))
+      (full_or_bad (nat_le LIMITS.commands (length history)) (nat_lt (option_count history) (option + 1)) _ not_full (declared (option + 1) (omega (arith, may)))
+      ∙ counted (nat_le LIMITS.rules (length (defaults_of history)))
+      ∙ (λ j. as_refusal (if nat_le LIMITS.rules (default_count j) then Some faults.Full else (if true then None else Some faults.NoVariantLeft))))
   on-rule (commands.Commit base choice ambition es) rule is may = absurd (cc)
 
   rule-reach : (k : Command) (rule : Rule) → rule_in k ≡ Some rule → MayCome history k → reach_of_rule rule ≤ option_count history
@@ -241,21 +231,8 @@ module _ (history : List Command) (ts : List Triple) (s : Standing) (are : AreRu
 
 -- a refusal is that of a verdict which names it
 pub refused-by : (r : Refusal) (verdict : Option Refusal) → verdict ≡ Some r → RefusedBy r verdict
-refused-by refusals.Full verdict is = is
-refused-by refusals.Exists verdict is = is
-refused-by refusals.NoVariantLeft verdict is = is
-refused-by refusals.BadBase verdict is = is
-refused-by refusals.BadOption verdict is = is
-refused-by refusals.TooManyEdits verdict is = is
-refused-by refusals.TooManyLines verdict is = is
-refused-by refusals.TooManyNodes verdict is = is
-refused-by refusals.TooManyBytes verdict is = is
-refused-by (refusals.Invalid rule) verdict is = is
-refused-by refusals.OutsideAmbition verdict is = is
-refused-by refusals.Empty verdict is = is
-refused-by (refusals.BadRecord edit) verdict is = is
-refused-by (refusals.Overtaken edit) verdict is = is
 refused-by refusals.Memory verdict is = tt
+refused-by r verdict is = is
 
 -- the rule of a command that is neither an option nor a commit
 pub record RuleOf (k : Command) : Type 0 where
@@ -270,17 +247,13 @@ rule-of (commands.Prefer expr) not_option not_commit = record { rule = rules.Pre
 rule-of (commands.Default option on) not_option not_commit = record { rule = rules.Default option on; is = refl }
 rule-of (commands.Commit base choice ambition es) not_option not_commit = absurd (not_commit base choice ambition es refl)
 
-pub on_ok_also : {X E : Type 0} (r : Result X E) (P Q : Type 0) → (P → Q) → OnOk r P → OnOk r Q
-on_ok_also (Ok x) P Q f h = f h
-on_ok_also (Err e) P Q f h = tt
-
 -- with what is held, a rule that is ready is what its command wants
-module _ (history : List Command) (k : Command) (os : ℕ) (ts : List Triple) (standing : RulesValue) (ks : ℕ) (commits : List Made) (homes : List ℕ) (entries : List Entry) (held : IsHeldBy history ts commits homes entries) where
-  as-ready : (r : Ready) → IsRuleReady k ts standing r → IsReady history k os ts standing ks commits homes entries r
+module _ (history : List Command) (k : Command) (os : ℕ) (ts : List Triple) (standing : RulesValue) (ks : ℕ) (commits : List CommitMark) (file_of_line : List ℕ) (stored : List StoredFile) (held : IsHeldBy history ts commits file_of_line stored) where
+  as-ready : (r : Ready) → IsRuleReady k ts standing r → IsReady history k os ts standing ks commits file_of_line stored r
   as-ready (ready.Option name) h = absurd h
   as-ready (ready.Rule rule plan) h = (h.0, h.1, held)
-  as-ready (ready.Commit made counts steps) h = absurd h
+  as-ready (ready.Commit mark counts plans) h = absurd h
 
-  pub all-ready : (r : Result Ready Refusal) → IfOk r (IsRuleReady k ts standing) → IfOk r (IsReady history k os ts standing ks commits homes entries)
+  pub all-ready : (r : Result Ready Refusal) → IfOk r (IsRuleReady k ts standing) → IfOk r (IsReady history k os ts standing ks commits file_of_line stored)
   all-ready (Ok r) h = as-ready r h
   all-ready (Err e) h = tt

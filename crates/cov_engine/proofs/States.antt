@@ -1,7 +1,8 @@
 -- A history with one declaration more.
-use Rattle.std.proofs.Common.{◌≡◌, refl, suc, append-nil, ap, sym, ◌∙◌, ℕ, ◌+◌, ◌<◌, ◌≤◌, Bool, true, false, nat_le, nat_lt, List, [], ◌∷◌, ◌++◌, length, Option, Some, None, subst, arith, append_assoc}
+use Rattle.std.proofs.Common.{◌≡◌, refl, suc, append-nil, ap, sym, ◌∙◌, ℕ, ◌+◌, ◌<◌, ◌≤◌, Bool, true, false, nat_le, nat_lt, List, [], ◌∷◌, ◌++◌, length, Some, None, subst, arith, append_assoc}
 use Rattle.std.specs.List.{sum_by}
 use Rattle.std.proofs.lemmas.Bool.Decides.{nat_tests}
+use Rattle.cov_base.specs.declared.limits.TheConstants.{LIMITS}
 use Rattle.cov_dd.specs.declared.triple.Triple.{Triple}
 use Rattle.cov_dd.specs.Diagrams.{Extends}
 use Rattle.cov_expr.specs.Formula.{reach}
@@ -9,38 +10,42 @@ use Rattle.cov_edit.specs.declared.command.Command.{Command}
 use Rattle.cov_edit.specs.declared.command.Command.TheVariants as commands
 use Rattle.cov_edit.specs.Fits.{fits_command}
 use Rattle.cov_edit.specs.History.{options_of, option_count, command_bytes, byte_count}
-use Rattle.cov_edit.specs.Limits.{most_commands}
 use Rattle.cov_edit.specs.Numbering.{no_numbers, numbers_of}
-use Rattle.cov_edit.proofs.Replays.{fold-append, numbers_from-append}
-use Rattle.cov_rules.specs.Completion.{AreBelow}
+use Rattle.cov_edit.proofs.CallerLemmas.{fold-append, numbers_from-append}
+use Rattle.cov_rules.specs.Completion.{AreBelow, completed}
 use Rattle.cov_rules.specs.Growth.{Follows}
 use Rattle.cov_rules.specs.Installing.{Standing, Holds, Plans}
 use Rattle.cov_rules.specs.Refusals.{reach_of_rule}
 use Rattle.cov_rules.specs.declared.rules.Rule.{Rule}
 use Rattle.cov_rules.specs.declared.rules.Rule.TheVariants as rules
 use Rattle.cov_rules.specs.declared.rules.RulePlan.{RulePlan}
-use Rattle.cov_view.specs.Refusals.{when, first_of}
+use Rattle.cov_view.specs.Refusals.{first_of}
+use Rattle.cov_view.proofs.CallerLemmas.{none-when}
 use Rattle.cov_engine.specs.declared.counts.Counts.{Counts}
-use Rattle.cov_history.specs.declared.refusal.Refusal.{Refusal}
 use Rattle.cov_history.specs.declared.refusal.Refusal.TheVariants as refusals
 use Rattle.cov_engine.specs.Ruling.{AreRulesOf, rule_in}
+use Rattle.cov_history.specs.Completing.{completed_in}
 use Rattle.cov_history.specs.Sessions.{has_commit}
-use Rattle.cov_engine.specs.States.{AreCountsOf, IsStateOf}
+use Rattle.cov_engine.specs.States.{EngineValue, AreCountsOf, IsStateOf}
 use Rattle.cov_history.specs.Verdict.{IsLegalFrom, verdict, refusals_of}
-use Rattle.cov_engine.proofs.Ruling.{rules-grown, rules-same, rules-with}
+use Rattle.cov_engine.proofs.Ruling.{rules-grown, rules-same, rules-with, completed-same}
 
 pub options-append : (history later : List Command) → options_of (history ++ later) ≡ options_of history ++ options_of later
 options-append [] later = refl
 options-append (commands.Option name ∷ history) later = ap (λ names. name ∷ names) (options-append history later)
-options-append (commands.Constraint expr ∷ history) later = options-append history later
-options-append (commands.Prefer expr ∷ history) later = options-append history later
-options-append (commands.Default option on ∷ history) later = options-append history later
-options-append (commands.Commit base choice ambition es ∷ history) later = options-append history later
+options-append (k ∷ history) later = options-append history later
 
 pub legal-one : (before history : List Command) (k : Command) → IsLegalFrom before history → fits_command k ≡ true → verdict (before ++ history) k ≡ None → IsLegalFrom before (history ++ k ∷ [])
 legal-one before [] k legal fits accepted = (fits, ap (λ h. verdict h k) (sym (append-nil before)) ∙ accepted, tt)
 legal-one before (j ∷ history) k legal fits accepted =
     (legal.0, legal.1, legal-one (before ++ j ∷ []) history k legal.2 fits (ap (λ h. verdict h k) (append_assoc before (j ∷ []) history) ∙ accepted))
+
+-- what stays with each accepted command stays along a legal history
+pub along-legal : (P : List Command → Type 0) → ((history : List Command) (k : Command) → verdict history k ≡ None → P history → P (history ++ k ∷ [])) → (before history : List Command)
+    → IsLegalFrom before history → P before → P (before ++ history)
+along-legal P stays before [] legal h = subst P (sym (append-nil before)) h
+along-legal P stays before (k ∷ history) legal h =
+    subst P (append_assoc before (k ∷ []) history) (along-legal P stays (before ++ k ∷ []) history legal.2 (stays before k legal.1 h))
 
 pub sum-one : {A : Type 0} (f : A → ℕ) (xs : List A) (x : A) → sum_by f (xs ++ x ∷ []) ≡ sum_by f xs + f x
 sum-one f xs x = fold-append (λ a y. a + f y) 0 xs (x ∷ [])
@@ -53,14 +58,6 @@ length-one (y ∷ ys) x =
     let right : length (y ∷ ys) ≡ suc (length ys) = refl in
     omega (arith, ih, left, right)
 
-pub first-none : (b : Bool) (r : Refusal) (rs : List (Option Refusal)) → first_of (when b r ∷ rs) ≡ None → b ≡ false
-first-none false r rs h = refl
-first-none true r rs h = absurd (cc)
-
-pub later-none : (b : Bool) (r : Refusal) (rs : List (Option Refusal)) → first_of (when b r ∷ rs) ≡ None → first_of rs ≡ None
-later-none false r rs h = h
-later-none true r rs h = absurd (cc)
-
 pub below : (n m : ℕ) → nat_le n m ≡ false → m < n
 below n m h = grind (arith, nat_tests, h)
 
@@ -68,18 +65,12 @@ pub not-below : (n m : ℕ) → nat_lt n m ≡ false → m ≤ n
 not-below n m h = grind (arith, nat_tests, h)
 
 pub numbers-kept : (history : List Command) (k : Command) → has_commit (k ∷ []) ≡ false → numbers_of (history ++ k ∷ []) ≡ numbers_of history
-numbers-kept history (commands.Option name) h = numbers_from-append no_numbers history (commands.Option name ∷ [])
-numbers-kept history (commands.Constraint expr) h = numbers_from-append no_numbers history (commands.Constraint expr ∷ [])
-numbers-kept history (commands.Prefer expr) h = numbers_from-append no_numbers history (commands.Prefer expr ∷ [])
-numbers-kept history (commands.Default option on) h = numbers_from-append no_numbers history (commands.Default option on ∷ [])
 numbers-kept history (commands.Commit base choice ambition es) h = absurd (cc)
+numbers-kept history k h = numbers_from-append no_numbers history (k ∷ [])
 
 no-bytes : (k : Command) → has_commit (k ∷ []) ≡ false → command_bytes k ≡ 0
-no-bytes (commands.Option name) h = refl
-no-bytes (commands.Constraint expr) h = refl
-no-bytes (commands.Prefer expr) h = refl
-no-bytes (commands.Default option on) h = refl
 no-bytes (commands.Commit base choice ambition es) h = absurd (cc)
+no-bytes k h = refl
 
 counts-kept : (history : List Command) (k : Command) (counts : Counts) → has_commit (k ∷ []) ≡ false → AreCountsOf history counts → AreCountsOf (history ++ k ∷ []) counts
 counts-kept history k counts h old =
@@ -112,7 +103,7 @@ state-declared history k names names' ts standing standing' counts h fits accept
   options = ne;
   rules = rules;
   most =
-      let less : length history < most_commands = below most_commands (length history) (first-none _ refusals.Full (refusals_of history k) accepted) in
+      let less : length history < LIMITS.commands = below LIMITS.commands (length history) (none-when _ refusals.Full (refusals_of history k) accepted).0 in
       let more : length (history ++ k ∷ []) ≡ length history + 1 = length-one history k in
       omega (arith, less, more);
   counted = counts-kept history k counts h old.counted;
@@ -124,8 +115,8 @@ pub option-installed : (history : List Command) (k : Command) (name : List ℕ) 
 option-installed history k name names names' ts standing counts is fits accepted old ne =
     let one : option_count (history ++ k ∷ []) ≡ option_count history + 1 =
     ap (λ j. option_count (history ++ j ∷ [])) is ∙ ap (λ ns. length ns) (options-append history (commands.Option name ∷ [])) ∙ length-one (options_of history) name in
-    let few : option_count history < 64 = below 64 (option_count history)
-    (first-none _ refusals.Full _ (later-none (nat_le most_commands (length history)) refusals.Full (refusals_of history (commands.Option name)) (ap (verdict history) (sym is) ∙ accepted))) in
+    let few : option_count history < LIMITS.options = below LIMITS.options (option_count history)
+    (none-when _ refusals.Full _ (none-when (nat_le LIMITS.commands (length history)) refusals.Full (refusals_of history (commands.Option name)) (ap (verdict history) (sym is) ∙ accepted)).1).0 in
     state-declared history k names names' ts standing standing counts (ap (λ j. has_commit (j ∷ [])) is) fits accepted old
     (ne ∙ ap (λ ns. ns ++ name ∷ []) old.options ∙ sym (options-append history (commands.Option name ∷ [])) ∙ ap (λ j. options_of (history ++ j ∷ [])) (sym is))
     (rules-same history k ts standing (ap rule_in is) (omega (arith, one)) (omega (arith, one, few)) old.rules)
@@ -133,32 +124,28 @@ option-installed history k name names names' ts standing counts is fits accepted
 -- a rule is no commit, declares no option and speaks of declared ones
 pub rule-alone : (k : Command) (rule : Rule) → rule_in k ≡ Some rule → has_commit (k ∷ []) ≡ false
 rule-alone (commands.Option name) rule is = absurd (cc)
-rule-alone (commands.Constraint expr) rule is = refl
-rule-alone (commands.Prefer expr) rule is = refl
-rule-alone (commands.Default option on) rule is = refl
 rule-alone (commands.Commit base choice ambition es) rule is = absurd (cc)
+rule-alone k rule is = refl
 
 rule-options : (k : Command) (rule : Rule) → rule_in k ≡ Some rule → options_of (k ∷ []) ≡ []
 rule-options (commands.Option name) rule is = absurd (cc)
-rule-options (commands.Constraint expr) rule is = refl
-rule-options (commands.Prefer expr) rule is = refl
-rule-options (commands.Default option on) rule is = refl
 rule-options (commands.Commit base choice ambition es) rule is = absurd (cc)
+rule-options k rule is = refl
 
 rule-reach : (history : List Command) (k : Command) (rule : Rule) → rule_in k ≡ Some rule → verdict history k ≡ None → reach_of_rule rule ≤ option_count history
-rule-reach history k rule is accepted = by k is (later-none (nat_le most_commands (length history)) refusals.Full (refusals_of history k) accepted)
+rule-reach history k rule is accepted = by k is (none-when (nat_le LIMITS.commands (length history)) refusals.Full (refusals_of history k) accepted).1
   where
     by : (j : Command) → rule_in j ≡ Some rule → first_of (refusals_of history j) ≡ None → reach_of_rule rule ≤ option_count history
     by (commands.Option name) is h = absurd (cc)
     by (commands.Constraint expr) is h =
         let same : rules.Constraint expr ≡ rule = cc in
-        subst (λ q. reach_of_rule q ≤ option_count history) same (not-below (option_count history) (reach expr) (first-none _ refusals.BadOption _ h))
+        subst (λ q. reach_of_rule q ≤ option_count history) same (not-below (option_count history) (reach expr) (none-when _ refusals.BadOption _ h).0)
     by (commands.Prefer expr) is h =
         let same : rules.Prefer expr ≡ rule = cc in
-        subst (λ q. reach_of_rule q ≤ option_count history) same (not-below (option_count history) (reach expr) (first-none _ refusals.BadOption _ h))
+        subst (λ q. reach_of_rule q ≤ option_count history) same (not-below (option_count history) (reach expr) (none-when _ refusals.BadOption _ h).0)
     by (commands.Default option on) is h =
         let same : rules.Default option on ≡ rule = cc in
-        subst (λ q. reach_of_rule q ≤ option_count history) same (not-below (option_count history) (option + 1) (first-none _ refusals.BadOption _ h))
+        subst (λ q. reach_of_rule q ≤ option_count history) same (not-below (option_count history) (option + 1) (none-when _ refusals.BadOption _ h).0)
     by (commands.Commit base choice ambition es) is h = absurd (cc)
 
 -- the state of a history with a rule more
@@ -174,13 +161,19 @@ rule-installed history k rule plan at names ts standing standing' counts is fits
     (subst (λ ns. AreBelow (length ns) standing') (sym same) (below (option_count history) old.rules.below (rule-reach history k rule is accepted))) old.rules)
 
 -- the state of a history whose table has grown
-pub state-grown : (history history' : List Command) (names names' : List (List ℕ)) (ts ts' : List Triple) (standing standing' : Standing) (counts : Counts)
-    → IsStateOf history names ts standing counts → history' ≡ history → names' ≡ names → Extends ts ts' → standing' ≡ standing → IsStateOf history' names' ts' standing' counts
-state-grown history history' names names' ts ts' standing standing' counts old he ne x se =
-    rw (he, ne, se) (record {
+pub state-grown : (history : List Command) (names : List (List ℕ)) (ts ts' : List Triple) (standing standing' : Standing) (counts : Counts)
+    → IsStateOf history names ts standing counts → Extends ts ts' → standing' ≡ standing → IsStateOf history names ts' standing' counts
+state-grown history names ts ts' standing standing' counts old x se =
+    rw (se) (record {
       legal = old.legal;
       options = old.options;
       rules = rules-grown history ts ts' standing x old.rules;
       most = old.most;
       counted = old.counted;
     })
+
+-- the rules of a state complete a choice as the history does that its engine is seen as
+pub completed-there : (engine : EngineValue) (history : List Command) (names : List (List ℕ)) (ts : List Triple) (standing : Standing) (counts : Counts) (count : ℕ) (partial : List (ℕ × Bool))
+    → record { history = history; table = ts } ≡ engine → IsStateOf history names ts standing counts → count ≡ length names → completed count standing partial ≡ completed_in engine.history partial
+completed-there engine history names ts standing counts count partial seen state same =
+    completed-same history ts standing count partial state.rules (same ∙ ap length state.options) ∙ ap (λ (e : EngineValue). completed_in e.history partial) seen

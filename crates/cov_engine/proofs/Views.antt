@@ -1,14 +1,15 @@
 -- The view of a variant.
-use Rattle.std.proofs.Common.{◌≡◌, ℕ, zero, suc, ◌+◌, ◌<◌, ◌≤◌, Bool, true, false, ◌&&◌, List, [], ◌∷◌, ◌++◌, length, map, take, ap, sym, subst, ◌∙◌, arith}
+use Rattle.std.proofs.Common.{◌≡◌, ℕ, suc, ◌+◌, ◌<◌, ◌≤◌, Bool, true, ◌&&◌, List, [], length, map, take, ap, sym, subst, ◌∙◌, arith}
 use Rattle.std.specs.Prelude.{Result, IfOk}
 use Rattle.std.specs.List.{fold, AllByRecursion}
+use Rattle.std.proofs.lemmas.Bool.{and_from}
 use Rattle.std.proofs.lemmas.Bool.Decides.{nat_tests}
+use Rattle.std.proofs.lemmas.Result.{IfOk-weaker}
 use Rattle.cov_base.specs.Addresses.{line_of, IsTable, IsLineOf}
 use Rattle.cov_base.specs.Rows.{Row}
 use Rattle.cov_base.specs.declared.number.NodeRef.{NodeRef}
 use Rattle.cov_base.specs.declared.number.NodeRef.TheVariants as nodes
-use Rattle.cov_base.proofs.Ordered.{all-map, all-both}
-use Rattle.cov_base.proofs.Tables.{line_of-in}
+use Rattle.cov_base.proofs.CallerLemmas.{all-map, all-both, line_of-in}
 use Rattle.cov_dd.specs.declared.triple.Triple.{Triple}
 use Rattle.cov_edit.specs.declared.command.Command.{Command}
 use Rattle.cov_edit.specs.Numbering.{Numbers, node_number, numbers_of}
@@ -18,24 +19,16 @@ use Rattle.cov_view.specs.References.{is_made_node}
 use Rattle.cov_view.specs.Seen.{Seen}
 use Rattle.cov_view.specs.Views.{row_by_number, ShowsLines, IsMade, Shows}
 use Rattle.cov_view.specs.declared.row.ViewRow.{ViewRow}
-use Rattle.cov_engine.specs.declared.kept.Made.{Made}
-use Rattle.cov_engine.specs.declared.entry.Entry.{Entry}
-use Rattle.cov_engine.specs.Showing.{with_entry}
+use Rattle.cov_engine.specs.declared.store.CommitMark.{CommitMark}
+use Rattle.cov_engine.specs.declared.stored_file.StoredFile.{StoredFile}
+use Rattle.cov_engine.specs.Showing.{with_stored_file}
 use Rattle.cov_engine.specs.Holdings.{IsHeldBy}
 use Rattle.cov_history.specs.Naming.{NamesOnlyMade}
-use Rattle.cov_history.specs.Verdict.{IsLegalFrom, IsLegal}
-use Rattle.cov_history.proofs.Standing.{holding-stands}
-use Rattle.cov_history.proofs.Shown.{replay-stands}
-use Rattle.cov_history.proofs.Naming.{legal-named}
-use Rattle.cov_engine.proofs.Holdings.{view-rows, if_ok}
+use Rattle.cov_history.specs.Verdict.{IsLegal}
+use Rattle.cov_history.proofs.CallerLemmas.{holding-stands, replay-stands, legal-named, legal-take}
+use Rattle.cov_engine.proofs.Holdings.{view-rows}
 use Rattle.cov_engine.proofs.Fresh.{held-fresh}
-use Rattle.cov_engine.proofs.FileLines.{all-unmapped, Shown, entries-lines}
-
--- the start of a legal history is legal
-legal-take : (before history : List Command) (n : ℕ) → IsLegalFrom before history → IsLegalFrom before (take n history)
-legal-take before history zero legal = tt
-legal-take before [] (suc n) legal = tt
-legal-take before (k ∷ history) (suc n) legal = (legal.0, legal.1, legal-take (before ++ k ∷ []) history n legal.2)
+use Rattle.cov_engine.proofs.FileLines.{all-unmapped, Shown, stored-lines}
 
 line-below : (t : List (List ℕ)) (a : List ℕ) → IsTable t → IsLineOf t (length t) a → line_of a ≤ length t
 line-below t a table line =
@@ -53,22 +46,18 @@ old-node : (count : ℕ) (node : NodeRef) → node_number count node ≤ count �
 old-node count (nodes.Old x) h = let le : x ≤ count = h in grind (arith, nat_tests, le)
 old-node count (nodes.New i) h = let le : count + 1 + i ≤ count = h in absurd (omega (arith, le))
 
-both : (a b : Bool) → a ≡ true → b ≡ true → (a && b) ≡ true
-both true b e f = f
-both false b e f = absurd (cc)
-
 -- rows with the numbers of a variant's name what is made
 rows-made : (ns : Numbers) (rows : List ViewRow) (v : Variant) → v.rows ≡ map (row_by_number ns) rows → NamesOnlyMade ns.nodes v
     → AllByRecursion (λ r. (is_made_node ns.nodes 0 r.node && is_made_node ns.nodes 0 r.parent) ≡ true) rows
 rows-made ns rows v e named =
     all-both (λ r. node_number ns.nodes r.node ≤ ns.nodes) (λ r. node_number ns.nodes r.parent ≤ ns.nodes) (λ r. (is_made_node ns.nodes 0 r.node && is_made_node ns.nodes 0 r.parent) ≡ true)
-    (λ r node parent. both (is_made_node ns.nodes 0 r.node) (is_made_node ns.nodes 0 r.parent) (old-node ns.nodes r.node node) (old-node ns.nodes r.parent parent)) rows
+    (λ r node parent. and_from (is_made_node ns.nodes 0 r.node) (is_made_node ns.nodes 0 r.parent) (old-node ns.nodes r.node node) (old-node ns.nodes r.parent parent)) rows
     (all-unmapped (λ (r : Row). r.node ≤ ns.nodes) (row_by_number ns) rows (subst (AllByRecursion (λ (r : Row). r.node ≤ ns.nodes)) e named.nodes))
     (all-unmapped (λ (r : Row). r.parent ≤ ns.nodes) (row_by_number ns) rows (subst (AllByRecursion (λ (r : Row). r.parent ≤ ns.nodes)) e named.parents))
 
-module _ (ts : List Triple) (c : List Bool) (at : ℕ) (commits : List Made) (homes : List ℕ) (entries : List Entry) where
+module _ (ts : List Triple) (c : List Bool) (at : ℕ) (commits : List CommitMark) (file_of_line : List ℕ) (stored : List StoredFile) where
   abbrev seen : Seen
-  seen = record { rows = fold (with_entry ts c at commits) [] entries; nodes_made = 0; lines_made = 0 }
+  seen = record { rows = fold (with_stored_file ts c at commits) [] stored; nodes_made = 0; lines_made = 0 }
 
   module _ (history : List Command) where
     abbrev ns : Numbers
@@ -80,12 +69,12 @@ module _ (ts : List Triple) (c : List Bool) (at : ℕ) (commits : List Made) (ho
     abbrev IsVariant : Type 0
     IsVariant = Shows ns ns.addresses seen v
 
-    view-shows : IsLegal history → IsHeldBy history ts commits homes entries → IsVariant
+    view-shows : IsLegal history → IsHeldBy history ts commits file_of_line stored → IsVariant
     view-shows legal held =
-        let are : v.rows ≡ map (row_by_number ns) seen.rows = sym (view-rows ns ts c at history commits homes entries held) in
-        let named : NamesOnlyMade ns.nodes v = legal-named c (take at history) (legal-take [] history at legal) in
+        let are : v.rows ≡ map (row_by_number ns) seen.rows = sym (view-rows ns ts c at history commits file_of_line stored held) in
+        let named : NamesOnlyMade ns.nodes v = legal-named c (take at history) (legal-take at [] history legal) in
         let low = lines-below c (take at history) in
-        let shown : AllByRecursion (Shown c at ns history low) seen.rows = entries-lines ts c at commits ns history low [] entries tt (held-fresh ts c at commits entries history held.rows) held.files in
+        let shown : AllByRecursion (Shown c at ns history low) seen.rows = stored-lines ts c at commits ns history low [] stored tt (held-fresh ts c at commits stored history held.rows) held.files in
         record {
           rows = are;
           lines = all-map (Shown c at ns history low) (ShowsLines ns v) (λ r h. h.0) seen.rows shown;
@@ -98,7 +87,7 @@ module _ (ts : List Triple) (c : List Bool) (at : ℕ) (commits : List Made) (ho
         }
 
   -- what is shown is the variant of the replay
-  pub shown-view : {E : Type 0} (r : Result Seen E) (history value : List Command) → IsLegal history → IsHeldBy history ts commits homes entries → history ≡ value
+  pub shown-view : {E : Type 0} (r : Result Seen E) (history value : List Command) → IsLegal history → IsHeldBy history ts commits file_of_line stored → history ≡ value
       → IfOk r (λ view. view ≡ seen) → IfOk r (λ view. Shows (ns value) (ns value).addresses view (v value))
   shown-view r history value legal held is =
-      if_ok r _ _ (λ view e. subst (λ (s : Seen). Shows (ns value) (ns value).addresses s (v value)) (sym e) (subst (λ h. IsVariant h) is (view-shows history legal held)))
+      IfOk-weaker r _ _ (λ view e. subst (λ (s : Seen). Shows (ns value) (ns value).addresses s (v value)) (sym e) (subst (λ h. IsVariant h) is (view-shows history legal held)))

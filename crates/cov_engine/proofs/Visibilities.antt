@@ -6,8 +6,7 @@ use Rattle.std.specs.Option.{option_map}
 use Rattle.std.proofs.Math.Seq.{take-length}
 use Rattle.std.proofs.lemmas.Bool.Decides.{nat_tests}
 use Rattle.cov_base.specs.Addresses.{stands_before, line_of, address_in, IsTable, IsLineOf, AreInOrder}
-use Rattle.cov_base.proofs.Ordered.{before-itself}
-use Rattle.cov_base.proofs.Tables.{one_address}
+use Rattle.cov_base.proofs.CallerLemmas.{before-itself, one_address}
 use Rattle.cov_dd.specs.declared.triple.Triple.{Triple}
 use Rattle.cov_dd.specs.Diagrams.{Stands}
 use Rattle.cov_expr.specs.Formula.{value}
@@ -16,20 +15,17 @@ use Rattle.cov_edit.specs.History.{option_count}
 use Rattle.cov_edit.specs.Numbering.{numbers_of, line_count}
 use Rattle.cov_edit.specs.Replay.{replay}
 use Rattle.cov_edit.specs.Variant.{Variant, Line}
-use Rattle.cov_file.specs.Dated.{DatedLine as FileLine, node_at, node_of, all_rows}
-use Rattle.cov_engine.specs.declared.entry.Entry.{Entry}
-use Rattle.cov_engine.specs.declared.kept.Made.{Made}
+use Rattle.cov_file.specs.Dated.{DatedLine as FileLine, vis_at, vis_of, all_rows}
+use Rattle.cov_engine.specs.declared.stored_file.StoredFile.{StoredFile}
+use Rattle.cov_engine.specs.declared.store.CommitMark.{CommitMark}
 use Rattle.cov_history.specs.Files.{DatedLine, dated, file_dated}
 use Rattle.cov_engine.specs.Holdings.{IsFileOf, IsHeldBy}
 use Rattle.cov_history.specs.Kept.{Kept, seen_at, is_seen, kept_address, kept_number, kept_of, lines_seen, file_kept}
 use Rattle.cov_engine.specs.Nodes.{IsDated, AreDated}
 use Rattle.cov_history.specs.Verdict.{IsLegal}
-use Rattle.cov_engine.specs.Visibility.{has_line_number, IsVisibilityOf, is_no_line, as_row, item_of, entry_of}
-use Rattle.cov_history.proofs.Files.{any-seen}
-use Rattle.cov_engine.proofs.Homes.{entry-held, no-entry, home-entry, no-home}
-use Rattle.cov_history.proofs.Replays.{replay-seen}
-use Rattle.cov_history.proofs.Seen.{seen-cons}
-use Rattle.cov_history.proofs.Standing.{holding-stands}
+use Rattle.cov_engine.specs.Visibility.{has_line_number, IsVisibilityOf, is_no_line, as_row, item_of, stored_file_of}
+use Rattle.cov_history.proofs.CallerLemmas.{any-seen, replay-seen, seen-cons, holding-stands}
+use Rattle.cov_engine.proofs.FileOfLine.{equal, stored-held, none-stored, line-stored, no-line-file}
 
 -- the first item that passes a test
 any-found : {X : Type 0} (t : X → Bool) (xs : List X) → list_any t xs ≡ true → (x : X) × (find t xs ≡ Some x)
@@ -81,9 +77,6 @@ dated-found ts count line (e ∷ ds) (m ∷ ls) d are h =
         → (l : FileLine) × (cond b (Some m) (find (λ n. nat_eq n.line line) ls) ≡ Some l) × IsDated ts count d l
     at true k rest = let same : e ≡ d = cc in (m, refl, subst (λ f. IsDated ts count f m) same are.0)
     at false k rest = rest k
-
-equal : (m n : ℕ) → nat_eq m n ≡ true → m ≡ n
-equal m n e = grind (arith, nat_tests, e)
 
 module _ (t : List (List ℕ)) (n : ℕ) (table : IsTable t) (below : n ≤ length t) where
   -- no line after another has its number
@@ -165,12 +158,12 @@ stands-as : (ts : List Triple) (r least most : ℕ) (f g : List Bool → Bool) �
 stands-as ts r least most f g same s = record { within = s.within; above = s.above; below = s.below; value = λ c. s.value c ∙ same c }
 
 -- the newest node of a line in its file is its visibility
-record IsNode (history : List Command) (ts : List Triple) (line : ℕ) (e : Entry) : Type 0 where
+record IsNode (history : List Command) (ts : List Triple) (line : ℕ) (e : StoredFile) : Type 0 where
   node : ℕ
-  is : node_of line (length history) e.file.lines ≡ Some node
+  is : vis_of line (length history) e.file.lines ≡ Some node
   stands : IsVisibilityOf history ts line node
 
-node-stands : (history : List Command) (ts : List Triple) (line : ℕ) (e : Entry) → list_any (λ k. nat_eq (kept_number k) line) (file_kept e.node (kept_of history)) ≡ true → IsFileOf history ts e
+node-stands : (history : List Command) (ts : List Triple) (line : ℕ) (e : StoredFile) → list_any (λ k. nat_eq (kept_number k) line) (file_kept e.node (kept_of history)) ≡ true → IsFileOf history ts e
     → IsNode history ts line e
 node-stands history ts line e any file =
     let kept = any-found (λ k. nat_eq (kept_number k) line) (file_kept e.node (kept_of history)) any in
@@ -182,9 +175,9 @@ node-stands history ts line e any file =
     let table : List (List ℕ) = (numbers_of history).addresses in
     let standing = holding-stands history in
     record {
-      node = node_at l.changes (length history);
-      is = ap (option_map (λ (m : FileLine). node_at m.changes (length history))) found.1;
-      stands = stands-as ts (node_at l.changes (length history)) 0 (option_count history) (value (seen_at k.changes (length history))) (λ c. has_line_number line (replay c history))
+      node = vis_at l.changes (length history);
+      is = ap (option_map (λ (m : FileLine). vis_at m.changes (length history))) found.1;
+      stands = stands-as ts (vis_at l.changes (length history)) 0 (option_count history) (value (seen_at k.changes (length history))) (λ c. has_line_number line (replay c history))
           (λ c.
           sym (only-line table (length table) standing.0 (let all : length table ≤ length table = omega arith in all) c (length history) line e.node (kept_of history) k
           standing.1.in_order standing.1.numbered_lines kept.1)
@@ -192,15 +185,15 @@ node-stands history ts line e any file =
           (own.nodes (length history));
     }
 
--- the answer on a line
-pub record IsAnswer (history : List Command) (ts : List Triple) (line : ℕ) (answer : Option ℕ) : Type 0 where
+-- an answer tells the visibility of a line, or that there is no such line
+pub record TellsVisibility (history : List Command) (ts : List Triple) (line : ℕ) (answer : Option ℕ) : Type 0 where
   pub none : is_none answer ≡ is_no_line history line
   pub stands : IfSome answer (IsVisibilityOf history ts line)
 
-module _ (history : List Command) (ts : List Triple) (commits : List Made) (homes : List ℕ) (entries : List Entry) (legal : IsLegal history) (held : IsHeldBy history ts commits homes entries) where
-  -- where the line's file has no entry
-  pub no-answer : (line : ℕ) → entry_of entries (item_of homes line) ≡ None → is_no_line history line ≡ true
-  no-answer line h = by (no-home history ts commits homes entries legal held line h)
+module _ (history : List Command) (ts : List Triple) (commits : List CommitMark) (file_of_line : List ℕ) (stored : List StoredFile) (legal : IsLegal history) (held : IsHeldBy history ts commits file_of_line stored) where
+  -- where the line's file has no stored file
+  pub no-answer : (line : ℕ) → stored_file_of stored (item_of file_of_line line) ≡ None → is_no_line history line ≡ true
+  no-answer line h = by (no-line-file history ts commits file_of_line stored legal held line h)
     where
       by : (line ≡ 0) ⊎ (line_count history < line) → is_no_line history line ≡ true
       by (inl e) = let zero_is : nat_eq line 0 ≡ true = grind (arith, nat_tests, e) in ap (λ b. b || nat_lt (line_count history) line) zero_is
@@ -210,18 +203,18 @@ module _ (history : List Command) (ts : List Triple) (commits : List Made) (home
           ap (λ b. b || nat_lt (line_count history) line) no_zero ∙ beyond
 
   -- and where it has
-  pub answer : (line : ℕ) (e : Entry) (result : Option ℕ) → entry_of entries (item_of homes line) ≡ Some e → ((p : ℕ) → e.file.newest ≤ p → result ≡ node_of line p e.file.lines)
-      → IsAnswer history ts line result
+  pub answer : (line : ℕ) (e : StoredFile) (result : Option ℕ) → stored_file_of stored (item_of file_of_line line) ≡ Some e → ((p : ℕ) → e.file.newest ≤ p → result ≡ vis_of line p e.file.lines)
+      → TellsVisibility history ts line result
   answer line e result h latest =
-      let home = home-entry history ts commits homes entries legal held line e h in
-      let node = node-stands history ts line e home.2 home.3 in
-      let is : result ≡ Some node.node = latest (length history) home.3.newest ∙ node.is in
-      let above : 0 < line = home.0 in
-      let below : line ≤ line_count history = home.1 in
+      let its = line-stored history ts commits file_of_line stored legal held line e h in
+      let node = node-stands history ts line e its.2 its.3 in
+      let is : result ≡ Some node.node = latest (length history) its.3.newest ∙ node.is in
+      let above : 0 < line = its.0 in
+      let below : line ≤ line_count history = its.1 in
       let no_zero : nat_eq line 0 ≡ false = grind (arith, nat_tests, above) in
       let within : nat_lt (line_count history) line ≡ false = grind (arith, nat_tests, below) in
       let known : is_no_line history line ≡ false = ap (λ b. b || nat_lt (line_count history) line) no_zero ∙ within in
-      subst (IsAnswer history ts line) (sym is) (record { none = sym known; stands = node.stands })
+      subst (TellsVisibility history ts line) (sym is) (record { none = sym known; stands = node.stands })
 
   same-rows : (count : ℕ) (ds : List DatedLine) (ls : List FileLine) → AreDated ts count ds ls → all_rows ls ≡ map as_row ds
   same-rows count [] [] h = refl
@@ -230,11 +223,11 @@ module _ (history : List Command) (ts : List Triple) (commits : List Made) (home
   same-rows count (d ∷ ds) (l ∷ ls) h = λ i. record { line = h.0.line i; text = h.0.text i } ∷ same-rows count ds ls h.1 i
 
   -- all lines of a file are those kept
-  pub all-kept : (file : ℕ) (e : Entry) → item_of entries file ≡ Some e → all_rows e.file.lines ≡ map as_row (file_dated file (kept_of history))
+  pub all-kept : (file : ℕ) (e : StoredFile) → item_of stored file ≡ Some e → all_rows e.file.lines ≡ map as_row (file_dated file (kept_of history))
   all-kept file e h =
-      let own = entry-held history ts commits homes entries legal held file e h in
+      let own = stored-held history ts commits file_of_line stored legal held file e h in
       same-rows (option_count history) (file_dated e.node (kept_of history)) e.file.lines own.1.lines
       ∙ ap (λ f. map as_row (file_dated f (kept_of history))) own.0
 
-  pub none-kept : (file : ℕ) → item_of entries file ≡ None → [] ≡ map as_row (file_dated file (kept_of history))
-  none-kept file h = sym (ap (λ ks. map as_row (map dated ks)) (no-entry history ts commits homes entries legal held file h))
+  pub none-kept : (file : ℕ) → item_of stored file ≡ None → [] ≡ map as_row (file_dated file (kept_of history))
+  none-kept file h = sym (ap (λ ks. map as_row (map dated ks)) (none-stored history ts commits file_of_line stored legal held file h))

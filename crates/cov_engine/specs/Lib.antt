@@ -1,5 +1,5 @@
-pub mod Drawing
-pub mod Drawn
+pub mod Staging
+pub mod Staged
 pub mod Holdings
 pub mod Marks
 pub mod Nodes
@@ -8,5 +8,5 @@ pub mod Ready
 pub mod Ruling
 pub mod Showing
 pub mod States
-pub mod Stepping
+pub mod Carrying
 pub mod Visibility

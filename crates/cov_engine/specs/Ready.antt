@@ -1,5 +1,5 @@
 -- What is ready for a command.
-use Rattle.std.specs.Prelude.{◌≡◌, ℕ, ◌+◌, ◌^◌, ◌<◌, ◌≤◌, true, List, [], length, Some, None}
+use Rattle.std.specs.Prelude.{◌≡◌, ℕ, ◌+◌, ◌<◌, ◌≤◌, true, List, [], length, Some, None}
 use Rattle.cov_dd.specs.declared.triple.Triple.{Triple}
 use Rattle.cov_expr.specs.Formula.{Formula}
 use Rattle.cov_edit.specs.declared.edit.Edit.{Edit}
@@ -7,18 +7,19 @@ use Rattle.cov_edit.specs.declared.command.Command.{Command}
 use Rattle.cov_edit.specs.declared.command.Command.TheVariants as commands
 use Rattle.cov_edit.specs.Fits.{fits_command}
 use Rattle.cov_edit.specs.History.{text_bytes, byte_count}
+use Rattle.cov_edit.specs.Limits.{limits_of}
 use Rattle.cov_edit.specs.Numbering.{nodes_made, anchors_of, numbers_of, line_count, node_count}
 use Rattle.cov_rules.specs.Installing.{RulesValue, IsPlan}
-use Rattle.cov_engine.specs.Drawing.{AreNear, AreLow}
-use Rattle.cov_engine.specs.Drawn.{IsDrawn}
+use Rattle.cov_engine.specs.Staging.{AreNear, AreLow}
+use Rattle.cov_engine.specs.Staged.{IsStaged}
 use Rattle.cov_engine.specs.Holdings.{IsHeldBy}
 use Rattle.cov_engine.specs.Ruling.{rule_in}
 use Rattle.cov_history.specs.Sessions.{MayCome}
 use Rattle.cov_history.specs.Verdict.{verdict}
 use Rattle.cov_engine.specs.declared.counts.Counts.{Counts}
-use Rattle.cov_engine.specs.declared.entry.Entry.{Entry}
-use Rattle.cov_engine.specs.declared.kept.Made.{Made}
-use Rattle.cov_engine.specs.declared.step.Step.{Step}
+use Rattle.cov_engine.specs.declared.stored_file.StoredFile.{StoredFile}
+use Rattle.cov_engine.specs.declared.store.CommitMark.{CommitMark}
+use Rattle.cov_engine.specs.declared.edit_plan.EditPlan.{EditPlan}
 use Rattle.cov_engine.specs.declared.ready.Ready.{Ready}
 use Rattle.cov_engine.specs.declared.ready.Ready.TheVariants as ready
 
@@ -32,10 +33,10 @@ pub record IsNext (history : List Command) (command : Command) (spare : ℕ) : T
 pub record IsInBounds (history : List Command) (es : List Edit) : Type 0 where
   pub near : AreNear (numbers_of history).nodes es
   pub low : AreLow (line_count history) es
-  pub edits : length es ≤ 16384
-  pub lines : line_count history + length (anchors_of 0 es) ≤ 2 ^ 20
-  pub nodes : node_count history + nodes_made es ≤ 65536
-  pub bytes : byte_count history + text_bytes es ≤ 2 ^ 30
+  pub edits : length es ≤ (limits_of history).edits
+  pub lines : line_count history + length (anchors_of 0 es) ≤ (limits_of history).lines
+  pub nodes : node_count history + nodes_made es ≤ (limits_of history).nodes
+  pub bytes : byte_count history + text_bytes es ≤ (limits_of history).bytes
 
 -- the counts are those of a history with edits more
 pub record AreCountsWith (history : List Command) (es : List Edit) (counts : Counts) : Type 0 where
@@ -43,27 +44,27 @@ pub record AreCountsWith (history : List Command) (es : List Edit) (counts : Cou
   pub nodes : counts.nodes ≡ node_count history + nodes_made es
   pub bytes : counts.bytes ≡ byte_count history + text_bytes es
 
--- what is drawn for edits and an ambition is ready, and there is room for their commit
-abbrev pub IsDrawnReady : List Command → List Triple → Formula ℕ → List Edit → ℕ → List Made → List ℕ → List Entry → Ready → Type 0
-IsDrawnReady history ts ambition es spare commits homes entries (ready.Option name) = ⊥
-IsDrawnReady history ts ambition es spare commits homes entries (ready.Rule rule plan) = ⊥
-IsDrawnReady history ts ambition es spare commits homes entries (ready.Commit made counts steps) =
-    IsDrawn history ts ambition es commits made steps.items homes entries × AreCountsWith history es counts × (0 < spare)
+-- what is staged for edits and an ambition is ready, and there is room for their commit
+abbrev pub IsStagedReady : List Command → List Triple → Formula ℕ → List Edit → ℕ → List CommitMark → List ℕ → List StoredFile → Ready → Type 0
+IsStagedReady history ts ambition es spare commits file_of_line stored (ready.Option name) = ⊥
+IsStagedReady history ts ambition es spare commits file_of_line stored (ready.Rule rule plan) = ⊥
+IsStagedReady history ts ambition es spare commits file_of_line stored (ready.Commit mark counts plans) =
+    IsStaged history ts ambition es commits mark plans.items file_of_line stored × AreCountsWith history es counts × (0 < spare)
 
--- a commit is drawn, and there is room for it
-abbrev pub IsCommitReady : List Command → List Triple → Command → ℕ → List Made → List ℕ → List Entry → Made → Counts → List Step → Type 0
-IsCommitReady history ts (commands.Commit base choice ambition es) spare commits homes entries made counts steps =
-    MayCome history (commands.Commit base choice ambition es) × IsDrawn history ts ambition es commits made steps homes entries × AreCountsWith history es counts × (0 < spare)
-IsCommitReady history ts command spare commits homes entries made counts steps = ⊥
+-- a commit is staged, and there is room for it
+abbrev pub IsCommitReady : List Command → List Triple → Command → ℕ → List CommitMark → List ℕ → List StoredFile → CommitMark → Counts → List EditPlan → Type 0
+IsCommitReady history ts (commands.Commit base choice ambition es) spare commits file_of_line stored mark counts plans =
+    MayCome history (commands.Commit base choice ambition es) × IsStaged history ts ambition es commits mark plans file_of_line stored × AreCountsWith history es counts × (0 < spare)
+IsCommitReady history ts command spare commits file_of_line stored mark counts plans = ⊥
 
--- what a command wants is ready: a name and room for it, a rule with its plan, or what a commit draws
-abbrev pub IsReady : List Command → Command → ℕ → List Triple → RulesValue → ℕ → List Made → List ℕ → List Entry → Ready → Type 0
-IsReady history command options_spare ts rules commits_spare commits homes entries (ready.Option name) =
-    (command ≡ commands.Option name) × (0 < options_spare) × IsHeldBy history ts commits homes entries
-IsReady history command options_spare ts rules commits_spare commits homes entries (ready.Rule rule plan) =
-    (rule_in command ≡ Some rule) × IsPlan ts rules rule plan × IsHeldBy history ts commits homes entries
-IsReady history command options_spare ts rules commits_spare commits homes entries (ready.Commit made counts steps) =
-    IsCommitReady history ts command commits_spare commits homes entries made counts steps.items
+-- what a command wants is ready: a name and room for it, a rule with its plan, or what a commit stages
+abbrev pub IsReady : List Command → Command → ℕ → List Triple → RulesValue → ℕ → List CommitMark → List ℕ → List StoredFile → Ready → Type 0
+IsReady history command options_spare ts rules commits_spare commits file_of_line stored (ready.Option name) =
+    (command ≡ commands.Option name) × (0 < options_spare) × IsHeldBy history ts commits file_of_line stored
+IsReady history command options_spare ts rules commits_spare commits file_of_line stored (ready.Rule rule plan) =
+    (rule_in command ≡ Some rule) × IsPlan ts rules rule plan × IsHeldBy history ts commits file_of_line stored
+IsReady history command options_spare ts rules commits_spare commits file_of_line stored (ready.Commit mark counts plans) =
+    IsCommitReady history ts command commits_spare commits file_of_line stored mark counts plans.items
 
 -- the edits of a commit
 abbrev pub edits_in : Command → List Edit

@@ -1,19 +1,18 @@
 -- What an engine keeps of its history.
-use Rattle.std.specs.Prelude.{◌≡◌, ℕ, ◌+◌, ◌≤◌, nat_le, List, [], ◌∷◌, length, Option}
+use Rattle.std.specs.Prelude.{◌≡◌, ℕ, ◌+◌, ◌≤◌, List, length, Option}
+use Rattle.cov_base.specs.declared.limits.TheConstants.{LIMITS}
 use Rattle.cov_dd.specs.declared.triple.Triple.{Triple}
-use Rattle.cov_expr.specs.Options.{is_declared}
 use Rattle.cov_edit.specs.declared.command.Command.{Command}
 use Rattle.cov_edit.specs.declared.command.Command.TheVariants as commands
 use Rattle.cov_edit.specs.History.{options_of, constraints_of, preferences_of, defaults_of, byte_count}
-use Rattle.cov_edit.specs.Limits.{most_commands}
+use Rattle.cov_edit.specs.Limits.{limits_of}
 use Rattle.cov_edit.specs.Numbering.{line_count, node_count}
 use Rattle.cov_rules.specs.Installing.{Standing}
-use Rattle.cov_view.specs.Refusals.{when, first_of}
+use Rattle.cov_view.specs.Refusals.{first_of}
 use Rattle.cov_engine.specs.Ruling.{AreRulesOf}
-use Rattle.cov_history.specs.Verdict.{IsLegal}
+use Rattle.cov_history.specs.Verdict.{IsLegal, name_refusals}
 use Rattle.cov_engine.specs.declared.counts.Counts.{Counts}
 use Rattle.cov_history.specs.declared.refusal.Refusal.{Refusal}
-use Rattle.cov_history.specs.declared.refusal.Refusal.TheVariants as refusals
 
 -- a history, and the table of the visibilities and rules that an engine keeps of it
 pub record EngineValue : Type 0 where
@@ -37,12 +36,12 @@ pub record IsStateOf (history : List Command) (names : List (List ℕ)) (ts : Li
   pub legal : IsLegal history
   pub options : names ≡ options_of history
   pub rules : AreRulesOf history ts standing
-  pub most : length history ≤ most_commands
+  pub most : length history ≤ (limits_of history).commands
   pub counted : AreCountsOf history counts
 
 -- the refusal of an option by its name, these being declared
 abbrev pub name_refusal : List (List ℕ) → List ℕ → Option Refusal
-name_refusal names name = first_of (when (nat_le 64 (length names)) refusals.Full ∷ when (is_declared names name) refusals.Exists ∷ [])
+name_refusal names name = first_of (name_refusals LIMITS.options names name)
 
 -- the number on the receipt of a command: that of the option, that of the rule within its kind, or 0 for a commit
 abbrev pub receipt_number : List Command → Command → ℕ

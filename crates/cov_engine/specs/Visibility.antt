@@ -11,7 +11,7 @@ use Rattle.cov_edit.specs.Variant.{Variant}
 use Rattle.cov_edit.specs.Replay.{replay}
 use Rattle.cov_file.specs.declared.row.FileRow.{FileRow}
 use Rattle.cov_history.specs.Files.{DatedLine}
-use Rattle.cov_engine.specs.declared.entry.Entry.{Entry}
+use Rattle.cov_engine.specs.declared.stored_file.StoredFile.{StoredFile}
 
 -- whether a variant has the line with a number, its file present or not
 abbrev pub has_line_number : ℕ → Variant → Bool
@@ -34,7 +34,7 @@ as_row d = record { line = d.line; text = d.text }
 abbrev pub item_of : {X : Type 0} → List X → ℕ → Option X
 item_of xs number = if nat_eq number 0 then None else slice_get xs (number - 1)
 
--- the entry of a file, if it is one
-abbrev pub entry_of : List Entry → Option ℕ → Option Entry
-entry_of entries None = None
-entry_of entries (Some file) = item_of entries file
+-- what is stored of a node, if there is one
+abbrev pub stored_file_of : List StoredFile → Option ℕ → Option StoredFile
+stored_file_of stored None = None
+stored_file_of stored (Some file) = item_of stored file

@@ -5,7 +5,7 @@ ghost use Rattle.cov_dd.specs.Diagrams.{Extends};
 ghost use Rattle.cov_edit.specs.History.{options_of, option_count, constraints_of, first_false_in};
 ghost use Rattle.cov_edit.specs.Numbering.{numbers_of};
 ghost use Rattle.cov_edit.specs.Replay.{replay};
-ghost use Rattle.cov_rules.specs.Completion.{Complete, IsAnswer, IsRefusalBy};
+ghost use Rattle.cov_rules.specs.Completion.{Complete, IsCompletion, IsRefusalBy};
 ghost use Rattle.cov_view.specs.Views.{Shows};
 ghost use Rattle.cov_history.specs.Files.{file_dated};
 ghost use Rattle.cov_engine.specs.Holdings.{IsHeldBy};
@@ -17,8 +17,8 @@ ghost use Rattle.cov_history.specs.Verdict.{IsLegal, verdict, RefusedBy};
 ghost use Rattle.cov_engine.specs.Visibility.{IsVisibilityOf, is_no_line, as_row};
 
 use crate::installing::add_ready;
-use crate::kept::{Kept, entry_of, file_of, show};
-use crate::state::{State, make_ready};
+use crate::state::{EngineState, make_ready};
+use crate::store::{Store, file_of, show, stored_file_of};
 use crate::{Counts, Prepared, Receipt, Refusal};
 use cov_base::{Choice, LineNo, Memory, NodeNo, Position};
 use cov_dd::{Node, Table};
@@ -33,7 +33,7 @@ use std::marker::Model;
 /// A history. Contracts see it as the list of its commands.
 #[derive(Drop)]
 pub struct Engine {
-    state: State,
+    state: EngineState,
 }
 
 impl Model for Engine {
@@ -49,7 +49,7 @@ impl Model for Engine {
 
     ghost view = { λ e. record { history = e.state.commands.commands; table = e.state.table } };
 
-    ghost invariant = { λ e. IsStateOf e.state.commands.commands e.state.options.names e.state.table e.state.rules.standing e.state.counts × IsHeldBy e.state.commands.commands e.state.table e.state.kept.commits.items e.state.kept.homes.items e.state.kept.entries.items };
+    ghost invariant = { λ e. IsStateOf e.state.commands.commands e.state.options.names e.state.table e.state.rules.standing e.state.counts × IsHeldBy e.state.commands.commands e.state.table e.state.store.commits.items e.state.store.file_of_line.items e.state.store.files.items };
 }
 
 impl Engine {
@@ -58,7 +58,7 @@ impl Engine {
         ensures { IfOk result (λ engine. engine.history ≡ []) }
     {
         Ok(Engine {
-            state: State {
+            state: EngineState {
                 commands: Commands::new(alloc),
                 options: Options::new(alloc),
                 table: Table::new(alloc)?,
@@ -68,10 +68,10 @@ impl Engine {
                     nodes: 1,
                     bytes: 0,
                 },
-                kept: Kept {
+                store: Store {
                     commits: Vec::new(alloc),
-                    homes: Vec::new(alloc),
-                    entries: Vec::new(alloc),
+                    file_of_line: Vec::new(alloc),
+                    files: Vec::new(alloc),
                 },
             },
         })
@@ -102,6 +102,7 @@ impl Engine {
     pub fn history_is_legal(&self)
         ensures { IsLegal self.now.history }
     {
+        // Names the state, since its invariant tells it.
         let _state = &self.state;
     }
 
@@ -126,8 +127,8 @@ impl Engine {
         ensures none { is_none result ≡ is_no_line self.now.history line }
         ensures stands { IfSome result (IsVisibilityOf self.now.history self.now.table line) }
     {
-        match file_of(&self.state.kept, line) {
-            Some(entry) => entry.file.vis(line),
+        match file_of(&self.state.store, line) {
+            Some(stored) => stored.file.vis(line),
             None => None,
         }
     }
@@ -136,9 +137,9 @@ impl Engine {
     pub fn file_lines(&self, file: NodeNo) -> Result<FileRows, Memory>
         ensures { IfOk result (λ rows. rows ≡ map as_row (file_dated file (kept_of self.now.history))) }
     {
-        match entry_of(&self.state.kept.entries, file) {
-            Some(entry) => entry.file.all(),
-            None => Ok(FileRows::new(*self.state.kept.entries.allocator())),
+        match stored_file_of(&self.state.store.files, file) {
+            Some(stored) => stored.file.all(),
+            None => Ok(FileRows::new(*self.state.store.files.allocator())),
         }
     }
 
@@ -158,7 +159,7 @@ impl Engine {
         ensures same { self.new.history ≡ self.old.history }
         ensures extends { Extends self.old.table self.new.table }
         ensures complete { IfOk result (λ choice. completed_in self.old.history partial.now ≡ Complete choice) }
-        ensures answer { IfOk result (IsAnswer (option_count self.old.history) (constraints_of self.old.history) partial.now) }
+        ensures answer { IfOk result (IsCompletion (option_count self.old.history) (constraints_of self.old.history) partial.now) }
         ensures refused { IfErr result (IsRefusalBy (completed_in self.old.history partial.now)) }
     {
         let count = self.state.options.count();
@@ -175,7 +176,7 @@ impl Engine {
         ensures nodes { IfOk result (λ view. view.nodes_made ≡ 0) }
         ensures lines { IfOk result (λ view. view.lines_made ≡ 0) }
     {
-        show(alloc, &self.state.table, &self.state.kept, choice, at)
+        show(alloc, &self.state.table, &self.state.store, choice, at)
     }
 
     /// Makes everything ready for a command, so that its installation can't fail. A refusal hands the engine back. Every
@@ -223,9 +224,9 @@ impl Engine {
         Ok(Receipt { position, number })
     }
 
-    pub(crate) fn of_state(state: State) -> Engine
+    pub(crate) fn of_state(state: EngineState) -> Engine
         requires state { IsStateOf state.commands.commands state.options.names state.table state.rules.standing state.counts }
-        requires held { IsHeldBy state.commands.commands state.table state.kept.commits.items state.kept.homes.items state.kept.entries.items }
+        requires held { IsHeldBy state.commands.commands state.table state.store.commits.items state.store.file_of_line.items state.store.files.items }
         ensures { result ≡ record { history = state.commands.commands; table = state.table } }
     {
         Engine { state }

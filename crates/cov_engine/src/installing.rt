@@ -6,62 +6,62 @@ ghost use Rattle.cov_engine.specs.States.{IsStateOf, receipt_number};
 ghost use Rattle.cov_engine.specs.declared.ready.Ready.TheVariants as ready;
 
 use crate::Counts;
-use crate::drawing::{install, undraw};
-use crate::kept::Made;
+use crate::edit_plan::EditPlan;
 use crate::ready::Ready;
-use crate::state::State;
-use crate::step::Step;
+use crate::staging::{install, unstage};
+use crate::state::EngineState;
+use crate::store::CommitMark;
 use cov_base::{OptionName, Position};
 use cov_edit::{Command, Edit};
 use cov_rules::{Rule, RulePlan};
 use std::collections::VecDeque;
 
 /// Adds all of a command that is ready but the command itself, and answers the number on its receipt.
-pub(crate) fn add_ready(state: &mut State, command: &Command, ready: Ready) -> u32
+pub(crate) fn add_ready(state: &mut EngineState, command: &Command, ready: Ready) -> u32
     requires state { IsStateOf state.old.commands.commands state.old.options.names state.old.table state.old.rules.standing state.old.counts }
     requires next { IsNext state.old.commands.commands command.now state.old.commands.spare }
     requires ready { IsReady state.old.commands.commands command.now state.old.options.spare state.old.table state.old.rules
-        (vec_capacity state.old.kept.commits - vec_len state.old.kept.commits) state.old.kept.commits.items state.old.kept.homes.items state.old.kept.entries.items ready }
+        (vec_capacity state.old.store.commits - vec_len state.old.store.commits) state.old.store.commits.items state.old.store.file_of_line.items state.old.store.files.items ready }
     ensures commands { state.new.commands ≡ state.old.commands }
     ensures table { state.new.table ≡ state.old.table }
     ensures state { IsStateOf (state.old.commands.commands ++ command.now ∷ []) state.new.options.names state.new.table state.new.rules.standing state.new.counts }
-    ensures held { IsHeldBy (state.old.commands.commands ++ command.now ∷ []) state.new.table state.new.kept.commits.items state.new.kept.homes.items state.new.kept.entries.items }
+    ensures held { IsHeldBy (state.old.commands.commands ++ command.now ∷ []) state.new.table state.new.store.commits.items state.new.store.file_of_line.items state.new.store.files.items }
     ensures number { result ≡ receipt_number state.old.commands.commands command.now }
 {
     match ready {
         Ready::Option { name } => add_option(state, command, name),
         Ready::Rule { rule, plan } => add_rule(state, command, rule, plan),
         Ready::Commit {
-            made,
+            mark,
             counts,
-            steps,
-        } => add_commit(state, command, made, counts, steps),
+            plans,
+        } => add_commit(state, command, mark, counts, plans),
     }
 }
 
-fn add_option(state: &mut State, command: &Command, name: OptionName) -> u32
+fn add_option(state: &mut EngineState, command: &Command, name: OptionName) -> u32
     requires state { IsStateOf state.old.commands.commands state.old.options.names state.old.table state.old.rules.standing state.old.counts }
     requires next { IsNext state.old.commands.commands command.now state.old.commands.spare }
     requires ready { IsReady state.old.commands.commands command.now state.old.options.spare state.old.table state.old.rules
-        (vec_capacity state.old.kept.commits - vec_len state.old.kept.commits) state.old.kept.commits.items state.old.kept.homes.items state.old.kept.entries.items (ready.Option name) }
+        (vec_capacity state.old.store.commits - vec_len state.old.store.commits) state.old.store.commits.items state.old.store.file_of_line.items state.old.store.files.items (ready.Option name) }
     ensures commands { state.new.commands ≡ state.old.commands }
     ensures table { state.new.table ≡ state.old.table }
     ensures state { IsStateOf (state.old.commands.commands ++ command.now ∷ []) state.new.options.names state.new.table state.new.rules.standing state.new.counts }
-    ensures held { IsHeldBy (state.old.commands.commands ++ command.now ∷ []) state.new.table state.new.kept.commits.items state.new.kept.homes.items state.new.kept.entries.items }
+    ensures held { IsHeldBy (state.old.commands.commands ++ command.now ∷ []) state.new.table state.new.store.commits.items state.new.store.file_of_line.items state.new.store.files.items }
     ensures number { result ≡ receipt_number state.old.commands.commands command.now }
 {
     u32::from(state.options.declare(name).number())
 }
 
-fn add_rule(state: &mut State, command: &Command, rule: Rule, plan: RulePlan) -> u32
+fn add_rule(state: &mut EngineState, command: &Command, rule: Rule, plan: RulePlan) -> u32
     requires state { IsStateOf state.old.commands.commands state.old.options.names state.old.table state.old.rules.standing state.old.counts }
     requires next { IsNext state.old.commands.commands command.now state.old.commands.spare }
     requires ready { IsReady state.old.commands.commands command.now state.old.options.spare state.old.table state.old.rules
-        (vec_capacity state.old.kept.commits - vec_len state.old.kept.commits) state.old.kept.commits.items state.old.kept.homes.items state.old.kept.entries.items (ready.Rule rule plan) }
+        (vec_capacity state.old.store.commits - vec_len state.old.store.commits) state.old.store.commits.items state.old.store.file_of_line.items state.old.store.files.items (ready.Rule rule plan) }
     ensures commands { state.new.commands ≡ state.old.commands }
     ensures table { state.new.table ≡ state.old.table }
     ensures state { IsStateOf (state.old.commands.commands ++ command.now ∷ []) state.new.options.names state.new.table state.new.rules.standing state.new.counts }
-    ensures held { IsHeldBy (state.old.commands.commands ++ command.now ∷ []) state.new.table state.new.kept.commits.items state.new.kept.homes.items state.new.kept.entries.items }
+    ensures held { IsHeldBy (state.old.commands.commands ++ command.now ∷ []) state.new.table state.new.store.commits.items state.new.store.file_of_line.items state.new.store.files.items }
     ensures number { result ≡ receipt_number state.old.commands.commands command.now }
 {
     let at = Position::new(state.commands.len() as u32 + 1);
@@ -69,48 +69,48 @@ fn add_rule(state: &mut State, command: &Command, rule: Rule, plan: RulePlan) ->
 }
 
 fn add_commit(
-    state: &mut State,
+    state: &mut EngineState,
     command: &Command,
-    made: Made,
+    mark: CommitMark,
     counts: Counts,
-    steps: VecDeque<Step>,
+    plans: VecDeque<EditPlan>,
 ) -> u32
     requires state { IsStateOf state.old.commands.commands state.old.options.names state.old.table state.old.rules.standing state.old.counts }
     requires next { IsNext state.old.commands.commands command.now state.old.commands.spare }
     requires ready { IsReady state.old.commands.commands command.now state.old.options.spare state.old.table state.old.rules
-        (vec_capacity state.old.kept.commits - vec_len state.old.kept.commits) state.old.kept.commits.items state.old.kept.homes.items state.old.kept.entries.items (ready.Commit made counts steps) }
+        (vec_capacity state.old.store.commits - vec_len state.old.store.commits) state.old.store.commits.items state.old.store.file_of_line.items state.old.store.files.items (ready.Commit mark counts plans) }
     ensures commands { state.new.commands ≡ state.old.commands }
     ensures table { state.new.table ≡ state.old.table }
     ensures state { IsStateOf (state.old.commands.commands ++ command.now ∷ []) state.new.options.names state.new.table state.new.rules.standing state.new.counts }
-    ensures held { IsHeldBy (state.old.commands.commands ++ command.now ∷ []) state.new.table state.new.kept.commits.items state.new.kept.homes.items state.new.kept.entries.items }
+    ensures held { IsHeldBy (state.old.commands.commands ++ command.now ∷ []) state.new.table state.new.store.commits.items state.new.store.file_of_line.items state.new.store.files.items }
     ensures number { result ≡ receipt_number state.old.commands.commands command.now }
 {
     install(
-        &mut state.kept,
+        &mut state.store,
         state.counts.nodes - 1,
         edits_in(command),
-        steps,
-        made,
+        plans,
+        mark,
     );
     state.counts = counts;
     0
 }
 
 /// Gives up what is ready for a command.
-pub(crate) fn give_up(state: &mut State, command: &Command, ready: &Ready)
+pub(crate) fn give_up(state: &mut EngineState, command: &Command, ready: &Ready)
     requires state { IsStateOf state.old.commands.commands state.old.options.names state.old.table state.old.rules.standing state.old.counts }
     requires next { IsNext state.old.commands.commands command.now state.old.commands.spare }
     requires ready { IsReady state.old.commands.commands command.now state.old.options.spare state.old.table state.old.rules
-        (vec_capacity state.old.kept.commits - vec_len state.old.kept.commits) state.old.kept.commits.items state.old.kept.homes.items state.old.kept.entries.items ready.now }
+        (vec_capacity state.old.store.commits - vec_len state.old.store.commits) state.old.store.commits.items state.old.store.file_of_line.items state.old.store.files.items ready.now }
     ensures commands { state.new.commands ≡ state.old.commands }
     ensures table { state.new.table ≡ state.old.table }
     ensures state { IsStateOf state.new.commands.commands state.new.options.names state.new.table state.new.rules.standing state.new.counts }
-    ensures held { IsHeldBy state.new.commands.commands state.new.table state.new.kept.commits.items state.new.kept.homes.items state.new.kept.entries.items }
+    ensures held { IsHeldBy state.new.commands.commands state.new.table state.new.store.commits.items state.new.store.file_of_line.items state.new.store.files.items }
 {
     match ready {
         Ready::Option { .. } | Ready::Rule { .. } => (),
-        Ready::Commit { .. } => undraw(
-            &mut state.kept,
+        Ready::Commit { .. } => unstage(
+            &mut state.store,
             state.counts.nodes - 1,
             state.counts.lines,
             edits_in(command),

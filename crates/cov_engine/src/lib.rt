@@ -2,11 +2,9 @@
 #![tactic(auto)]
 
 mod counts;
-mod drawing;
+mod edit_plan;
 mod engine;
-mod entry;
 mod installing;
-mod kept;
 pub mod laws;
 mod number;
 mod overtaking;
@@ -15,8 +13,10 @@ mod prepared;
 mod ready;
 mod rule;
 mod sizes;
+mod staging;
 mod state;
-mod step;
+mod store;
+mod stored_file;
 
 pub use counts::Counts;
 pub use cov_history::Refusal;

@@ -2,33 +2,31 @@
 ghost use Rattle.std.specs.Prelude.{◌≡◌, ◌<◌, true, is_some, IfOk};
 ghost use Rattle.std.specs.List.{AllByRecursion};
 ghost use Rattle.std.specs.Option.{option_copied};
-ghost use Rattle.cov_dd.specs.Diagrams.{node_count, Extends};
+ghost use Rattle.cov_dd.specs.Diagrams.{diagram_size, Extends};
 ghost use Rattle.cov_edit.specs.Touched.{AreRising};
 ghost use Rattle.cov_engine.specs.Overtakers.{Overtakes, Decides, IsFirstOf, AreApart, IsOvertaker, is_beyond, IsAfter};
 ghost use Rattle.cov_engine.specs.Visibility.{item_of};
 
-use crate::kept::Made;
+use crate::store::CommitMark;
 use cov_base::{Memory, NodeNo, Position, Steps, Uncounted};
 use cov_dd::{Node, Table};
 use cov_edit::{Edits, have_common, touched};
 use cov_expr::Expr;
 use cov_vis::compile;
-use std::alloc::Global;
 
 /// The position of the first commit that overtakes edits within an ambition; a node is true on exactly the valid choices. It
 /// takes time in the commits after the base alone, and neither time nor memory in the edits where there is none.
 pub(crate) fn overtaken(
     table: &mut Table,
     valid: Node,
-    commits: &[Made],
+    commits: &[CommitMark],
     base: Position,
     ambition: &Expr,
     edits: &Edits,
-    alloc: Global,
 ) -> Result<Option<Position>, Memory>
-    requires valid { valid < node_count table.old }
-    requires nodes { AllByRecursion (λ m. m.node < node_count table.old) commits.now }
-    requires rising { AllByRecursion (λ m. AreRising m.touched.items) commits.now }
+    requires valid { valid < diagram_size table.old }
+    requires nodes { AllByRecursion (λ m. m.node < diagram_size table.old) commits.now }
+    requires rising { AllByRecursion (λ m. AreRising m.touched) commits.now }
     ensures extends { Extends table.old table.new }
     ensures first { IfOk result (IsOvertaker table.old valid commits.now base ambition.now edits.now) }
 {
@@ -36,14 +34,14 @@ pub(crate) fn overtaken(
     if later.is_empty() {
         return Ok(None);
     }
-    let touched = touched(alloc, edits.as_slice())?;
+    let touched = touched(edits)?;
     let node = compile(table, ambition)?;
     let within = table.and(valid, node, &mut Steps::<Uncounted>::new())?;
-    first_overtaking(table, later, base, within, &touched)
+    first_overtaking(table, later, base, within, touched.as_slice())
 }
 
 // The commits after a base. It takes time in how many these are.
-fn after(commits: &[Made], base: Position) -> &[Made]
+fn after(commits: &[CommitMark], base: Position) -> &[CommitMark]
     ensures { IsAfter base commits.now result.now }
 {
     let mut count = commits.len();
@@ -54,18 +52,18 @@ fn after(commits: &[Made], base: Position) -> &[Made]
 }
 
 // Whether the last of the first so many commits comes after a base.
-fn ends_after(commits: &[Made], count: usize, base: Position) -> bool
+fn ends_after(commits: &[CommitMark], count: usize, base: Position) -> bool
     ensures ends { result ≡ is_beyond base (item_of commits.now count) }
     ensures above { result ≡ true → 0 < count }
 {
     match last_of(commits, count) {
-        Some(made) => made.position > base,
+        Some(mark) => mark.position > base,
         None => false,
     }
 }
 
 // The last of the first so many commits.
-fn last_of(commits: &[Made], count: usize) -> Option<&Made>
+fn last_of(commits: &[CommitMark], count: usize) -> Option<&CommitMark>
     ensures last { option_copied result ≡ item_of commits.now count }
     ensures above { is_some result ≡ true → 0 < count }
 {
@@ -78,22 +76,22 @@ fn last_of(commits: &[Made], count: usize) -> Option<&Made>
 /// The position of the first commit after a base that touches one of the nodes and shares a choice with a node.
 fn first_overtaking(
     table: &mut Table,
-    commits: &[Made],
+    commits: &[CommitMark],
     base: Position,
     within: Node,
     touched: &[NodeNo],
 ) -> Result<Option<Position>, Memory>
-    requires within { within < node_count table.old }
-    requires nodes { AllByRecursion (λ m. m.node < node_count table.old) commits.now }
-    requires rising { AllByRecursion (λ m. AreRising m.touched.items) commits.now }
+    requires within { within < diagram_size table.old }
+    requires nodes { AllByRecursion (λ m. m.node < diagram_size table.old) commits.now }
+    requires rising { AllByRecursion (λ m. AreRising m.touched) commits.now }
     requires own { AreRising touched.now }
     ensures extends { Extends table.old table.new }
     ensures first { IfOk result (IsFirstOf table.old base within touched.now commits.now) }
 {
     let mut ahead = commits;
-    while let [made, rest @ ..] = ahead {
-        if overtakes(table, made, base, within, touched)? {
-            return Ok(Some(made.position));
+    while let [mark, rest @ ..] = ahead {
+        if overtakes(table, mark, base, within, touched)? {
+            return Ok(Some(mark.position));
         }
         ahead = rest;
     }
@@ -103,31 +101,31 @@ fn first_overtaking(
 // Whether a commit after a base touches one of the nodes and shares a choice with a node.
 fn overtakes(
     table: &mut Table,
-    made: &Made,
+    mark: &CommitMark,
     base: Position,
     within: Node,
     touched: &[NodeNo],
 ) -> Result<bool, Memory>
-    requires within { within < node_count table.old }
-    requires node { made.now.node < node_count table.old }
-    requires rising { AreRising made.now.touched.items }
+    requires within { within < diagram_size table.old }
+    requires node { mark.now.node < diagram_size table.old }
+    requires rising { AreRising mark.now.touched }
     requires own { AreRising touched.now }
     ensures extends { Extends table.old table.new }
-    ensures decides { IfOk result (λ b. Decides b (Overtakes table.old base within touched.now made.now)) }
+    ensures decides { IfOk result (λ b. Decides b (Overtakes table.old base within touched.now mark.now)) }
 {
-    if made.position <= base {
+    if mark.position <= base {
         return Ok(false);
     }
-    if !have_common(&made.touched, touched) {
+    if !have_common(mark.touched.as_slice(), touched) {
         return Ok(false);
     }
-    share_choice(table, made.node, within)
+    share_choice(table, mark.node, within)
 }
 
 // Whether two nodes are true on a common choice.
 fn share_choice(table: &mut Table, a: Node, b: Node) -> Result<bool, Memory>
-    requires a { a < node_count table.old }
-    requires b { b < node_count table.old }
+    requires a { a < diagram_size table.old }
+    requires b { b < diagram_size table.old }
     ensures extends { Extends table.old table.new }
     ensures decides { IfOk result (λ shared. Decides shared (AreApart table.old a b → ⊥)) }
 {

@@ -1,15 +1,15 @@
-// The steps of a commit's edits, with their nodes.
+// The plans of a commit's edits, with their nodes.
 ghost use Rattle.std.specs.Prelude.{◌≡◌, ◌<◌, ◌≤◌, ◌+◌, ◌^◌, ℕ, [], ◌∷◌, length, IfOk, OnOk};
 ghost use Rattle.std.specs.List.{AllByRecursion};
-ghost use Rattle.cov_dd.specs.Diagrams.{node_count, Extends};
+ghost use Rattle.cov_dd.specs.Diagrams.{diagram_size, Extends};
 ghost use Rattle.cov_edit.specs.Numbering.{anchors_of};
-ghost use Rattle.cov_engine.specs.Drawing.{AreNumbered, AreNear, AreLow};
+ghost use Rattle.cov_engine.specs.Staging.{AreNumbered, AreNear, AreLow};
 ghost use Rattle.cov_engine.specs.Nodes.{old_node, HasNodesIn};
-ghost use Rattle.cov_engine.specs.Stepping.{ArePlanned, IsPlannedBehind};
+ghost use Rattle.cov_engine.specs.Carrying.{ArePlanned, IsPlannedBehind};
 
-use crate::entry::{Entry, index_of};
+use crate::edit_plan::EditPlan;
 use crate::number::{line_number, node_number};
-use crate::step::Step;
+use crate::stored_file::{StoredFile, index_of};
 use cov_base::{LineNo, Memory, NodeNo, Position};
 use cov_dd::{FALSE, Node, Table};
 use cov_edit::Edit;
@@ -26,57 +26,57 @@ pub(crate) struct Site {
     pub(crate) ambition: Node,
 }
 
-/// Puts the steps of edits behind others: what is inserted is visible where the ambition is, what is deleted where it was and
+/// Puts the plans of edits behind others: what is inserted is visible where the ambition is, what is deleted where it was and
 /// the ambition isn't.
-pub(crate) fn plan_steps(
+pub(crate) fn plan_edits(
     table: &mut Table,
-    entries: &[Entry],
-    steps: &mut VecDeque<Step>,
+    files: &[StoredFile],
+    plans: &mut VecDeque<EditPlan>,
     site: &Site,
     edits: &[Edit],
 ) -> Result<(), Memory>
-    requires numbered { AreNumbered 0 entries.now }
-    requires nodes { AllByRecursion (HasNodesIn table.old site.now.at) entries.now }
-    requires ambition { site.now.ambition < node_count table.old }
+    requires numbered { AreNumbered 0 files.now }
+    requires nodes { AllByRecursion (HasNodesIn table.old site.now.at) files.now }
+    requires ambition { site.now.ambition < diagram_size table.old }
     requires near { AreNear site.now.nodes edits.now }
     requires low { AreLow site.now.lines edits.now }
     requires few { site.now.lines + length (anchors_of 0 edits.now) < 2 ^ 32 }
     ensures extends { Extends table.old table.new }
-    ensures steps { OnOk result (steps.old.items ≡ [] → ArePlanned site.now.at entries.now site.now.nodes site.now.lines site.now.ambition table.new site.now.lines edits.now steps.new.items) }
+    ensures plans { OnOk result (plans.old.items ≡ [] → ArePlanned site.now.at files.now site.now.nodes site.now.lines site.now.ambition table.new site.now.lines edits.now plans.new.items) }
 {
     let mut made = site.lines;
     let mut ahead = edits;
     while let [edit, rest @ ..] = ahead {
-        made = plan_step(table, entries, steps, site, made, edit)?;
+        made = plan_edit(table, files, plans, site, made, edit)?;
         ahead = rest;
     }
     Ok(())
 }
 
 // Plans an edit, so many lines having been made before it, and answers how many there are then.
-fn plan_step(
+fn plan_edit(
     table: &mut Table,
-    entries: &[Entry],
-    steps: &mut VecDeque<Step>,
+    files: &[StoredFile],
+    plans: &mut VecDeque<EditPlan>,
     site: &Site,
     made: u32,
     edit: &Edit,
 ) -> Result<u32, Memory>
-    requires numbered { AreNumbered 0 entries.now }
-    requires nodes { AllByRecursion (HasNodesIn table.old site.now.at) entries.now }
-    requires ambition { site.now.ambition < node_count table.old }
+    requires numbered { AreNumbered 0 files.now }
+    requires nodes { AllByRecursion (HasNodesIn table.old site.now.at) files.now }
+    requires ambition { site.now.ambition < diagram_size table.old }
     requires near { AreNear site.now.nodes (edit.now ∷ []) }
     requires low { AreLow site.now.lines (edit.now ∷ []) }
     requires few { made + length (anchors_of 0 (edit.now ∷ [])) < 2 ^ 32 }
     ensures extends { Extends table.old table.new }
     ensures made { IfOk result (λ next. next ≡ made + length (anchors_of 0 (edit.now ∷ []))) }
-    ensures planned { OnOk result (IsPlannedBehind site.now.at entries.now site.now.nodes site.now.lines site.now.ambition table.new made edit.now steps.old.items steps.new.items) }
+    ensures planned { OnOk result (IsPlannedBehind site.now.at files.now site.now.nodes site.now.lines site.now.ambition table.new made edit.now plans.old.items plans.new.items) }
 {
     match edit {
         Edit::New { .. } => Ok(made),
         Edit::Insert { file, after, text } => {
             let line = made + 1;
-            steps.push_back(Step::Insert {
+            plans.push_back(EditPlan::Insert {
                 file: node_number(site.nodes, file),
                 anchor: line_number(site.lines, after),
                 line: LineNo::new(line),
@@ -88,20 +88,20 @@ fn plan_step(
         Edit::Delete { file, line } => {
             let file = node_number(site.nodes, file);
             let line = line_number(site.lines, line);
-            let vis = take(table, old_node(entries, file, line), site.ambition)?;
-            steps.push_back(Step::Delete { file, line, vis })?;
+            let vis = take(table, old_node(files, file, line), site.ambition)?;
+            plans.push_back(EditPlan::Delete { file, line, vis })?;
             Ok(made)
         }
     }
 }
 
 // The newest node of a line in a file, FALSE where the file has no such line.
-fn old_node(entries: &[Entry], file: NodeNo, line: LineNo) -> Node
-    requires numbered { AreNumbered 0 entries.now }
-    ensures { (p : ℕ) → AllByRecursion (λ e. e.file.newest ≤ p) entries.now → result ≡ old_node p entries.now file line }
+fn old_node(files: &[StoredFile], file: NodeNo, line: LineNo) -> Node
+    requires numbered { AreNumbered 0 files.now }
+    ensures { (p : ℕ) → AllByRecursion (λ e. e.file.newest ≤ p) files.now → result ≡ old_node p files.now file line }
 {
-    match index_of(entries, file) {
-        Some(index) => entries[index].file.vis(line).unwrap_or(FALSE),
+    match index_of(files, file) {
+        Some(index) => files[index].file.vis(line).unwrap_or(FALSE),
         None => FALSE,
     }
 }

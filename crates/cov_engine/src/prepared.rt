@@ -7,7 +7,7 @@ ghost use Rattle.cov_engine.specs.States.{IsStateOf, receipt_number};
 use crate::Engine;
 use crate::installing::{add_ready, give_up};
 use crate::ready::Ready;
-use crate::state::State;
+use crate::state::EngineState;
 use cov_base::Position;
 use cov_edit::Command;
 use std::marker::Model;
@@ -15,7 +15,7 @@ use std::marker::Model;
 /// A history and a command that it accepts. Everything is ready for the command.
 #[derive(Drop)]
 pub struct Prepared {
-    state: State,
+    state: EngineState,
     command: Command,
     ready: Ready,
 }
@@ -39,7 +39,7 @@ impl Model for Prepared {
     ghost invariant = { λ p. IsStateOf p.state.commands.commands p.state.options.names p.state.table p.state.rules.standing p.state.counts
         × IsNext p.state.commands.commands p.command p.state.commands.spare
         × IsReady p.state.commands.commands p.command p.state.options.spare p.state.table p.state.rules
-        (vec_capacity p.state.kept.commits - vec_len p.state.kept.commits) p.state.kept.commits.items p.state.kept.homes.items p.state.kept.entries.items p.ready };
+        (vec_capacity p.state.store.commits - vec_len p.state.store.commits) p.state.store.commits.items p.state.store.file_of_line.items p.state.store.files.items p.ready };
 }
 
 /// What a command made: the position after it, and the option's number, the rule's within its kind, or 0 for a commit.
@@ -50,11 +50,11 @@ pub struct Receipt {
 }
 
 impl Prepared {
-    pub(crate) fn new(state: State, command: Command, ready: Ready) -> Prepared
+    pub(crate) fn new(state: EngineState, command: Command, ready: Ready) -> Prepared
         requires state { IsStateOf state.commands.commands state.options.names state.table state.rules.standing state.counts }
         requires next { IsNext state.commands.commands command state.commands.spare }
         requires ready { IsReady state.commands.commands command state.options.spare state.table state.rules
-            (vec_capacity state.kept.commits - vec_len state.kept.commits) state.kept.commits.items state.kept.homes.items state.kept.entries.items ready }
+            (vec_capacity state.store.commits - vec_len state.store.commits) state.store.commits.items state.store.file_of_line.items state.store.files.items ready }
         ensures { result ≡ record { history = state.commands.commands; command = command; table = state.table } }
     {
         Prepared {

@@ -64,6 +64,7 @@ fn planned(rules: &mut Rules, table: &mut Table, rule: Rule) -> Result<Ready, Re
     }
 }
 
+// Drops a rule that is refused, so that it is dropped in one place, and answers why.
 fn given_up(_: Rule, refusal: Refusal) -> Result<Ready, Refusal>
     ensures { result ≡ Err refusal }
 {

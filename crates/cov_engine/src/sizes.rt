@@ -1,14 +1,17 @@
 // How much edits make.
-ghost use Rattle.std.specs.Prelude.{◌≡◌, ◌<◌, ◌+◌, ◌*◌, ◌^◌, ◌≤◌, ◌||◌, [], ◌∷◌, true, nat_lt, length};
+ghost use Rattle.std.specs.Prelude.{◌≡◌, ◌<◌, ◌+◌, ◌*◌, ◌^◌, ◌≤◌, [], ◌∷◌, true, length};
 ghost use Rattle.std.specs.List.{list_all};
+ghost use Rattle.cov_base.specs.declared.limits.TheConstants.{MOST_TEXT_BYTES};
 ghost use Rattle.cov_edit.specs.EditFits.{fits_edit};
 ghost use Rattle.cov_edit.specs.History.{edit_bytes};
 ghost use Rattle.cov_edit.specs.Numbering.{nodes_made, anchors_of};
-ghost use Rattle.cov_engine.specs.Drawing.{sizes_of, sizes_refusal};
+ghost use Rattle.cov_engine.specs.Staging.{sizes_of, sizes_refusal};
 ghost use Rattle.cov_history.specs.declared.refusal.Refusal.TheVariants as refusals;
 ghost use Rattle.cov_view.specs.Refusals.{when, first_of};
+ghost use Rattle.cov_history.specs.Verdict.{amount_refusals};
 
 use crate::{Counts, Refusal};
+use cov_base::LIMITS;
 use cov_edit::{Edit, Edits};
 
 /// How many lines and nodes edits make, and how many bytes of text they insert.
@@ -20,10 +23,10 @@ pub(crate) struct Sizes {
 }
 
 pub(crate) fn measure(edits: &[Edit]) -> Sizes
-    requires few { length edits.now ≤ 16384 }
+    requires few { length edits.now ≤ LIMITS.edits }
     requires fits { list_all fits_edit edits.now ≡ true }
     ensures sizes { result ≡ sizes_of edits.now }
-    ensures few { result.bytes ≤ 16384 * 4096 }
+    ensures few { result.bytes ≤ LIMITS.edits * MOST_TEXT_BYTES }
 {
     let mut sizes = Sizes {
         lines: 0,
@@ -40,7 +43,7 @@ pub(crate) fn measure(edits: &[Edit]) -> Sizes
 
 // The sizes with those of an edit more.
 fn with_edit(sizes: Sizes, edit: &Edit) -> Sizes
-    requires few { (sizes.lines ≤ 16384) × (sizes.nodes ≤ 16384) × (sizes.bytes ≤ 16384 * 4096) }
+    requires few { (sizes.lines ≤ LIMITS.edits) × (sizes.nodes ≤ LIMITS.edits) × (sizes.bytes ≤ LIMITS.edits * MOST_TEXT_BYTES) }
     requires fits { fits_edit edit.now ≡ true }
     ensures lines { result.lines ≡ sizes.lines + length (anchors_of 0 (edit.now ∷ [])) }
     ensures nodes { result.nodes ≡ sizes.nodes + nodes_made (edit.now ∷ []) }
@@ -60,24 +63,11 @@ fn with_edit(sizes: Sizes, edit: &Edit) -> Sizes
     }
 }
 
-/// The greatest number of edits of a commit.
-const MOST_EDITS: usize = 16384;
-
-/// The greatest numbers of lines and of nodes of a history.
-const MOST_LINES: u64 = 1 << 20;
-
-const MOST_NODES: u64 = 65536;
-
-/// The greatest numbers of bytes of text of a commit and of a history.
-const MOST_COMMIT_BYTES: u64 = 1 << 24;
-
-const MOST_BYTES: u64 = 1 << 30;
-
 /// The refusal of edits that are too many, make too much or are none, where so much is there already.
 pub(crate) fn refusal(counts: Counts, edits: &Edits) -> Option<Refusal>
     ensures { result ≡ sizes_refusal counts edits.now }
 {
-    if edits.len() > MOST_EDITS {
+    if edits.len() > LIMITS.edits {
         return Some(Refusal::TooManyEdits);
     }
     let sizes = measure(edits.as_slice());
@@ -91,18 +81,16 @@ pub(crate) fn refusal(counts: Counts, edits: &Edits) -> Option<Refusal>
 }
 
 fn refusal_of_sizes(counts: Counts, sizes: Sizes) -> Option<Refusal>
-    requires few { sizes.bytes ≤ 16384 * 4096 }
-    ensures { result ≡ first_of (when (nat_lt (2 ^ 20) (counts.lines + sizes.lines)) refusals.TooManyLines ∷
-        when (nat_lt 65536 (counts.nodes + sizes.nodes)) refusals.TooManyNodes ∷
-        when (nat_lt (2 ^ 24) sizes.bytes || nat_lt (2 ^ 30) (counts.bytes + sizes.bytes)) refusals.TooManyBytes ∷ []) }
+    requires few { sizes.bytes ≤ LIMITS.edits * MOST_TEXT_BYTES }
+    ensures { result ≡ first_of (amount_refusals LIMITS (counts.lines + sizes.lines) (counts.nodes + sizes.nodes) sizes.bytes (counts.bytes + sizes.bytes)) }
 {
-    if u64::from(counts.lines) + u64::from(sizes.lines) > MOST_LINES {
+    if u64::from(counts.lines) + u64::from(sizes.lines) > LIMITS.lines {
         return Some(Refusal::TooManyLines);
     }
-    if u64::from(counts.nodes) + u64::from(sizes.nodes) > MOST_NODES {
+    if u64::from(counts.nodes) + u64::from(sizes.nodes) > LIMITS.nodes {
         return Some(Refusal::TooManyNodes);
     }
-    if sizes.bytes > MOST_COMMIT_BYTES || counts.bytes > MOST_BYTES - sizes.bytes {
+    if sizes.bytes > LIMITS.commit_bytes || counts.bytes > LIMITS.bytes - sizes.bytes {
         return Some(Refusal::TooManyBytes);
     }
     None

@@ -1,23 +1,23 @@
 // What an engine keeps.
-ghost use Rattle.std.specs.Prelude.{◌≡◌, ◌<◌, ◌≤◌, ◌^◌, ◌-◌, length, None, IfOk, IfErr, OnOk, OnErr, vec_len, vec_capacity};
+ghost use Rattle.std.specs.Prelude.{◌≡◌, ◌<◌, ◌≤◌, ◌-◌, length, None, IfOk, IfErr, OnOk, OnErr, vec_len, vec_capacity};
 ghost use Rattle.cov_dd.specs.Diagrams.{Extends};
 ghost use Rattle.cov_expr.specs.Formula.{reach};
 ghost use Rattle.cov_edit.specs.History.{option_count};
 ghost use Rattle.cov_engine.specs.Holdings.{IsHeldBy};
 ghost use Rattle.cov_history.specs.Sessions.{MayCome};
 ghost use Rattle.cov_engine.specs.States.{IsStateOf, name_refusal};
-ghost use Rattle.cov_engine.specs.Ready.{IsReady, IsInBounds, IsDrawnReady};
+ghost use Rattle.cov_engine.specs.Ready.{IsReady, IsInBounds, IsStagedReady};
 ghost use Rattle.cov_history.specs.Verdict.{verdict, RefusedBy};
 ghost use Rattle.cov_engine.specs.declared.ready.Ready.TheVariants as ready;
 
-use crate::kept::{Kept, Made};
 use crate::overtaking::overtaken;
-use crate::planning::{Site, plan_steps};
-use crate::ready::{Ready, draw_commit};
+use crate::planning::{Site, plan_edits};
+use crate::ready::{Ready, stage_commit};
 use crate::rule::rule_ready;
 use crate::sizes::{measure, with_sizes};
+use crate::store::{CommitMark, Store};
 use crate::{Counts, Refusal, sizes};
-use cov_base::{Memory, OptionName, Position};
+use cov_base::{LIMITS, Memory, OptionName, Position};
 use cov_dd::Table;
 use cov_edit::{Command, Commands, Edits, touched};
 use cov_expr::{Expr, Options};
@@ -25,27 +25,21 @@ use cov_rules::Rules;
 use cov_vis::compile;
 use std::collections::VecDeque;
 
-/// The greatest number of commands.
-const MOST_COMMANDS: usize = 1 << 20;
-
-/// The greatest number of options.
-const MOST_OPTIONS: u8 = 64;
-
 /// The history with what it declares. The table has the nodes of the rules and of the lines' visibilities.
 #[derive(Drop)]
-pub(crate) struct State {
+pub(crate) struct EngineState {
     pub(crate) commands: Commands,
     pub(crate) options: Options,
     pub(crate) table: Table,
     pub(crate) rules: Rules,
     pub(crate) counts: Counts,
-    pub(crate) kept: Kept,
+    pub(crate) store: Store,
 }
 
 /// Makes everything ready for a command, unless the history refuses it.
-pub(crate) fn make_ready(state: &mut State, command: &Command) -> Result<Ready, Refusal>
+pub(crate) fn make_ready(state: &mut EngineState, command: &Command) -> Result<Ready, Refusal>
     requires state { IsStateOf state.old.commands.commands state.old.options.names state.old.table state.old.rules.standing state.old.counts }
-    requires held { IsHeldBy state.old.commands.commands state.old.table state.old.kept.commits.items state.old.kept.homes.items state.old.kept.entries.items }
+    requires held { IsHeldBy state.old.commands.commands state.old.table state.old.store.commits.items state.old.store.file_of_line.items state.old.store.files.items }
     requires may_come { MayCome state.old.commands.commands command.now }
     ensures history { state.new.commands.commands ≡ state.old.commands.commands }
     ensures extends { Extends state.old.table state.new.table }
@@ -53,11 +47,11 @@ pub(crate) fn make_ready(state: &mut State, command: &Command) -> Result<Ready, 
     ensures room { OnOk result (0 < state.new.commands.spare) }
     ensures accepted { OnOk result (verdict state.old.commands.commands command.now ≡ None) }
     ensures ready { IfOk result (IsReady state.new.commands.commands command.now state.new.options.spare state.new.table state.new.rules
-        (vec_capacity state.new.kept.commits - vec_len state.new.kept.commits) state.new.kept.commits.items state.new.kept.homes.items state.new.kept.entries.items) }
+        (vec_capacity state.new.store.commits - vec_len state.new.store.commits) state.new.store.commits.items state.new.store.file_of_line.items state.new.store.files.items) }
     ensures refused { IfErr result (λ refusal. RefusedBy refusal (verdict state.old.commands.commands command.now)) }
-    ensures held { OnErr result (IsHeldBy state.new.commands.commands state.new.table state.new.kept.commits.items state.new.kept.homes.items state.new.kept.entries.items) }
+    ensures held { OnErr result (IsHeldBy state.new.commands.commands state.new.table state.new.store.commits.items state.new.store.file_of_line.items state.new.store.files.items) }
 {
-    if state.commands.len() >= MOST_COMMANDS {
+    if state.commands.len() >= LIMITS.commands {
         return Err(Refusal::Full);
     }
     match state.commands.reserve() {
@@ -67,21 +61,21 @@ pub(crate) fn make_ready(state: &mut State, command: &Command) -> Result<Ready, 
 }
 
 // Makes ready what a command adds, where there is room for one more.
-fn ready_for(state: &mut State, command: &Command) -> Result<Ready, Refusal>
+fn ready_for(state: &mut EngineState, command: &Command) -> Result<Ready, Refusal>
     requires state { IsStateOf state.old.commands.commands state.old.options.names state.old.table state.old.rules.standing state.old.counts }
-    requires held { IsHeldBy state.old.commands.commands state.old.table state.old.kept.commits.items state.old.kept.homes.items state.old.kept.entries.items }
+    requires held { IsHeldBy state.old.commands.commands state.old.table state.old.store.commits.items state.old.store.file_of_line.items state.old.store.files.items }
     requires may_come { MayCome state.old.commands.commands command.now }
-    requires few { length state.old.commands.commands < 2 ^ 20 }
+    requires few { length state.old.commands.commands < LIMITS.commands }
     ensures commands { state.new.commands ≡ state.old.commands }
     ensures extends { Extends state.old.table state.new.table }
     ensures state { IsStateOf state.new.commands.commands state.new.options.names state.new.table state.new.rules.standing state.new.counts }
     ensures accepted { OnOk result (verdict state.old.commands.commands command.now ≡ None) }
     ensures ready { IfOk result (IsReady state.new.commands.commands command.now state.new.options.spare state.new.table state.new.rules
-        (vec_capacity state.new.kept.commits - vec_len state.new.kept.commits) state.new.kept.commits.items state.new.kept.homes.items state.new.kept.entries.items) }
+        (vec_capacity state.new.store.commits - vec_len state.new.store.commits) state.new.store.commits.items state.new.store.file_of_line.items state.new.store.files.items) }
     ensures refused { IfErr result (λ refusal. RefusedBy refusal (verdict state.old.commands.commands command.now)) }
-    ensures held { OnErr result (IsHeldBy state.new.commands.commands state.new.table state.new.kept.commits.items state.new.kept.homes.items state.new.kept.entries.items) }
+    ensures held { OnErr result (IsHeldBy state.new.commands.commands state.new.table state.new.store.commits.items state.new.store.file_of_line.items state.new.store.files.items) }
 {
-    let alloc = *state.kept.commits.allocator();
+    let alloc = *state.store.commits.allocator();
     match command {
         Command::Option { name } => option_ready(&mut state.options, name),
         Command::Commit {
@@ -94,11 +88,10 @@ fn ready_for(state: &mut State, command: &Command) -> Result<Ready, Refusal>
             None => match overtaken(
                 &mut state.table,
                 state.rules.conjunction(),
-                &state.kept.commits,
+                &state.store.commits,
                 *base,
                 ambition,
                 edits,
-                alloc,
             ) {
                 Ok(Some(position)) => Err(Refusal::Overtaken { position }),
                 Ok(None) => match commit_ready(state, ambition, edits) {
@@ -142,7 +135,7 @@ fn copied_name(options: &mut Options, name: &OptionName) -> Result<OptionName, M
 fn name_refusal(options: &Options, name: &[u8]) -> Option<Refusal>
     ensures { result ≡ name_refusal options.now.names name.now }
 {
-    if options.count() >= MOST_OPTIONS {
+    if options.count() >= LIMITS.options {
         return Some(Refusal::Full);
     }
     match options.find(name) {
@@ -151,22 +144,22 @@ fn name_refusal(options: &Options, name: &[u8]) -> Option<Refusal>
     }
 }
 
-// Draws a commit, and plans its steps.
-fn commit_ready(state: &mut State, ambition: &Expr, edits: &Edits) -> Result<Ready, Memory>
+// Stages a commit, and plans its edits.
+fn commit_ready(state: &mut EngineState, ambition: &Expr, edits: &Edits) -> Result<Ready, Memory>
     requires state { IsStateOf state.old.commands.commands state.old.options.names state.old.table state.old.rules.standing state.old.counts }
-    requires held { IsHeldBy state.old.commands.commands state.old.table state.old.kept.commits.items state.old.kept.homes.items state.old.kept.entries.items }
+    requires held { IsHeldBy state.old.commands.commands state.old.table state.old.store.commits.items state.old.store.file_of_line.items state.old.store.files.items }
     requires reach { reach ambition.now ≤ option_count state.old.commands.commands }
     requires fits { IsInBounds state.old.commands.commands edits.now }
     ensures commands { state.new.commands ≡ state.old.commands }
     ensures extends { Extends state.old.table state.new.table }
     ensures state { IsStateOf state.new.commands.commands state.new.options.names state.new.table state.new.rules.standing state.new.counts }
-    ensures ready { IfOk result (IsDrawnReady state.new.commands.commands state.new.table ambition.now edits.now (vec_capacity state.new.kept.commits - vec_len state.new.kept.commits)
-        state.new.kept.commits.items state.new.kept.homes.items state.new.kept.entries.items) }
-    ensures held { OnErr result (IsHeldBy state.new.commands.commands state.new.table state.new.kept.commits.items state.new.kept.homes.items state.new.kept.entries.items) }
+    ensures ready { IfOk result (IsStagedReady state.new.commands.commands state.new.table ambition.now edits.now (vec_capacity state.new.store.commits - vec_len state.new.store.commits)
+        state.new.store.commits.items state.new.store.file_of_line.items state.new.store.files.items) }
+    ensures held { OnErr result (IsHeldBy state.new.commands.commands state.new.table state.new.store.commits.items state.new.store.file_of_line.items state.new.store.files.items) }
 {
-    let alloc = *state.kept.commits.allocator();
-    let nodes = touched(alloc, edits.as_slice())?;
-    let made = Made {
+    let alloc = *state.store.commits.allocator();
+    let nodes = touched(edits)?;
+    let mark = CommitMark {
         position: Position::new(state.commands.len() as u32 + 1),
         ambition: ambition.copy(alloc)?,
         node: compile(&mut state.table, ambition)?,
@@ -174,23 +167,23 @@ fn commit_ready(state: &mut State, ambition: &Expr, edits: &Edits) -> Result<Rea
     };
     let counts = with_sizes(state.counts, measure(edits.as_slice()));
     let site = Site {
-        at: made.position,
+        at: mark.position,
         nodes: state.counts.nodes - 1,
         lines: state.counts.lines,
-        ambition: made.node,
+        ambition: mark.node,
     };
-    let mut steps = VecDeque::new(alloc);
-    plan_steps(
+    let mut plans = VecDeque::new(alloc);
+    plan_edits(
         &mut state.table,
-        &state.kept.entries,
-        &mut steps,
+        &state.store.files,
+        &mut plans,
         &site,
         edits.as_slice(),
     )?;
-    draw_commit(&mut state.kept, state.counts, edits.as_slice())?;
+    stage_commit(&mut state.store, state.counts, edits.as_slice())?;
     Ok(Ready::Commit {
-        made,
+        mark,
         counts,
-        steps,
+        plans,
     })
 }

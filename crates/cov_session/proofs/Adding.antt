@@ -1,35 +1,35 @@
 -- One edit more in a session.
-use Rattle.std.proofs.Common.{◌≡◌, ◌∙◌, refl, sym, ap, subst, ℕ, ◌+◌, ◌<◌, ◌≤◌, Bool, true, false, nat_lt, List, [], ◌∷◌, ◌++◌, length, length-append, take, Option, Some, None, arith}
+use Rattle.std.proofs.Common.{◌≡◌, ◌∙◌, refl, sym, ap, subst, ℕ, ◌+◌, ◌<◌, ◌≤◌, true, false, nat_lt, List, [], ◌∷◌, ◌++◌, length, length-append, take, Option, Some, None, arith}
 use Rattle.std.proofs.lemmas.Bool.Decides.{nat_tests}
 use Rattle.std.specs.List.{fold}
 use Rattle.cov_base.specs.Addresses.{address_in, with_lines, IsTable}
 use Rattle.cov_base.specs.Rows.{Created}
-use Rattle.cov_base.proofs.Tables.{length-with_lines, address_in-with_lines}
+use Rattle.cov_base.proofs.CallerLemmas.{length-with_lines, address_in-with_lines}
+use Rattle.cov_base.specs.declared.limits.TheConstants.{LIMITS}
 use Rattle.cov_edit.specs.declared.edit.Edit.{Edit}
 use Rattle.cov_edit.specs.declared.edit.Edit.TheVariants as edits
 use Rattle.cov_edit.specs.declared.command.Command.{Command}
 use Rattle.cov_edit.specs.declared.command.Command.TheVariants as commands
 use Rattle.cov_edit.specs.History.{text_bytes}
-use Rattle.cov_edit.specs.Limits.{most_edits, most_commit_bytes}
 use Rattle.cov_edit.specs.Numbering.{Numbers, NumberedEdit, OnRows, Inserted, Deleted, no_numbers, node_number, line_number, nodes_made, anchors_of, numbers_after, numbered_from, numbered}
 use Rattle.cov_edit.specs.Variant.{Variant, edited}
 use Rattle.cov_edit.specs.Replay.{replay}
-use Rattle.cov_edit.proofs.CallerLemmas.{anchors-append, nodes-append, with_lines-append, numbered-append, bytes-append}
-use Rattle.cov_edit.proofs.Replays.{fold-append, numbers_from-append}
+use Rattle.cov_edit.proofs.CallerLemmas.{anchors-append, nodes-append, with_lines-append, numbered-append, bytes-append, fold-append, numbers_from-append}
 use Rattle.cov_expr.specs.Formula.{False}
-use Rattle.cov_view.specs.Refusals.{when, first_of, refusal, refused_at, refused_from, first_refused}
+use Rattle.cov_view.specs.Refusals.{refusal, refused_at, refused_from, first_refused}
 use Rattle.cov_view.specs.Seen.{Seen}
 use Rattle.cov_view.specs.Views.{Shows, table_after, next_by_number, FaultBy}
 use Rattle.cov_view.specs.declared.fault.EditFault.{EditFault}
 use Rattle.cov_view.specs.declared.fault.EditFault.TheVariants as edit_faults
 use Rattle.cov_history.specs.Laws.{HoldingStands, ReplayStands}
 use Rattle.cov_history.specs.Sessions.{Session, seen}
-use Rattle.cov_history.proofs.Sessions.{edit-accepted, rest-accepted}
+use Rattle.cov_history.proofs.CallerLemmas.{edit-accepted, rest-accepted}
 use Rattle.cov_session.specs.Adding.{with_edits, as_fault, addition_fault, IsAdditionFault}
 use Rattle.cov_session.specs.Faults.{by_edit}
 use Rattle.cov_session.specs.Open.{SessionValue, IsOpen, numbers_at_base, table_of}
 use Rattle.cov_session.specs.declared.fault.SessionFault.{SessionFault}
 use Rattle.cov_session.specs.declared.fault.SessionFault.TheVariants as faults
+use Rattle.cov_view.proofs.CallerLemmas.{first-not_when, first-when, first-one, fault-by}
 use Rattle.cov_session.proofs.Made.{DeletesWithin, deletes-within, replay-within}
 
 -- they are the same by another table in which their lines have the same addresses
@@ -138,18 +138,6 @@ first-refused history s e stands replays here =
       ap (refused_from ns v 0 (s.session.edits ++ e ∷ [])) (numbered-next ns s.session.edits e s.view here.nodes (session-deletes history s stands replays here)) ∙ found.1,
     )
 
-not_when : {F : Type 0} (b : Bool) (f : F) (os : List (Option F)) → b ≡ false → first_of (when b f ∷ os) ≡ first_of os
-not_when true f os h = absurd (cc)
-not_when false f os h = refl
-
-is_when : {F : Type 0} (b : Bool) (f : F) (os : List (Option F)) → b ≡ true → first_of (when b f ∷ os) ≡ Some f
-is_when true f os h = refl
-is_when false f os h = absurd (cc)
-
-last-of : {F : Type 0} (o : Option F) → first_of (o ∷ []) ≡ o
-last-of None = refl
-last-of (Some f) = refl
-
 pub fault-at : (i : ℕ) (o : Option EditFault) (f : EditFault) → o ≡ Some f → as_fault (refused_at i o None) ≡ Some (faults.Edit f)
 fault-at i None f h = absurd (cc)
 fault-at i (Some g) f h = ap (λ x. as_fault (refused_at i x None)) h
@@ -157,45 +145,44 @@ fault-at i (Some g) f h = ap (λ x. as_fault (refused_at i x None)) h
 pub no-fault-at : (i : ℕ) (o : Option EditFault) → o ≡ None → as_fault (refused_at i o None) ≡ None
 no-fault-at i o h = ap (λ x. as_fault (refused_at i x None)) h
 
--- what a view refuses is the fault that is wanted
+-- what a view refuses is the fault that is wanted, where the refusal says so, unless memory is wanting
+pub by-fault : (f : EditFault) (refused : Option EditFault) (wanted : Option SessionFault) → (refused ≡ Some f → wanted ≡ Some (faults.Edit f)) → FaultBy f refused → IsAdditionFault (by_edit f) wanted
+by-fault edit_faults.Memory refused wanted g h = tt
+by-fault f refused wanted g h = g h
+
 pub by-edit : (f : EditFault) (wanted : Option SessionFault) → wanted ≡ Some (faults.Edit f) → IsAdditionFault (by_edit f) wanted
-by-edit edit_faults.NoSuchNode wanted h = h
-by-edit edit_faults.NotFile wanted h = h
-by-edit edit_faults.NotDirectory wanted h = h
-by-edit edit_faults.NameTaken wanted h = h
-by-edit edit_faults.NoSuchLine wanted h = h
-by-edit edit_faults.Memory wanted h = tt
+by-edit f wanted h = by-fault f (Some f) wanted (λ e. h) (fault-by f (Some f) refl)
 
 length-one : (es : List Edit) (e : Edit) → length (es ++ e ∷ []) ≡ length es + 1
 length-one es e = length-append es (e ∷ [])
 
 -- too many edits
-pub refused-many : (history : List Command) (s : Session) (es : List Edit) (k : ℕ) → length es ≡ k → most_edits < length s.edits + k → addition_fault history s es ≡ Some faults.TooManyEdits
+pub refused-many : (history : List Command) (s : Session) (es : List Edit) (k : ℕ) → length es ≡ k → LIMITS.edits < length s.edits + k → addition_fault history s es ≡ Some faults.TooManyEdits
 refused-many history s es k is h =
     let l = length-append s.edits es in
-    let more : nat_lt most_edits (length (s.edits ++ es)) ≡ true = grind (arith, nat_tests, l, is, h) in
-    is_when (nat_lt most_edits (length (s.edits ++ es))) faults.TooManyEdits _ more
+    let more : nat_lt LIMITS.edits (length (s.edits ++ es)) ≡ true = grind (arith, nat_tests, l, is, h) in
+    first-when (nat_lt LIMITS.edits (length (s.edits ++ es))) faults.TooManyEdits _ more
 
 -- too much text
-pub refused-heavy : (history : List Command) (s : Session) (es : List Edit) (k b : ℕ) → length es ≡ k → text_bytes es ≡ b → length s.edits + k ≤ most_edits → most_commit_bytes < text_bytes s.edits + b
+pub refused-heavy : (history : List Command) (s : Session) (es : List Edit) (k b : ℕ) → length es ≡ k → text_bytes es ≡ b → length s.edits + k ≤ LIMITS.edits → LIMITS.commit_bytes < text_bytes s.edits + b
     → addition_fault history s es ≡ Some faults.TooManyBytes
 refused-heavy history s es k b is said h heavy =
     let l = length-append s.edits es in
     let sum = bytes-append s.edits es in
-    let few : nat_lt most_edits (length (s.edits ++ es)) ≡ false = grind (arith, nat_tests, l, is, h) in
-    let more : nat_lt most_commit_bytes (text_bytes (s.edits ++ es)) ≡ true = grind (arith, nat_tests, sum, said, heavy) in
-    not_when (nat_lt most_edits (length (s.edits ++ es))) faults.TooManyEdits _ few
-    ∙ is_when (nat_lt most_commit_bytes (text_bytes (s.edits ++ es))) faults.TooManyBytes _ more
+    let few : nat_lt LIMITS.edits (length (s.edits ++ es)) ≡ false = grind (arith, nat_tests, l, is, h) in
+    let more : nat_lt LIMITS.commit_bytes (text_bytes (s.edits ++ es)) ≡ true = grind (arith, nat_tests, sum, said, heavy) in
+    first-not_when (nat_lt LIMITS.edits (length (s.edits ++ es))) faults.TooManyEdits _ few
+    ∙ first-when (nat_lt LIMITS.commit_bytes (text_bytes (s.edits ++ es))) faults.TooManyBytes _ more
 
 -- within the limits, the first refused edit decides
-pub by-first : (history : List Command) (s : Session) (es : List Edit) → length (s.edits ++ es) ≤ most_edits → text_bytes (s.edits ++ es) ≤ most_commit_bytes
+pub by-first : (history : List Command) (s : Session) (es : List Edit) → length (s.edits ++ es) ≤ LIMITS.edits → text_bytes (s.edits ++ es) ≤ LIMITS.commit_bytes
     → addition_fault history s es ≡ as_fault (first_refused (numbers_at_base history s) (replay s.choice (take s.base history)) (s.edits ++ es))
 by-first history s es room light =
-    let few : nat_lt most_edits (length (s.edits ++ es)) ≡ false = grind (arith, nat_tests, room) in
-    let less : nat_lt most_commit_bytes (text_bytes (s.edits ++ es)) ≡ false = grind (arith, nat_tests, light) in
-    not_when (nat_lt most_edits (length (s.edits ++ es))) faults.TooManyEdits _ few
-    ∙ not_when (nat_lt most_commit_bytes (text_bytes (s.edits ++ es))) faults.TooManyBytes _ less
-    ∙ last-of (as_fault (first_refused (numbers_at_base history s) (replay s.choice (take s.base history)) (s.edits ++ es)))
+    let few : nat_lt LIMITS.edits (length (s.edits ++ es)) ≡ false = grind (arith, nat_tests, room) in
+    let less : nat_lt LIMITS.commit_bytes (text_bytes (s.edits ++ es)) ≡ false = grind (arith, nat_tests, light) in
+    first-not_when (nat_lt LIMITS.edits (length (s.edits ++ es))) faults.TooManyEdits _ few
+    ∙ first-not_when (nat_lt LIMITS.commit_bytes (text_bytes (s.edits ++ es))) faults.TooManyBytes _ less
+    ∙ first-one (as_fault (first_refused (numbers_at_base history s) (replay s.choice (take s.base history)) (s.edits ++ es)))
 
 -- an edit is refused by no variant that a view shows
 abbrev pub Accepts : Seen → Edit → Type 0
@@ -255,7 +242,7 @@ module _ (history : List Command) (s : SessionValue) (e : Edit) (stands : Holdin
           (subst (Shows ns (table_after ns (table_of history s.session) e) view) (sym seen-after)
           (applies ns (table_of history s.session) (seen s.session history) (is-table history s.session stands) here.shows))
 
-  module _ (room : length s.session.edits < most_edits) (light : text_bytes (s.session.edits ++ e ∷ []) ≤ most_commit_bytes) where
+  module _ (room : length s.session.edits < LIMITS.edits) (light : text_bytes (s.session.edits ++ e ∷ []) ≤ LIMITS.commit_bytes) where
     -- within the limits, what the session sees decides
     by-view : (i : ℕ) × (addition_fault history s.session (e ∷ []) ≡ as_fault (refused_at i (refusal (numbers_at_base history s.session) (seen s.session history) e) None))
     by-view =
@@ -270,9 +257,4 @@ module _ (history : List Command) (s : SessionValue) (e : Edit) (stands : Holdin
 
     pub refused-by : (f : EditFault) → FaultBy f (refusal (numbers_at_base history s.session) (seen s.session history) e)
         → IsAdditionFault (by_edit f) (addition_fault history s.session (e ∷ []))
-    refused-by edit_faults.NoSuchNode h = refused-as edit_faults.NoSuchNode h
-    refused-by edit_faults.NotFile h = refused-as edit_faults.NotFile h
-    refused-by edit_faults.NotDirectory h = refused-as edit_faults.NotDirectory h
-    refused-by edit_faults.NameTaken h = refused-as edit_faults.NameTaken h
-    refused-by edit_faults.NoSuchLine h = refused-as edit_faults.NoSuchLine h
-    refused-by edit_faults.Memory h = tt
+    refused-by f h = by-fault f (refusal (numbers_at_base history s.session) (seen s.session history) e) (addition_fault history s.session (e ∷ [])) (refused-as f) h

@@ -1,6 +1,7 @@
 -- A line that can be deleted once another is inserted directly after it.
-use Rattle.std.proofs.Common.{◌≡◌, ◌∙◌, refl, sym, ap, ℕ, ◌+◌, ◌-◌, Bool, true, false, cond, ◌&&◌, ◌||◌, not, List, [], ◌∷◌, ◌++◌, length, length-append, Option, Some, None, option_map, arith}
+use Rattle.std.proofs.Common.{◌≡◌, ◌∙◌, refl, sym, ap, ℕ, ◌+◌, ◌-◌, Bool, true, false, cond, ◌&&◌, ◌||◌, not, List, [], ◌∷◌, ◌++◌, ◌<◌, ◌≤◌, length, length-append, Option, Some, None, option_map, arith}
 use Rattle.std.specs.List.{list_any, slice_get}
+use Rattle.std.proofs.lemmas.Bool.{or_right}
 use Rattle.std.specs.Option.{option_map_or}
 use Rattle.cov_base.specs.Addresses.{after_first}
 use Rattle.cov_base.specs.declared.number.Kind.{Kind}
@@ -10,16 +11,16 @@ use Rattle.cov_base.specs.declared.number.LineRef.TheVariants as lines
 use Rattle.cov_base.specs.declared.number.NodeRef.{NodeRef}
 use Rattle.cov_edit.specs.declared.edit.Edit.{Edit}
 use Rattle.cov_edit.specs.declared.edit.Edit.TheVariants as edits
+use Rattle.cov_base.specs.declared.limits.TheConstants.{LIMITS}
+use Rattle.cov_edit.specs.Numbering.{nodes_made, anchors_of}
 use Rattle.cov_view.specs.Lines.{is_among, after_ref}
 use Rattle.cov_view.specs.References.{is_head, is_root, same_node, same_line}
 use Rattle.cov_view.specs.Seen.{Seen, row_at, line_fault, seen_fault, seen_after, at_row, with_lines_by}
 use Rattle.cov_view.specs.declared.fault.EditFault.{EditFault}
 use Rattle.cov_view.specs.declared.line.ViewLine.{ViewLine}
 use Rattle.cov_view.specs.declared.row.ViewRow.{ViewRow}
-
-or_right : (a b : Bool) → b ≡ true → (a || b) ≡ true
-or_right true b h = refl
-or_right false b h = h
+use Rattle.cov_session.specs.Counting.{IsCounted}
+use Rattle.cov_session.proofs.Counting.{nodes-fit, lines-few, last-is}
 
 -- what is there stays there with a line more
 any-after : (t p : ViewLine → Bool) (new : ViewLine) (ls : List ViewLine) → list_any t ls ≡ true → list_any t (after_first p new ls) ≡ true
@@ -79,9 +80,25 @@ get-at [] e more = refl
 get-at (d ∷ es) e more = get-at es e more
 
 -- the last edit but one
-pub last-but-one : (all es : List Edit) (e f : Edit) (n : ℕ) → all ≡ es ++ e ∷ f ∷ [] → n ≡ length all → slice_get all (n - 2) ≡ Some e
+last-but-one : (all es : List Edit) (e f : Edit) (n : ℕ) → all ≡ es ++ e ∷ f ∷ [] → n ≡ length all → slice_get all (n - 2) ≡ Some e
 last-but-one all es e f n is count =
     let l = length-append es (e ∷ f ∷ []) in
     let k : n ≡ length es + 2 = count ∙ ap length is ∙ l in
     let at : n - 2 ≡ length es = omega (arith, k) in
     ap (slice_get all) at ∙ ap (λ fs. slice_get fs (length es)) is ∙ get-at es e (f ∷ [])
+
+-- an edit that is found there is the insertion
+pub inserted : (found e f : Edit) (all es : List Edit) (n : ℕ) → Some found ≡ slice_get all (n - 2) → all ≡ es ++ e ∷ f ∷ [] → n ≡ length all → found ≡ e
+inserted found e f all es n there is count = last-is found e (there ∙ last-but-one all es e f n is count)
+
+-- after it a view has room for the deletion
+pub delete-fits : (old new : Seen) (all es : List Edit) (bytes n : ℕ) (found f : Edit) (file : NodeRef) (line : LineRef) (text : List ℕ) → IsCounted old es bytes → length es + 2 ≤ LIMITS.edits
+    → Some found ≡ slice_get all (n - 2) → all ≡ es ++ edits.Insert file line text ∷ f ∷ [] → n ≡ length all
+    → new.nodes_made ≡ old.nodes_made + nodes_made (found ∷ []) → new.lines_made ≡ old.lines_made + length (anchors_of 0 (found ∷ [])) → (new.nodes_made < 4294967295) × (new.lines_made < 4294967295)
+delete-fits old new all es bytes n found f file line text counted room there pushed count nodes lines_then =
+    let is = inserted found (edits.Insert file line text) f all es n there pushed count in
+    let nodes_before = nodes-fit old es bytes counted (omega (arith, room)) in
+    let lines_before = lines-few old es bytes counted in
+    let same : new.nodes_made ≡ old.nodes_made + nodes_made (edits.Insert file line text ∷ []) = nodes ∙ ap (λ e. old.nodes_made + nodes_made (e ∷ [])) is in
+    let more : new.lines_made ≡ old.lines_made + length (anchors_of 0 (edits.Insert file line text ∷ [])) = lines_then ∙ ap (λ e. old.lines_made + length (anchors_of 0 (e ∷ []))) is in
+    (omega (arith, nodes_before, same), omega (arith, lines_before, more, room))

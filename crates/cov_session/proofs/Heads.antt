@@ -1,8 +1,9 @@
 -- Why the head of a file isn't deleted.
 use Rattle.std.proofs.Common.{◌≡◌, ◌∙◌, refl, sym, ap, ℕ, zero, suc, Bool, true, false, cond, ◌&&◌, ◌||◌, not, nat_eq, List, [], ◌∷◌, Option, Some, None, option_map, is_some, arith}
-use Rattle.std.specs.List.{find, list_any}
+use Rattle.std.specs.List.{list_any}
 use Rattle.std.proofs.lemmas.Bool.Decides.{nat_tests}
 use Rattle.cov_base.specs.Rows.{Row, row_of, is_present}
+use Rattle.cov_base.proofs.CallerLemmas.{is_some-find}
 use Rattle.cov_base.specs.declared.number.Kind.{Kind}
 use Rattle.cov_base.specs.declared.number.Kind.TheVariants as kinds
 use Rattle.cov_base.specs.declared.number.NodeRef.{NodeRef}
@@ -28,14 +29,6 @@ fault_by (Some kinds.File) = faults.NoSuchLine
 abbrev fault_if : Bool → Bool → Option EditFault
 fault_if there dir = first_of (when (not there) faults.NoSuchNode ∷ when dir faults.NotFile ∷ Some faults.NoSuchLine ∷ [])
 
-found-any : {X : Type 0} (p : X → Bool) (xs : List X) → is_some (find p xs) ≡ list_any p xs
-found-any p [] = refl
-found-any p (x ∷ xs) = at (p x) (found-any p xs)
-  where
-    at : (b : Bool) → is_some (find p xs) ≡ list_any p xs → is_some (cond b (Some x) (find p xs)) ≡ (b || list_any p xs)
-    at true rest = refl
-    at false rest = rest
-
 by-kind : (there : Bool) (kind : Kind) → there ≡ true → fault_if there (is_dir_kind kind) ≡ Some (fault_by (Some kind))
 by-kind true kinds.Dir e = refl
 by-kind true kinds.File e = refl
@@ -52,7 +45,7 @@ by-number v zero = refl
 by-number v (suc x) =
     let not_root : nat_eq (suc x) 0 ≡ false = grind (arith, nat_tests) in
     ap (λ b. fault_if (b || list_any (λ (r : Row). nat_eq r.node (suc x)) v.rows) (is_dir v.rows (suc x))) not_root
-    ∙ by-row (list_any (λ (r : Row). nat_eq r.node (suc x)) v.rows) (row_of v.rows (suc x)) (found-any (λ (r : Row). nat_eq r.node (suc x)) v.rows)
+    ∙ by-row (list_any (λ (r : Row). nat_eq r.node (suc x)) v.rows) (row_of v.rows (suc x)) (is_some-find (λ (r : Row). nat_eq r.node (suc x)) v.rows)
     ∙ ap (λ b. Some (fault_by (cond b (Some kinds.Dir) (option_map (λ (r : Row). r.kind) (row_of v.rows (suc x)))))) (sym not_root)
 
 pub head-fault : (ns : Numbers) (v : Variant) (file : NodeRef) (kind : Option Kind) → kind ≡ shown_kind ns v file

@@ -1,24 +1,22 @@
 -- The lines that accepted edits delete are made before.
 use Rattle.std.proofs.Common.{◌≡◌, ◌∙◌, refl, ap, subst, ℕ, suc, ◌+◌, ◌<◌, ◌≤◌, Bool, true, false, ◌&&◌, ◌||◌, not, nat_eq, List, [], ◌∷◌, length, None, arith}
+use Rattle.std.proofs.lemmas.Bool.{and_parts}
 use Rattle.std.proofs.lemmas.Bool.Decides.{nat_tests}
 use Rattle.std.specs.List.{list_any, AllByRecursion}
 use Rattle.cov_base.specs.Addresses.{address_in, line_of, IsTable, IsLineOf}
 use Rattle.cov_base.specs.Rows.{Created}
-use Rattle.cov_base.specs.declared.number.NodeRef.{NodeRef}
-use Rattle.cov_base.specs.declared.number.LineRef.{LineRef}
-use Rattle.cov_base.proofs.Ordered.{all-map, all-filter, all-placed}
-use Rattle.cov_base.proofs.Tables.{line_of-in}
+use Rattle.cov_base.proofs.CallerLemmas.{all-map, all-filter, all-placed, line_of-in}
 use Rattle.cov_edit.specs.declared.edit.Edit.{Edit}
 use Rattle.cov_edit.specs.declared.edit.Edit.TheVariants as edits
 use Rattle.cov_edit.specs.declared.command.Command.{Command}
 use Rattle.cov_edit.specs.Numbering.{Numbers, OnRows, Inserted, Deleted, node_number, line_number, anchors_of, numbers_of, numbered_from}
 use Rattle.cov_edit.specs.Variant.{Variant, Line, line_address, is_line, edited}
 use Rattle.cov_edit.specs.Replay.{replay}
-use Rattle.cov_view.specs.References.{is_head, is_known_line}
-use Rattle.cov_view.specs.Refusals.{when, first_of, has_node, is_dir, has_line, refusal, refused_from}
-use Rattle.cov_view.specs.declared.fault.EditFault.TheVariants as faults
+use Rattle.cov_view.specs.References.{is_known_line}
+use Rattle.cov_view.specs.Refusals.{refusal, refused_from}
+use Rattle.cov_view.proofs.CallerLemmas.{delete-accepted}
 use Rattle.cov_history.specs.Laws.{HoldingStands, ReplayStands}
-use Rattle.cov_history.proofs.Sessions.{rest-accepted, edit-accepted}
+use Rattle.cov_history.proofs.CallerLemmas.{rest-accepted, edit-accepted}
 
 -- the lines that edits delete, n lines having been made before them, are among the first so many
 abbrev pub DeletesWithin : ℕ → ℕ → List Edit → Type 0
@@ -45,21 +43,6 @@ number-made most file number (l ∷ ls) all h = at (nat_eq l.file file) (nat_eq 
     at true false e rest k = rest k
     at false b e rest k = rest k
 
--- an accepted delete has its line
-delete-there : (ns : Numbers) (v : Variant) (file : NodeRef) (line : LineRef) → refusal ns v (edits.Delete file line) ≡ None → has_line ns v (node_number ns.nodes file) line ≡ true
-delete-there ns v file line h = at (not (has_node ns v file)) (is_dir v.rows (node_number ns.nodes file)) (is_head line) (has_line ns v (node_number ns.nodes file) line) h
-  where
-    at : (a b c d : Bool) → first_of (when a faults.NoSuchNode ∷ when b faults.NotFile ∷ when (c || not d) faults.NoSuchLine ∷ []) ≡ None → d ≡ true
-    at true b c d k = absurd (cc)
-    at false true c d k = absurd (cc)
-    at false false true d k = absurd (cc)
-    at false false false true k = refl
-    at false false false false k = absurd (cc)
-
-and_right : (a b : Bool) → (a && b) ≡ true → b ≡ true
-and_right true b h = h
-and_right false b h = absurd (cc)
-
 -- a line of the table has its number
 line-in : (t : List (List ℕ)) (line : ℕ) → IsTable t → line < length t → line_of (address_in t (line + 1)) ≤ length t
 line-in t line table h =
@@ -81,8 +64,8 @@ deletes-within ns t node line k m v (edits.Delete file which ∷ es) table room 
     let f : ℕ = node_number ns.nodes file in
     let number : ℕ = line_number (length ns.addresses) which in (
       number-made (length t) f number v.lines all
-          (and_right (is_known_line (length ns.addresses) which) (list_any (λ (l : Line). nat_eq l.file f && nat_eq (line_of l.address) number) v.lines)
-          (delete-there ns v file which (edit-accepted k (refusal ns v (edits.Delete file which)) _ h))),
+          (and_parts (is_known_line (length ns.addresses) which) (list_any (λ (l : Line). nat_eq l.file f && nat_eq (line_of l.address) number) v.lines)
+          (delete-accepted ns v file which (edit-accepted k (refusal ns v (edits.Delete file which)) _ h)).2).1,
       deletes-within ns t node line (k + 1) m (edited v (Deleted f (address_in t number))) es table room
           (all-filter (λ (l : Line). line_of l.address ≤ length t) (λ l. not (is_line f (address_in t number) l)) v.lines all)
           (rest-accepted k (refusal ns v (edits.Delete file which)) _ h),

@@ -5,17 +5,17 @@ use Rattle.cov_base.specs.Addresses.{with_lines}
 use Rattle.cov_base.specs.declared.number.NodeRef.{NodeRef}
 use Rattle.cov_base.specs.declared.number.LineRef.{LineRef}
 use Rattle.cov_base.specs.declared.number.LineRef.TheVariants as lines
+use Rattle.cov_base.specs.declared.limits.TheConstants.{LIMITS}
 use Rattle.cov_edit.specs.declared.edit.Edit.{Edit}
 use Rattle.cov_edit.specs.declared.edit.Edit.TheVariants as edits
 use Rattle.cov_edit.specs.declared.command.Command.{Command}
 use Rattle.cov_edit.specs.History.{text_bytes}
-use Rattle.cov_edit.specs.Limits.{most_edits, most_commit_bytes}
 use Rattle.cov_edit.specs.Numbering.{Numbers, NumberedEdit, node_number, nodes_made, anchors_of, numbers_after, numbered_from, numbered}
 use Rattle.cov_edit.specs.Replay.{replay}
 use Rattle.cov_edit.specs.Variant.{Variant, edited}
 use Rattle.cov_edit.proofs.CallerLemmas.{anchors-append, numbered-append, bytes-append}
 use Rattle.cov_view.specs.References.{is_head}
-use Rattle.cov_view.specs.Refusals.{when, first_of, has_node, is_dir, has_line, refusal, refused_at, refused_from, first_refused}
+use Rattle.cov_view.specs.Refusals.{when, first_of, shows_node, is_dir, shows_line, refusal, refused_at, refused_from, first_refused}
 use Rattle.cov_view.specs.Seen.{Seen}
 use Rattle.cov_view.specs.Views.{table_after, next_by_number, FaultBy}
 use Rattle.cov_view.specs.declared.fault.EditFault.{EditFault}
@@ -26,7 +26,7 @@ use Rattle.cov_session.specs.Adding.{with_edits, as_fault, addition_fault, IsAdd
 use Rattle.cov_session.specs.Faults.{by_edit}
 use Rattle.cov_session.specs.Open.{SessionValue, IsOpen, numbers_at_base, table_of}
 use Rattle.cov_session.specs.declared.fault.SessionFault.TheVariants as faults
-use Rattle.cov_session.proofs.Adding.{Accepts, Applies, refused-append, is-table, first-refused, by-first, by-edit, fault-at, no-fault-at, refused-as, seen-after, open-after}
+use Rattle.cov_session.proofs.Adding.{Accepts, Applies, refused-append, is-table, first-refused, by-first, by-fault, by-edit, fault-at, no-fault-at, refused-as, seen-after, open-after}
 
 -- a refused edit stays the first with more edits behind it
 refused-stays : (ns : Numbers) (v : Variant) (k : ℕ) (es fs : List Edit) (ds gs : List NumberedEdit) (r : ℕ × EditFault)
@@ -40,8 +40,8 @@ refused-stays ns v k (e ∷ es) fs (d ∷ ds) gs r h = at (refusal ns v e) (λ m
     at None rest m = rest m
     at (Some f) rest m = m
 
-module _ (history : List Command) (s : SessionValue) (file : NodeRef) (line : LineRef) (text : List ℕ) (room : length s.session.edits + 2 ≤ most_edits)
-    (light : text_bytes (s.session.edits ++ edits.Insert file line text ∷ []) ≤ most_commit_bytes) (stands : HoldingStands) (replays : ReplayStands) (here : IsOpen history s) where
+module _ (history : List Command) (s : SessionValue) (file : NodeRef) (line : LineRef) (text : List ℕ) (room : length s.session.edits + 2 ≤ LIMITS.edits)
+    (light : text_bytes (s.session.edits ++ edits.Insert file line text ∷ []) ≤ LIMITS.commit_bytes) (stands : HoldingStands) (replays : ReplayStands) (here : IsOpen history s) where
   abbrev insert : Edit
   insert = edits.Insert file line text
 
@@ -76,10 +76,10 @@ module _ (history : List Command) (s : SessionValue) (file : NodeRef) (line : Li
       (anchors-append (length ns.addresses) one (delete ∷ []) ∙ append-nil (anchors_of (length ns.addresses) one))
       ∙ numbered-append ns table ns.nodes (length ns.addresses) _ _ (length ns.addresses) one (delete ∷ []) refl refl
 
-  one-fits : length one ≤ most_edits
+  one-fits : length one ≤ LIMITS.edits
   one-fits = let l = length-append s.session.edits (insert ∷ []) in omega (arith, l, room)
 
-  one-room : length s.session.edits < most_edits
+  one-room : length s.session.edits < LIMITS.edits
   one-room = omega (arith, room)
 
   by-both : addition_fault history s.session (insert ∷ delete ∷ []) ≡ as_fault (first_refused ns base (one ++ delete ∷ []))
@@ -97,12 +97,9 @@ module _ (history : List Command) (s : SessionValue) (file : NodeRef) (line : Li
       at (Some r) e k = ap as_fault (ap (refused_from ns base 0 (one ++ delete ∷ [])) numbered-both ∙ refused-stays ns base 0 one (delete ∷ []) (numbered ns one) more r e) ∙ k
 
   pub both-refused : (f : EditFault) → FaultBy f (refusal ns v insert) → IsAdditionFault (by_edit f) (addition_fault history s.session (insert ∷ delete ∷ []))
-  both-refused edit_faults.NoSuchNode h = first-refuses edit_faults.NoSuchNode (refused-as history s insert stands replays here one-room light edit_faults.NoSuchNode h)
-  both-refused edit_faults.NotFile h = first-refuses edit_faults.NotFile (refused-as history s insert stands replays here one-room light edit_faults.NotFile h)
-  both-refused edit_faults.NotDirectory h = first-refuses edit_faults.NotDirectory (refused-as history s insert stands replays here one-room light edit_faults.NotDirectory h)
-  both-refused edit_faults.NameTaken h = first-refuses edit_faults.NameTaken (refused-as history s insert stands replays here one-room light edit_faults.NameTaken h)
-  both-refused edit_faults.NoSuchLine h = first-refuses edit_faults.NoSuchLine (refused-as history s insert stands replays here one-room light edit_faults.NoSuchLine h)
-  both-refused edit_faults.Memory h = tt
+  both-refused f h =
+      by-fault f (refusal ns v insert) (addition_fault history s.session (insert ∷ delete ∷ []))
+      (λ is. first-refuses f (refused-as history s insert stands replays here one-room light f is)) h
 
   -- the variant with the insertion
   abbrev inserted : Variant
@@ -141,27 +138,27 @@ module _ (history : List Command) (s : SessionValue) (file : NodeRef) (line : Li
 
   -- the head isn't deleted
   pub head-refused : is_head line ≡ true → (f : EditFault) → refusal ns v (edits.Delete file (lines.Old 0)) ≡ Some f → IsAdditionFault (by_edit f) (addition_fault history s.session (insert ∷ delete ∷ []))
-  head-refused head f h = by-edit f (addition_fault history s.session (insert ∷ delete ∷ [])) (at (not (has_node ns v file)) (is_dir v.rows n) refl refl h)
+  head-refused head f h = by-edit f (addition_fault history s.session (insert ∷ delete ∷ [])) (at (not (shows_node ns v file)) (is_dir v.rows n) refl refl h)
     where
-      at : (a b : Bool) → not (has_node ns v file) ≡ a → is_dir v.rows n ≡ b → first_of (when a edit_faults.NoSuchNode ∷ when b edit_faults.NotFile ∷ Some edit_faults.NoSuchLine ∷ []) ≡ Some f
+      at : (a b : Bool) → not (shows_node ns v file) ≡ a → is_dir v.rows n ≡ b → first_of (when a edit_faults.NoSuchNode ∷ when b edit_faults.NotFile ∷ Some edit_faults.NoSuchLine ∷ []) ≡ Some f
           → addition_fault history s.session (insert ∷ delete ∷ []) ≡ Some (faults.Edit f)
       at true b d e k =
           first-refuses f
           (refused-as history s insert stands replays here one-room light f
-          (ap (λ x. first_of (when x edit_faults.NoSuchNode ∷ when (is_dir v.rows n) edit_faults.NotFile ∷ when (not (is_head line || has_line ns v n line)) edit_faults.NoSuchLine ∷ [])) d ∙ k))
+          (ap (λ x. first_of (when x edit_faults.NoSuchNode ∷ when (is_dir v.rows n) edit_faults.NotFile ∷ when (not (is_head line || shows_line ns v n line)) edit_faults.NoSuchLine ∷ [])) d ∙ k))
       at false true d e k =
           first-refuses f
           (refused-as history s insert stands replays here one-room light f
-          (ap (λ x. first_of (when x edit_faults.NoSuchNode ∷ when (is_dir v.rows n) edit_faults.NotFile ∷ when (not (is_head line || has_line ns v n line)) edit_faults.NoSuchLine ∷ [])) d
-          ∙ ap (λ y. first_of (when y edit_faults.NotFile ∷ when (not (is_head line || has_line ns v n line)) edit_faults.NoSuchLine ∷ [])) e ∙ k))
+          (ap (λ x. first_of (when x edit_faults.NoSuchNode ∷ when (is_dir v.rows n) edit_faults.NotFile ∷ when (not (is_head line || shows_line ns v n line)) edit_faults.NoSuchLine ∷ [])) d
+          ∙ ap (λ y. first_of (when y edit_faults.NotFile ∷ when (not (is_head line || shows_line ns v n line)) edit_faults.NoSuchLine ∷ [])) e ∙ k))
       at false false d e k =
           let accepts : refusal ns v insert ≡ None =
-          ap (λ x. first_of (when x edit_faults.NoSuchNode ∷ when (is_dir v.rows n) edit_faults.NotFile ∷ when (not (is_head line || has_line ns v n line)) edit_faults.NoSuchLine ∷ [])) d
-          ∙ ap (λ y. first_of (when y edit_faults.NotFile ∷ when (not (is_head line || has_line ns v n line)) edit_faults.NoSuchLine ∷ [])) e
-          ∙ ap (λ z. first_of (when (not (z || has_line ns v n line)) edit_faults.NoSuchLine ∷ [])) head in
+          ap (λ x. first_of (when x edit_faults.NoSuchNode ∷ when (is_dir v.rows n) edit_faults.NotFile ∷ when (not (is_head line || shows_line ns v n line)) edit_faults.NoSuchLine ∷ [])) d
+          ∙ ap (λ y. first_of (when y edit_faults.NotFile ∷ when (not (is_head line || shows_line ns v n line)) edit_faults.NoSuchLine ∷ [])) e
+          ∙ ap (λ z. first_of (when (not (z || shows_line ns v n line)) edit_faults.NoSuchLine ∷ [])) head in
           let second = after-first accepts in
           let refuses : refusal ns inserted delete ≡ Some edit_faults.NoSuchLine =
-          ap (λ x. first_of (when x edit_faults.NoSuchNode ∷ when (is_dir v.rows n) edit_faults.NotFile ∷ when (is_head line || not (has_line ns inserted n line)) edit_faults.NoSuchLine ∷ [])) d
-          ∙ ap (λ y. first_of (when y edit_faults.NotFile ∷ when (is_head line || not (has_line ns inserted n line)) edit_faults.NoSuchLine ∷ [])) e
-          ∙ ap (λ z. first_of (when (z || not (has_line ns inserted n line)) edit_faults.NoSuchLine ∷ [])) head in
+          ap (λ x. first_of (when x edit_faults.NoSuchNode ∷ when (is_dir v.rows n) edit_faults.NotFile ∷ when (is_head line || not (shows_line ns inserted n line)) edit_faults.NoSuchLine ∷ [])) d
+          ∙ ap (λ y. first_of (when y edit_faults.NotFile ∷ when (is_head line || not (shows_line ns inserted n line)) edit_faults.NoSuchLine ∷ [])) e
+          ∙ ap (λ z. first_of (when (z || not (shows_line ns inserted n line)) edit_faults.NoSuchLine ∷ [])) head in
           second.1 ∙ fault-at second.0 (refusal ns inserted delete) edit_faults.NoSuchLine refuses ∙ ap (option_map (λ g. faults.Edit g)) k

@@ -3,7 +3,7 @@ use Rattle.std.specs.Prelude.{◌≡◌, ℕ, nat_lt, List, [], ◌∷◌, ◌++
 use Rattle.cov_edit.specs.declared.edit.Edit.{Edit}
 use Rattle.cov_edit.specs.declared.command.Command.{Command}
 use Rattle.cov_edit.specs.History.{text_bytes}
-use Rattle.cov_edit.specs.Limits.{most_edits, most_commit_bytes}
+use Rattle.cov_edit.specs.Limits.{limits_of}
 use Rattle.cov_edit.specs.Numbering.{numbers_of}
 use Rattle.cov_edit.specs.Replay.{replay}
 use Rattle.cov_view.specs.Refusals.{when, first_of, first_refused}
@@ -27,8 +27,8 @@ abbrev pub addition_fault : List Command → Session → List Edit → Option Se
 addition_fault history s es =
     let all = s.edits ++ es in
     let before = take s.base history in
-    first_of (when (nat_lt most_edits (length all)) faults.TooManyEdits
-    ∷ when (nat_lt most_commit_bytes (text_bytes all)) faults.TooManyBytes
+    first_of (when (nat_lt (limits_of history).edits (length all)) faults.TooManyEdits
+    ∷ when (nat_lt (limits_of history).commit_bytes (text_bytes all)) faults.TooManyBytes
     ∷ as_fault (first_refused (numbers_of before) (replay s.choice before) all)
     ∷ [])
 

@@ -15,9 +15,9 @@ pub enum SessionFault {
     Incomplete { option: OptionId },
     /// The ambition is false on the completed choice.
     OutsideAmbition,
-    /// The commit would have more than 16,384 edits.
+    /// The commit would have more than `LIMITS.edits` edits.
     TooManyEdits,
-    /// The commit would have more than 2^24 bytes of text.
+    /// The commit would have more than `LIMITS.commit_bytes` bytes of text.
     TooManyBytes,
     /// What the session sees refuses an edit. The fault is never `EditFault::Memory`.
     Edit { fault: EditFault },

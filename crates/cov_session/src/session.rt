@@ -2,12 +2,13 @@
 ghost use Rattle.std.specs.Prelude.{◌≡◌, ◌<◌, ◌≤◌, ◌+◌, ◌-◌, ◌^◌, List, ℕ, [], ◌∷◌, ◌++◌, true, false, length, nat_lt, Ok, None, Some, IfOk, IfErr, OnOk, OnErr};
 ghost use Rattle.std.specs.List.{fold, list_all};
 ghost use Rattle.cov_base.specs.Addresses.{IsTable};
+ghost use Rattle.cov_base.specs.Spelling.{is_line_text};
 ghost use Rattle.cov_base.specs.declared.number.LineRef.TheVariants.{Old};
+ghost use Rattle.cov_base.specs.declared.limits.TheConstants.{MOST_TEXT_BYTES};
 ghost use Rattle.cov_dd.specs.Diagrams.{Extends};
 ghost use Rattle.cov_expr.specs.Formula.{reach, value};
-ghost use Rattle.cov_edit.specs.EditFits.{has_line_text, is_line_text};
+ghost use Rattle.cov_edit.specs.EditFits.{has_line_text};
 ghost use Rattle.cov_edit.specs.History.{option_count, first_false_in, text_bytes, edit_bytes};
-ghost use Rattle.cov_edit.specs.Limits.{most_edits, most_commit_bytes};
 ghost use Rattle.cov_edit.specs.Numbering.{Numbers};
 ghost use Rattle.cov_edit.specs.Variant.{Variant, edited};
 ghost use Rattle.cov_edit.specs.declared.command.Command.{Command as AnyCommand};
@@ -23,20 +24,14 @@ ghost use Rattle.cov_session.specs.Open.{IsOpen};
 ghost use Rattle.cov_session.specs.Opening.{IsOpeningFault, NamesDeclared, new_session, opened};
 
 use crate::SessionFault;
-use cov_base::{Choice, Kind, LineRef, Memory, Name, NodeRef, Position, Text};
+use cov_base::{Choice, Kind, LIMITS, LineRef, Memory, Name, NodeRef, Position, Text};
 use cov_edit::{Command, Edit, Edits};
 use cov_engine::Engine;
 use cov_expr::{Expr, Partial};
 use cov_history::laws::{holding_stands, open_options_are_declared, replay_stands};
-use cov_view::{EditFault, View};
+use cov_view::{EditFault, View, is_head};
 use std::alloc::Global;
 use std::marker::Model;
-
-/// The greatest number of edits of a commit.
-const MOST_EDITS: usize = 16384;
-
-/// The greatest number of bytes of text of a commit.
-const MOST_BYTES: usize = 1 << 24;
 
 /// Edits on the variant of a choice at a base, made within an ambition, with the view that they make of it.
 #[derive(Drop)]
@@ -172,17 +167,17 @@ impl OpenSession {
     // The bytes of text with so many edits and bytes more, unless a commit doesn't hold so many.
     fn room_for(&self, edits: usize, bytes: usize) -> Result<usize, SessionFault>
         requires edits { edits ≤ 2 }
-        requires bytes { bytes ≤ 4096 }
+        requires bytes { bytes ≤ MOST_TEXT_BYTES }
         ensures bytes { IfOk result (λ all. all ≡ text_bytes self.now.session.edits + bytes) }
-        ensures light { IfOk result (λ all. all ≤ most_commit_bytes) }
-        ensures room { OnOk result (length self.now.session.edits + edits ≤ most_edits) }
+        ensures light { IfOk result (λ all. all ≤ LIMITS.commit_bytes) }
+        ensures room { OnOk result (length self.now.session.edits + edits ≤ LIMITS.edits) }
         ensures refused { IfErr result (λ fault. (history : List AnyCommand) (es : List AnyEdit) → length es ≡ edits → text_bytes es ≡ bytes → IsAdditionFault fault (addition_fault history self.now.session es)) }
     {
-        if self.edits.len() + edits > MOST_EDITS {
+        if self.edits.len() + edits > LIMITS.edits {
             return Err(SessionFault::TooManyEdits);
         }
         let bytes = self.bytes + bytes;
-        if bytes > MOST_BYTES {
+        if bytes as u64 > LIMITS.commit_bytes {
             return Err(SessionFault::TooManyBytes);
         }
         Ok(bytes)
@@ -191,8 +186,8 @@ impl OpenSession {
     // Takes an edit that the limits allow. It is pushed first, so that nothing can fail once the view has it.
     fn act(&mut self, edit: Edit, bytes: usize) -> Result<(), SessionFault>
         requires text { has_line_text edit ≡ true }
-        requires room { length self.old.session.edits < most_edits }
-        requires light { bytes ≤ most_commit_bytes }
+        requires room { length self.old.session.edits < LIMITS.edits }
+        requires light { bytes ≤ LIMITS.commit_bytes }
         requires bytes { bytes ≡ text_bytes self.old.session.edits + edit_bytes edit }
         ensures accepted { OnOk result ((history : List AnyCommand) → IsOpen history self.old → addition_fault history self.old.session (edit ∷ []) ≡ None) }
         ensures open { OnOk result ((history : List AnyCommand) → IsOpen history self.old → IsOpen history self.new) }
@@ -249,8 +244,8 @@ impl OpenSession {
     ) -> Result<(), SessionFault>
         requires text { is_line_text text ≡ true }
         requires a_line { is_head line.now ≡ false }
-        requires room { length self.old.session.edits + 2 ≤ most_edits }
-        requires light { bytes ≤ most_commit_bytes }
+        requires room { length self.old.session.edits + 2 ≤ LIMITS.edits }
+        requires light { bytes ≤ LIMITS.commit_bytes }
         requires bytes { bytes ≡ text_bytes self.old.session.edits + length text }
         ensures accepted { OnOk result ((history : List AnyCommand) → IsOpen history self.old → addition_fault history self.old.session (edits.Insert file.now line.now text ∷ edits.Delete file.now line.now ∷ []) ≡ None) }
         ensures open { OnOk result ((history : List AnyCommand) → IsOpen history self.old → IsOpen history self.new) }
@@ -294,21 +289,11 @@ impl OpenSession {
 // The bytes of the text that an edit inserts.
 fn bytes_of(edit: &Edit) -> usize
     ensures bytes { result ≡ edit_bytes edit.now }
-    ensures most { has_line_text edit.now ≡ true → result ≤ 4096 }
+    ensures most { has_line_text edit.now ≡ true → result ≤ MOST_TEXT_BYTES }
 {
     match edit {
         Edit::New { .. } | Edit::Delete { .. } => 0,
         Edit::Insert { text, .. } => text.len(),
-    }
-}
-
-// Whether a line is the head of a file, which stands before all lines.
-fn is_head(line: &LineRef) -> bool
-    ensures { result ≡ is_head line.now }
-{
-    match line {
-        LineRef::Old(line) => line.number() == 0,
-        LineRef::New(_) => false,
     }
 }
 

@@ -1,15 +1,15 @@
-use Rattle.cov_engine.proofs.Readied.{next-near, ready-numbered, ready-steps, ready-state, ready-held}
+use Rattle.cov_engine.proofs.Readied.{next-near, ready-numbered, ready-plans, ready-state, ready-held}
 use Rattle.cov_engine.proofs.installing.add_commit.Goals as goal
 
 pub install-requires-clause-numbered : goal.install-requires-clause-numbered
 install-requires-clause-numbered c =
     ready-numbered c.args.state.now.commands.commands c.args.state.now.options.names c.args.state.now.table c.args.state.now.rules.standing c.args.state.now.counts c.args.counts _
-    c.args.state.now.kept.commits.items c.args.made c.args.steps.items c.args.state.now.kept.homes.items c.args.state.now.kept.entries.items c.requires.state c.args.command.now _ c.requires.next c.requires.ready
+    c.args.state.now.store.commits.items c.args.mark c.args.plans.items c.args.state.now.store.file_of_line.items c.args.state.now.store.files.items c.requires.state c.args.command.now _ c.requires.next c.requires.ready
 
 pub install-requires-clause-can : goal.install-requires-clause-can
 install-requires-clause-can c =
-    ready-steps c.args.state.now.commands.commands c.args.state.now.options.names c.args.state.now.table c.args.state.now.rules.standing c.args.state.now.counts c.args.counts _
-    c.args.state.now.kept.commits.items c.args.made c.args.steps.items c.args.state.now.kept.homes.items c.args.state.now.kept.entries.items c.requires.state c.args.command.now _ c.requires.next c.requires.ready
+    ready-plans c.args.state.now.commands.commands c.args.state.now.options.names c.args.state.now.table c.args.state.now.rules.standing c.args.state.now.counts c.args.counts _
+    c.args.state.now.store.commits.items c.args.mark c.args.plans.items c.args.state.now.store.file_of_line.items c.args.state.now.store.files.items c.requires.state c.args.command.now _ c.requires.next c.requires.ready
 
 pub install-requires-clause-near : goal.install-requires-clause-near
 install-requires-clause-near c = next-near c.args.state.now.commands.commands c.args.command.now c.args.state.now.counts c.edits_in.result.now c.requires.state.counted c.requires.next.accepted c.edits_in.ensures
@@ -17,11 +17,11 @@ install-requires-clause-near c = next-near c.args.state.now.commands.commands c.
 pub returns-clause-state : goal.returns-clause-state
 returns-clause-state c =
     ready-state c.args.state.now.commands.commands c.args.state.now.options.names c.args.state.now.table c.args.state.now.rules.standing c.args.state.now.counts c.args.counts _
-    c.args.state.now.kept.commits.items c.args.made c.args.steps.items c.args.state.now.kept.homes.items c.args.state.now.kept.entries.items c.requires.state c.args.command.now _ c.requires.next c.requires.ready
+    c.args.state.now.store.commits.items c.args.mark c.args.plans.items c.args.state.now.store.file_of_line.items c.args.state.now.store.files.items c.requires.state c.args.command.now _ c.requires.next c.requires.ready
 
 pub returns-clause-held : goal.returns-clause-held
 returns-clause-held c =
     ready-held c.args.state.now.commands.commands c.args.state.now.options.names c.args.state.now.table c.args.state.now.rules.standing c.args.state.now.counts c.args.counts _
-    c.args.state.now.kept.commits.items c.args.made c.args.steps.items c.args.state.now.kept.homes.items c.args.state.now.kept.entries.items c.requires.state c.args.command.now _
-    c.install.new.kept.commits.items c.install.new.kept.homes.items c.install.new.kept.entries.items
-    c.requires.next c.requires.ready c.install.ensures.commits c.install.ensures.homes c.install.ensures.rows
+    c.args.state.now.store.commits.items c.args.mark c.args.plans.items c.args.state.now.store.file_of_line.items c.args.state.now.store.files.items c.requires.state c.args.command.now _
+    c.install.new.store.commits.items c.install.new.store.file_of_line.items c.install.new.store.files.items
+    c.requires.next c.requires.ready c.install.ensures.commits c.install.ensures.file_of_line c.install.ensures.rows

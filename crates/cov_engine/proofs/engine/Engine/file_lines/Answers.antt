@@ -1,24 +1,24 @@
 use Rattle.std.proofs.Common.{map, sym, ap, ◌∙◌}
 use Rattle.std.specs.Option.{option_copied}
+use Rattle.std.proofs.lemmas.Result.{IfOk-weaker}
 use Rattle.cov_history.specs.Files.{file_dated}
 use Rattle.cov_history.specs.Kept.{kept_of}
 use Rattle.cov_engine.specs.States.{EngineValue}
 use Rattle.cov_engine.specs.Visibility.{as_row, item_of}
-use Rattle.cov_engine.proofs.Holdings.{if_ok}
 use Rattle.cov_engine.proofs.Visibilities.{all-kept, none-kept}
 use Rattle.cov_engine.proofs.engine.Engine.file_lines.Goals as goal
 
 pub returns-in-Some : goal.returns-in-Some
 returns-in-Some c =
     let state = c.self.inside.state in
-    let own = all-kept state.commands.commands state.table state.kept.commits.items state.kept.homes.items state.kept.entries.items c.self.invariant.0.legal c.self.invariant.1
-    c.args.file c.in-Some.entry.now (sym (c.entry_of.ensures ∙ ap (λ es. item_of es c.args.file) c.deref.ensures.value) ∙ ap option_copied c.in-Some.is) in
-    if_ok c.all.result _ _ (λ rows e. e ∙ own ∙ ap (λ (v : EngineValue). map as_row (file_dated c.args.file (kept_of v.history))) c.self.view_is) c.all.ensures
+    let own = all-kept state.commands.commands state.table state.store.commits.items state.store.file_of_line.items state.store.files.items c.self.invariant.0.legal c.self.invariant.1
+    c.args.file c.in-Some.stored.now (sym (c.stored_file_of.ensures ∙ ap (λ es. item_of es c.args.file) c.deref.ensures.value) ∙ ap option_copied c.in-Some.is) in
+    IfOk-weaker c.all.result _ _ (λ rows e. e ∙ own ∙ ap (λ (v : EngineValue). map as_row (file_dated c.args.file (kept_of v.history))) c.self.view_is) c.all.ensures
 
 pub returns-in-None : goal.returns-in-None
 returns-in-None c =
     let state = c.self.inside.state in
     c.new.ensures
-    ∙ none-kept state.commands.commands state.table state.kept.commits.items state.kept.homes.items state.kept.entries.items c.self.invariant.0.legal c.self.invariant.1
-    c.args.file (sym (c.entry_of.ensures ∙ ap (λ es. item_of es c.args.file) c.deref.ensures.value) ∙ ap option_copied c.in-None.is)
+    ∙ none-kept state.commands.commands state.table state.store.commits.items state.store.file_of_line.items state.store.files.items c.self.invariant.0.legal c.self.invariant.1
+    c.args.file (sym (c.stored_file_of.ensures ∙ ap (λ es. item_of es c.args.file) c.deref.ensures.value) ∙ ap option_copied c.in-None.is)
     ∙ ap (λ (v : EngineValue). map as_row (file_dated c.args.file (kept_of v.history))) c.self.view_is

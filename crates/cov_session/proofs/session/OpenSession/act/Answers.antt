@@ -1,6 +1,6 @@
 use Rattle.std.proofs.Common.{◌≡◌, sym, subst, ◌+◌, ◌<◌, [], ◌∷◌, length, arith}
+use Rattle.cov_base.specs.declared.limits.TheConstants.{LIMITS}
 use Rattle.cov_edit.specs.History.{text_bytes, edit_bytes}
-use Rattle.cov_edit.specs.Limits.{most_edits}
 use Rattle.cov_edit.specs.Numbering.{nodes_made, anchors_of}
 use Rattle.cov_session.specs.Adding.{addition_fault, IsAdditionFault}
 use Rattle.cov_session.specs.Open.{SessionValue, IsOpen}
@@ -11,16 +11,16 @@ use Rattle.cov_session.proofs.session.OpenSession.act.Goals as goal
 
 pub apply-requires-clause-nodes : goal.apply-requires-clause-nodes
 apply-requires-clause-nodes c =
-    nodes-fit c.self.inside.view c.self.inside.edits c.self.inside.bytes c.self.invariant (subst (λ (s : SessionValue). length s.session.edits < most_edits) (sym c.self.view_is) c.requires.room)
+    nodes-fit c.self.inside.view c.self.inside.edits c.self.inside.bytes c.self.invariant (subst (λ (s : SessionValue). length s.session.edits < LIMITS.edits) (sym c.self.view_is) c.requires.room)
 
 pub apply-requires-clause-lines : goal.apply-requires-clause-lines
 apply-requires-clause-lines c =
-    lines-fit c.self.inside.view c.self.inside.edits c.self.inside.bytes c.self.invariant (subst (λ (s : SessionValue). length s.session.edits < most_edits) (sym c.self.view_is) c.requires.room)
+    lines-fit c.self.inside.view c.self.inside.edits c.self.inside.bytes c.self.invariant (subst (λ (s : SessionValue). length s.session.edits < LIMITS.edits) (sym c.self.view_is) c.requires.room)
 
 pub invariant_of-self-in-Ok : goal.invariant_of-self-in-Ok
 invariant_of-self-in-Ok c =
     let is : c.in-Some.last.now ≡ c.args.edit = last-is c.in-Some.last.now c.args.edit (c.in-Some.ensures.last c.self.inside.edits c.args.edit c.in_ok-push.ensures.ok) in
-    let room : length c.self.inside.edits < most_edits = subst (λ (s : SessionValue). length s.session.edits < most_edits) (sym c.self.view_is) c.requires.room in
+    let room : length c.self.inside.edits < LIMITS.edits = subst (λ (s : SessionValue). length s.session.edits < LIMITS.edits) (sym c.self.view_is) c.requires.room in
     let sum : c.args.bytes ≡ text_bytes c.self.inside.edits + edit_bytes c.args.edit =
     subst (λ (s : SessionValue). c.args.bytes ≡ text_bytes s.session.edits + edit_bytes c.args.edit) (sym c.self.view_is) c.requires.bytes in
     counted-after c.self.inside.view c.apply.new.self c.self.inside.edits (c.args.edit ∷ []) c.push.new.self c.self.inside.bytes c.args.bytes c.self.invariant

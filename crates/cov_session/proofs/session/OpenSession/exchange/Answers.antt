@@ -1,62 +1,52 @@
 use Rattle.std.proofs.Common.{◌≡◌, ◌∙◌, sym, ap, subst, ◌+◌, ◌≤◌, [], ◌∷◌, length, None, arith}
+use Rattle.cov_base.specs.declared.limits.TheConstants.{LIMITS}
 use Rattle.cov_edit.specs.declared.edit.Edit.TheVariants as edits
 use Rattle.cov_edit.specs.History.{text_bytes}
-use Rattle.cov_edit.specs.Limits.{most_edits}
 use Rattle.cov_edit.specs.Numbering.{nodes_made, anchors_of}
 use Rattle.cov_view.specs.Seen.{Seen, seen_fault, seen_after}
 use Rattle.cov_session.specs.Adding.{addition_fault, IsAdditionFault}
 use Rattle.cov_session.specs.Open.{SessionValue, IsOpen}
 use Rattle.cov_session.specs.contracts.session.OpenSession.{the_view}
 use Rattle.cov_session.proofs.Adding.{Accepts, Refuses, Applies}
-use Rattle.cov_session.proofs.Counting.{nodes-fit, lines-fit, lines-few, one-light, counted-after, last-is}
-use Rattle.cov_session.proofs.Deleting.{deletes-after, last-but-one}
+use Rattle.cov_session.proofs.Counting.{nodes-fit, lines-fit, one-light, counted-after}
+use Rattle.cov_session.proofs.Deleting.{deletes-after, inserted, delete-fits}
 use Rattle.cov_session.proofs.Replacing.{both-accepted, both-open, both-refused}
 use Rattle.cov_session.proofs.session.OpenSession.exchange.Goals as goal
 
 pub apply-requires-clause-nodes : goal.apply-requires-clause-nodes
 apply-requires-clause-nodes c =
-    let room : length c.self.inside.edits + 2 ≤ most_edits = subst (λ (s : SessionValue). length s.session.edits + 2 ≤ most_edits) (sym c.self.view_is) c.requires.room in
+    let room : length c.self.inside.edits + 2 ≤ LIMITS.edits = subst (λ (s : SessionValue). length s.session.edits + 2 ≤ LIMITS.edits) (sym c.self.view_is) c.requires.room in
     nodes-fit c.self.inside.view c.self.inside.edits c.self.inside.bytes c.self.invariant (omega (arith, room))
 
 pub apply-requires-clause-lines : goal.apply-requires-clause-lines
 apply-requires-clause-lines c =
-    let room : length c.self.inside.edits + 2 ≤ most_edits = subst (λ (s : SessionValue). length s.session.edits + 2 ≤ most_edits) (sym c.self.view_is) c.requires.room in
+    let room : length c.self.inside.edits + 2 ≤ LIMITS.edits = subst (λ (s : SessionValue). length s.session.edits + 2 ≤ LIMITS.edits) (sym c.self.view_is) c.requires.room in
     lines-fit c.self.inside.view c.self.inside.edits c.self.inside.bytes c.self.invariant (omega (arith, room))
 
 pub delete_line-requires-clause-nodes : goal.delete_line-requires-clause-nodes
 delete_line-requires-clause-nodes c =
-    let is : c.in-Some.insert.now ≡ edits.Insert c.args.file.now c.args.line.now c.args.text =
-    last-is c.in-Some.insert.now (edits.Insert c.args.file.now c.args.line.now c.args.text)
-    (c.in-Some.ensures ∙ last-but-one c.push_both.new.list c.self.inside.edits (edits.Insert c.args.file.now c.args.line.now c.args.text) (edits.Delete c.args.file.now c.args.line.now) c.len.result c.in_ok-push_both.ensures.ok c.len.ensures) in
-    let room : length c.self.inside.edits + 2 ≤ most_edits = subst (λ (s : SessionValue). length s.session.edits + 2 ≤ most_edits) (sym c.self.view_is) c.requires.room in
-    let before = nodes-fit c.self.inside.view c.self.inside.edits c.self.inside.bytes c.self.invariant (omega (arith, room)) in
-    let made = subst (λ e. c.apply.new.self.nodes_made ≡ c.self.inside.view.nodes_made + nodes_made (e ∷ [])) is c.in-Ok.ensures.nodes in
-    omega (arith, before, made)
+    (delete-fits c.self.inside.view c.apply.new.self c.push_both.new.list c.self.inside.edits c.self.inside.bytes c.len.result c.in-Some.insert.now _ c.args.file.now c.args.line.now c.args.text
+    c.self.invariant (subst (λ (s : SessionValue). length s.session.edits + 2 ≤ LIMITS.edits) (sym c.self.view_is) c.requires.room)
+    c.in-Some.ensures c.in_ok-push_both.ensures.ok c.len.ensures c.in-Ok.ensures.nodes c.in-Ok.ensures.lines).0
 
 pub delete_line-requires-clause-lines : goal.delete_line-requires-clause-lines
 delete_line-requires-clause-lines c =
-    let is : c.in-Some.insert.now ≡ edits.Insert c.args.file.now c.args.line.now c.args.text =
-    last-is c.in-Some.insert.now (edits.Insert c.args.file.now c.args.line.now c.args.text)
-    (c.in-Some.ensures ∙ last-but-one c.push_both.new.list c.self.inside.edits (edits.Insert c.args.file.now c.args.line.now c.args.text) (edits.Delete c.args.file.now c.args.line.now) c.len.result c.in_ok-push_both.ensures.ok c.len.ensures) in
-    let room : length c.self.inside.edits + 2 ≤ most_edits = subst (λ (s : SessionValue). length s.session.edits + 2 ≤ most_edits) (sym c.self.view_is) c.requires.room in
-    let before = lines-few c.self.inside.view c.self.inside.edits c.self.inside.bytes c.self.invariant in
-    let made = subst (λ e. c.apply.new.self.lines_made ≡ c.self.inside.view.lines_made + length (anchors_of 0 (e ∷ []))) is c.in-Ok.ensures.lines in
-    omega (arith, before, made, room)
+    (delete-fits c.self.inside.view c.apply.new.self c.push_both.new.list c.self.inside.edits c.self.inside.bytes c.len.result c.in-Some.insert.now _ c.args.file.now c.args.line.now c.args.text
+    c.self.invariant (subst (λ (s : SessionValue). length s.session.edits + 2 ≤ LIMITS.edits) (sym c.self.view_is) c.requires.room)
+    c.in-Some.ensures c.in_ok-push_both.ensures.ok c.len.ensures c.in-Ok.ensures.nodes c.in-Ok.ensures.lines).1
 
 pub delete_line-requires-clause-there : goal.delete_line-requires-clause-there
 delete_line-requires-clause-there c =
-    let is : c.in-Some.insert.now ≡ edits.Insert c.args.file.now c.args.line.now c.args.text =
-    last-is c.in-Some.insert.now (edits.Insert c.args.file.now c.args.line.now c.args.text)
-    (c.in-Some.ensures ∙ last-but-one c.push_both.new.list c.self.inside.edits (edits.Insert c.args.file.now c.args.line.now c.args.text) (edits.Delete c.args.file.now c.args.line.now) c.len.result c.in_ok-push_both.ensures.ok c.len.ensures) in
+    let is = inserted c.in-Some.insert.now (edits.Insert c.args.file.now c.args.line.now c.args.text) (edits.Delete c.args.file.now c.args.line.now) c.push_both.new.list c.self.inside.edits
+    c.len.result c.in-Some.ensures c.in_ok-push_both.ensures.ok c.len.ensures in
     subst (λ (w : Seen). seen_fault w.rows (edits.Delete c.args.file.now c.args.line.now) ≡ None) (sym (c.in-Ok.ensures.made ∙ ap (seen_after c.self.inside.view) is))
     (deletes-after c.self.inside.view c.args.file.now c.args.line.now c.args.text c.requires.a_line (subst (λ e. seen_fault c.self.inside.view.rows e ≡ None) is c.in-Ok.ensures.accepted_seen))
 
 pub invariant_of-self-in-Ok : goal.invariant_of-self-in-Ok
 invariant_of-self-in-Ok c =
-    let is : c.in-Some.insert.now ≡ edits.Insert c.args.file.now c.args.line.now c.args.text =
-    last-is c.in-Some.insert.now (edits.Insert c.args.file.now c.args.line.now c.args.text)
-    (c.in-Some.ensures ∙ last-but-one c.push_both.new.list c.self.inside.edits (edits.Insert c.args.file.now c.args.line.now c.args.text) (edits.Delete c.args.file.now c.args.line.now) c.len.result c.in_ok-push_both.ensures.ok c.len.ensures) in
-    let room : length c.self.inside.edits + 2 ≤ most_edits = subst (λ (s : SessionValue). length s.session.edits + 2 ≤ most_edits) (sym c.self.view_is) c.requires.room in
+    let is = inserted c.in-Some.insert.now (edits.Insert c.args.file.now c.args.line.now c.args.text) (edits.Delete c.args.file.now c.args.line.now) c.push_both.new.list c.self.inside.edits
+    c.len.result c.in-Some.ensures c.in_ok-push_both.ensures.ok c.len.ensures in
+    let room : length c.self.inside.edits + 2 ≤ LIMITS.edits = subst (λ (s : SessionValue). length s.session.edits + 2 ≤ LIMITS.edits) (sym c.self.view_is) c.requires.room in
     let sum : c.args.bytes ≡ text_bytes c.self.inside.edits + length c.args.text = subst (λ (s : SessionValue). c.args.bytes ≡ text_bytes s.session.edits + length c.args.text) (sym c.self.view_is) c.requires.bytes in
     counted-after c.self.inside.view c.delete_line.new.view c.self.inside.edits (edits.Insert c.args.file.now c.args.line.now c.args.text ∷ edits.Delete c.args.file.now c.args.line.now ∷ []) c.push_both.new.list
     c.self.inside.bytes c.args.bytes c.self.invariant
@@ -66,9 +56,8 @@ invariant_of-self-in-Ok c =
 
 pub returns-in-Ok-clause-accepted : goal.returns-in-Ok-clause-accepted
 returns-in-Ok-clause-accepted c = λ history here.
-    let is : c.in-Some.insert.now ≡ edits.Insert c.args.file.now c.args.line.now c.args.text =
-    last-is c.in-Some.insert.now (edits.Insert c.args.file.now c.args.line.now c.args.text)
-    (c.in-Some.ensures ∙ last-but-one c.push_both.new.list c.self.inside.edits (edits.Insert c.args.file.now c.args.line.now c.args.text) (edits.Delete c.args.file.now c.args.line.now) c.len.result c.in_ok-push_both.ensures.ok c.len.ensures) in
+    let is = inserted c.in-Some.insert.now (edits.Insert c.args.file.now c.args.line.now c.args.text) (edits.Delete c.args.file.now c.args.line.now) c.push_both.new.list c.self.inside.edits
+    c.len.result c.in-Some.ensures c.in_ok-push_both.ensures.ok c.len.ensures in
     let accepts = subst (λ (s : SessionValue). Accepts s.view (edits.Insert c.args.file.now c.args.line.now c.args.text)) c.self.view_is (subst (Accepts c.self.inside.view) is c.in-Ok.ensures.accepted) in
     let applies = subst (λ (s : SessionValue). Applies s.view (edits.Insert c.args.file.now c.args.line.now c.args.text) c.apply.new.self) c.self.view_is
     (subst (λ e. Applies c.self.inside.view e c.apply.new.self) is c.in-Ok.ensures.applied) in
@@ -78,14 +67,13 @@ returns-in-Ok-clause-accepted c = λ history here.
 
 pub returns-in-Ok-clause-open : goal.returns-in-Ok-clause-open
 returns-in-Ok-clause-open c = λ history here.
-    let is : c.in-Some.insert.now ≡ edits.Insert c.args.file.now c.args.line.now c.args.text =
-    last-is c.in-Some.insert.now (edits.Insert c.args.file.now c.args.line.now c.args.text)
-    (c.in-Some.ensures ∙ last-but-one c.push_both.new.list c.self.inside.edits (edits.Insert c.args.file.now c.args.line.now c.args.text) (edits.Delete c.args.file.now c.args.line.now) c.len.result c.in_ok-push_both.ensures.ok c.len.ensures) in
+    let is = inserted c.in-Some.insert.now (edits.Insert c.args.file.now c.args.line.now c.args.text) (edits.Delete c.args.file.now c.args.line.now) c.push_both.new.list c.self.inside.edits
+    c.len.result c.in-Some.ensures c.in_ok-push_both.ensures.ok c.len.ensures in
     let s : SessionValue = the_view c.self.inside in
     let bytes = subst (λ (s : SessionValue). c.args.bytes ≡ text_bytes s.session.edits + length c.args.text) (sym c.self.view_is) c.requires.bytes in
     subst (λ es. IsOpen history (record { name = s.name; session = record { base = s.session.base; choice = s.session.choice; ambition = s.session.ambition; edits = es }; view = c.delete_line.new.view }))
     (sym c.in_ok-push_both.ensures.ok)
-    (both-open history s c.args.file.now c.args.line.now c.args.text (subst (λ (s : SessionValue). length s.session.edits + 2 ≤ most_edits) (sym c.self.view_is) c.requires.room)
+    (both-open history s c.args.file.now c.args.line.now c.args.text (subst (λ (s : SessionValue). length s.session.edits + 2 ≤ LIMITS.edits) (sym c.self.view_is) c.requires.room)
     (one-light s.session.edits (edits.Insert c.args.file.now c.args.line.now c.args.text) c.args.bytes c.requires.light bytes)
     c.holding_stands.ensures c.replay_stands.ensures (subst (IsOpen history) (sym c.self.view_is) here) c.apply.new.self c.delete_line.new.view
     (subst (Accepts s.view) is c.in-Ok.ensures.accepted) (subst (λ e. Applies s.view e c.apply.new.self) is c.in-Ok.ensures.applied)
@@ -95,9 +83,8 @@ returns-in-Ok-clause-open c = λ history here.
 
 pub returns-in-Err-clause-refused : goal.returns-in-Err-clause-refused
 returns-in-Err-clause-refused c = λ history here.
-    let is : c.in-Some.insert.now ≡ edits.Insert c.args.file.now c.args.line.now c.args.text =
-    last-is c.in-Some.insert.now (edits.Insert c.args.file.now c.args.line.now c.args.text)
-    (c.in-Some.ensures ∙ last-but-one c.push_both.new.list c.self.inside.edits (edits.Insert c.args.file.now c.args.line.now c.args.text) (edits.Delete c.args.file.now c.args.line.now) c.len.result c.in_ok-push_both.ensures.ok c.len.ensures) in
+    let is = inserted c.in-Some.insert.now (edits.Insert c.args.file.now c.args.line.now c.args.text) (edits.Delete c.args.file.now c.args.line.now) c.push_both.new.list c.self.inside.edits
+    c.len.result c.in-Some.ensures c.in_ok-push_both.ensures.ok c.len.ensures in
     let refuses = subst (λ (s : SessionValue). Refuses c.in-Err.fault s.view (edits.Insert c.args.file.now c.args.line.now c.args.text)) c.self.view_is
     (subst (Refuses c.in-Err.fault c.self.inside.view) is c.in-Err.ensures.refused) in
     subst

@@ -1,0 +1,2 @@
+-- What a caller cites.
+pub use Rattle.cov_engine.proofs.Showing.{drop-at, drop-end}

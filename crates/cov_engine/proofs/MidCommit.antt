@@ -1,0 +1,516 @@
+-- What stored files have when the first edits of a commit are done.
+use Rattle.std.proofs.Common.{◌≡◌, ℕ, zero, suc, ◌+◌, ◌<◌, ◌≤◌, Bool, true, false, cond, ◌&&◌, ◌||◌, not, nat_eq, nat_le, List, [], ◌∷◌, ◌++◌, length, length-append, map, append_assoc, append-nil, refl, sym, ap, subst, ◌∙◌, arith}
+use Rattle.std.specs.List.{list_any, AllByRecursion}
+use Rattle.std.proofs.lemmas.Bool.{and_from, or_left, or_right}
+use Rattle.std.proofs.lemmas.Bool.Decides.{nat_tests}
+use Rattle.cov_base.specs.Addresses.{after_first, after_anchor, after_anchor_by}
+use Rattle.cov_base.proofs.CallerLemmas.{all-map}
+use Rattle.cov_base.specs.declared.number.Kind.{Kind}
+use Rattle.cov_base.specs.declared.number.NodeRef.{NodeRef}
+use Rattle.cov_base.specs.declared.number.LineRef.{LineRef}
+use Rattle.cov_dd.specs.declared.triple.Triple.{Triple}
+use Rattle.cov_dd.specs.Diagrams.{Stands}
+use Rattle.cov_dd.proofs.CallerLemmas.{stands_weaker}
+use Rattle.cov_expr.specs.Formula.{Formula, Not, And, value}
+use Rattle.cov_edit.specs.declared.edit.Edit.{Edit}
+use Rattle.cov_edit.specs.declared.edit.Edit.TheVariants as edits
+use Rattle.cov_edit.specs.declared.command.Command.{Command}
+use Rattle.cov_edit.specs.History.{option_count}
+use Rattle.cov_edit.specs.Numbering.{node_number, line_number, anchors_of, numbers_of}
+use Rattle.cov_edit.specs.Variant.{Line}
+use Rattle.cov_file.specs.Dated.{DatedLine as FileLine, line_numbers_of as file_numbers, new_line, with_line, with_change, AreAlike}
+use Rattle.cov_file.specs.Rooms.{DatedFile, is_room_at, IsLeft}
+use Rattle.cov_file.proofs.CallerLemmas.{has_after}
+use Rattle.cov_order.specs.Orders.{has_line}
+use Rattle.cov_history.specs.Deletions.{Deletion, hidden_by}
+use Rattle.cov_history.specs.FileOfLine.{new_file_of_line, AreFilesOfLines}
+use Rattle.cov_engine.specs.Staging.{Contents, named_line, inserts_into, deletes_from, touches}
+use Rattle.cov_history.specs.Files.{DatedLine, dated_number, dated, file_dated, file_order, Takes}
+use Rattle.cov_history.specs.Insertions.{Insertion, table_of, lines_amid, held_amid, numbered_amid}
+use Rattle.cov_history.specs.Kept.{Kept, seen_at, kept_number, kept_of, held_by, file_kept, is_kept_anchor}
+use Rattle.cov_engine.specs.Nodes.{AreDated}
+use Rattle.cov_history.specs.Sessions.{IsGood, session_of}
+use Rattle.cov_history.specs.Verdict.{IsLegal}
+use Rattle.cov_engine.specs.Carrying.{CanInsert, CanDelete, IsCarriedOut, IsChangedIn, AreCarriedOut, CanCarryOutIn, CanCarryOutAll, AreAllCarriedOut}
+use Rattle.cov_engine.specs.declared.stored_file.StoredFile.{StoredFile}
+use Rattle.cov_engine.specs.declared.edit_plan.EditPlan.{EditPlan}
+use Rattle.cov_engine.specs.declared.edit_plan.EditPlan.TheVariants as plans
+use Rattle.cov_history.proofs.CallerLemmas.{files_of_lines-stay, file_of_line-more, lines-edits, delete-dated, delete-elsewhere, delete-order, anchor-below, anchors-append, anchors-stay, anchor-known, insert-elsewhere, is_table-of, amid-within, stands-amid, any-mapped, insert-dated, order-takes, accepted-anchored, accepted-there, all-mapped}
+use Rattle.cov_engine.proofs.Committed.{numbers-dated, new-same}
+use Rattle.cov_engine.proofs.Dating.{IsGone, gone, dated-numbers, insert-lines, delete-lines, all-after}
+use Rattle.cov_engine.proofs.StoredFiles.{all-pairs}
+use Rattle.cov_engine.proofs.States.{length-one}
+
+alike-numbers : (ls ms : List FileLine) → AreAlike ls ms → file_numbers ls ≡ file_numbers ms
+alike-numbers [] [] h = refl
+alike-numbers [] (m ∷ ms) h = absurd h
+alike-numbers (l ∷ ls) [] h = absurd h
+alike-numbers (l ∷ ls) (m ∷ ms) h = ap (λ n. n ∷ file_numbers ls) h.0.line ∙ ap (λ ns. m.line ∷ ns) (alike-numbers ls ms h.1)
+
+reflexive : (q : ℕ) → nat_le q q ≡ true
+reflexive q = grind (arith, nat_tests)
+
+one_more : (history : List Command) (begun : List Edit) (file : NodeRef) (after : LineRef) (text : List ℕ) → lines_amid history (begun ++ edits.Insert file after text ∷ []) ≡ lines_amid history begun + 1
+one_more history begun file after text =
+    let m = length (numbers_of history).addresses in
+    let joined = ap length (anchors-append m begun (edits.Insert file after text ∷ [])) in
+    let one = length-one (anchors_of m begun) (line_number m after) in
+    omega (arith, joined, one)
+
+none_more : (m : ℕ) (begun : List Edit) (e : Edit) → anchors_of m (e ∷ []) ≡ [] → anchors_of m (begun ++ e ∷ []) ≡ anchors_of m begun
+none_more m begun e h = anchors-append m begun (e ∷ []) ∙ ap (λ l. anchors_of m begun ++ l) h ∙ append-nil (anchors_of m begun)
+
+numbers-first : (t : ℕ → Bool) (l : FileLine) (ls : List FileLine) → file_numbers (after_first (λ x. t x.line) l ls) ≡ after_first t l.line (file_numbers ls)
+numbers-first t l [] = refl
+numbers-first t l (x ∷ ls) = at (t x.line) (numbers-first t l ls)
+  where
+    at : (b : Bool) → file_numbers (after_first (λ x. t x.line) l ls) ≡ after_first t l.line (file_numbers ls)
+        → file_numbers (cond b (x ∷ l ∷ ls) (x ∷ after_first (λ x. t x.line) l ls)) ≡ cond b (x.line ∷ l.line ∷ file_numbers ls) (x.line ∷ after_first t l.line (file_numbers ls))
+    at true rest = refl
+    at false rest = ap (λ ns. x.line ∷ ns) rest
+
+numbers-with : (anchor : ℕ) (l : FileLine) (ls : List FileLine) → file_numbers (with_line anchor l ls) ≡ after_anchor anchor l.line (file_numbers ls)
+numbers-with zero l ls = refl
+numbers-with (suc anchor) l ls = numbers-first (λ y. nat_eq y (suc anchor)) l ls
+
+numbers-changed : (line vis q : ℕ) (ls : List FileLine) → file_numbers (with_change line vis q ls) ≡ file_numbers ls
+numbers-changed line vis q [] = refl
+numbers-changed line vis q (l ∷ ls) = ap (λ n. n ∷ file_numbers (with_change line vis q ls)) (at (nat_eq l.line line)) ∙ ap (λ ns. l.line ∷ ns) (numbers-changed line vis q ls)
+  where
+    at : (b : Bool) → (let x : FileLine = cond b (record { line = l.line; text = l.text; changes = (q, vis) ∷ l.changes }) l in x).line ≡ l.line
+    at true = refl
+    at false = refl
+
+-- a line of a file has at most the number of lines that are made
+line-below : (history : List Command) (ambition : Formula ℕ) (begun later : List Edit) (file line : ℕ)
+    → has_line line (file_order file (held_amid history ambition (begun ++ later) begun).lines) ≡ true → line ≤ lines_amid history begun
+line-below history ambition begun later file line h =
+    let held = held_amid history ambition (begun ++ later) begun in
+    anchor-below (table_of history (begun ++ later)) (lines_amid history begun) (length history + 1) file line held (is_table-of history (begun ++ later)) (amid-within history begun later)
+    (stands-amid history begun later ambition)
+    (or_right (nat_eq line 0) (list_any (λ k. nat_eq (kept_number k) line) (file_kept file held.lines)) (sym (any-mapped kept_number line (file_kept file held.lines)) ∙ h))
+
+module _ (history : List Command) (base : ℕ) (choice : List Bool) (ambition : Formula ℕ) (es : List Edit)
+    (good : IsGood history (session_of base choice ambition es)) (legal : IsLegal history) where
+  abbrev n : ℕ
+  n = (numbers_of history).nodes
+
+  abbrev m : ℕ
+  m = length (numbers_of history).addresses
+
+  abbrev q : ℕ
+  q = length history + 1
+
+  -- the lines that are kept when the first edits are done
+  abbrev pub lines_at : List Edit → List (Kept Line)
+  lines_at begun = (held_amid history ambition es begun).lines
+
+  abbrev new_dated : ℕ → List ℕ → DatedLine
+  new_dated number text = record { line = number; text = text; changes = (q, ambition) ∷ [] }
+
+  -- a made row leaves them
+  new-lines : (begun : List Edit) (e : Edit) (kind : Kind) (parent : NodeRef) (name : List ℕ) → e ≡ edits.New kind parent name → lines_at (begun ++ e ∷ []) ≡ lines_at begun
+  new-lines begun e kind parent name is =
+      ap (λ x. lines_at (begun ++ x ∷ [])) is
+      ∙ lines-edits q ambition (held_by history) (numbered_amid history es (begun ++ edits.New kind parent name ∷ []))
+      ∙ new-same q ambition (numbers_of history) _ n m (kept_of history) begun kind parent name
+      ∙ sym (lines-edits q ambition (held_by history) (numbered_amid history es begun))
+
+  begun-few : (begun later : List Edit) → begun ++ later ≡ es → lines_amid history begun ≤ lines_amid history es
+  begun-few begun later all =
+      let parts = ap length (anchors-append m begun later) in
+      let sum = length-append (anchors_of m begun) (anchors_of m later) in
+      let same = ap (λ l. length (anchors_of m l)) all in
+      omega (arith, parts, sum, same)
+
+  module _ (begun later : List Edit) (file : NodeRef) (after : LineRef) (text : List ℕ) (all : begun ++ edits.Insert file after text ∷ later ≡ es) where
+    abbrev i : Insertion
+    i = record { begun = begun; file = file; after = after; text = text; later = later }
+
+    anchored : is_kept_anchor (node_number n file) (line_number m after) (held_amid history ambition (begun ++ edits.Insert file after text ∷ later) begun).lines ≡ true
+    anchored = accepted-anchored history (session_of base choice ambition es) legal good i all
+
+    insert-before : (held_amid history ambition (begun ++ edits.Insert file after text ∷ later) begun).lines ≡ lines_at begun
+    insert-before = ap (λ some. (held_amid history ambition some begun).lines) all
+
+    insert-behind : (held_amid history ambition (begun ++ edits.Insert file after text ∷ later) (begun ++ edits.Insert file after text ∷ [])).lines ≡ lines_at (begun ++ edits.Insert file after text ∷ [])
+    insert-behind = ap (λ some. (held_amid history ambition some (begun ++ edits.Insert file after text ∷ [])).lines) all
+
+    insert-anchored : is_kept_anchor (node_number n file) (line_number m after) (lines_at begun) ≡ true
+    insert-anchored = ap (is_kept_anchor (node_number n file) (line_number m after)) (sym insert-before) ∙ anchored
+
+    insert-here : file_dated (node_number n file) (lines_at (begun ++ edits.Insert file after text ∷ []))
+        ≡ after_anchor_by dated_number (line_number m after) (new_dated (lines_amid history begun + 1) text) (file_dated (node_number n file) (lines_at begun))
+    insert-here =
+        ap (file_dated (node_number n file)) (sym insert-behind) ∙ insert-dated history ambition i anchored
+        ∙ ap (λ ks. after_anchor_by dated_number (line_number m after) (new_dated (lines_amid history begun + 1) text) (file_dated (node_number n file) ks)) insert-before
+
+    insert-there : (other : ℕ) → nat_eq (node_number n file) other ≡ false → file_dated other (lines_at (begun ++ edits.Insert file after text ∷ [])) ≡ file_dated other (lines_at begun)
+    insert-there other differs =
+        ap (file_dated other) (sym insert-behind) ∙ ap (map dated) (insert-elsewhere history ambition i other differs) ∙ ap (file_dated other) insert-before
+
+    insert-takes : Takes (file_order (node_number n file) (lines_at begun)) (line_number m after) (lines_amid history begun + 1)
+    insert-takes = subst (λ ks. Takes (file_order (node_number n file) ks) (line_number m after) (lines_amid history begun + 1)) insert-before (order-takes history ambition i anchored).0
+
+    insert-stays : (other line : ℕ) → is_kept_anchor other line (lines_at begun) ≡ true → is_kept_anchor other line (lines_at (begun ++ edits.Insert file after text ∷ [])) ≡ true
+    insert-stays other line h =
+        ap (is_kept_anchor other line) (sym insert-behind) ∙ (anchors-stay history ambition i).0 other line (ap (is_kept_anchor other line) insert-before ∙ h)
+
+    insert-new : is_kept_anchor (node_number n file) (lines_amid history begun + 1) (lines_at (begun ++ edits.Insert file after text ∷ [])) ≡ true
+    insert-new = ap (is_kept_anchor (node_number n file) (lines_amid history begun + 1)) (sym insert-behind) ∙ (anchors-stay history ambition i).1
+
+  module _ (begun later : List Edit) (file : NodeRef) (line : LineRef) (all : begun ++ edits.Delete file line ∷ later ≡ es) where
+    abbrev gone_line : Deletion
+    gone_line = record { begun = begun; file = file; line = line; later = later }
+
+    delete-before : (held_amid history ambition (begun ++ edits.Delete file line ∷ later) begun).lines ≡ lines_at begun
+    delete-before = ap (λ some. (held_amid history ambition some begun).lines) all
+
+    delete-behind : (held_amid history ambition (begun ++ edits.Delete file line ∷ later) (begun ++ edits.Delete file line ∷ [])).lines ≡ lines_at (begun ++ edits.Delete file line ∷ [])
+    delete-behind = ap (λ some. (held_amid history ambition some (begun ++ edits.Delete file line ∷ [])).lines) all
+
+    pub delete-there : has_line (line_number m line) (file_order (node_number n file) (lines_at begun)) ≡ true
+    delete-there =
+        ap (λ ks. has_line (line_number m line) (file_order (node_number n file) ks)) (sym delete-before)
+        ∙ accepted-there history (session_of base choice ambition es) legal good gone_line all
+
+    delete-here : file_dated (node_number n file) (lines_at (begun ++ edits.Delete file line ∷ []))
+        ≡ map (hidden_by (line_number m line) q ambition) (file_dated (node_number n file) (lines_at begun))
+    delete-here =
+        ap (file_dated (node_number n file)) (sym delete-behind) ∙ delete-dated history ambition gone_line
+        ∙ ap (λ ks. map (hidden_by (line_number m line) q ambition) (file_dated (node_number n file) ks)) delete-before
+
+    delete-out : (other : ℕ) → nat_eq (node_number n file) other ≡ false → file_dated other (lines_at (begun ++ edits.Delete file line ∷ [])) ≡ file_dated other (lines_at begun)
+    delete-out other differs =
+        ap (file_dated other) (sym delete-behind) ∙ ap (map dated) (delete-elsewhere history ambition gone_line other differs) ∙ ap (file_dated other) delete-before
+
+    delete-stays : (other some : ℕ) → is_kept_anchor other some (lines_at begun) ≡ true → is_kept_anchor other some (lines_at (begun ++ edits.Delete file line ∷ [])) ≡ true
+    delete-stays other some h =
+        ap (is_kept_anchor other some) (sym delete-behind) ∙ (delete-order history ambition gone_line other).1 some ∙ ap (is_kept_anchor other some) delete-before ∙ h
+
+  module _ (ts : List Triple) (a : ℕ) (stands : Stands ts a 0 (option_count history) (value ambition)) where
+    abbrev count : ℕ
+    count = option_count history
+
+    -- a file has its lines, and room for the edits that are left
+    pub record IsHere (node : ℕ) (begun left : List Edit) (file : DatedFile) : Type 0 where
+      pub above : 0 < node
+      pub are_dated : AreDated ts count (file_dated node (lines_at begun)) file.lines
+      pub newest : file.newest ≤ q
+      pub inserts : inserts_into n node left ≤ file.room.inserts
+      pub changes : (line : ℕ) → deletes_from n m node line left ≡ true → has_line line (file_numbers file.lines) ≡ true → has_line line file.room.changes ≡ true
+      pub position : touches n node left ≡ true → is_room_at q file.room ≡ true
+
+    -- a node is that of a line that is taken out, and FALSE if the line isn't made yet
+    pub record IsRight (ks : List (Kept Line)) (file line vis : ℕ) : Type 0 where
+      pub taken : 0 < file → AllByRecursion (IsGone ts count ambition q line vis) (file_dated file ks)
+      pub fresh : m < line → Stands ts vis 0 count (λ c. false)
+
+    -- plans are those of edits, so many lines having been made before these
+    abbrev pub AreRight : List (Kept Line) → ℕ → List Edit → List EditPlan → Type 0
+    AreRight ks made [] ss = ss ≡ []
+    AreRight ks made (edits.New kind parent name ∷ later) ss = AreRight ks made later ss
+    AreRight ks made (edits.Insert file after text ∷ later) ss =
+        (rest : List EditPlan) × (ss ≡ plans.Insert (node_number n file) (line_number m after) (made + 1) text a ∷ rest) × AreRight ks (made + 1) later rest
+    AreRight ks made (edits.Delete file line ∷ later) ss =
+        (vis : ℕ) × (rest : List EditPlan) × (ss ≡ plans.Delete (node_number n file) (line_number m line) vis ∷ rest) × IsRight ks (node_number n file) (line_number m line) vis × AreRight ks made later rest
+
+    right-on : (ks ks' : List (Kept Line)) → ((file line vis : ℕ) → IsRight ks file line vis → IsRight ks' file line vis) → (made : ℕ) (later : List Edit) (ss : List EditPlan) → AreRight ks made later ss → AreRight ks' made later ss
+    right-on ks ks' f made [] ss h = h
+    right-on ks ks' f made (edits.New kind parent name ∷ later) ss h = right-on ks ks' f made later ss h
+    right-on ks ks' f made (edits.Insert file after text ∷ later) ss h = (h.0, h.1, right-on ks ks' f (made + 1) later h.0 h.2)
+    right-on ks ks' f made (edits.Delete file line ∷ later) ss h = (h.0, h.1, h.2, f (node_number n file) (line_number m line) h.0 h.3, right-on ks ks' f made later h.1 h.4)
+
+    new-gone : (number line vis : ℕ) (text : List ℕ) → m < number → (m < line → Stands ts vis 0 count (λ c. false)) → IsGone ts count ambition q line vis (new_dated number text)
+    new-gone number line vis text above fresh is =
+        let same : number ≡ line = grind (arith, nat_tests, is) in
+        stands_weaker 0 count (gone ts count ambition q (new_dated number text)) (omega arith) (omega arith)
+        (λ c. sym (ap (λ b. value (cond b ambition (seen_at [] q)) c && not (value ambition c)) (reflexive q) ∙ never (value ambition c))) (fresh (omega (arith, same, above)))
+      where
+        never : (b : Bool) → (b && not b) ≡ false
+        never true = refl
+        never false = refl
+
+    hidden-gone : (k line vis : ℕ) (d : DatedLine) → IsGone ts count ambition q line vis d → IsGone ts count ambition q line vis (hidden_by k q ambition d)
+    hidden-gone k line vis d h = at (nat_eq d.line k)
+      where
+        hid : DatedLine
+        hid = record { line = d.line; text = d.text; changes = (q, And (seen_at d.changes q) (Not ambition)) ∷ d.changes }
+
+        twice : (x y : Bool) → (x && not y) ≡ ((x && not y) && not y)
+        twice true true = refl
+        twice true false = refl
+        twice false y = refl
+
+        at : (b : Bool) → IsGone ts count ambition q line vis (cond b hid d)
+        at true is =
+            stands_weaker 0 count (gone ts count ambition q hid) (omega arith) (omega arith)
+            (λ c. twice (value (seen_at d.changes q) c) (value ambition c)
+            ∙ sym (ap (λ b. value (cond b (And (seen_at d.changes q) (Not ambition)) (seen_at d.changes q)) c && not (value ambition c)) (reflexive q))) (h is)
+        at false is = h is
+
+    -- what is right stays so when a line is put in
+    insert-right : (begun later : List Edit) (file : NodeRef) (after : LineRef) (text : List ℕ) (all : begun ++ edits.Insert file after text ∷ later ≡ es) (other line vis : ℕ)
+        → IsRight (lines_at begun) other line vis → IsRight (lines_at (begun ++ edits.Insert file after text ∷ [])) other line vis
+    insert-right begun later file after text all other line vis h = record { taken = λ above. by above (nat_eq (node_number n file) other) refl; fresh = h.fresh }
+      where
+        by : 0 < other → (b : Bool) → nat_eq (node_number n file) other ≡ b → AllByRecursion (IsGone ts count ambition q line vis) (file_dated other (lines_at (begun ++ edits.Insert file after text ∷ [])))
+        by above true is =
+            let same : node_number n file ≡ other = grind (arith, nat_tests, is) in
+            subst (λ f. AllByRecursion (IsGone ts count ambition q line vis) (file_dated f (lines_at (begun ++ edits.Insert file after text ∷ [])))) same
+            (subst (AllByRecursion (IsGone ts count ambition q line vis)) (sym (insert-here begun later file after text all))
+            (all-after (IsGone ts count ambition q line vis) dated_number (new_dated (lines_amid history begun + 1) text)
+            (new-gone (lines_amid history begun + 1) line vis text (omega arith) h.fresh) (line_number m after) (file_dated (node_number n file) (lines_at begun))
+            (subst (λ f. AllByRecursion (IsGone ts count ambition q line vis) (file_dated f (lines_at begun))) (sym same) (h.taken above))))
+        by above false is = subst (AllByRecursion (IsGone ts count ambition q line vis)) (sym (insert-there begun later file after text all other is)) (h.taken above)
+
+    -- and when a line is taken out
+    delete-right : (begun later : List Edit) (file : NodeRef) (gone : LineRef) (all : begun ++ edits.Delete file gone ∷ later ≡ es) (other line vis : ℕ)
+        → IsRight (lines_at begun) other line vis → IsRight (lines_at (begun ++ edits.Delete file gone ∷ [])) other line vis
+    delete-right begun later file which all other line vis h = record { taken = λ above. by above (nat_eq (node_number n file) other) refl; fresh = h.fresh }
+      where
+        by : 0 < other → (b : Bool) → nat_eq (node_number n file) other ≡ b → AllByRecursion (IsGone ts count ambition q line vis) (file_dated other (lines_at (begun ++ edits.Delete file which ∷ [])))
+        by above true is =
+            let same : node_number n file ≡ other = grind (arith, nat_tests, is) in
+            subst (λ f. AllByRecursion (IsGone ts count ambition q line vis) (file_dated f (lines_at (begun ++ edits.Delete file which ∷ [])))) same
+            (subst (AllByRecursion (IsGone ts count ambition q line vis)) (sym (delete-here begun later file which all))
+            (all-mapped (IsGone ts count ambition q line vis) (IsGone ts count ambition q line vis) (hidden_by (line_number m which) q ambition) (hidden-gone (line_number m which) line vis)
+            (file_dated (node_number n file) (lines_at begun))
+            (subst (λ f. AllByRecursion (IsGone ts count ambition q line vis) (file_dated f (lines_at begun))) (sym same) (h.taken above))))
+        by above false is = subst (AllByRecursion (IsGone ts count ambition q line vis)) (sym (delete-out begun later file which all other is)) (h.taken above)
+
+    pub numbers-here : (node : ℕ) (begun left : List Edit) (file : DatedFile) → IsHere node begun left file → file_numbers file.lines ≡ file_order node (lines_at begun)
+    numbers-here node begun left file h = dated-numbers ts count (file_dated node (lines_at begun)) file.lines h.are_dated ∙ numbers-dated (file_kept node (lines_at begun))
+
+    module _ (begun later : List Edit) (file : NodeRef) (after : LineRef) (text : List ℕ) (all : begun ++ edits.Insert file after text ∷ later ≡ es) where
+      abbrev f : ℕ
+      f = node_number n file
+
+      abbrev anchor : ℕ
+      anchor = line_number m after
+
+      abbrev had : ℕ
+      had = lines_amid history begun
+
+      touched : nat_eq f f ≡ true
+      touched = grind (arith, nat_tests)
+
+      -- a file can take the line
+      can-insert : (e : StoredFile) → IsHere e.node begun (edits.Insert file after text ∷ later) e.file → nat_eq e.node f ≡ true → CanInsert q anchor (had + 1) e
+      can-insert e h is =
+          let same : e.node ≡ f = grind (arith, nat_tests, is) in
+          let order = ap (λ k. file_order k (lines_at begun)) (sym same) ∙ sym (numbers-here e.node begun (edits.Insert file after text ∷ later) e.file h) in
+          let takes = subst (λ order. Takes order anchor (had + 1)) order (insert-takes begun later file after text all) in
+          let turned : nat_eq f e.node ≡ true = grind (arith, nat_tests, same) in
+          let some : suc (inserts_into n e.node later) ≤ e.file.room.inserts =
+          subst (λ b. cond b (suc (inserts_into n e.node later)) (inserts_into n e.node later) ≤ e.file.room.inserts) turned h.inserts in
+          record {
+            anchored = takes.anchored;
+            above_head = takes.above_head;
+            fresh = takes.fresh;
+            later = h.newest;
+            room = omega (arith, some);
+            position = h.position (or_left (nat_eq f e.node) (touches n e.node later) turned);
+          }
+
+      -- and has it then
+      inserted-here : (old new : DatedFile) → IsHere f begun (edits.Insert file after text ∷ later) old → AreAlike new.lines (with_line anchor (new_line (had + 1) text a q) old.lines)
+          → IsLeft old.room new.room q 1 → has_line (had + 1) new.room.changes ≡ true → new.newest ≡ q → IsHere f (begun ++ edits.Insert file after text ∷ []) later new
+      inserted-here old new h alike left own at =
+          let some : suc (inserts_into n f later) ≤ old.room.inserts =
+          subst (λ b. cond b (suc (inserts_into n f later)) (inserts_into n f later) ≤ old.room.inserts) touched h.inserts in
+          let fewer = left.inserts in
+          record {
+            above = h.above;
+            are_dated = subst (λ ds. AreDated ts count ds new.lines) (sym (insert-here begun later file after text all))
+                (insert-lines ts count q anchor (had + 1) a text ambition (file_dated f (lines_at begun)) old.lines new.lines stands h.are_dated alike);
+            newest = omega (arith, at);
+            inserts = omega (arith, some, fewer);
+            changes = λ line gone there. by line gone (nat_eq (had + 1) line) refl (sym (has_new line) ∙ there);
+            position = λ t. left.position;
+          }
+        where
+          has_new : (line : ℕ) → has_line line (file_numbers new.lines) ≡ (nat_eq (had + 1) line || has_line line (file_numbers old.lines))
+          has_new line =
+              ap (has_line line) (alike-numbers new.lines (with_line anchor (new_line (had + 1) text a q) old.lines) alike
+              ∙ numbers-with anchor (new_line (had + 1) text a q) old.lines)
+              ∙ has_after line anchor (had + 1) (file_numbers old.lines)
+
+          by : (line : ℕ) → deletes_from n m f line later ≡ true → (b : Bool) → nat_eq (had + 1) line ≡ b → (b || has_line line (file_numbers old.lines)) ≡ true → has_line line new.room.changes ≡ true
+          by line gone true is there = let same : had + 1 ≡ line = grind (arith, nat_tests, is) in subst (λ k. has_line k new.room.changes ≡ true) same own
+          by line gone false is there = left.changes line (h.changes line gone there)
+
+      insert-next : (e e' : StoredFile) → IsChangedIn f (IsCarriedOut q (plans.Insert f anchor (had + 1) text a)) e e' → IsHere e.node begun (edits.Insert file after text ∷ later) e.file
+          → IsHere e'.node (begun ++ edits.Insert file after text ∷ []) later e'.file
+      insert-next e e' changed h = by (nat_eq e.node f) refl
+        where
+          by : (b : Bool) → nat_eq e.node f ≡ b → IsHere e'.node (begun ++ edits.Insert file after text ∷ []) later e'.file
+          by true is =
+              let same : e.node ≡ f = grind (arith, nat_tests, is) in
+              let it = changed.here is in
+              subst (λ k. IsHere k (begun ++ edits.Insert file after text ∷ []) later e'.file) (sym (ap (λ (s : Contents). s.node) it.row ∙ same))
+              (inserted-here e.file e'.file (subst (λ k. IsHere k begun (edits.Insert file after text ∷ later) e.file) same h) it.lines it.room it.own (ap (λ (s : Contents). s.newest) it.row))
+          by false is =
+              let turned : nat_eq f e.node ≡ false = grind (arith, nat_tests, is) in
+              subst (λ (x : StoredFile). IsHere x.node (begun ++ edits.Insert file after text ∷ []) later x.file) (sym (changed.elsewhere is)) (record {
+                above = h.above;
+                are_dated = subst (λ ds. AreDated ts count ds e.file.lines) (sym (insert-there begun later file after text all e.node turned)) h.are_dated;
+                newest = h.newest;
+                inserts = subst (λ b. cond b (suc (inserts_into n e.node later)) (inserts_into n e.node later) ≤ e.file.room.inserts) turned h.inserts;
+                changes = h.changes;
+                position = λ t. h.position (or_right (nat_eq f e.node) (touches n e.node later) t);
+              })
+
+    module _ (begun later : List Edit) (file : NodeRef) (line : LineRef) (all : begun ++ edits.Delete file line ∷ later ≡ es) where
+      abbrev df : ℕ
+      df = node_number n file
+
+      abbrev k : ℕ
+      k = line_number m line
+
+      -- a file can take the line out
+      can-delete : (e : StoredFile) → IsHere e.node begun (edits.Delete file line ∷ later) e.file → nat_eq e.node df ≡ true → CanDelete q k e
+      can-delete e h is =
+          let same : e.node ≡ df = grind (arith, nat_tests, is) in
+          let turned : nat_eq df e.node ≡ true = grind (arith, nat_tests, same) in
+          let own : nat_eq k k ≡ true = grind (arith, nat_tests) in
+          let there : has_line k (file_numbers e.file.lines) ≡ true =
+          ap (has_line k) (numbers-here e.node begun (edits.Delete file line ∷ later) e.file h ∙ ap (λ x. file_order x (lines_at begun)) same) ∙ delete-there begun later file line all in
+          record {
+            there = there;
+            later = h.newest;
+            room = h.changes k (or_left (nat_eq df e.node && nat_eq k k) (deletes_from n m e.node k later) (and_from (nat_eq df e.node) (nat_eq k k) turned own)) there;
+            position = h.position (or_left (nat_eq df e.node) (touches n e.node later) turned);
+          }
+
+      -- and hasn't it then
+      deleted-here : (vis : ℕ) (old new : DatedFile) → IsRight (lines_at begun) df k vis → IsHere df begun (edits.Delete file line ∷ later) old → AreAlike new.lines (with_change k vis q old.lines)
+          → IsLeft old.room new.room q 0 → new.newest ≡ q → IsHere df (begun ++ edits.Delete file line ∷ []) later new
+      deleted-here vis old new right h alike left at =
+          let some = h.inserts in
+          let fewer = left.inserts in
+          record {
+            above = h.above;
+            are_dated = subst (λ ds. AreDated ts count ds new.lines) (sym (delete-here begun later file line all))
+                (delete-lines ts count q k vis ambition (file_dated df (lines_at begun)) old.lines new.lines (right.taken h.above) h.are_dated alike);
+            newest = omega (arith, at);
+            inserts = omega (arith, some, fewer);
+            changes = λ some gone there. left.changes some
+                (h.changes some (or_right (nat_eq df df && nat_eq k some) (deletes_from n m df some later) gone)
+                (sym (ap (has_line some) (alike-numbers new.lines (with_change k vis q old.lines) alike ∙ numbers-changed k vis q old.lines)) ∙ there));
+            position = λ t. left.position;
+          }
+
+      delete-next : (vis : ℕ) → IsRight (lines_at begun) df k vis → (e e' : StoredFile) → IsChangedIn df (IsCarriedOut q (plans.Delete df k vis)) e e' → IsHere e.node begun (edits.Delete file line ∷ later) e.file
+          → IsHere e'.node (begun ++ edits.Delete file line ∷ []) later e'.file
+      delete-next vis right e e' changed h = by (nat_eq e.node df) refl
+        where
+          by : (b : Bool) → nat_eq e.node df ≡ b → IsHere e'.node (begun ++ edits.Delete file line ∷ []) later e'.file
+          by true is =
+              let same : e.node ≡ df = grind (arith, nat_tests, is) in
+              let it = changed.here is in
+              subst (λ x. IsHere x (begun ++ edits.Delete file line ∷ []) later e'.file) (sym (ap (λ (s : Contents). s.node) it.row ∙ same))
+              (deleted-here vis e.file e'.file right (subst (λ x. IsHere x begun (edits.Delete file line ∷ later) e.file) same h) it.lines it.room (ap (λ (s : Contents). s.newest) it.row))
+          by false is =
+              let turned : nat_eq df e.node ≡ false = grind (arith, nat_tests, is) in
+              subst (λ (x : StoredFile). IsHere x.node (begun ++ edits.Delete file line ∷ []) later x.file) (sym (changed.elsewhere is)) (record {
+                above = h.above;
+                are_dated = subst (λ ds. AreDated ts count ds e.file.lines) (sym (delete-out begun later file line all e.node turned)) h.are_dated;
+                newest = h.newest;
+                inserts = h.inserts;
+                changes = λ some gone there. h.changes some (or_right (nat_eq df e.node && nat_eq k some) (deletes_from n m e.node some later) gone) there;
+                position = λ t. h.position (or_right (nat_eq df e.node) (touches n e.node later) t);
+              })
+
+    abbrev pub AreHere : List Edit → List Edit → List StoredFile → Type 0
+    AreHere begun left stored = AllByRecursion (λ e. IsHere e.node begun left e.file) stored
+
+    -- the plans of the edits can be carried out in the stored files, and are then
+    pub carried : (later begun : List Edit) (made : ℕ) (stored : List StoredFile) (ss : List EditPlan) → begun ++ later ≡ es → made ≡ lines_amid history begun → AreRight (lines_at begun) made later ss
+        → AreHere begun later stored → CanCarryOutAll q ss stored × ((after : List StoredFile) → AreAllCarriedOut q ss stored after → AreHere es [] after)
+    carried [] begun made stored ss all counted right here =
+        subst (λ ss. CanCarryOutAll q ss stored × ((after : List StoredFile) → AreAllCarriedOut q ss stored after → AreHere es [] after)) (sym right)
+        (tt, λ after same. subst (λ b. AreHere b [] after) (sym (append-nil begun) ∙ all) (subst (AreHere begun []) (sym same) here))
+    carried (edits.New kind parent name ∷ later) begun made stored ss all counted right here =
+        let e = edits.New kind parent name in
+        let same : lines_at (begun ++ e ∷ []) ≡ lines_at begun = new-lines begun e kind parent name refl in
+        carried later (begun ++ e ∷ []) made stored ss (append_assoc begun (e ∷ []) later ∙ all)
+        (counted ∙ ap (λ l. m + length l) (sym (none_more m begun e refl)))
+        (subst (λ ks. AreRight ks made later ss) (sym same) right)
+        (all-map (λ x. IsHere x.node begun (e ∷ later) x.file) (λ x. IsHere x.node (begun ++ e ∷ []) later x.file)
+        (λ x h. record {
+          above = h.above;
+          are_dated = subst (λ ks. AreDated ts count (file_dated x.node ks) x.file.lines) (sym same) h.are_dated;
+          newest = h.newest;
+          inserts = h.inserts;
+          changes = h.changes;
+          position = h.position;
+        }) stored here)
+    carried (edits.Insert file after text ∷ later) begun made stored ss all counted right here =
+        let e = edits.Insert file after text in
+        let plan : EditPlan = plans.Insert (node_number n file) (line_number m after) (lines_amid history begun + 1) text a in
+        let put : ss ≡ plan ∷ right.0 = right.1 ∙ ap (λ j. plans.Insert (node_number n file) (line_number m after) (j + 1) text a ∷ right.0) counted in
+        let rest : (mid : List StoredFile) → AreCarriedOut q plan stored mid → CanCarryOutAll q right.0 mid × ((after : List StoredFile) → AreAllCarriedOut q right.0 mid after → AreHere es [] after) =
+        λ mid st. carried later (begun ++ e ∷ []) (made + 1) mid right.0 (append_assoc begun (e ∷ []) later ∙ all)
+        (ap (λ j. j + 1) counted ∙ sym (one_more history begun file after text))
+        (right-on (lines_at begun) (lines_at (begun ++ e ∷ [])) (insert-right begun later file after text all) (made + 1) later right.0 right.2)
+        (all-pairs (IsChangedIn (node_number n file) (IsCarriedOut q plan)) (λ x. IsHere x.node begun (e ∷ later) x.file) (λ x. IsHere x.node (begun ++ e ∷ []) later x.file)
+        (insert-next begun later file after text all) stored mid st here) in
+        subst (λ ss. CanCarryOutAll q ss stored × ((after : List StoredFile) → AreAllCarriedOut q ss stored after → AreHere es [] after)) (sym put) (
+          (all-map (λ x. IsHere x.node begun (e ∷ later) x.file) (CanCarryOutIn q plan) (can-insert begun later file after text all) stored here, λ mid st. (rest mid st).0),
+          λ after st. (rest st.0 st.1).1 after st.2,
+        )
+    carried (edits.Delete file line ∷ later) begun made stored ss all counted right here =
+        let e = edits.Delete file line in
+        let vis = right.0 in
+        let plan : EditPlan = plans.Delete (node_number n file) (line_number m line) vis in
+        let rest : (mid : List StoredFile) → AreCarriedOut q plan stored mid → CanCarryOutAll q right.1 mid × ((after : List StoredFile) → AreAllCarriedOut q right.1 mid after → AreHere es [] after) =
+        λ mid st. carried later (begun ++ e ∷ []) made mid right.1 (append_assoc begun (e ∷ []) later ∙ all)
+        (counted ∙ ap (λ l. m + length l) (sym (none_more m begun e refl)))
+        (right-on (lines_at begun) (lines_at (begun ++ e ∷ [])) (delete-right begun later file line all) made later right.1 right.4)
+        (all-pairs (IsChangedIn (node_number n file) (IsCarriedOut q plan)) (λ x. IsHere x.node begun (e ∷ later) x.file) (λ x. IsHere x.node (begun ++ e ∷ []) later x.file)
+        (delete-next begun later file line all vis right.3) stored mid st here) in
+        subst (λ ss. CanCarryOutAll q ss stored × ((after : List StoredFile) → AreAllCarriedOut q ss stored after → AreHere es [] after)) (sym right.2) (
+          (all-map (λ x. IsHere x.node begun (e ∷ later) x.file) (CanCarryOutIn q plan) (can-delete begun later file line all) stored here, λ mid st. (rest mid st).0),
+          λ after st. (rest st.0 st.1).1 after st.2,
+        )
+
+  -- the lines that edits name are made before them
+  pub named-low : (most : ℕ) (later begun : List Edit) → begun ++ later ≡ es → lines_amid history es ≤ most → AllByRecursion (λ e. named_line m e ≤ most) later
+  named-low most [] begun all few = tt
+  named-low most (edits.New kind parent name ∷ later) begun all few =
+      (omega arith, named-low most later (begun ++ edits.New kind parent name ∷ []) (append_assoc begun (edits.New kind parent name ∷ []) later ∙ all) few)
+  named-low most (edits.Insert file after text ∷ later) begun all few =
+      let i : Insertion = record { begun = begun; file = file; after = after; text = text; later = later } in
+      let known = anchor-known history ambition i (anchored begun later file after text all) in
+      let below = begun-few begun (edits.Insert file after text ∷ later) all in
+      (omega (arith, known, below, few), named-low most later (begun ++ edits.Insert file after text ∷ []) (append_assoc begun (edits.Insert file after text ∷ []) later ∙ all) few)
+  named-low most (edits.Delete file line ∷ later) begun all few =
+      let known : line_number m line ≤ lines_amid history begun =
+      line-below history ambition begun (edits.Delete file line ∷ later) (node_number n file) (line_number m line)
+      (ap (λ ks. has_line (line_number m line) (file_order (node_number n file) ks)) (delete-before begun later file line all) ∙ delete-there begun later file line all) in
+      let below = begun-few begun (edits.Delete file line ∷ later) all in
+      (omega (arith, known, below, few), named-low most later (begun ++ edits.Delete file line ∷ []) (append_assoc begun (edits.Delete file line ∷ []) later ∙ all) few)
+
+  -- the files of lines are noted when all edits are done
+  pub line-files-along : (later begun : List Edit) (file_of_line : List ℕ) → begun ++ later ≡ es → length file_of_line ≡ lines_amid history begun → AreFilesOfLines (lines_at begun) 0 file_of_line
+      → AreFilesOfLines (lines_at es) 0 (file_of_line ++ new_file_of_line n later)
+  line-files-along [] begun file_of_line all counted at_its_file =
+      subst (λ b. AreFilesOfLines (lines_at b) 0 (file_of_line ++ [])) (sym (append-nil begun) ∙ all) (subst (AreFilesOfLines (lines_at begun) 0) (sym (append-nil file_of_line)) at_its_file)
+  line-files-along (edits.New kind parent name ∷ later) begun file_of_line all counted at_its_file =
+      let e = edits.New kind parent name in
+      line-files-along later (begun ++ e ∷ []) file_of_line (append_assoc begun (e ∷ []) later ∙ all) (counted ∙ ap (λ l. m + length l) (sym (none_more m begun e refl)))
+      (subst (λ ks. AreFilesOfLines ks 0 file_of_line) (sym (new-lines begun e kind parent name refl)) at_its_file)
+  line-files-along (edits.Delete file line ∷ later) begun file_of_line all counted at_its_file =
+      let e = edits.Delete file line in
+      line-files-along later (begun ++ e ∷ []) file_of_line (append_assoc begun (e ∷ []) later ∙ all) (counted ∙ ap (λ l. m + length l) (sym (none_more m begun e refl)))
+      (files_of_lines-stay (lines_at begun) (lines_at (begun ++ e ∷ [])) (delete-stays begun later file line all) 0 file_of_line at_its_file)
+  line-files-along (edits.Insert file after text ∷ later) begun file_of_line all counted at_its_file =
+      let e = edits.Insert file after text in
+      subst (AreFilesOfLines (lines_at es) 0) (append_assoc file_of_line (node_number n file ∷ []) (new_file_of_line n later))
+      (line-files-along later (begun ++ e ∷ []) (file_of_line ++ node_number n file ∷ []) (append_assoc begun (e ∷ []) later ∙ all)
+      (let one = length-one file_of_line (node_number n file) in let more = one_more history begun file after text in omega (arith, counted, one, more))
+      (file_of_line-more (lines_at (begun ++ e ∷ [])) (node_number n file) 0 file_of_line
+      (files_of_lines-stay (lines_at begun) (lines_at (begun ++ e ∷ [])) (insert-stays begun later file after text all) 0 file_of_line at_its_file)
+      (subst (λ k. is_kept_anchor (node_number n file) k (lines_at (begun ++ e ∷ [])) ≡ true) (let one : lines_amid history begun + 1 ≡ 0 + length file_of_line + 1 = omega (arith, counted) in one)
+      (insert-new begun later file after text all))))

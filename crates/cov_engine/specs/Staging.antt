@@ -1,0 +1,104 @@
+-- What a commit adds to what is kept.
+use Rattle.std.specs.Prelude.{◌≡◌, ℕ, suc, ◌+◌, ◌-◌, ◌^◌, ◌<◌, ◌≤◌, Bool, true, false, ◌&&◌, ◌||◌, nat_eq, nat_lt, nat_le, List, [], ◌∷◌, length, Option, Some, None, if◌then◌else◌, ◌++◌}
+use Rattle.std.specs.List.{AllByRecursion}
+use Rattle.cov_base.specs.declared.number.Kind.{Kind}
+use Rattle.cov_base.specs.declared.number.NodeRef.{NodeRef}
+use Rattle.cov_base.specs.declared.limits.TheConstants.{LIMITS}
+use Rattle.cov_file.specs.Dated.{DatedLine as FileLine, line_numbers_of}
+use Rattle.cov_order.specs.Orders.{has_line}
+use Rattle.cov_edit.specs.declared.edit.Edit.{Edit}
+use Rattle.cov_edit.specs.declared.edit.Edit.TheVariants as edits
+use Rattle.cov_edit.specs.History.{text_bytes}
+use Rattle.cov_edit.specs.Numbering.{node_number, line_number, nodes_made, anchors_of}
+use Rattle.cov_view.specs.Refusals.{when, first_of}
+use Rattle.cov_history.specs.Verdict.{has_no_edits, refusals_by_size}
+use Rattle.cov_engine.specs.declared.counts.Counts.{Counts}
+use Rattle.cov_history.specs.declared.refusal.Refusal.{Refusal}
+use Rattle.cov_history.specs.declared.refusal.Refusal.TheVariants as refusals
+use Rattle.cov_engine.specs.declared.stored_file.StoredFile.{StoredFile}
+use Rattle.cov_engine.specs.declared.sizes.Sizes.{Sizes}
+
+-- how many lines and nodes edits make, and how many bytes of text they insert
+abbrev pub sizes_of : List Edit → Sizes
+sizes_of es = record { lines = length (anchors_of 0 es); nodes = nodes_made es; bytes = text_bytes es }
+
+-- the refusal of edits that are too many, make too much or are none, so much being there already
+abbrev pub sizes_refusal : Counts → List Edit → Option Refusal
+sizes_refusal counts es = first_of (refusals_by_size LIMITS counts.lines counts.nodes counts.bytes es ++ when (has_no_edits es) refusals.Empty ∷ [])
+
+-- a stored file but for the room of its file
+pub record Contents : Type 0 where
+  pub node : ℕ
+  pub kind : Kind
+  pub parent : ℕ
+  pub name : List ℕ
+  pub commit : ℕ
+  pub lines : List FileLine
+  pub newest : ℕ
+
+abbrev pub contents : StoredFile → Contents
+contents e = record { node = e.node; kind = e.kind; parent = e.parent; name = e.name; commit = e.commit; lines = e.file.lines; newest = e.file.newest }
+
+-- the rows that a commit's edits make, n nodes having been made before the commit and so many before these edits
+abbrev pub new_files : ℕ → ℕ → ℕ → List Edit → List Contents
+new_files n commit made [] = []
+new_files n commit made (edits.New kind parent name ∷ es) =
+    record { node = made + 1; kind = kind; parent = node_number n parent; name = name; commit = commit; lines = []; newest = 0 } ∷ new_files n commit (made + 1) es
+new_files n commit made (edits.Insert file after text ∷ es) = new_files n commit made es
+new_files n commit made (edits.Delete file line ∷ es) = new_files n commit made es
+
+-- the node in which an edit makes or takes something
+abbrev pub place_of : Edit → NodeRef
+place_of (edits.New kind parent name) = parent
+place_of (edits.Insert file after text) = file
+place_of (edits.Delete file line) = file
+
+-- the nodes in which edits make or take something have numbers below 2^32, n nodes having been made before
+abbrev pub AreNear : ℕ → List Edit → Type 0
+AreNear n es = AllByRecursion (λ e. node_number n (place_of e) < 2 ^ 32) es
+
+-- the number of the line that an edit names, 0 if it names none, m lines having been made before
+abbrev pub named_line : ℕ → Edit → ℕ
+named_line m (edits.New kind parent name) = 0
+named_line m (edits.Insert file after text) = line_number m after
+named_line m (edits.Delete file line) = line_number m line
+
+-- the lines that edits name have numbers below 2^32, m lines having been made before
+abbrev pub AreLow : ℕ → List Edit → Type 0
+AreLow m es = AllByRecursion (λ e. named_line m e < 2 ^ 32) es
+
+-- how many lines edits insert into a file, n nodes having been made before
+abbrev pub inserts_into : ℕ → ℕ → List Edit → ℕ
+inserts_into n file [] = 0
+inserts_into n file (edits.New kind parent name ∷ es) = inserts_into n file es
+inserts_into n file (edits.Insert f after text ∷ es) = if nat_eq (node_number n f) file then suc (inserts_into n file es) else inserts_into n file es
+inserts_into n file (edits.Delete f line ∷ es) = inserts_into n file es
+
+-- whether edits delete a line of a file, n nodes and m lines having been made before
+abbrev pub deletes_from : ℕ → ℕ → ℕ → ℕ → List Edit → Bool
+deletes_from n m file which [] = false
+deletes_from n m file which (edits.New kind parent name ∷ es) = deletes_from n m file which es
+deletes_from n m file which (edits.Insert f after text ∷ es) = deletes_from n m file which es
+deletes_from n m file which (edits.Delete f line ∷ es) = (nat_eq (node_number n f) file && nat_eq (line_number m line) which) || deletes_from n m file which es
+
+-- whether edits insert into a file or delete from it, n nodes having been made before
+abbrev pub touches : ℕ → ℕ → List Edit → Bool
+touches n file [] = false
+touches n file (edits.New kind parent name ∷ es) = touches n file es
+touches n file (edits.Insert f after text ∷ es) = nat_eq (node_number n f) file || touches n file es
+touches n file (edits.Delete f line ∷ es) = nat_eq (node_number n f) file || touches n file es
+
+-- a stored file has room for what edits do to its file, at any position
+pub record HasRoom (n m : ℕ) (es : List Edit) (e : StoredFile) : Type 0 where
+  pub inserts : inserts_into n e.node es ≤ e.file.room.inserts
+  pub changes : (line : ℕ) → deletes_from n m e.node line es ≡ true → has_line line (line_numbers_of e.file.lines) ≡ true → has_line line e.file.room.changes ≡ true
+  pub position : touches n e.node es ≡ true → e.file.room.position ≡ None
+
+-- the stored files have the node numbers after n, in order
+abbrev pub AreNumbered : ℕ → List StoredFile → Type 0
+AreNumbered n [] = Unit {0}
+AreNumbered n (e ∷ es) = (e.node ≡ n + 1) × AreNumbered (n + 1) es
+
+-- where the stored file of a node stands among so many
+abbrev pub index_of : ℕ → ℕ → Option ℕ
+index_of count node = if nat_lt 0 node && nat_le node count then Some (node - 1) else None

@@ -1,0 +1,62 @@
+// What a commit's plans do to the lines of files, one after another.
+ghost use Rattle.std.specs.Prelude.{◌≡◌};
+ghost use Rattle.std.specs.List.{AllByRecursion};
+ghost use Rattle.cov_engine.specs.Staging.{AreNumbered};
+ghost use Rattle.cov_engine.specs.Carrying.{CanCarryOutIn, AreCarriedOut, CanCarryOutAll, AreAllCarriedOut};
+
+use crate::stored_file::{StoredFile, index_of};
+use cov_base::{LineNo, NodeNo, Position, Text};
+use cov_dd::Node;
+use std::collections::VecDeque;
+
+/// What an edit does to a file: a line is put into it with its visibility, or gets another visibility.
+#[derive(Drop)]
+pub(crate) enum EditPlan {
+    Insert {
+        file: NodeNo,
+        anchor: LineNo,
+        line: LineNo,
+        text: Text,
+        vis: Node,
+    },
+    Delete {
+        file: NodeNo,
+        line: LineNo,
+        vis: Node,
+    },
+}
+
+/// Carries out plans in order. It takes for each at most time in the lines of its file, and no memory.
+pub(crate) fn carry_out_all(files: &mut [StoredFile], plans: VecDeque<EditPlan>, at: Position)
+    requires numbered { AreNumbered 0 files.old }
+    requires can { CanCarryOutAll at plans.items files.old }
+    ensures { AreAllCarriedOut at plans.items files.old files.new }
+{
+    let mut plans = plans;
+    while let Some(plan) = plans.pop_front() {
+        carry_out(files, plan, at);
+    }
+}
+
+fn carry_out(files: &mut [StoredFile], plan: EditPlan, at: Position)
+    requires numbered { AreNumbered 0 files.old }
+    requires can { AllByRecursion (CanCarryOutIn at plan) files.old }
+    ensures { AreCarriedOut at plan files.old files.new }
+{
+    match plan {
+        EditPlan::Insert {
+            file,
+            anchor,
+            line,
+            text,
+            vis,
+        } => match index_of(files, file) {
+            Some(index) => files[index].insert(anchor, line, text, vis, at),
+            None => (),
+        },
+        EditPlan::Delete { file, line, vis } => match index_of(files, file) {
+            Some(index) => files[index].delete(line, vis, at),
+            None => (),
+        },
+    }
+}
