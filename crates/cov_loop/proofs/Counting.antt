@@ -24,8 +24,8 @@ tracks_then before mid now old between new first next = record {
   ended = tracks_by before mid now old between new first next;
 }
 
-pub counted_then : (before mid now : Progress) (old between new : Counts) → Counted before mid old between → Counted mid now between new → Counted before now old new
-counted_then before mid now old between new first next = record {
+pub counted_then : {before mid now : Progress} {old between new : Counts} → Counted before mid old between → Counted mid now between new → Counted before now old new
+counted_then {before} {mid} {now} {old} {between} {new} first next = record {
   source_later = omega (arith, first.source_later, next.source_later);
   sink_later = omega (arith, first.sink_later, next.sink_later);
   taken = omega (arith, first.taken, next.taken);

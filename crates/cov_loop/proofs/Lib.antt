@@ -1,3 +1,3 @@
 pub mod Counting
-pub mod Going
+pub mod LoopInvariant
 pub mod Turning

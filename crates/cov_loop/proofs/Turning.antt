@@ -1,6 +1,7 @@
 -- One turn after another.
 use Rattle.std.proofs.Common.{◌≡◌, ◌∙◌, refl, ap, ℕ, ◌<◌, List, ◌∷◌, ◌++◌, length, append_assoc, Option, Some, None, Result, Ok, Err, IfOk, OnOk, OnErr}
 use Rattle.cov_base.specs.Lines.{lines_of}
+use Rattle.cov_base.specs.declared.limits.TheConstants.{MOST_SCRIPT_LINE_BYTES}
 use Rattle.cov_io.specs.Devices.{AppendsAll, AppendsSome}
 use Rattle.cov_io.specs.Items.{GivesTold}
 use Rattle.cov_io.specs.Progress.{Progress}
@@ -50,9 +51,9 @@ pub long_turn : {S : Type 0} (step : S → List ℕ → Outcome S) (state : S) (
     → GivesTold old new left later items.Long
     → ahead_of old left ≡ Some text
     → out ≡ Some before
-    → ((line : List ℕ) → 8192 < length line → IfOk r (IsServed (step state line) next))
-    → ((line : List ℕ) → 8192 < length line → OnOk r (AppendsAll (step state line).reply out written))
-    → ((line : List ℕ) → 8192 < length line → OnErr r (AppendsSome (step state line).reply out written))
+    → ((line : List ℕ) → MOST_SCRIPT_LINE_BYTES < length line → IfOk r (IsServed (step state line) next))
+    → ((line : List ℕ) → MOST_SCRIPT_LINE_BYTES < length line → OnOk r (AppendsAll (step state line).reply out written))
+    → ((line : List ℕ) → MOST_SCRIPT_LINE_BYTES < length line → OnErr r (AppendsSome (step state line).reply out written))
     → Turns step state text before next (ahead_of new later) written (turn_of r)
 long_turn step state text before old new None later out written next r given ahead told served all some = absurd (cc)
 long_turn step state text before old new (Some left) None out written next r given ahead told served all some = absurd given

@@ -1,8 +1,9 @@
 -- What is done in one turn, and in several.
-use Rattle.std.specs.Prelude.{◌≡◌, ℕ, ◌+◌, ◌^◌, ◌<◌, ◌≤◌, Bool, true, false, List, [], ◌∷◌, ◌++◌, Option, Some, Result, Ok, Err}
+use Rattle.std.specs.Prelude.{◌≡◌, ℕ, ◌+◌, ◌<◌, ◌≤◌, Bool, true, false, List, [], ◌∷◌, ◌++◌, Option, Some, Result, Ok, Err}
 use Rattle.std.specs.Option.{option_map}
 use Rattle.cov_base.specs.Causes.{Rose}
 use Rattle.cov_base.specs.Lines.{lines_of}
+use Rattle.cov_base.specs.declared.limits.TheConstants.{TOO_MANY_SCRIPT_BYTES}
 use Rattle.cov_io.specs.Progress.{Progress, IsTooMuch, potential}
 use Rattle.cov_io.specs.declared.reading.LineFault.{LineFault}
 use Rattle.cov_io.specs.declared.reading.LineFault.TheVariants as faults
@@ -94,9 +95,9 @@ HasState statuses.Done outcome state = state ≡ outcome.state
 HasState statuses.SomeRefused outcome state = state ≡ outcome.state
 HasState _ outcome state = Unit {0}
 
--- 2^32 bytes were taken since the start and no read answered 0
+-- too many bytes were taken since the start and no read answered 0
 abbrev pub TooMuchSince : Progress → Counts → Counts → Type 0
-TooMuchSince start old new = (2 ^ 32 + old.given ≤ start.taken + new.given) × (start.ended ≡ false) × (new.ends ≡ old.ends)
+TooMuchSince start old new = (TOO_MANY_SCRIPT_BYTES + old.given ≤ start.taken + new.given) × (start.ended ≡ false) × (new.ends ≡ old.ends)
 
 -- why the serving of a script ends as it does
 abbrev pub StopsScript : Status → Progress → Counts → Counts → Type 0

@@ -1,6 +1,7 @@
 // One line: what it does and its reply.
 ghost use Rattle.std.specs.Prelude.{◌≡◌, ◌≤◌, ◌<◌, ℕ, List, length, IfOk, OnOk, OnErr, IfErr};
 ghost use Rattle.cov_base.specs.Causes.{HasCause};
+ghost use Rattle.cov_base.specs.declared.limits.TheConstants.{MOST_SCRIPT_LINE_BYTES};
 ghost use Rattle.cov_io.specs.Devices.{AppendsAll, AppendsSome};
 ghost use Rattle.cov_loop.specs.Answers.{IsServed, StopsLine};
 
@@ -28,16 +29,16 @@ pub fn serve_line<V: LineServer, K: Sink>(
     }
 }
 
-// Serves a line of more than 8,192 bytes, which was skipped.
+// Serves a line of more than `MOST_SCRIPT_LINE_BYTES`, which was skipped.
 pub(crate) fn serve_long<V: LineServer, K: Sink>(
     server: &mut V,
     out: &mut K,
 ) -> Result<Answer, Status>
-    ensures served { (line : List ℕ) → 8192 < length line →
+    ensures served { (line : List ℕ) → MOST_SCRIPT_LINE_BYTES < length line →
         IfOk result (IsServed (V.step server.old line) server.new) }
-    ensures all { (line : List ℕ) → 8192 < length line →
+    ensures all { (line : List ℕ) → MOST_SCRIPT_LINE_BYTES < length line →
         OnOk result (AppendsAll (V.step server.old line).reply (K.written out.old) (K.written out.new)) }
-    ensures some { (line : List ℕ) → 8192 < length line →
+    ensures some { (line : List ℕ) → MOST_SCRIPT_LINE_BYTES < length line →
         OnErr result (AppendsSome (V.step server.old line).reply (K.written out.old) (K.written out.new)) }
     ensures stopped { IfErr result (λ status. StopsLine status (K.faults out.old) (K.faults out.new)) }
     ensures later { K.faults out.old ≤ K.faults out.new }

@@ -1,5 +1,6 @@
 // What serves one line after another.
 ghost use Rattle.std.specs.Prelude.{◌≡◌, ◌≢◌, ◌<◌, ℕ, List, [], true, length, IfOk};
+ghost use Rattle.cov_base.specs.declared.limits.TheConstants.{MOST_SCRIPT_LINE_BYTES};
 ghost use Rattle.cov_loop.specs.Outcome.{Outcome};
 ghost use Rattle.cov_loop.specs.Answers.{Gives};
 
@@ -15,9 +16,9 @@ pub trait LineServer {
     fn answer(&mut self, line: &[u8]) -> Result<Reply, Memory>
         ensures { IfOk result (Gives (step self.old line.now) self.new) };
 
-    /// The same of a line of more than 8,192 bytes, which was skipped: whatever it holds, the answer is one.
+    /// The same of a line of more than `MOST_SCRIPT_LINE_BYTES`, which was skipped: whatever it holds, the answer is one.
     fn answer_long(&mut self) -> Result<Reply, Memory>
-        ensures { (line : List ℕ) → 8192 < length line → IfOk result (Gives (step self.old line) self.new) };
+        ensures { (line : List ℕ) → MOST_SCRIPT_LINE_BYTES < length line → IfOk result (Gives (step self.old line) self.new) };
 
     /// A line that is refused has a reply.
     ghost refusal_told: { (state : Self) (line : List ℕ) → (step state line).is_refused ≡ true → (step state line).reply ≢ [] };

@@ -1,8 +1,9 @@
 -- How refusals are handed on.
-use Rattle.std.proofs.Common.{◌≡◌, ◌∙◌, refl, sym, ap, subst, ℕ, ◌<◌, Bool, true, false, nat_lt, List, length, Result, Ok, Err, arith}
+use Rattle.std.proofs.Common.{◌≡◌, ◌∙◌, refl, sym, ap, subst, ℕ, ◌<◌, Bool, true, nat_lt, List, length, Result, Ok, Err, arith}
 use Rattle.std.proofs.lemmas.Bool.Decides.{nat_tests}
 use Rattle.std.specs.Prelude.{if◌then◌else◌}
 use Rattle.std.specs.Result.{IsErrAnd}
+use Rattle.cov_base.specs.declared.limits.TheConstants.{MOST_SCRIPT_LINE_BYTES}
 use Rattle.cov_expr.specs.Binding.{bound, IsFaultOf}
 use Rattle.cov_expr.specs.declared.binding.BindFault.{BindFault}
 use Rattle.cov_expr.specs.declared.binding.BindFault.TheVariants as binds
@@ -12,52 +13,29 @@ use Rattle.cov_rules.specs.declared.completing.CompleteFault.TheVariants as comp
 use Rattle.cov_edit.specs.History.{options_of}
 use Rattle.cov_history.specs.Completing.{completed_in}
 use Rattle.cov_history.specs.Laws.{OpenOptionsAreDeclared}
-use Rattle.cov_serve.specs.Acting.{Acts, Finds, Stops}
+use Rattle.cov_serve.specs.Acting.{Stops}
 use Rattle.cov_serve.specs.Codes.{bind_code, syntax_code}
-use Rattle.cov_serve.specs.Finding.{Found, ◌>>=◌, as_found, by_code, completed_choice, found_choice, found_partial}
+use Rattle.cov_serve.specs.Finding.{◌>>=◌, as_found, by_code, completed_choice, found_choice, found_partial}
 use Rattle.cov_serve.specs.States.{State}
 use Rattle.cov_script.specs.Lines.{form_of}
 use Rattle.cov_script.specs.declared.code.Code.TheVariants.{Long}
-use Rattle.cov_serve.specs.Step.{Act, acted, as_outcome, refused, served, step}
-use Rattle.cov_loop.specs.Answers.{Gives, kind_of}
-use Rattle.cov_loop.specs.declared.answer.Reply.{Reply}
+use Rattle.cov_serve.specs.Step.{acted, as_outcome, refused, served, step}
 use Rattle.cov_serve.specs.Stops.{bind_stop, complete_stop}
 use Rattle.cov_serve.proofs.Declared.{repeated_below}
 use Rattle.cov_serve.specs.declared.stop.Stop.{Stop}
-use Rattle.cov_serve.specs.declared.stop.Stop.TheVariants as stops
 
--- a refusal ends what would come later
-pub stops-later : {X Y : Type 0} (found : Found X) (later : X → Found Y) (old new : State) (stop : Stop) → Stops found old new stop → Stops (found >>= later) old new stop
-stops-later found later old new stops.Memory h = tt
-stops-later found later old new (stops.Refused code) h = record { is = ap (λ f. f >>= later) h.is; same = h.same; told = h.told }
+-- what holds of a stop holds of the refusal by `?` that hands it on
+pub stopped : {X : Type 0} (P : Result X Stop → Type 0) (result : Result X Stop) (stop : Stop) → IsErrAnd result (λ e. e ≡ stop) → P (Err stop) → P result
+stopped P (Ok x) stop e h = absurd e
+stopped P (Err d) stop e h = subst (λ k. P (Err k)) (sym e) h
 
--- the same refusal of what is the same
-pub stops-same : {X : Type 0} (wanted wanted' : Found X) (old new : State) (stop : Stop) → wanted ≡ wanted' → Stops wanted' old new stop → Stops wanted old new stop
-stops-same wanted wanted' old new stop is h = subst (λ w. Stops w old new stop) (sym is) h
-
--- a refusal by `?`
-pub acts-stopped : (wanted : Act) (old new : State) (result : Result (List ℕ) Stop) (stop : Stop) → IsErrAnd result (λ e. e ≡ stop) → Stops wanted old new stop → Acts wanted old new result
-acts-stopped wanted old new (Ok x) stop e h = absurd e
-acts-stopped wanted old new (Err d) stop e h = subst (λ k. Stops wanted old new k) (sym e) h
-
--- the reply to a line that is done
-pub gives-done : (st new : State) (line text : List ℕ) (reply : Reply) → acted st line ≡ Ok (new, text) → reply.text ≡ text
-    → reply.answer ≡ kind_of text false → Gives (step st line) new reply
-unfolding step
-gives-done st new line text reply is t a = subst (λ w. Gives (as_outcome st w) new reply) (sym is) (record { state_is = refl; text = t; answer = a })
-
--- a line of more than 8,192 bytes is refused, whatever it says
-pub long-refused : (st : State) (line : List ℕ) → 8192 < length line → step st line ≡ refused st Long
+-- a line of too many bytes is refused, whatever it says
+pub long-refused : (st : State) (line : List ℕ) → MOST_SCRIPT_LINE_BYTES < length line → step st line ≡ refused st Long
 unfolding step acted
 long-refused st line long = ap (λ b. as_outcome st ((if b then Err Long else Ok line) >>= (λ short. by_code syntax_code (form_of short) >>= (λ form. served st form)))) (over long)
   where
-    over : 8192 < length line → nat_lt 8192 (length line) ≡ true
+    over : MOST_SCRIPT_LINE_BYTES < length line → nat_lt MOST_SCRIPT_LINE_BYTES (length line) ≡ true
     over h = grind (arith, nat_tests, h)
-
--- what is found is stopped by `?`
-pub finds-stopped : {X : Type 0} (wanted : Found X) (st : State) (result : Result X Stop) (stop : Stop) → IsErrAnd result (λ e. e ≡ stop) → Stops wanted st st stop → Finds wanted st result
-finds-stopped wanted st (Ok x) stop e h = absurd e
-finds-stopped wanted st (Err d) stop e h = subst (λ k. Stops wanted st st k) (sym e) h
 
 -- bindings that are no partial choice
 pub bind-stops : (st : State) (bindings : List (List ℕ × Bool)) (fault : BindFault) → IsFaultOf (bound (options_of st.history) bindings) fault

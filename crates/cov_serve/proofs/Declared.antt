@@ -2,6 +2,7 @@
 use Rattle.std.proofs.Common.{◌≡◌, ◌∙◌, refl, ap, ℕ, suc, ◌+◌, ◌<◌, Bool, true, false, cond, ◌||◌, ◌&&◌, not, nat_eq, nat_lt, List, [], ◌∷◌, ◌++◌, length, map, Option, Some, None, unwrap_or, Err, arith}
 use Rattle.std.specs.List.{list_all, list_any, position_or_len}
 use Rattle.std.specs.Str.{bytes_eq}
+use Rattle.std.proofs.lemmas.Bool.{and_parts}
 use Rattle.std.proofs.lemmas.Bool.Decides.{nat_tests}
 use Rattle.cov_expr.specs.Binding.{bound, first_again, first_repeated, first_undeclared, numbered, partial_unless}
 use Rattle.cov_expr.specs.Options.{is_declared, option_number}
@@ -40,18 +41,13 @@ numbers-below names (b ∷ bs) h = at (is_declared names b.0) refl h (λ k. numb
         ap (λ t. t && list_all (λ o. nat_lt o (length names)) (map (λ c. c.0) (numbered names bs))) below ∙ rest k
     at false e k rest = absurd (cc)
 
-both : (a b : Bool) → (a && b) ≡ true → (a ≡ true) × (b ≡ true)
-both true true h = (refl, refl)
-both true false h = absurd (cc)
-both false b h = absurd (cc)
-
 -- an option that stands a second time is one of them
 again-below : (n : ℕ) (before os : List ℕ) (o : ℕ) → list_all (λ x. nat_lt x n) os ≡ true → first_again before os ≡ Some o → o < n
 again-below n before [] o all h = absurd (cc)
 again-below n before (x ∷ os) o all h = at (list_any (nat_eq x) before) h (λ k. again-below n (before ++ x ∷ []) os o parts.1 k)
   where
     parts : (nat_lt x n ≡ true) × (list_all (λ y. nat_lt y n) os ≡ true)
-    parts = both (nat_lt x n) (list_all (λ y. nat_lt y n) os) all
+    parts = and_parts (nat_lt x n) (list_all (λ y. nat_lt y n) os) all
 
     at : (b : Bool) → cond b (Some x) (first_again (before ++ x ∷ []) os) ≡ Some o → (first_again (before ++ x ∷ []) os ≡ Some o → o < n) → o < n
     at true k rest = let same : x ≡ o = cc in grind (arith, nat_tests, parts.0, same)

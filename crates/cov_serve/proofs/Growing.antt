@@ -36,27 +36,27 @@ declares-none (commands.Constraint expr) h = refl
 declares-none (commands.Prefer expr) h = refl
 declares-none (commands.Default option on) h = refl
 
-if-stays : OpenSessionsStay → (history later : List Command) (kept : Option SessionValue) → IsOpenIf history kept → IsOpenIf (history ++ later) kept
+if-stays : OpenSessionsStay → (history later : List Command) (session : Option SessionValue) → IsOpenIf history session → IsOpenIf (history ++ later) session
 if-stays law history later None here = tt
 if-stays law history later (Some s) here = law history later s here
 
 -- a declaration was appended
-pub keeps-appended : OpenSessionsStay → (history later : List Command) (k : Command) (names : UsedNames) (kept : Option SessionValue)
-    → later ≡ history ++ k ∷ [] → has_commit (k ∷ []) ≡ false → Keeps history names kept → Keeps later names kept
-keeps-appended law history later k names kept is none keeps = subst (λ h. Keeps h names kept) (sym is) (record {
+pub keeps-appended : OpenSessionsStay → (history later : List Command) (k : Command) (names : UsedNames) (session : Option SessionValue)
+    → later ≡ history ++ k ∷ [] → has_commit (k ∷ []) ≡ false → Keeps history names session → Keeps later names session
+keeps-appended law history later k names session is none keeps = subst (λ h. Keeps h names session) (sym is) (record {
   settled = λ name. keeps.settled name
       ∙ ap (λ ns. has_name ns name) (sym (used-append history (k ∷ []) ∙ ap (λ l. used_names history ++ l) (declares-none k none) ∙ append-nil (used_names history)));
   own = keeps.own;
-  session = if-stays law history (k ∷ []) kept keeps.session;
+  is_open = if-stays law history (k ∷ []) session keeps.is_open;
 })
 
 -- the session that is open was committed, which ends it
-pub keeps-committed : (history later : List Command) (k : Command) (names settled : UsedNames) (kept after : Option SessionValue)
-    → later ≡ history ++ k ∷ [] → ((s : NamedSession) → option_map as_named kept ≡ Some s → commit_of s.session ≡ k) → (s : SessionValue) → kept ≡ Some s
+pub keeps-committed : (history later : List Command) (k : Command) (names settled : UsedNames) (session after : Option SessionValue)
+    → later ≡ history ++ k ∷ [] → ((s : NamedSession) → option_map as_named session ≡ Some s → commit_of s.session ≡ k) → (s : SessionValue) → session ≡ Some s
     → settled.settled ≡ names.settled ++ names.own → settled.own ≡ [] → after ≡ None
-    → Keeps history names kept → Keeps later settled after
-keeps-committed history later k names settled kept after is commit s opens done none ends keeps =
-    let own : own_names (option_map as_named kept) ≡ names_made s.session.edits = ap (λ o. own_names (option_map as_named o)) opens in
+    → Keeps history names session → Keeps later settled after
+keeps-committed history later k names settled session after is commit s opens done none ends keeps =
+    let own : own_names (option_map as_named session) ≡ names_made s.session.edits = ap (λ o. own_names (option_map as_named o)) opens in
     let command : commit_of s.session ≡ k = commit (as_named s) (ap (option_map as_named) opens) in
     let used : used_names later ≡ used_names history ++ names_made s.session.edits =
     ap used_names (is ∙ ap (λ c. history ++ c ∷ []) (sym command)) ∙ used-append history (commit_of s.session ∷ []) ∙ ap (λ ns. used_names history ++ ns) (append-nil (names_made s.session.edits)) in
@@ -66,36 +66,17 @@ keeps-committed history later k names settled kept after is commit s opens done 
           ∙ ap (λ b. has_name (used_names history) name || b) (keeps.own name ∙ ap (λ ns. has_name ns name) own)
           ∙ sym (ap (λ ns. has_name ns name) used ∙ list_any-append (bytes_eq name) (used_names history) (names_made s.session.edits));
       own = λ name. ap (λ ns. has_name ns name) none ∙ sym (ap (λ o. has_name (own_names (option_map as_named o)) name) ends);
-      session = subst (IsOpenIf later) (sym ends) tt;
+      is_open = subst (IsOpenIf later) (sym ends) tt;
     }
 
 -- the same, where a session is open
-pub commit-ends : (history later : List Command) (k : Command) (names settled : UsedNames) (kept after : Option SessionValue)
-    → later ≡ history ++ k ∷ [] → ((s : NamedSession) → option_map as_named kept ≡ Some s → commit_of s.session ≡ k) → is_some (option_map as_named kept) ≡ true
+pub commit-ends : (history later : List Command) (k : Command) (names settled : UsedNames) (session after : Option SessionValue)
+    → later ≡ history ++ k ∷ [] → ((s : NamedSession) → option_map as_named session ≡ Some s → commit_of s.session ≡ k) → is_some (option_map as_named session) ≡ true
     → settled.settled ≡ names.settled ++ names.own → settled.own ≡ [] → after ≡ None
-    → Keeps history names kept → Keeps later settled after
+    → Keeps history names session → Keeps later settled after
 commit-ends history later k names settled None after is commit opens done none ends keeps = absurd (cc)
 commit-ends history later k names settled (Some s) after is commit opens done none ends keeps =
     keeps-committed history later k names settled (Some s) after is commit s refl done none ends keeps
-
--- the session that is open was given up
-pub keeps-dropped : (history : List Command) (names freed : UsedNames) (kept after : Option SessionValue) → freed.settled ≡ names.settled → freed.own ≡ [] → after ≡ None
-    → Keeps history names kept → Keeps history freed after
-keeps-dropped history names freed kept after same none ends keeps = record {
-  settled = λ name. ap (λ ns. has_name ns name) same ∙ keeps.settled name;
-  own = λ name. ap (λ ns. has_name ns name) none ∙ sym (ap (λ o. has_name (own_names (option_map as_named o)) name) ends);
-  session = subst (IsOpenIf history) (sym ends) tt;
-}
-
--- a session was opened
-pub keeps-begun : (history : List Command) (names : UsedNames) (kept after : Option SessionValue) (s : SessionValue) → option_map as_named kept ≡ None → after ≡ Some s
-    → IsOpen history s → s.session.edits ≡ [] → Keeps history names kept → Keeps history names after
-keeps-begun history names kept after s none begins here bare keeps = record {
-  settled = keeps.settled;
-  own = λ name. keeps.own name ∙ ap (λ o. has_name (own_names o) name) none
-      ∙ sym (ap (λ o. has_name (own_names (option_map as_named o)) name) begins ∙ ap (λ es. has_name (names_made es) name) bare);
-  session = subst (IsOpenIf history) (sym begins) here;
-}
 
 -- edits that make no node were added to the session
 pub keeps-edited : (history : List Command) (names : UsedNames) (s t : SessionValue) (es : List Edit) → names_made es ≡ [] → t.session ≡ with_edits s.session es
@@ -105,7 +86,7 @@ keeps-edited history names s t es nameless grown here keeps = record {
   own = λ name. keeps.own name
       ∙ sym (ap (λ (r : Session). has_name (names_made r.edits) name) grown
       ∙ ap (λ ns. has_name ns name) (names-append s.session.edits es ∙ ap (λ ns. names_made s.session.edits ++ ns) nameless ∙ append-nil (names_made s.session.edits)));
-  session = here;
+  is_open = here;
 }
 
 -- an edit that makes a node was added to the session
@@ -118,5 +99,5 @@ keeps-made history names more s t e file makes grown same one here keeps = recor
       ∙ sym (ap (λ (r : Session). has_name (names_made r.edits) name) grown
       ∙ ap (λ ns. has_name ns name) (names-append s.session.edits (e ∷ []) ∙ ap (λ ns. names_made s.session.edits ++ ns) makes)
       ∙ list_any-append (bytes_eq name) (names_made s.session.edits) (file ∷ []));
-  session = here;
+  is_open = here;
 }

@@ -4,6 +4,7 @@ pub mod Examples
 pub mod Growing
 pub mod Opened
 pub mod Ordered
+pub mod References
 pub mod Spoken
 pub mod ToldFiles
 pub mod ToldLines

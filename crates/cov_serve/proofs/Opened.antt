@@ -58,7 +58,7 @@ module _ (st : State) (name : List ℕ) (bindings : List (List ℕ × Bool)) (am
   begun-stops new (faults.Edit edit_faults.Memory) same h d = tt
 
 -- no session is none by its name
-pub none-named : (kept : Option SessionValue) → is_some kept ≡ false → option_map as_named kept ≡ None
+pub none-named : (session : Option SessionValue) → is_some session ≡ false → option_map as_named session ≡ None
 none-named None h = refl
 none-named (Some s) h = absurd (cc)
 

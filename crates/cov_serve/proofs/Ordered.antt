@@ -1,16 +1,13 @@
 -- Names in the order in which they came: those before a place, and those behind it.
-use Rattle.std.proofs.Common.{◌≡◌, ◌∙◌, refl, sym, ap, ℕ, zero, suc, ◌+◌, ◌≤◌, Bool, true, false, ◌||◌, List, [], ◌∷◌, ◌++◌, length, map, take, drop, arith}
+use Rattle.std.proofs.Common.{◌≡◌, ◌∙◌, refl, sym, ap, ℕ, zero, suc, ◌+◌, ◌≤◌, Bool, ◌||◌, List, [], ◌∷◌, ◌++◌, length, map, take, drop, arith}
 use Rattle.std.specs.List.{list_any}
-
-or_next : (a b c : Bool) → ((a || b) || c) ≡ (a || (b || c))
-or_next true b c = refl
-or_next false b c = refl
+use mathlib.Core.Bool.{or_assoc}
 
 -- what holds of one before or behind a place holds of one of all
 pub any-split : {X : Type 0} (p : X → Bool) (n : ℕ) (xs : List X) → (list_any p (take n xs) || list_any p (drop n xs)) ≡ list_any p xs
 any-split p zero xs = refl
 any-split p (suc n) [] = refl
-any-split p (suc n) (x ∷ xs) = or_next (p x) (list_any p (take n xs)) (list_any p (drop n xs)) ∙ ap (λ b. p x || b) (any-split p n xs)
+any-split p (suc n) (x ∷ xs) = or_assoc (p x) (list_any p (take n xs)) (list_any p (drop n xs)) ∙ ap (λ b. p x || b) (any-split p n xs)
 
 drop-behind : {X : Type 0} (n : ℕ) (xs ys : List X) → n ≤ length xs → drop n (xs ++ ys) ≡ drop n xs ++ ys
 drop-behind zero xs ys h = refl

@@ -1,5 +1,6 @@
 -- What lines say, and the nodes that they name.
-use Rattle.std.proofs.Common.{◌≡◌, ℕ, ◌+◌, ◌-◌, ◌<◌, Bool, ◌&&◌, ◌||◌, true, false, cond, nat_le, List, [], ◌∷◌, length, Option, Some, option_map, Ok, Err, sym, ap, subst, ◌∙◌, arith, nat_eq, refl, None}
+use Rattle.std.proofs.Common.{◌≡◌, ℕ, Bool, ◌&&◌, ◌||◌, true, false, cond, List, [], ◌∷◌, length, Option, Some, option_map, Ok, Err, sym, ap, subst, ◌∙◌, arith, nat_eq, refl, None}
+use Rattle.std.proofs.lemmas.Bool.{and_from, or_right}
 use Rattle.std.proofs.lemmas.Bool.Decides.{nat_tests}
 use Rattle.std.specs.Prelude.{ok_or, if◌then◌else◌}
 use Rattle.std.specs.List.{find, list_any}
@@ -7,22 +8,24 @@ use Rattle.std.specs.Str.{bytes_eq}
 use Rattle.cov_base.specs.Rows.{Row, is_present}
 use Rattle.cov_base.specs.declared.number.NodeRef.{NodeRef}
 use Rattle.cov_base.specs.declared.number.NodeRef.TheVariants as nodes
+use Rattle.cov_edit.specs.declared.command.Command.{Command}
 use Rattle.cov_edit.specs.Numbering.{node_number}
 use Rattle.cov_history.specs.Sessions.{seen}
-use Rattle.cov_history.proofs.Files.{or_right}
 use Rattle.cov_view.specs.Paths.{from_number, path_node}
 use Rattle.cov_script.specs.Forms.{ReadsAsSpelt}
 use Rattle.cov_script.specs.Lines.{form_of}
 use Rattle.cov_script.specs.declared.line.Line.{Line}
 use Rattle.cov_script.specs.declared.line.Line.TheVariants as lines
 use Rattle.cov_view.specs.References.{is_known_node, is_made_node}
-use Rattle.cov_serve.specs.Editing.{node_ref}
+use Rattle.cov_view.specs.Seen.{Seen}
+use Rattle.cov_view.specs.Views.{Shows}
+use Rattle.cov_serve.proofs.References.{made_node-again}
 use Rattle.cov_serve.specs.Seeing.{IsNamed, IsFileAt}
 use Rattle.cov_serve.specs.States.{State, named}
 use Rattle.cov_script.specs.declared.code.Code.TheVariants.{NotBuilt, NoSession, NoSuchPath}
 use Rattle.cov_serve.specs.Finding.{◌>>=◌}
 use Rattle.cov_serve.specs.Step.{file_at}
-use Rattle.cov_session.specs.Open.{SessionValue, NamedSession, as_named, numbers_at_base}
+use Rattle.cov_session.specs.Open.{SessionValue, NamedSession, IsOpen, as_named, numbers_at_base, table_of}
 use Rattle.cov_serve.specs.Texts.{HasText}
 
 -- the text of a line that is read can be a line's of a file
@@ -52,25 +55,9 @@ has-text law bytes (lines.Checkout t c) h = tt
 has-text law bytes (lines.Alt c t p) h = tt
 has-text law bytes (lines.Presence n) h = tt
 
--- the number of a made node gives its reference again
-pub made-again : (n made : ℕ) (node : NodeRef) → is_made_node n made node ≡ true → node_ref n (node_number n node) ≡ node
-made-again n made (nodes.Old x) h = ap (λ b. cond b (nodes.Old x) (nodes.New (x - n - 1))) known
-  where
-    known : nat_le x n ≡ true
-    known = let le : nat_le x n ≡ true = h in le
-made-again n made (nodes.New i) h =
-    ap (λ b. cond b (nodes.Old (n + 1 + i)) (nodes.New (n + 1 + i - n - 1))) (later (n + 1 + i) (omega arith)) ∙ ap (λ k. nodes.New k) (let same : n + 1 + i - n - 1 ≡ i = omega arith in same)
-  where
-    later : (x : ℕ) → n < x → nat_le x n ≡ false
-    later x h = grind (arith, nat_tests, h)
-
 made-known : (n made : ℕ) (node : NodeRef) → is_made_node n made node ≡ true → is_known_node n node ≡ true
 made-known n made (nodes.Old x) h = h
 made-known n made (nodes.New i) h = refl
-
-both : (a b : Bool) → a ≡ true → b ≡ true → (a && b) ≡ true
-both true b h k = k
-both false b h k = absurd (cc)
 
 found-there : (p : Row → Bool) (rows : List Row) (r : Row) → find p rows ≡ Some r → list_any (λ (q : Row). nat_eq q.node r.node) rows ≡ true
 found-there p [] r h = absurd (cc)
@@ -97,6 +84,12 @@ path-present rows node (name ∷ names) m h e = at (find (λ (r : Row). nat_eq r
     at (Some r) f rest k =
         rest r.node (or_right (nat_eq r.node 0) (list_any (λ (q : Row). nat_eq q.node r.node) rows) (found-there (λ (q : Row). nat_eq q.parent node && bytes_eq q.name name) rows r f)) k
 
+-- the view of an open session shows what the session sees
+pub shows-seen : (history : List Command) (s : SessionValue) (view : Seen) → view ≡ s.view → IsOpen history s
+    → Shows (numbers_at_base history s.session) (table_of history s.session) view (seen s.session history)
+shows-seen history s view is opens =
+    subst (λ v. Shows (numbers_at_base history s.session) (table_of history s.session) v (seen s.session history)) (sym is) opens.shows
+
 found-at : (st : State) (s : NamedSession) (name : List ℕ) (path : List (List ℕ)) (node : ℕ) → length path ≡ 1 → named st.session name ≡ Some s
     → path_node (seen s.session st.history).rows 0 path ≡ Some node → file_at st name path ≡ Ok (s, node)
 unfolding file_at
@@ -116,9 +109,9 @@ node-found st s file name path is_named one leads made =
       named_so = is_named;
       node = node_number n file;
       is_seen = record {
-        reference = made-again n s.view.nodes_made file made;
+        reference = made_node-again n s.view.nodes_made file made;
         number = refl;
-        there = both (is_known_node n file) (is_present rows (node_number n file)) (made-known n s.view.nodes_made file made) (path-present rows 0 path (node_number n file) refl leads);
+        there = and_from (is_known_node n file) (is_present rows (node_number n file)) (made-known n s.view.nodes_made file made) (path-present rows 0 path (node_number n file) refl leads);
       };
       found = found-at st (as_named s) name path (node_number n file) one is_named.has (sym leads);
     }

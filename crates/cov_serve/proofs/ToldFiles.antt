@@ -1,5 +1,6 @@
 -- Files that are told, and sessions that end.
-use Rattle.std.proofs.Common.{◌≡◌, ℕ, Bool, true, false, ◌&&◌, List, map, length, take, Result, Ok, Err, IfOk, sym, ap, subst, ◌∙◌, refl}
+use Rattle.std.proofs.Common.{◌≡◌, ℕ, Bool, true, false, ◌&&◌, List, map, length, take, Ok, Err, sym, ap, subst, ◌∙◌, refl}
+use Rattle.std.proofs.lemmas.Bool.{and_parts}
 use Rattle.std.specs.Prelude.{IsErrOf, Option, Some, None, is_some, ok_or, if◌then◌else◌}
 use Rattle.std.specs.List.{AllByRecursion}
 use Rattle.cov_base.specs.declared.number.NodeRef.{NodeRef}
@@ -11,7 +12,7 @@ use Rattle.cov_view.specs.Refusals.{is_dir}
 use Rattle.cov_view.specs.Views.{by_number}
 use Rattle.cov_view.specs.declared.line.ViewLine.{ViewLine}
 use Rattle.cov_history.specs.Sessions.{Session, seen}
-use Rattle.cov_view.specs.Refusals.{has_node}
+use Rattle.cov_view.specs.Refusals.{shows_node}
 use Rattle.cov_view.specs.declared.fault.ReadFaultOfView.{ReadFaultOfView}
 use Rattle.cov_view.specs.declared.fault.ReadFaultOfView.TheVariants as reads
 use Rattle.cov_script.specs.declared.code.Code.TheVariants.{NotFile, NoSuchPath}
@@ -21,14 +22,11 @@ use Rattle.cov_serve.specs.Seeing.{IsSeen, IsFileAt}
 use Rattle.cov_serve.specs.Step.{file_told, shown, shown_in, told_in}
 use Rattle.cov_serve.specs.Stops.{read_stop}
 use Rattle.cov_session.specs.Open.{SessionValue, NamedSession}
-use Rattle.cov_serve.specs.Listing.{session_line, told_line, lines_reply}
-use Rattle.cov_serve.specs.Replies.{file_reply, seen_reply}
+use Rattle.cov_serve.specs.Listing.{told_line}
+use Rattle.cov_serve.specs.declared.reply.LineNames.TheVariants.{ByNumber, ByReference}
+use Rattle.cov_serve.specs.Replies.{file_reply, lines_reply, seen_reply}
 use Rattle.cov_serve.specs.States.{State}
 use Rattle.cov_serve.proofs.ToldLines.{by-number, by-reference}
-
-pub if-ok : {A E : Type 0} (r : Result A E) (P Q : A → Type 0) → ((a : A) → P a → Q a) → IfOk r P → IfOk r Q
-if-ok (Ok a) P Q f h = f a h
-if-ok (Err e) P Q f h = tt
 
 module _ (st : State) (s : Session) (node : ℕ) (file : NodeRef) (is_seen : IsSeen st s node file) where
   abbrev numbers : Numbers
@@ -38,7 +36,7 @@ module _ (st : State) (s : Session) (node : ℕ) (file : NodeRef) (is_seen : IsS
   there = seen s st.history
 
   -- the lines of a file are told as the session sees them
-  pub lines-shown : (made : ℕ) (ls : List ViewLine) (text : List ℕ) → AreLinesOf numbers made there file ls → text ≡ lines_reply session_line ls
+  pub lines-shown : (made : ℕ) (ls : List ViewLine) (text : List ℕ) → AreLinesOf numbers made there file ls → text ≡ lines_reply (told_line ByReference) ls
       → (is_dir there.rows node ≡ false) × (text ≡ seen_reply (line_count (take s.base st.history)) (map by_number (lines_of there node)))
   lines-shown made ls text lines is =
       subst (λ n. (is_dir there.rows n ≡ false) × (text ≡ seen_reply (line_count (take s.base st.history)) (map by_number (lines_of there n)))) is_seen.number
@@ -46,17 +44,16 @@ module _ (st : State) (s : Session) (node : ℕ) (file : NodeRef) (is_seen : IsS
 
   -- a directory has none
   pub dir-seen : (has : Bool) → (has && is_dir there.rows (node_number numbers.nodes file)) ≡ true → is_dir there.rows node ≡ true
-  dir-seen true dir = subst (λ n. is_dir there.rows n ≡ true) is_seen.number dir
-  dir-seen false dir = absurd (cc)
+  dir-seen has dir = subst (λ n. is_dir there.rows n ≡ true) is_seen.number (and_parts has (is_dir there.rows (node_number numbers.nodes file)) dir).1
 
-module _ (st : State) (name : List ℕ) (path : List (List ℕ)) (s : SessionValue) (file : NodeRef) (found : IsFileAt st name path s file) where
+module _ {st : State} {name : List ℕ} {path : List (List ℕ)} {s : SessionValue} {file : NodeRef} (found : IsFileAt st name path s file) where
   at_node : shown st name path ≡ shown_in st s.session found.node
   unfolding shown
   at_node = ap (λ f. f >>= (λ (at : NamedSession × ℕ). shown_in st at.0.session at.1)) found.found
 
   -- a file is shown
   pub shown-lines : (made : ℕ) (ls : List ViewLine) (text : List ℕ) → AreLinesOf (numbers_of (take s.session.base st.history)) made (seen s.session st.history) file ls
-      → text ≡ lines_reply session_line ls → shown st name path ≡ Ok (st, text)
+      → text ≡ lines_reply (told_line ByReference) ls → shown st name path ≡ Ok (st, text)
   shown-lines made ls text lines is =
       let told = lines-shown st s.session found.node file found.is_seen made ls text lines is in
       at_node
@@ -65,15 +62,15 @@ module _ (st : State) (name : List ℕ) (path : List (List ℕ)) (s : SessionVal
 
   -- what can't be read is refused
   pub read-stops : (fault : ReadFaultOfView)
-      → (IsErrOf {T = List ViewLine} (Err fault) reads.NoSuchNode → has_node (numbers_of (take s.session.base st.history)) (seen s.session st.history) file ≡ false)
-      → (IsErrOf {T = List ViewLine} (Err fault) reads.NotFile → (has_node (numbers_of (take s.session.base st.history)) (seen s.session st.history) file
+      → (IsErrOf {T = List ViewLine} (Err fault) reads.NoSuchNode → shows_node (numbers_of (take s.session.base st.history)) (seen s.session st.history) file ≡ false)
+      → (IsErrOf {T = List ViewLine} (Err fault) reads.NotFile → (shows_node (numbers_of (take s.session.base st.history)) (seen s.session st.history) file
       && is_dir (seen s.session st.history).rows (node_number (numbers_of (take s.session.base st.history)).nodes file)) ≡ true)
       → Stops (shown st name path) st st (read_stop fault)
   read-stops reads.NoSuchNode absent dir = absurd (let none = absent refl in let there = found.is_seen.there in cc)
   read-stops reads.NotFile absent dir = record {
     is = at_node
         ∙ ap (λ b. if b then Err NotFile else Ok (st, seen_reply (line_count (take s.session.base st.history)) (map by_number (lines_of (seen s.session st.history) found.node))))
-        (dir-seen st s.session found.node file found.is_seen (has_node (numbers_of (take s.session.base st.history)) (seen s.session st.history) file) (dir refl));
+        (dir-seen st s.session found.node file found.is_seen (shows_node (numbers_of (take s.session.base st.history)) (seen s.session st.history) file) (dir refl));
     same = refl;
     told = tt;
   }
@@ -89,7 +86,7 @@ module _ (st : State) (ns : Numbers) (v : Variant) (file : NodeRef) (path : List
   told-at = ap (λ o. ok_or o NoSuchPath >>= (λ (node : ℕ). told_in st v node)) (sym found)
 
   -- the lines of a file are told
-  pub told-lines : (made : ℕ) (ls : List ViewLine) (text : List ℕ) → made ≡ 0 → AreLinesOf ns made v file ls → text ≡ lines_reply told_line ls → file_told st v path ≡ Ok (st, text)
+  pub told-lines : (made : ℕ) (ls : List ViewLine) (text : List ℕ) → made ≡ 0 → AreLinesOf ns made v file ls → text ≡ lines_reply (told_line ByNumber) ls → file_told st v path ≡ Ok (st, text)
   told-lines made ls text none lines is =
       told-at
       ∙ ap (λ b. if b then Err NotFile else Ok (st, file_reply (map by_number (lines_of v (node_number ns.nodes file))))) lines.is_file
@@ -98,17 +95,13 @@ module _ (st : State) (ns : Numbers) (v : Variant) (file : NodeRef) (path : List
   -- what can't be read is refused
   pub told-stops : (fault : ReadFaultOfView)
       → (IsErrOf {T = List ViewLine} (Err fault) reads.NoSuchNode → ⊥)
-      → (IsErrOf {T = List ViewLine} (Err fault) reads.NotFile → (has_node ns v file && is_dir v.rows (node_number ns.nodes file)) ≡ true)
+      → (IsErrOf {T = List ViewLine} (Err fault) reads.NotFile → (shows_node ns v file && is_dir v.rows (node_number ns.nodes file)) ≡ true)
       → Stops (file_told st v path) st st (read_stop fault)
   told-stops reads.NoSuchNode absent dir = absurd (absent refl)
   told-stops reads.NotFile absent dir = record {
     is = told-at
-        ∙ ap (λ b. if b then Err NotFile else Ok (st, file_reply (map by_number (lines_of v (node_number ns.nodes file))))) (second (has_node ns v file) (is_dir v.rows (node_number ns.nodes file)) (dir refl));
+        ∙ ap (λ b. if b then Err NotFile else Ok (st, file_reply (map by_number (lines_of v (node_number ns.nodes file))))) (and_parts (shows_node ns v file) (is_dir v.rows (node_number ns.nodes file)) (dir refl)).1;
     same = refl;
     told = tt;
   }
-    where
-      second : (a b : Bool) → (a && b) ≡ true → b ≡ true
-      second true b h = h
-      second false b h = absurd (cc)
   told-stops reads.Memory absent dir = tt

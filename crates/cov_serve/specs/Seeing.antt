@@ -2,7 +2,7 @@
 use Rattle.std.specs.Prelude.{◌≡◌, ℕ, true, List, take, Some, Ok}
 use Rattle.cov_base.specs.declared.number.NodeRef.{NodeRef}
 use Rattle.cov_edit.specs.Numbering.{numbers_of, node_number}
-use Rattle.cov_view.specs.Refusals.{has_node}
+use Rattle.cov_view.specs.Refusals.{shows_node}
 use Rattle.cov_history.specs.Sessions.{Session, seen}
 use Rattle.cov_session.specs.Open.{SessionValue, IsOpen, as_named}
 use Rattle.cov_serve.specs.Editing.{ref_in}
@@ -19,7 +19,7 @@ pub record IsNamed (st : State) (name : List ℕ) (s : SessionValue) : Type 0 wh
 pub record IsSeen (st : State) (s : Session) (node : ℕ) (file : NodeRef) : Type 0 where
   pub reference : ref_in st.history s node ≡ file
   pub number : node_number (numbers_of (take s.base st.history)).nodes file ≡ node
-  pub there : has_node (numbers_of (take s.base st.history)) (seen s st.history) file ≡ true
+  pub there : shows_node (numbers_of (take s.base st.history)) (seen s st.history) file ≡ true
 
 -- a node is the one that the session of a name sees at a path of one name
 pub record IsFileAt (st : State) (name : List ℕ) (path : List (List ℕ)) (s : SessionValue) (file : NodeRef) : Type 0 where

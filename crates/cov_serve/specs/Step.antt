@@ -4,6 +4,7 @@ use Rattle.cov_base.specs.Lines.{lines_of as script_lines}
 use Rattle.cov_base.specs.Spelling.{is_option_name}
 use Rattle.cov_base.specs.declared.number.Kind.TheVariants as kinds
 use Rattle.cov_base.specs.declared.number.NodeRef.TheVariants as nodes
+use Rattle.cov_base.specs.declared.limits.TheConstants.{MOST_SCRIPT_LINE_BYTES}
 use Rattle.cov_expr.specs.Formula.{Formula}
 use Rattle.cov_script.specs.Lines.{form_of}
 use Rattle.cov_script.specs.declared.line.Line.{Line}
@@ -208,7 +209,7 @@ served st _ = Err NotBuilt
 -- what a line does
 unfoldable pub acted : State → List ℕ → Act
 acted st line = do
-  short ← (if nat_lt 8192 (length line) then Err Long else Ok line)
+  short ← (if nat_lt MOST_SCRIPT_LINE_BYTES (length line) then Err Long else Ok line)
   form ← by_code syntax_code (form_of short)
   served st form
 

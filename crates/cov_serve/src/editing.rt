@@ -3,7 +3,8 @@ ghost use Rattle.std.specs.Prelude.{◌≡◌, ◌+◌, length, option_map, true
 ghost use Rattle.cov_base.specs.declared.number.Kind.TheVariants.{File};
 ghost use Rattle.cov_base.specs.declared.number.NodeRef.TheVariants.{Old};
 ghost use Rattle.cov_script.specs.declared.code.Code.TheVariants.{NoSession, NotBuilt};
-ghost use Rattle.cov_edit.specs.EditFits.{has_line_text, is_line_text};
+ghost use Rattle.cov_base.specs.Spelling.{is_line_text};
+ghost use Rattle.cov_edit.specs.EditFits.{has_line_text};
 ghost use Rattle.cov_edit.specs.declared.edit.Edit.TheVariants as edits;
 ghost use Rattle.cov_history.specs.Sessions.{commit_of};
 ghost use Rattle.cov_session.specs.Open.{NamedSession};
@@ -14,7 +15,7 @@ ghost use Rattle.cov_serve.specs.States.{is_used, named, names_made, with_sessio
 ghost use Rattle.cov_serve.specs.Step.{added, appended, committed, deleted, dropped, ended, file_at, inserted, made, only_name, replaced};
 ghost use Rattle.cov_serve.specs.declared.stop.Stop.TheVariants.{Refused};
 
-use crate::server::{Server, leave};
+use crate::server::{Server, close_session};
 use crate::stop::Stop;
 use cov_base::{Kind, LineNo, LineRef, Name, NodeNo, NodeRef, Path, Text};
 use cov_edit::{Command, Edit};
@@ -197,7 +198,7 @@ impl Server {
     {
         let receipt = self.engine.append(command)?;
         self.names.settle();
-        leave(self.session.take());
+        close_session(self.session.take());
         Ok(receipt)
     }
 
@@ -217,7 +218,7 @@ impl Server {
         ensures { self.new ≡ with_session self.old None }
     {
         self.names.free();
-        leave(self.session.take());
+        close_session(self.session.take());
     }
 }
 

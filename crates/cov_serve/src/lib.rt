@@ -9,6 +9,7 @@ mod names;
 mod opening;
 mod program;
 mod reply;
+mod script_server;
 mod server;
 mod serving;
 mod stop;

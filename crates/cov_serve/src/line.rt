@@ -4,7 +4,8 @@ ghost use Rattle.cov_io.specs.Devices.{AppendsAll, AppendsSome};
 ghost use Rattle.cov_loop.specs.Answers.{IsServed, StopsLine};
 ghost use Rattle.cov_serve.specs.Step.{step};
 
-use crate::server::{Server, close};
+use crate::script_server::{ScriptServer, close};
+use crate::server::Server;
 use cov_io::Sink;
 use cov_loop::{Answer, Status};
 
@@ -20,11 +21,11 @@ pub fn serve_line<K: Sink>(
     ensures stopped { IfErr result (λ status. StopsLine status (K.faults out.old) (K.faults out.new)) }
     ensures later { K.faults out.old ≤ K.faults out.new }
 {
-    let mut server = server;
-    match cov_loop::serve_line(&mut server, line, out) {
-        Ok(answer) => Ok((server, answer)),
+    let mut lent = ScriptServer { server };
+    match cov_loop::serve_line(&mut lent, line, out) {
+        Ok(answer) => Ok((lent.server, answer)),
         Err(status) => {
-            close(server);
+            close(lent);
             Err(status)
         }
     }

@@ -5,7 +5,7 @@ ghost use Rattle.cov_serve.specs.Acting.{Acts};
 ghost use Rattle.cov_serve.specs.States.{with_session};
 ghost use Rattle.cov_serve.specs.Step.{begun};
 
-use crate::server::{Server, leave};
+use crate::server::{Server, close_session};
 use crate::stop::Stop;
 use cov_base::{Name, Text};
 use cov_expr::{RawChoice, RawExpr};
@@ -43,6 +43,6 @@ impl Server {
         requires new { session.session.edits ≡ [] }
         ensures { self.new ≡ with_session self.old (Some (as_named session)) }
     {
-        leave(mem::replace(&mut self.session, Some(session)));
+        close_session(mem::replace(&mut self.session, Some(session)));
     }
 }

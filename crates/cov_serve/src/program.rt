@@ -1,6 +1,7 @@
 // The program: what its words say is done with the devices that it is handed.
-ghost use Rattle.std.specs.Prelude.{◌≡◌, ◌≢◌, ◌⊎◌, ◌<◌, ◌≤◌, ◌+◌, ◌^◌, ◌++◌, List, ℕ, Some, IfOk, length};
+ghost use Rattle.std.specs.Prelude.{◌≡◌, ◌≢◌, ◌⊎◌, ◌<◌, ◌≤◌, ◌+◌, ◌++◌, List, ℕ, Some, IfOk, length};
 ghost use Rattle.cov_base.specs.Causes.{Rose};
+ghost use Rattle.cov_base.specs.declared.limits.TheConstants.{TOO_MANY_SCRIPT_BYTES};
 ghost use Rattle.cov_io.specs.Progress.{CountsGiven};
 ghost use Rattle.cov_loop.specs.Counts.{Later, counts};
 ghost use Rattle.cov_loop.specs.Turns.{IsWhole, StopsScript, WritesFront};
@@ -9,7 +10,8 @@ ghost use Rattle.cov_serve.specs.Program.{run_words, usage_line, EndsServed, Sto
 ghost use Rattle.cov_serve.specs.States.{at_start};
 ghost use Rattle.cov_serve.specs.Step.{model};
 
-use crate::server::{Server, close};
+use crate::script_server::{ScriptServer, close};
+use crate::server::Server;
 use cov_base::{Failed, Memory, Texts};
 use cov_io::{Lines, Sink, Source};
 use cov_loop::{Status, serve_all};
@@ -45,13 +47,13 @@ pub fn run<S: Source, K: Sink>(alloc: Global, words: &Texts, script: &mut S, out
     ensures read_fault { result ≡ ReadFault → (words.now ≡ run_words) × Rose (S.faults script.old) (S.faults script.new) }
     ensures write_fault { result ≡ WriteFault → Rose (K.faults out.old) (K.faults out.new) }
     ensures too_much { result ≡ TooMuch →
-        (words.now ≡ run_words) × (S.given script.old + 2 ^ 32 ≤ S.given script.new) × (S.ends script.new ≡ S.ends script.old) }
+        (words.now ≡ run_words) × (S.given script.old + TOO_MANY_SCRIPT_BYTES ≤ S.given script.new) × (S.ends script.new ≡ S.ends script.old) }
     ensures source_later { S.faults script.old ≤ S.faults script.new }
     ensures sink_later { K.faults out.old ≤ K.faults out.new }
 
     // Where nothing fails and the script isn't too long, the whole of it is served, unless memory is wanting.
     ensures complete { (text : List ℕ) → words.now ≡ run_words →
-        S.left script.old ≡ Some text → length text < 2 ^ 32 →
+        S.left script.old ≡ Some text → length text < TOO_MANY_SCRIPT_BYTES →
         ¬ (Rose (S.faults script.old) (S.faults script.new)) → ¬ (Rose (K.faults out.old) (K.faults out.new)) →
         EndsServed result ⊎ (result ≡ NoMemory) }
     // With words of no form, the line is written, unless the sink fails or memory is wanting.
@@ -99,11 +101,13 @@ fn serve_script<S: Source, K: Sink>(alloc: Global, script: &mut S, out: &mut K) 
 }
 
 // The server and the reader of lines before the first line.
-fn make(alloc: Global) -> Result<(Server, Lines), Memory>
+fn make(alloc: Global) -> Result<(ScriptServer, Lines), Memory>
     ensures server { IfOk result (λ made. made.0 ≡ at_start) }
     ensures lines { IfOk result (λ made. made.1 ≡ at_first) }
 {
-    Ok((Server::new(alloc)?, Lines::new(alloc)?))
+    let lines = Lines::new(alloc)?;
+    let server = Server::new(alloc)?;
+    Ok((ScriptServer { server }, lines))
 }
 
 fn put_usage<K: Sink>(out: &mut K) -> Status

@@ -1,38 +1,44 @@
 // The texts of replies that aren't one line of a form alone.
 ghost use Rattle.std.specs.Prelude.{◌≡◌, IfOk};
-ghost use Rattle.cov_serve.specs.Listing.{number_within, told_line, session_line, lines_reply};
+ghost use Rattle.cov_serve.specs.Listing.{number_within, told_line};
+ghost use Rattle.cov_serve.specs.Replies.{lines_reply};
 
 use cov_base::{LineNo, LineRef, Memory, Text, Texts};
 use cov_script::{cat_line, reply_count, show_line, whole};
-use cov_view::ViewLines;
+use cov_view::{ViewLine, ViewLines};
 use std::alloc::Global;
 
+/// How lines are named where they are told.
+#[derive(Clone, Copy)]
+pub enum LineNames {
+    /// By their numbers in the history.
+    ByNumber,
+    /// As a session names them: those of its own by their numbers among these.
+    ByReference,
+}
+
 /// The reply that tells the lines of a file.
-pub fn file_text(alloc: Global, lines: &ViewLines) -> Result<Text, Memory>
-    ensures { IfOk result (λ text. text ≡ lines_reply told_line lines.now) }
+pub fn lines_reply(alloc: Global, names: LineNames, lines: &ViewLines) -> Result<Text, Memory>
+    ensures { IfOk result (λ text. text ≡ lines_reply (told_line names) lines.now) }
 {
     let first = reply_count(alloc, lines.len() as u64)?;
     let mut rows = Texts::new(alloc);
     let mut index = 0;
     'lines: while let Some(line) = lines.get(index) {
-        rows.push(cat_line(alloc, number_within(line.line), &line.text)?)?;
+        rows.push(tell_line(alloc, names, line)?)?;
         index += 1;
     }
     whole(&first, &rows)
 }
 
-/// The reply that tells the lines of a file as a session sees them.
-pub fn session_text(alloc: Global, lines: &ViewLines) -> Result<Text, Memory>
-    ensures { IfOk result (λ text. text ≡ lines_reply session_line lines.now) }
+// A line with its text.
+fn tell_line(alloc: Global, names: LineNames, line: &ViewLine) -> Result<Text, Memory>
+    ensures { IfOk result (λ text. text ≡ told_line names line.now) }
 {
-    let first = reply_count(alloc, lines.len() as u64)?;
-    let mut rows = Texts::new(alloc);
-    let mut index = 0;
-    'lines: while let Some(line) = lines.get(index) {
-        rows.push(show_line(alloc, line.line, &line.text)?)?;
-        index += 1;
+    match names {
+        LineNames::ByNumber => cat_line(alloc, number_within(line.line), &line.text),
+        LineNames::ByReference => show_line(alloc, line.line, &line.text),
     }
-    whole(&first, &rows)
 }
 
 // The number of a line in the history or, of one that edits made, among theirs.

@@ -50,8 +50,5 @@ impl Server {
     }
 }
 
-/// Drops a server, in the one place where that is done.
-pub(crate) fn close(_: Server) {}
-
 /// Drops a session, in the one place where that is done.
-pub(crate) fn leave(_: Option<OpenSession>) {}
+pub(crate) fn close_session(_: Option<OpenSession>) {}

@@ -11,38 +11,13 @@ ghost use Rattle.cov_serve.specs.declared.stop.Stop.TheVariants.{Refused};
 
 use crate::server::Server;
 use crate::stop::Stop;
-use cov_base::{Memory, Text};
-use cov_loop::{Answer, LineServer, Reply};
+use cov_base::{MOST_SCRIPT_LINE_BYTES, Memory, Text};
+use cov_loop::{Answer, Reply};
 use cov_script::{Code, Line, lines_read_as_spelt, read_line, reply_refused};
 
-/// The greatest number of bytes of a line.
-const MOST_BYTES: usize = 8192;
-
-impl LineServer for Server {
-    ghost use Rattle.cov_serve.specs.Laws.{refusal_told};
-    ghost use Rattle.cov_serve.specs.Step.{step};
-
-    ghost step = { step };
-
-    #[tactic(auto, unfolding(crate::specs::Step::step))]
-    fn answer(&mut self, line: &[u8]) -> Result<Reply, Memory> {
-        match self.act(line) {
-            Ok(text) => Ok(Reply::to_done(text)),
-            Err(Stop::Refused(code)) => self.refuse(&code),
-            Err(Stop::Memory) => Err(Memory),
-        }
-    }
-
-    fn answer_long(&mut self) -> Result<Reply, Memory> {
-        self.refuse(&Code::Long)
-    }
-
-    ghost refusal_told = { refusal_told };
-}
-
 impl Server {
-    // The reply that refuses a line.
-    fn refuse(&self, code: &Code) -> Result<Reply, Memory>
+    /// The reply that refuses a line.
+    pub(crate) fn refuse(&self, code: &Code) -> Result<Reply, Memory>
         requires { IsCodeOf (option_count self.now.history) code.now }
         ensures { IfOk result (Gives (refused self.now code.now) self.now) }
     {
@@ -51,11 +26,12 @@ impl Server {
         Ok(Reply { text, answer })
     }
 
+    /// Does what a line says, and makes its reply.
     #[tactic(auto, unfolding(crate::specs::Step::acted))]
-    fn act(&mut self, line: &[u8]) -> Result<Text, Stop>
+    pub(crate) fn act(&mut self, line: &[u8]) -> Result<Text, Stop>
         ensures { Acts (acted self.old line.now) self.old self.new result }
     {
-        if line.len() > MOST_BYTES {
+        if line.len() > MOST_SCRIPT_LINE_BYTES {
             return Err(Stop::Refused(Code::Long));
         }
         lines_read_as_spelt();

@@ -8,7 +8,7 @@ ghost use Rattle.cov_view.specs.Views.{Shows};
 ghost use Rattle.cov_serve.specs.Acting.{Acts};
 ghost use Rattle.cov_serve.specs.Step.{completed, file_told, shown, told};
 
-use crate::reply::{file_text, session_text};
+use crate::reply::{LineNames, lines_reply};
 use crate::server::Server;
 use crate::stop::Stop;
 use cov_base::{Choice, Name, Path, Text};
@@ -60,7 +60,7 @@ impl Server {
             return Err(Stop::Refused(Code::NoSuchPath));
         };
         let lines = view.lines(file)?;
-        Ok(file_text(self.alloc, &lines)?)
+        Ok(lines_reply(self.alloc, LineNames::ByNumber, &lines)?)
     }
 
     /// Tells the lines of a file in the root as the session sees them.
@@ -70,7 +70,7 @@ impl Server {
     {
         let (session, file) = self.file_at(name, path)?;
         let lines = session.view().lines(file)?;
-        Ok(session_text(self.alloc, &lines)?)
+        Ok(lines_reply(self.alloc, LineNames::ByReference, &lines)?)
     }
 }
 

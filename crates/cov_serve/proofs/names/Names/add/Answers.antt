@@ -1,7 +1,7 @@
 use Rattle.std.proofs.Common.{◌∙◌, ◌||◌, sym, ap, map, take, drop, ◌∷◌, [], ◌++◌}
 use Rattle.std.specs.List.{list_any}
 use Rattle.std.specs.Str.{bytes_eq}
-use Rattle.cov_expr.proofs.ListLemmas.{insert_key-new, list_any-map}
+use Rattle.cov_expr.proofs.CallerLemmas.{insert_key-new, list_any-map}
 use Rattle.cov_serve.proofs.Ordered.{any-split, one-behind}
 use Rattle.cov_serve.proofs.names.Names.add.Goals as goal
 

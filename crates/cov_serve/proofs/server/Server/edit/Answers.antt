@@ -8,4 +8,4 @@ invariant_of-self-2 c =
     let history = c.self.inside.engine.history in
     let keeps = subst (Keeps history c.self.inside.names) c.in-Some.is c.self.invariant in
     keeps-edited history c.self.inside.names c.in-Some.session c.edit.new.self (c.args.edit ∷ []) c.requires.nameless c.in_ok-edit.ensures.grown
-    (c.in_ok-edit.ensures.open history keeps.session) keeps
+    (c.in_ok-edit.ensures.open history keeps.is_open) keeps

@@ -8,4 +8,4 @@ invariant_of-self-2 c =
     let history = c.self.inside.engine.history in
     let keeps = subst (Keeps history c.self.inside.names) c.in-Some.is c.self.invariant in
     keeps-edited history c.self.inside.names c.in-Some.session c.replace.new.self _ refl c.in_ok-replace.ensures.grown
-    (c.in_ok-replace.ensures.open history keeps.session) keeps
+    (c.in_ok-replace.ensures.open history keeps.is_open) keeps

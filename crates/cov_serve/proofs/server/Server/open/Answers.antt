@@ -3,8 +3,9 @@ use Rattle.cov_edit.specs.History.{options_of, option_count}
 use Rattle.cov_session.specs.Open.{as_named}
 use Rattle.cov_session.specs.Opening.{IsOpeningFault, NamesDeclared, opened}
 use Rattle.cov_script.specs.Replies.{open_reply}
+use Rattle.cov_serve.specs.Acting.{Acts}
 use Rattle.cov_serve.specs.States.{State}
-use Rattle.cov_serve.proofs.Acted.{acts-stopped}
+use Rattle.cov_serve.proofs.Acted.{stopped}
 use Rattle.cov_serve.proofs.Opened.{begun-open, begun-stops, none-named, whole-choice}
 use Rattle.cov_serve.proofs.server.Server.open.Goals as goal
 
@@ -13,7 +14,7 @@ returns-in_err-session c =
     let st = c.args.self.now in
     let fault = c.in_err-session.field-0.0 in
     let same : c.self.inside.engine.history ≡ st.history = ap (λ (t : State). t.history) c.self.view_is in
-    acts-stopped _ st _ c.from_residual-in_err-session.result _ c.from_residual-in_err-session.ensures.1
+    stopped (Acts _ st _) c.from_residual-in_err-session.result _ c.from_residual-in_err-session.ensures.1
     (begun-stops st c.args.name c.args.choice.now c.args.ambition.now c.in_ok-partial.partial c.in_ok-ambition.ambition
     (ap (λ (t : State). t.session) (sym c.self.view_is) ∙ none-named c.self.inside.session (sym c.is_some.ensures ∙ c.if-is_some.false))
     c.in_ok-partial.ensures.found c.in_ok-ambition.ensures.found _ fault

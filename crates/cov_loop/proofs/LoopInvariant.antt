@@ -1,5 +1,6 @@
--- So far into a script.
-use Rattle.std.proofs.Common.{◌≡◌, ◌≢◌, ◌∙◌, refl, sym, ap, ℕ, Bool, true, false, ◌||◌, List, [], ◌∷◌, ◌++◌, append_assoc, Option, Some, None}
+-- The loop's invariant: it is kept by one line more, and at the end of the script or at a stop it gives what was written, the state and the status.
+use Rattle.std.proofs.Common.{◌≡◌, ◌≢◌, ◌∙◌, refl, sym, ap, ℕ, Bool, true, false, ◌||◌, List, [], ◌∷◌, ◌++◌, append-nil, append_assoc, Option, Some, None}
+use mathlib.Core.Bool.{or_assoc, or-false}
 use Rattle.cov_base.specs.Lines.{lines_of}
 use Rattle.cov_io.specs.Progress.{Progress}
 use Rattle.cov_loop.specs.Answers.{is_refusal, kind_of}
@@ -14,18 +15,6 @@ kind_says [] false told = refl
 kind_says (b ∷ bs) true told = refl
 kind_says (b ∷ bs) false told = refl
 
-or_assoc : (a b c : Bool) → (a || (b || c)) ≡ ((a || b) || c)
-or_assoc true b c = refl
-or_assoc false b c = refl
-
-or_false : (a : Bool) → (a || false) ≡ a
-or_false true = refl
-or_false false = refl
-
-append_nil : (xs : List ℕ) → xs ++ [] ≡ xs
-append_nil [] = refl
-append_nil (x ∷ xs) = ap (λ l. x ∷ l) (append_nil xs)
-
 -- an outcome by its parts
 abbrev outcome_of : {S : Type 0} → S → List ℕ → Bool → Outcome S
 outcome_of state reply is_refused = record { state = state; reply = reply; is_refused = is_refused }
@@ -33,16 +22,16 @@ outcome_of state reply is_refused = record { state = state; reply = reply; is_re
 followed_assoc : {S : Type 0} (a b c : Outcome S) → followed_by a (followed_by b c) ≡ followed_by (followed_by a b) c
 followed_assoc a b c =
     ap (λ bytes. outcome_of c.state bytes (a.is_refused || (b.is_refused || c.is_refused))) (sym (append_assoc a.reply b.reply c.reply))
-    ∙ ap (outcome_of c.state ((a.reply ++ b.reply) ++ c.reply)) (or_assoc a.is_refused b.is_refused c.is_refused)
+    ∙ ap (outcome_of c.state ((a.reply ++ b.reply) ++ c.reply)) (sym (or_assoc a.is_refused b.is_refused c.is_refused))
 
 -- one line more was served
-pub goes_on : {S : Type 0} (step : S → List ℕ → Outcome S) (start : S) (text before : List ℕ) (state next : S) (was is : Bool) (answer : Answer) (ahead ahead' written written' : Option (List ℕ))
+pub goes_on : {S : Type 0} {step : S → List ℕ → Outcome S} {start : S} {text before : List ℕ} {state : S} {was : Bool} {ahead written : Option (List ℕ)} (next : S) (is : Bool) (answer : Answer) (ahead' written' : Option (List ℕ))
     → ((s : S) (line : List ℕ) → (step s line).is_refused ≡ true → (step s line).reply ≢ [])
     → GoesOn step start text before state was ahead written
     → ((t b : List ℕ) → ahead ≡ Some t → written ≡ Some b → ServesFirst step state t b next answer ahead' written')
     → is ≡ (was || is_refusal answer)
     → GoesOn step start text before next is ahead' written'
-goes_on {S} step start text before state next was is answer ahead ahead' written written' told so_far turn flag =
+goes_on {S} {step} {start} {text} {before} {state} {was} next is answer ahead' written' told so_far turn flag =
     let s : ServesFirst step state so_far.rest (before ++ so_far.bytes) next answer ahead' written' = turn so_far.rest (before ++ so_far.bytes) so_far.ahead_is so_far.written_is in
     let now : Outcome S = step state s.line in
     let done : Outcome S = outcome_of state so_far.bytes was in
@@ -60,29 +49,29 @@ goes_on {S} step start text before state next was is answer ahead ahead' written
     }
 
 -- no line is left
-pub ended : {S : Type 0} (step : S → List ℕ → Outcome S) (start : S) (text before : List ℕ) (state next : S) (was : Bool) (ahead ahead' written written' : Option (List ℕ))
+pub ended : {S : Type 0} {step : S → List ℕ → Outcome S} {start : S} {text before : List ℕ} {state : S} {was : Bool} {ahead written : Option (List ℕ)} (next : S) (ahead' written' : Option (List ℕ))
     → GoesOn step start text before state was ahead written
     → ((t b : List ℕ) → ahead ≡ Some t → written ≡ Some b → (t ≡ []) × (next ≡ state) × (ahead' ≡ Some []) × (written' ≡ Some b))
     → (next ≡ (answers step start (lines_of text)).state) × (ahead' ≡ Some []) × (written' ≡ Some (before ++ (answers step start (lines_of text)).reply)) × ((answers step start (lines_of text)).is_refused ≡ was)
-ended {S} step start text before state next was ahead ahead' written written' so_far turn =
+ended {S} {step} {start} {text} {before} {state} {was} next ahead' written' so_far turn =
     let t : (so_far.rest ≡ []) × (next ≡ state) × (ahead' ≡ Some []) × (written' ≡ Some (before ++ so_far.bytes)) = turn so_far.rest (before ++ so_far.bytes) so_far.ahead_is so_far.written_is in
     let all : Outcome S = answers step start (lines_of text) in
     let is : all ≡ followed_by (outcome_of state so_far.bytes was) (answers step state []) =
     so_far.outcome ∙ ap (λ r. followed_by (outcome_of state so_far.bytes was) (answers step state (lines_of r))) t.0 in
-    let replies : all.reply ≡ so_far.bytes = ap (λ (o : Outcome S). o.reply) is ∙ append_nil so_far.bytes in
-    let refusals : all.is_refused ≡ was = ap (λ (o : Outcome S). o.is_refused) is ∙ or_false was in
+    let replies : all.reply ≡ so_far.bytes = ap (λ (o : Outcome S). o.reply) is ∙ append-nil so_far.bytes in
+    let refusals : all.is_refused ≡ was = ap (λ (o : Outcome S). o.is_refused) is ∙ or-false was in
     (t.1 ∙ sym (ap (λ (o : Outcome S). o.state) is), t.2, t.3 ∙ ap (λ xs. Some (before ++ xs)) (sym replies), refusals)
 
 -- what is written whole is a front
 pub whole_front : (before all : List ℕ) (written : Option (List ℕ)) → written ≡ Some (before ++ all) → WritesFront before all written
-whole_front before all written is = record { first = all; rest = []; front = sym (append_nil all); is = is }
+whole_front before all written is = record { first = all; rest = []; front = sym (append-nil all); is = is }
 
 -- the run stopped within a line
-pub stopped : {S : Type 0} (step : S → List ℕ → Outcome S) (start : S) (text before : List ℕ) (state : S) (was : Bool) (ahead written written' : Option (List ℕ))
+pub stopped : {S : Type 0} {step : S → List ℕ → Outcome S} {start : S} {text before : List ℕ} {state : S} {was : Bool} {ahead written : Option (List ℕ)} (written' : Option (List ℕ))
     → GoesOn step start text before state was ahead written
     → ((t b : List ℕ) → ahead ≡ Some t → written ≡ Some b → WritesFront b (answers step state (lines_of t)).reply written')
     → WritesFront before (answers step start (lines_of text)).reply written'
-stopped {S} step start text before state was ahead written written' so_far turn =
+stopped {S} {step} {start} {text} {before} {state} written' so_far turn =
     let t : WritesFront (before ++ so_far.bytes) (answers step state (lines_of so_far.rest)).reply written' = turn so_far.rest (before ++ so_far.bytes) so_far.ahead_is so_far.written_is in
     record {
       first = so_far.bytes ++ t.first;
