@@ -3,8 +3,4 @@
 #![tactic(auto)]
 
 #[cfg(test)]
-mod declaring;
-#[cfg(test)]
-mod lines;
-#[cfg(test)]
-mod steps;
+mod tests;

@@ -1,5 +1,5 @@
 // Words of no form, and devices that fail.
-use crate::running::{Case, expect};
+use crate::tests::running::{Case, expect};
 use cov_serve::Status;
 use std::test::Fail;
 

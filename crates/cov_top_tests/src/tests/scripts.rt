@@ -1,5 +1,5 @@
 // Scripts that a whole run serves, with their replies.
-use crate::running::{Case, SERVED, expect};
+use crate::tests::running::{Case, SERVED, expect};
 use cov_serve::Status;
 use std::test::Fail;
 

@@ -46,26 +46,26 @@ fn add_item<S: Source>(lines: &mut Lines, source: &mut S, all: &mut Text) -> Res
     }
 }
 
-fn add_items<S: Source>(
+// The first few items, one behind the other.
+fn joined<S: Source>(
+    alloc: Global,
     lines: &mut Lines,
     source: &mut S,
     count: u8,
-    all: &mut Text,
-) -> Result<(), Fail> {
+) -> Result<Text, Fail> {
+    let mut all = Text::new(alloc);
     for _ in 0..count {
-        add_item(lines, source, all)?;
+        add_item(lines, source, &mut all)?;
     }
-    Ok(())
+    Ok(all)
 }
 
-// The first few items of a source, one behind the other.
+// The first few items of a source.
 fn items<S: Source>(alloc: Global, source: &mut S, count: u8) -> Result<Text, Fail> {
-    let mut all = Text::new(alloc);
     let mut lines = Lines::new(alloc)?;
-    let added = add_items(&mut lines, source, count, &mut all);
+    let all = joined(alloc, &mut lines, source, count);
     drop(lines);
-    added?;
-    Ok(all)
+    all
 }
 
 fn gives(

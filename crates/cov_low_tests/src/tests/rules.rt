@@ -1,5 +1,6 @@
 //! Rules: one that is installed, and a completion.
 ghost use Rattle.std.specs.Prelude.{List, ◌<◌};
+ghost use Rattle.cov_base.specs.declared.limits.TheConstants.{LIMITS};
 ghost use Rattle.cov_dd.specs.declared.triple.Triple.{Triple};
 ghost use Rattle.cov_rules.specs.Installing.{Holds, count_of};
 ghost use Rattle.cov_rules.specs.Completion.{AreBelow};
@@ -32,7 +33,7 @@ fn check_completion(
 
 fn check_constraint(table: &mut Table, rules: &mut Rules, rule: Rule) -> Result<u32, Fail>
     requires holds { (ts : List Triple) → Holds ts rules.old.standing }
-    requires few { count_of rule rules.old.standing < 256 }
+    requires few { count_of rule rules.old.standing < LIMITS.rules }
 {
     match rules.prepare(table, &rule) {
         Ok(plan) => Ok(rules.install(plan, rule, Position::new(2))),

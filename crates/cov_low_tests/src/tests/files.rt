@@ -1,6 +1,6 @@
 //! The lines of a file in their order and by their visibilities.
 ghost use Rattle.std.specs.Prelude.{◌≡◌, ◌≤◌, ◌∷◌, [], OnOk};
-ghost use Rattle.cov_file.specs.Dated.{numbers_of};
+ghost use Rattle.cov_file.specs.Dated.{line_numbers_of};
 
 use cov_base::{Choice, LineNo, LineNos, Memory, OptionId, Position, Text};
 use cov_dd::{FALSE, Node, TRUE, Table};
@@ -33,7 +33,7 @@ fn lines_stand_after_their_anchors(rt: HostRuntime) -> Result<(), Fail> {
 fn add_line(alloc: Global, file: &mut FileLines) -> Result<(), Memory>
     requires lines { file.old.lines ≡ [] }
     requires newest { file.old.newest ≤ 3 }
-    ensures numbers { OnOk result (numbers_of file.new.lines ≡ 1 ∷ []) }
+    ensures numbers { OnOk result (line_numbers_of file.new.lines ≡ 1 ∷ []) }
     ensures newest { OnOk result (file.new.newest ≡ 3) }
 {
     let text = Text::from_slice(alloc, b"x")?;
@@ -44,7 +44,7 @@ fn add_line(alloc: Global, file: &mut FileLines) -> Result<(), Memory>
 
 // Gives the line 1 another visibility from position 6 on.
 fn change(alloc: Global, file: &mut FileLines, vis: Node) -> Result<(), Memory>
-    requires numbers { numbers_of file.old.lines ≡ 1 ∷ [] }
+    requires numbers { line_numbers_of file.old.lines ≡ 1 ∷ [] }
     requires newest { file.old.newest ≤ 6 }
 {
     let mut deletes = LineNos::new(alloc);

@@ -1,10 +1,11 @@
 //! A file with lines for all variants, lines for some, and lines that are taken out.
 ghost use Rattle.std.specs.Prelude.{◌≡◌, ◌++◌, [], ◌∷◌, true, codes, IfOk, OnOk};
-ghost use Rattle.cov_edit.specs.EditFits.{is_line_text, has_line_text};
+ghost use Rattle.cov_base.specs.Spelling.{is_line_text};
+ghost use Rattle.cov_edit.specs.EditFits.{has_line_text};
 ghost use Rattle.cov_history.specs.Sessions.{MayCome};
 ghost use Rattle.cov_engine_tests.specs.Lines.{ambition_of, file_m, line_in, file_with, line_after, without, commit_of, with_X, without_X};
 
-use crate::steps::{append, close, declare_d};
+use crate::tests::steps::{append, close, declare_d};
 use cov_base::{
     Choice, Kind, LineNo, LineRef, Memory, Name, NodeNo, NodeRef, OptionId, Position, Text,
 };

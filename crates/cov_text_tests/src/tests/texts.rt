@@ -57,36 +57,18 @@ fn numbers_of_lines_are_kept(rt: HostRuntime) -> Result<(), Fail> {
     Ok(())
 }
 
-fn is_same_option(rt: &impl Abort, name: &OptionName, wanted: &[u8]) -> Result<(), Fail> {
-    let copy = name.copy()?;
-    let same = copy.as_slice() == wanted;
-    drop(copy);
-    assert!(rt; same);
-    Ok(())
-}
-
 #[test]
 fn option_names_are_read(rt: HostRuntime) -> Result<(), Fail> {
-    let name = OptionName::read(rt.alloc(), b"_9")?;
-    let checked = is_same_option(&rt, &name, b"_9");
-    drop(name);
-    checked
-}
-
-fn is_same_name(rt: &impl Abort, name: &Name, wanted: &[u8]) -> Result<(), Fail> {
-    let copy = name.copy()?;
-    let same = copy.as_slice() == wanted;
-    drop(copy);
-    assert!(rt; same);
+    let copy = OptionName::read(rt.alloc(), b"_9")?.copy()?;
+    assert!(rt; copy.as_slice() == b"_9".as_slice());
     Ok(())
 }
 
 #[test]
 fn names_are_read(rt: HostRuntime) -> Result<(), Fail> {
-    let name = Name::read(rt.alloc(), b"a.txt")?;
-    let checked = is_same_name(&rt, &name, b"a.txt");
-    drop(name);
-    checked
+    let copy = Name::read(rt.alloc(), b"a.txt")?.copy()?;
+    assert!(rt; copy.as_slice() == b"a.txt".as_slice());
+    Ok(())
 }
 
 fn is_named(path: &Path, index: usize, wanted: &[u8]) -> bool {

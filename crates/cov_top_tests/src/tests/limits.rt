@@ -1,5 +1,5 @@
 // Scripts that reach limits.
-use crate::running::{SERVED, expect};
+use crate::tests::running::{SERVED, expect};
 use cov_serve::Status;
 use std::fmt::Write;
 use std::test::Fail;

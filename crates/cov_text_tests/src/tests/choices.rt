@@ -1,5 +1,6 @@
 //! Choices from their texts and back.
-use crate::naming::declare_two;
+use crate::tests::naming::{declare_two, with_options};
+use crate::tests::printing::come_to;
 use cov_base::{Choice, OptionId, Text};
 use cov_expr::{BindFault, Options, Partial, RawChoice, print_choice};
 use std::alloc::Global;
@@ -75,39 +76,10 @@ fn faulty_name(alloc: Global, options: &Options, text: &str) -> Result<Text, Fai
     }
 }
 
-fn is_printed(
-    rt: &impl Abort,
-    alloc: Global,
-    options: &Options,
-    text: &str,
-    wanted: &str,
-) -> Result<(), Fail> {
-    let found = printed(alloc, options, text)?;
-    assert!(rt; found.as_slice() == wanted.as_bytes(), "of {text}");
-    Ok(())
-}
-
-fn is_told(
-    rt: &impl Abort,
-    alloc: Global,
-    options: &Options,
-    text: &str,
-    wanted: &str,
-) -> Result<(), Fail> {
-    let found = faulty_name(alloc, options, text)?;
-    assert!(rt; found.as_slice() == wanted.as_bytes(), "of {text}");
-    Ok(())
-}
-
 fn check_texts(rt: &impl Abort, alloc: Global, options: &mut Options) -> Result<(), Fail> {
     declare_two(alloc, options)?;
-    for (text, wanted) in &FULL {
-        is_printed(rt, alloc, options, text, wanted)?;
-    }
-    for (text, wanted) in &FAULTY {
-        is_told(rt, alloc, options, text, wanted)?;
-    }
-    Ok(())
+    come_to(rt, &FULL, |text| printed(alloc, options, text))?;
+    come_to(rt, &FAULTY, |text| faulty_name(alloc, options, text))
 }
 
 fn is_no_choice(rt: &impl Abort, alloc: Global, text: &str) {
@@ -127,10 +99,7 @@ fn texts_of_no_choice(rt: HostRuntime) -> Result<(), Fail> {
 
 #[test]
 fn choices_by_their_texts(rt: HostRuntime) -> Result<(), Fail> {
-    let mut options = Options::new(rt.alloc());
-    let checked = check_texts(&rt, rt.alloc(), &mut options);
-    drop(options);
-    checked
+    with_options(rt.alloc(), |options| check_texts(&rt, rt.alloc(), options))
 }
 
 fn has_value(partial: &Partial, option: OptionId, on: bool) -> bool {
@@ -169,10 +138,10 @@ fn check_partial(rt: &impl Abort, alloc: Global, options: &mut Options) -> Resul
 
 #[test]
 fn partial_choices_by_option(rt: HostRuntime) -> Result<(), Fail> {
-    let mut options = Options::new(rt.alloc());
-    let checked = check_partial(&rt, rt.alloc(), &mut options);
-    drop(options);
-    checked
+    with_options(
+        rt.alloc(),
+        |options| check_partial(&rt, rt.alloc(), options),
+    )
 }
 
 #[test]

@@ -19,7 +19,7 @@ fn words_of(alloc: Global, words: &[&str]) -> Result<Texts, Fail> {
     Ok(texts)
 }
 
-fn numbers_of(alloc: Global, numbers: &[u64]) -> Result<Numbers, Fail> {
+fn list_of(alloc: Global, numbers: &[u64]) -> Result<Numbers, Fail> {
     let mut list = Numbers::new(alloc);
     for number in numbers {
         list.push(*number)?;
@@ -43,8 +43,8 @@ pub(crate) fn expect(
     let (script, written, status) = case;
     let words = words_of(alloc, words)?;
     let text = Text::from_slice(alloc, script)?;
-    let mut source = MemorySource::new(alloc, text, piece, numbers_of(alloc, fail_to_read)?);
-    let mut sink = MemorySink::new(alloc, numbers_of(alloc, fail_to_write)?);
+    let mut source = MemorySource::new(alloc, text, piece, list_of(alloc, fail_to_read)?);
+    let mut sink = MemorySink::new(alloc, list_of(alloc, fail_to_write)?);
     assert_eq!(rt; run(alloc, &words, &mut source, &mut sink), status);
     assert_eq!(rt; sink.written(), written);
     Ok(())

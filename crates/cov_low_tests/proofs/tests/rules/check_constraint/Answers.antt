@@ -1,4 +1,4 @@
-use Rattle.cov_low_tests.proofs.rules.check_constraint.Goals as goal
+use Rattle.cov_low_tests.proofs.tests.rules.check_constraint.Goals as goal
 
 pub prepare-requires : goal.prepare-requires
 prepare-requires c = record { holds = c.requires.holds c.args.table.now }

@@ -20,3 +20,16 @@ pub(crate) fn declare_two(alloc: Global, options: &mut Options) -> Result<(), Fa
     declare(alloc, options, b"a")?;
     declare(alloc, options, b"b")
 }
+
+/// Lends a check the options, of which there are none yet.
+pub(crate) fn with_options<F: FnOnce(&mut Options) -> Result<(), Fail>>(
+    alloc: Global,
+    check: F,
+) -> Result<(), Fail>
+    requires { F.IsAlwaysCallable check }
+{
+    let mut options = Options::new(alloc);
+    let checked = check(&mut options);
+    drop(options);
+    checked
+}

@@ -31,6 +31,19 @@ fn lists(rt: &impl Abort, table: &Table, node: Node, wanted: u8) {
     assert!(rt; values(table, node) == wanted);
 }
 
+// Lends a check a table in which no node was made yet.
+fn with_table<F: FnOnce(&mut Table) -> Result<(), Fail>>(
+    alloc: Global,
+    check: F,
+) -> Result<(), Fail>
+    requires { F.IsAlwaysCallable check }
+{
+    let mut table = Table::new(alloc)?;
+    let checked = check(&mut table);
+    drop(table);
+    checked
+}
+
 fn check_values(rt: &impl Abort, table: &mut Table) -> Result<(), Fail> {
     let a = table.literal(OptionId::new(0))?;
     let b = table.literal(OptionId::new(1))?;
@@ -49,10 +62,7 @@ fn check_values(rt: &impl Abort, table: &mut Table) -> Result<(), Fail> {
 
 #[test]
 fn values_on_all_choices(rt: HostRuntime) -> Result<(), Fail> {
-    let mut table = Table::new(rt.alloc())?;
-    let checked = check_values(&rt, &mut table);
-    drop(table);
-    checked
+    with_table(rt.alloc(), |table| check_values(&rt, table))
 }
 
 // Not both of two options is the same as either of them not.
@@ -86,10 +96,7 @@ fn check_nodes(rt: &impl Abort, table: &mut Table) -> Result<(), Fail> {
 
 #[test]
 fn equal_functions_are_equal_nodes(rt: HostRuntime) -> Result<(), Fail> {
-    let mut table = Table::new(rt.alloc())?;
-    let checked = check_nodes(&rt, &mut table);
-    drop(table);
-    checked
+    with_table(rt.alloc(), |table| check_nodes(&rt, table))
 }
 
 // !a & b
@@ -100,21 +107,17 @@ fn expression(alloc: Global) -> Result<Expr, Fail> {
     Ok(Expr::new(Part::And(not_a, b))?)
 }
 
-fn check_expression(rt: &impl Abort, table: &mut Table, expr: &Expr) -> Result<(), Fail> {
-    let node = compile(table, expr)?;
-    lists(rt, table, node, 0b0011_0000);
+fn check_expression(rt: &impl Abort, alloc: Global, table: &mut Table) -> Result<(), Fail> {
+    let expr = expression(alloc)?;
+    let node = compile(table, &expr);
+    drop(expr);
+    lists(rt, table, node?, 0b0011_0000);
     Ok(())
 }
 
 #[test]
 fn an_expression_has_its_values(rt: HostRuntime) -> Result<(), Fail> {
-    let mut table = Table::new(rt.alloc())?;
-    let checked = match expression(rt.alloc()) {
-        Ok(expr) => check_expression(&rt, &mut table, &expr),
-        Err(fault) => Err(fault),
-    };
-    drop(table);
-    checked
+    with_table(rt.alloc(), |table| check_expression(&rt, rt.alloc(), table))
 }
 
 fn check_ambitions(rt: &impl Abort, table: &mut Table) -> Result<(), Fail> {
@@ -131,8 +134,5 @@ fn check_ambitions(rt: &impl Abort, table: &mut Table) -> Result<(), Fail> {
 
 #[test]
 fn put_in_and_taken_out(rt: HostRuntime) -> Result<(), Fail> {
-    let mut table = Table::new(rt.alloc())?;
-    let checked = check_ambitions(&rt, &mut table);
-    drop(table);
-    checked
+    with_table(rt.alloc(), |table| check_ambitions(&rt, table))
 }

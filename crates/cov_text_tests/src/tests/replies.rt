@@ -2,7 +2,7 @@
 ghost use Rattle.std.specs.Prelude.{length};
 ghost use Rattle.cov_script.specs.Replies.{IsCodeOf};
 
-use crate::naming::declare_two;
+use crate::tests::naming::declare_two;
 use cov_base::{Choice, LineNo, LineRef, Memory, OptionId, Position, Text, Texts};
 use cov_expr::Options;
 use cov_script::{

@@ -2,7 +2,7 @@
 ghost use Rattle.std.specs.Prelude.{◌≡◌, [], ◌∷◌, IfOk};
 ghost use Rattle.cov_engine_tests.specs.Lines.{of_d};
 
-use crate::steps::{append, close, declare_d, option_d};
+use crate::tests::steps::{append, close, declare_d, option_d};
 use cov_base::{Choice, OptionId};
 use cov_edit::Command;
 use cov_engine::{Engine, Refusal};

@@ -2,7 +2,8 @@
 ghost use Rattle.std.specs.Prelude.{◌≤◌, length};
 ghost use Rattle.cov_expr.specs.Formula.{reach};
 
-use crate::naming::{declare, declare_two};
+use crate::tests::naming::{declare, declare_two, with_options};
+use crate::tests::printing::come_to;
 use cov_base::{Choice, Text};
 use cov_expr::{Expr, Options, RawExpr, parse};
 use std::alloc::Global;
@@ -107,26 +108,21 @@ fn has_values(rt: &impl Abort, text: &str, found: u8, wanted: u8) {
     assert!(rt; found == wanted, "of {text}");
 }
 
-fn is_printed(rt: &impl Abort, text: &str, found: &Text, wanted: &str) {
-    assert!(rt; found.as_slice() == wanted.as_bytes(), "of {text}");
+fn check_values(rt: &impl Abort, alloc: Global, options: &Options) -> Result<(), Fail> {
+    for (text, wanted) in &VALUES {
+        has_values(rt, text, text_values(alloc, options, text)?, *wanted);
+    }
+    Ok(())
 }
 
 fn check(rt: &impl Abort, alloc: Global, options: &mut Options) -> Result<(), Fail> {
     declare_two(alloc, options)?;
     declare(alloc, options, b"c")?;
-    for (text, wanted) in &VALUES {
-        has_values(rt, text, text_values(alloc, options, text)?, *wanted);
-    }
-    for (text, wanted) in &PRINTED {
-        is_printed(rt, text, &printed(alloc, options, text)?, wanted);
-    }
-    Ok(())
+    check_values(rt, alloc, options)?;
+    come_to(rt, &PRINTED, |text| printed(alloc, options, text))
 }
 
 #[test]
 fn texts_have_values_and_are_printed(rt: HostRuntime) -> Result<(), Fail> {
-    let mut options = Options::new(rt.alloc());
-    let checked = check(&rt, rt.alloc(), &mut options);
-    drop(options);
-    checked
+    with_options(rt.alloc(), |options| check(&rt, rt.alloc(), options))
 }

@@ -1,0 +1,3 @@
+mod declaring;
+mod lines;
+mod steps;

@@ -1,0 +1,6 @@
+mod diagrams;
+mod edits;
+mod entries;
+mod files;
+mod rules;
+mod view;

@@ -1,0 +1,8 @@
+mod choices;
+mod devices;
+mod expressions;
+mod naming;
+mod printing;
+mod replies;
+mod script;
+mod texts;

@@ -1,0 +1,5 @@
+mod endings;
+mod limits;
+mod lines;
+mod running;
+mod scripts;
