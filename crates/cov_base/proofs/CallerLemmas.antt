@@ -1,5 +1,5 @@
 -- What callers cite.
-pub use Rattle.cov_base.proofs.Faulty.{any-map, both_ways, faults_are_found, is_some-find, is_some-map, own_rows, same_place-sym}
+pub use Rattle.cov_base.proofs.Faulty.{any-map, both_ways, faults_are_found, is_some-find, is_some-map, length-order, own_rows, same_place-sym}
 pub use Rattle.cov_base.proofs.Inserting.{insert_behind, insert_last}
 pub use Rattle.cov_base.proofs.Lists.{all-rest, any-filter, nat_eq-sym, opened, or_left_comm, rest-is, rest_of, value_older}
 pub use Rattle.cov_base.proofs.Ordered.{all-append, all-both, all-filter, all-map, all-placed, before-itself, filter-placed, in_order-filter, new_after, placed-in_order}

@@ -147,7 +147,8 @@ length-with r (s ∷ rows) = at (nat_lt r.node s.node) (length-with r rows)
     at true h = refl
     at false h = ap suc h
 
-length-order : (rows : List Row) → length (in_node_order rows) ≡ length rows
+-- how many rows in the order of their nodes
+pub length-order : (rows : List Row) → length (in_node_order rows) ≡ length rows
 length-order [] = refl
 length-order (r ∷ rows) = length-with r (in_node_order rows) ∙ ap suc (length-order rows)
 

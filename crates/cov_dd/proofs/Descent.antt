@@ -97,10 +97,10 @@ no_runs w ts a b m k right = record {
   before = λ p h. absurd h;
 }
 
-module _ (w : Operation) (ts : List Triple) (a b o a₀ a₁ b₀ b₁ : ℕ) (m : List (Pair × ℕ)) (k : ℕ)
+module _ {w : Operation} {ts : List Triple} {a b o a₀ a₁ b₀ b₁ : ℕ} {m : List (Pair × ℕ)} {k : ℕ}
     (ha : a < diagram_size ts) (hb : b < diagram_size ts) (at : o ≡ first_option ts a b) (left : IsSides ts a o a₀ a₁) (right : IsSides ts b o b₀ b₁) where
   -- after the descent where the option is off
-  module _ (t₁ : List Triple) (m₁ : List (Pair × ℕ)) (k₁ : ℕ) (first : Runs w ts t₁ a₀ b₀ m m₁ k k₁) where
+  module _ {t₁ : List Triple} {m₁ : List (Pair × ℕ)} {k₁ : ℕ} (first : Runs w ts t₁ a₀ b₀ m m₁ k k₁) where
     pub off_runs : Runs w ts t₁ a b m m₁ k k₁
     off_runs = record {
       extends = first.extends;
@@ -114,7 +114,7 @@ module _ (w : Operation) (ts : List Triple) (a b o a₀ a₁ b₀ b₁ : ℕ) (m
     }
 
     -- after the descent where it is on
-    module _ (t₂ : List Triple) (m₂ : List (Pair × ℕ)) (k₂ : ℕ) (second : Runs w t₁ t₂ a₁ b₁ m₁ m₂ k₁ k₂) where
+    module _ {t₂ : List Triple} {m₂ : List (Pair × ℕ)} {k₂ : ℕ} (second : Runs w t₁ t₂ a₁ b₁ m₁ m₂ k₁ k₂) where
       both : Extends ts t₂
       both = extends_trans ts t₁ t₂ first.extends second.extends
 
@@ -168,7 +168,7 @@ module _ (w : Operation) (ts : List Triple) (a b o a₀ a₁ b₀ b₁ : ℕ) (m
       ]
 
       -- the node of both descents
-      module _ (off on : ℕ) (s₁ : Stands t₁ off (first_option ts a₀ b₀) (joint_span ts a₀ b₀) (both_in w ts a₀ b₀))
+      module _ {off on : ℕ} (s₁ : Stands t₁ off (first_option ts a₀ b₀) (joint_span ts a₀ b₀) (both_in w ts a₀ b₀))
           (s₂ : Stands t₂ on (first_option t₁ a₁ b₁) (joint_span t₁ a₁ b₁) (both_in w t₁ a₁ b₁)) where
         value_off : (c : List Bool) → value_in t₂ off c ≡ both_in w ts a₀ b₀ c
         value_off c = second.extends.value off s₁.within c ∙ s₁.value c

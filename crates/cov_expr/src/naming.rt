@@ -1,6 +1,6 @@
 // Expressions over names as expressions over options.
-ghost use Rattle.std.specs.Prelude.{◌≡◌, ◌≤◌, length, None, IfOk, IfErr, OnOk};
-ghost use Rattle.cov_expr.specs.Formula.{reach};
+ghost use Rattle.std.specs.Prelude.{◌≡◌, ◌≤◌, max, length, None, IfOk, IfErr, OnOk};
+ghost use Rattle.cov_expr.specs.Formula.{And, reach};
 ghost use Rattle.cov_expr.specs.Naming.{first_unknown, with_numbers, IsUnknownName};
 ghost use Rattle.cov_expr.specs.Parts.{formula, raw_formula};
 
@@ -37,6 +37,7 @@ pub(crate) fn bind_tree(alloc: Global, tree: &Tree, options: &Options) -> Result
     bind_part(alloc, &tree.part, options)
 }
 
+#[cycle(binding)]
 fn bind_part(alloc: Global, part: &RawPart, options: &Options) -> Result<Part, NameFault>
     ensures known { OnOk result (first_unknown options.now.names (raw_formula part.now) ≡ None) }
     ensures part { IfOk result (λ bound. formula bound ≡ with_numbers options.now.names (raw_formula part.now)) }
@@ -55,14 +56,32 @@ fn bind_part(alloc: Global, part: &RawPart, options: &Options) -> Result<Part, N
             Ok(Part::not(alloc, inner)?)
         }
         RawPart::And(left, right) => {
-            let left = bind_part(alloc, left, options)?;
-            let right = bind_part(alloc, right, options)?;
+            let (left, right) = bind_both(alloc, left, right, options)?;
             Ok(Part::and(alloc, left, right)?)
         }
         RawPart::Or(left, right) => {
-            let left = bind_part(alloc, left, options)?;
-            let right = bind_part(alloc, right, options)?;
+            let (left, right) = bind_both(alloc, left, right, options)?;
             Ok(Part::or(alloc, left, right)?)
         }
     }
+}
+
+// The operands with options in place of their names, the left one first.
+#[cycle(binding)]
+#[tactic(auto, using(crate::proofs::PartCounts::part_count_positive))]
+fn bind_both(
+    alloc: Global,
+    left: &RawPart,
+    right: &RawPart,
+    options: &Options,
+) -> Result<(Part, Part), NameFault>
+    ensures known { OnOk result (first_unknown options.now.names (And (raw_formula left.now) (raw_formula right.now)) ≡ None) }
+    ensures left { IfOk result (λ bound. formula bound.0 ≡ with_numbers options.now.names (raw_formula left.now)) }
+    ensures right { IfOk result (λ bound. formula bound.1 ≡ with_numbers options.now.names (raw_formula right.now)) }
+    ensures within { IfOk result (λ bound. max (reach (formula bound.0)) (reach (formula bound.1)) ≤ length options.now.names) }
+    ensures unknown { IfErr result (IsUnknownName (first_unknown options.now.names (And (raw_formula left.now) (raw_formula right.now)))) }
+{
+    let left = bind_part(alloc, left, options)?;
+    let right = bind_part(alloc, right, options)?;
+    Ok((left, right))
 }

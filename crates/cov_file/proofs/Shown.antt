@@ -11,7 +11,7 @@ use Rattle.cov_order.specs.Orders.{has_line}
 use Rattle.cov_file.specs.declared.row.FileRow.{FileRow}
 use Rattle.cov_file.specs.Dated.{DatedLine, vis_at, newest_vis, newest_of, vis_of, file_row_of, is_visible, rows_at, all_rows}
 use Rattle.cov_base.specs.Older.{value_at}
-use Rattle.cov_file.specs.Listing.{Listing, lists_of, vis_in, changes_in, dated_in, dated_lines, row_in, rows_in}
+use Rattle.cov_file.specs.Listing.{Listing, lists_of, vis_in, changes_in, dated_in, dated_lines, row_in, visible_lines}
 use Rattle.cov_file.proofs.Nodes.{node_listed}
 
 pub on_ok : {A E : Type 0} (r : Result A E) (P Q R : Type 0) → (P → Q → R) → OnOk r P → OnOk r Q → OnOk r R
@@ -50,16 +50,16 @@ rows_end f xs i rows all h none whole =
 
 -- the row of a line that is visible, and then the others
 pub row_next : (table : List Triple) (c : List Bool) (texts : List (ℕ × List ℕ)) (nodes : List ℕ) (n : ℕ) (ns : List ℕ)
-    → rows_in table c texts nodes (n ∷ ns) ≡ cond (value_in table (vis_in (keys_of texts) nodes n) c) (row_in texts n ∷ []) [] ++ rows_in table c texts nodes ns
+    → visible_lines table c texts nodes (n ∷ ns) ≡ cond (value_in table (vis_in (keys_of texts) nodes n) c) (row_in texts n ∷ []) [] ++ visible_lines table c texts nodes ns
 row_next table c texts nodes n ns = at (value_in table (vis_in (keys_of texts) nodes n) c)
   where
     at : (b : Bool) → map (row_in texts) (cond b (n ∷ filter (λ m. value_in table (vis_in (keys_of texts) nodes m) c) ns) (filter (λ m. value_in table (vis_in (keys_of texts) nodes m) c) ns))
-        ≡ cond b (row_in texts n ∷ []) [] ++ rows_in table c texts nodes ns
+        ≡ cond b (row_in texts n ∷ []) [] ++ visible_lines table c texts nodes ns
     at true = refl
     at false = refl
 
 -- the lines shown at a position are those whose node in the list of the position is true
-pub rows_listed : (table : List Triple) (c : List Bool) (p : ℕ) (texts ls : List (ℕ × List ℕ)) (lines : List ℕ) → rows_in table c texts (value_at [] ls p) lines ≡ rows_at table c p (dated_lines texts ls lines)
+pub rows_listed : (table : List Triple) (c : List Bool) (p : ℕ) (texts ls : List (ℕ × List ℕ)) (lines : List ℕ) → visible_lines table c texts (value_at [] ls p) lines ≡ rows_at table c p (dated_lines texts ls lines)
 rows_listed table c p texts ls [] = refl
 rows_listed table c p texts ls (n ∷ ns) =
     row_next table c texts (value_at [] ls p) n ns

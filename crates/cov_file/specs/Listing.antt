@@ -57,8 +57,8 @@ abbrev pub row_in : List (ℕ × List ℕ) → ℕ → FileRow
 row_in texts line = record { line = line; text = text_in texts line }
 
 -- the lines whose nodes in a list are true on a choice
-abbrev pub rows_in : List Triple → List Bool → List (ℕ × List ℕ) → List ℕ → List ℕ → List FileRow
-rows_in table c texts nodes lines = map (row_in texts) (filter (λ n. value_in table (vis_in (keys_of texts) nodes n) c) lines)
+abbrev pub visible_lines : List Triple → List Bool → List (ℕ × List ℕ) → List ℕ → List ℕ → List FileRow
+visible_lines table c texts nodes lines = map (row_in texts) (filter (λ n. value_in table (vis_in (keys_of texts) nodes n) c) lines)
 
 -- only one position has room where no list of another may begin
 abbrev pub position_of : Listing → Option ℕ

@@ -5,7 +5,7 @@ ghost use Rattle.cov_base.specs.Addresses.{after_anchor};
 ghost use Rattle.cov_order.specs.Orders.{has_line, is_anchor};
 ghost use Rattle.cov_file.specs.Dated.{line_numbers_of, new_line, with_line, with_change, rows_at, all_rows, newest_of, vis_of, AreAlike};
 ghost use Rattle.cov_file.specs.Rooms.{is_room_at, IsMade, IsLeft};
-ghost use Rattle.cov_file.specs.Listing.{row_in, rows_in, vis_in};
+ghost use Rattle.cov_file.specs.Listing.{row_in, visible_lines, vis_in};
 
 use crate::lists::NodeLists;
 use crate::{FileRow, FileRows};
@@ -149,7 +149,7 @@ fn visible_rows(
     table: &Table,
     choice: Choice,
 ) -> Result<FileRows, Memory>
-    ensures { IfOk result (λ rows. rows ≡ rows_in table.now choice texts.now.entries nodes.now lines.now) }
+    ensures { IfOk result (λ rows. rows ≡ visible_lines table.now choice texts.now.entries nodes.now lines.now) }
 {
     // What `len` ensures bounds the index for the proof.
     let _count = lines.len();

@@ -43,7 +43,8 @@ impl Model for MemorySource {
 }
 
 impl MemorySource {
-    /// A source that gives at most `piece` bytes in a read.
+    /// A source that gives at most `piece` bytes in a read. The allocator stands first, as in each constructor of a type that holds
+    /// collections; the collections of this one come with theirs.
     pub fn new(_alloc: Global, bytes: Text, piece: usize, fail: Numbers) -> MemorySource
         requires { 1 ≤ piece }
         ensures { result ≡ record {

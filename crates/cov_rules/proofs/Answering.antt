@@ -52,7 +52,8 @@ longer : (b : Bool) (n : ℕ) (cs : List (List Bool)) → AllByRecursion (λ c. 
 longer b n [] h = tt
 longer b n (c ∷ cs) h = (ap suc h.0, longer b n cs h.1)
 
-all_whole : (n : ℕ) → AllByRecursion (λ c. length c ≡ n) (all_choices n)
+-- each choice of so many options has their number
+pub all_whole : (n : ℕ) → AllByRecursion (λ c. length c ≡ n) (all_choices n)
 all_whole zero = (refl, tt)
 all_whole (suc n) =
     all_append (λ c. length c ≡ suc n) (map (λ c. false ∷ c) (all_choices n)) (map (λ c. true ∷ c) (all_choices n)) (longer false n (all_choices n) (all_whole n)) (longer true n (all_choices n) (all_whole n))

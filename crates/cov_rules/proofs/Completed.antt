@@ -60,12 +60,12 @@ module _ (n : ℕ) (s : Standing) (partial : List (ℕ × Bool)) (below : AreBel
 
   pub valid_set : (vs : List Triple) (start first : ℕ) → Stands vs start first (joint_span us agree s.conjunction) (λ c. value_in us agree c && value_in us s.conjunction c) → IsSet vs start n (valid n s partial)
   valid_set vs start first both =
-      let kept : StandsForAll us s.conjunction (expressions s.constraints) = stands_later x h.conjunction in
+      let later : StandsForAll us s.conjunction (expressions s.constraints) = stands_later x h.conjunction in
       record {
         few = below.few;
         within = both.within;
-        options = omega (arith, both.below, stands.below, literals_below n partial bound, kept.below, below.constraints);
-        choices = (λ j. filter (λ c. (both.value c ∙ (λ k. stands.value c k && kept.value c k)) j) (all_choices n))
+        options = omega (arith, both.below, stands.below, literals_below n partial bound, later.below, below.constraints);
+        choices = (λ j. filter (λ c. (both.value c ∙ (λ k. stands.value c k && later.value c k)) j) (all_choices n))
             ∙ sym (filter_filter (is_valid (literals partial)) (is_valid (expressions s.constraints)) (all_choices n));
       }
 

@@ -1,5 +1,5 @@
 -- What one node decides of all choices.
-use Rattle.std.proofs.Common.{◌≡◌, ℕ, zero, suc, ◌+◌, ◌-◌, ◌<◌, ◌≤◌, Bool, true, false, ◌&&◌, ◌||◌, not, nat_lt, option_map, List, [], ◌∷◌, ◌++◌, map, length, take, replicate, Some, None, if◌then◌else◌, refl, sym, ap, ◌∙◌, arith, length-append}
+use Rattle.std.proofs.Common.{◌≡◌, ℕ, zero, suc, ◌+◌, ◌-◌, ◌<◌, ◌≤◌, max, Bool, true, false, ◌&&◌, ◌||◌, not, nat_lt, option_map, List, [], ◌∷◌, ◌++◌, map, length, take, replicate, Some, None, if◌then◌else◌, refl, sym, ap, ◌∙◌, arith, length-append}
 use Rattle.std.specs.List.{list_any, position_or_len}
 use Rattle.std.proofs.lemmas.Bool.{ltb-false, or_parts}
 use Rattle.std.proofs.lemmas.List.{length-take, length-replicate}
@@ -60,27 +60,37 @@ fails_on_each (suc n) p h [] long = absurd (omega (arith, long))
 fails_on_each (suc n) p h (false ∷ c) long = fails_on_each n (λ d. p (false ∷ d)) (or_parts _ _ (sym (halves n p) ∙ h)).0 c (omega (arith, long))
 fails_on_each (suc n) p h (true ∷ c) long = fails_on_each n (λ d. p (true ∷ d)) (or_parts _ _ (sym (halves n p) ∙ h)).1 c (omega (arith, long))
 
+-- a test that reads the first options of a choice fails on each choice of the full width just where it fails on each of fewer options
+module _ (count bound : ℕ) (p : List Bool → Bool) (most : count ≤ CHOICE_WIDTH) (reads : (c d : List Bool) → ((o : ℕ) → o < bound → is_on c o ≡ is_on d o) → p c ≡ p d) where
+  pub none_short : ((c : List Bool) → length c ≡ CHOICE_WIDTH → p c ≡ false) → list_any p (all_choices count) ≡ false
+  none_short none = none_passes count p (λ c long.
+      let padded : List Bool = c ++ replicate (CHOICE_WIDTH - count) false in
+      let full : length padded ≡ CHOICE_WIDTH = omega (arith, most, long, length-append c (replicate (CHOICE_WIDTH - count) false), length-replicate (CHOICE_WIDTH - count) false) in
+      reads c padded (λ o lt. sym (is_on-padded c (CHOICE_WIDTH - count) o)) ∙ none padded full)
+
+  pub none_wide : bound ≤ count → list_any p (all_choices count) ≡ false → (c : List Bool) → length c ≡ CHOICE_WIDTH → p c ≡ false
+  none_wide fits none c long =
+      reads c (take count c) (λ o lt. sym (is_on-take count c o (omega (arith, lt, fits))))
+      ∙ fails_on_each count p none (take count c) (omega (arith, long, most, length-take count c))
+
 -- a node with the values of the constraints and one more expression decides whether a choice meets them
 module _ (es : List (Formula ℕ)) (e : Formula ℕ) (ts : List Triple) (node : ℕ)
     (is : (c : List Bool) → value_in ts node c ≡ (is_valid es c && value e c)) where
+  abbrev bound : ℕ
+  bound = max (reach_of es) (reach e)
+
+  reads : (c d : List Bool) → ((o : ℕ) → o < bound → is_on c o ≡ is_on d o) → (is_valid es c && value e c) ≡ (is_valid es d && value e d)
+  reads c d h = λ j. is_valid_same es c d (λ o lt. h o (omega (arith, lt))) j && value_same e c d (λ o lt. h o (omega (arith, lt))) j
+
   pub unmet : ((c : List Bool) → length c ≡ CHOICE_WIDTH → value_in ts node c ≡ false) → (count : ℕ) → count ≤ CHOICE_WIDTH → is_met count es e ≡ false
-  unmet none count most = none_passes count (λ c. is_valid es c && value e c) (λ c long.
-      let padded : List Bool = c ++ replicate (CHOICE_WIDTH - count) false in
-      let same : (o : ℕ) → is_on c o ≡ is_on padded o = λ o. sym (is_on-padded c (CHOICE_WIDTH - count) o) in
-      let full : length padded ≡ CHOICE_WIDTH = omega (arith, most, long, length-append c (replicate (CHOICE_WIDTH - count) false), length-replicate (CHOICE_WIDTH - count) false) in
-      (λ j. is_valid_same es c padded (λ o lt. same o) j && value_same e c padded (λ o lt. same o) j) ∙ sym (is padded) ∙ none padded full)
+  unmet none count most = none_short count bound (λ c. is_valid es c && value e c) most reads (λ c long. sym (is c) ∙ none c long)
 
   pub met : (((c : List Bool) → length c ≡ CHOICE_WIDTH → value_in ts node c ≡ false) → ⊥) → (count : ℕ) → (count ≤ CHOICE_WIDTH) × (reach_of es ≤ count) × (reach e ≤ count) → is_met count es e ≡ true
   met some count fits = by (is_met count es e) refl
     where
       by : (b : Bool) → is_met count es e ≡ b → is_met count es e ≡ true
       by true h = h
-      by false h = absurd (some (λ c long.
-          let short : List Bool = take count c in
-          let same : (o : ℕ) → o < count → is_on c o ≡ is_on short o = λ o lt. sym (is_on-take count c o lt) in
-          is c
-          ∙ (λ j. is_valid_same es c short (λ o lt. same o (omega (arith, lt, fits.1))) j && value_same e c short (λ o lt. same o (omega (arith, lt, fits.2))) j)
-          ∙ fails_on_each count (λ d. is_valid es d && value e d) h short (omega (arith, long, fits.0, length-take count c))))
+      by false h = absurd (some (λ c long. is c ∙ none_wide count bound (λ d. is_valid es d && value e d) fits.0 reads (omega (arith, fits)) h c long))
 
 module _ (c : List Bool) where
   abbrev fails : Formula ℕ → Bool

@@ -1,7 +1,7 @@
 -- What nodes say of lists of choices.
-use Rattle.std.proofs.Common.{◌≡◌, ℕ, zero, suc, ◌+◌, ◌-◌, ◌<◌, ◌≤◌, ◌==◌, ◌↔◌, max, Bool, true, false, cond, ◌&&◌, ◌||◌, not, List, [], ◌∷◌, ◌++◌, map, length, take, replicate, get_or, true≢false, refl, sym, ap, subst, ◌∙◌, arith, length-append}
-use Rattle.std.specs.List.{list_any, filter}
-use Rattle.std.proofs.lemmas.List.{length-take, length-replicate, take_more, map-append}
+use Rattle.std.proofs.Common.{◌≡◌, ℕ, zero, suc, ◌+◌, ◌<◌, ◌≤◌, ◌==◌, ◌↔◌, max, Bool, true, false, cond, ◌&&◌, ◌||◌, not, List, [], ◌∷◌, ◌++◌, map, length, take, get_or, true≢false, refl, sym, ap, subst, ◌∙◌, arith}
+use Rattle.std.specs.List.{list_any, filter, AllByRecursion}
+use Rattle.std.proofs.lemmas.List.{take_more, map-append}
 use Rattle.cov_base.specs.Choices.{all_choices, is_on}
 use Rattle.cov_base.specs.declared.limits.TheConstants.{CHOICE_WIDTH}
 use Rattle.cov_dd.specs.declared.triple.Triple.{Triple}
@@ -11,11 +11,9 @@ use Rattle.cov_dd.proofs.CallerLemmas.{stands_later, stands_weaker}
 use Rattle.cov_expr.specs.Formula.{Formula, value, reach}
 use Rattle.cov_expr.specs.Validity.{is_valid}
 use Rattle.cov_rules.specs.Completion.{has_any, or_else, keep, keep_all, IsSet}
-use Rattle.cov_rules.specs.Installing.{literal, reach_of, StandsFor, StandsForAll, AllStand, AllFallBack}
-use Rattle.cov_rules.specs.declared.rules.Fallback.{Fallback}
-use Rattle.cov_rules.specs.declared.rules.Installed.{Installed}
+use Rattle.cov_rules.specs.Installing.{literal, reach_of, StandsFor, StandsForAll, AllStand}
 use Rattle.cov_rules.proofs.Holding.{reach_of-more, is_valid-more}
-use Rattle.cov_rules.proofs.Deciding.{is_on-take, is_on-padded, none_passes, fails_on_each}
+use Rattle.cov_rules.proofs.Deciding.{none_short, none_wide}
 
 -- a node has the same value on choices that have the same values of its options
 pub value_in_same : (ts : List Triple) (a : ℕ) (c d : List Bool) → ((o : ℕ) → o < span ts a → is_on c o ≡ is_on d o) → value_in ts a c ≡ value_in ts a d
@@ -72,17 +70,12 @@ module _ (ts : List Triple) (node count : ℕ) (cs : List (List Bool)) (is : IsS
 
   -- a node that is false on every choice of all options that it can have stands for no choice
   pub decides : (b : Bool) → (b ≡ true) ↔ ((c : List Bool) → length c ≡ CHOICE_WIDTH → value_in ts node c ≡ false) → not b ≡ has_any cs
-  decides true h = sym (none_passes count (value_in ts node) (λ c long.
-      let padded : List Bool = c ++ replicate (CHOICE_WIDTH - count) false in
-      let full : length padded ≡ CHOICE_WIDTH = omega (arith, is.few, long, length-append c (replicate (CHOICE_WIDTH - count) false), length-replicate (CHOICE_WIDTH - count) false) in
-      value_in_same ts node c padded (λ o lt. sym (is_on-padded c (CHOICE_WIDTH - count) o)) ∙ h.0 refl padded full)) ∙ any
+  decides true h = sym (none_short count (span ts node) (value_in ts node) is.few (value_in_same ts node) (h.0 refl)) ∙ any
   decides false h = by (list_any (value_in ts node) (all_choices count)) refl
     where
       by : (x : Bool) → list_any (value_in ts node) (all_choices count) ≡ x → true ≡ has_any cs
       by true e = sym e ∙ any
-      by false e = absurd (true≢false (sym (h.1 (λ c long.
-          value_in_same ts node c (take count c) (λ o lt. sym (is_on-take count c o (omega (arith, lt, is.options))))
-          ∙ fails_on_each count (value_in ts node) e (take count c) (omega (arith, long, is.few, length-take count c))))))
+      by false e = absurd (true≢false (sym (h.1 (none_wide count (span ts node) (value_in ts node) is.few (value_in_same ts node) is.options e))))
 
 -- the choices of a set on which an expression is true, and what a wish keeps
 module _ (ts us : List Triple) (a b both count first : ℕ) (cs : List (List Bool)) (e : Formula ℕ) (is : IsSet ts a count cs) (wish : StandsFor ts b e) (low : reach e ≤ count)
@@ -111,19 +104,20 @@ keep_all-more cs (d ∷ es) e = keep_all-more (keep cs d) es e
 pub and_more : (ts us vs : List Triple) (node literal r first : ℕ) (es : List (Formula ℕ)) (e : Formula ℕ) → StandsForAll ts node es → Extends ts us → StandsFor us literal e
     → Stands vs r first (joint_span us node literal) (λ c. value_in us node c && value_in us literal c) → StandsForAll vs r (es ++ e ∷ [])
 and_more ts us vs node literal r first es e old x new s =
-    let kept : StandsForAll us node es = stands_later x old in
-    stands_weaker 0 (reach_of (es ++ e ∷ [])) (is_valid (es ++ e ∷ [])) (omega arith) (omega (arith, reach_of-more es e, kept.below, new.below))
-    (λ c. (λ j. kept.value c j && new.value c j) ∙ sym (is_valid-more es e c)) s
+    let later : StandsForAll us node es = stands_later x old in
+    stands_weaker 0 (reach_of (es ++ e ∷ [])) (is_valid (es ++ e ∷ [])) (omega arith) (omega (arith, reach_of-more es e, later.below, new.below))
+    (λ c. (λ j. later.value c j && new.value c j) ∙ sym (is_valid-more es e c)) s
 
-pub all_stand_at : (ts : List Triple) (rs : List Installed) (i : ℕ) (d : Installed) → AllStand ts rs → i < length rs → StandsFor ts (get_or rs i d).node (get_or rs i d).expr
-all_stand_at ts [] i d h lt = absurd (omega (arith, lt))
-all_stand_at ts (r ∷ rs) zero d h lt = h.0
-all_stand_at ts (r ∷ rs) (suc i) d h lt = all_stand_at ts rs i d h.1 (omega (arith, lt))
+all_at : {X : Type 0} (P : X → Type 0) (xs : List X) (i : ℕ) (d : X) → AllByRecursion P xs → i < length xs → P (get_or xs i d)
+all_at P [] i d h lt = absurd (omega (arith, lt))
+all_at P (x ∷ xs) zero d h lt = h.0
+all_at P (x ∷ xs) (suc i) d h lt = all_at P xs i d h.1 (omega (arith, lt))
 
-pub all_fall_back_at : (ts : List Triple) (ds : List Fallback) (i : ℕ) (d : Fallback) → AllFallBack ts ds → i < length ds → StandsFor ts (get_or ds i d).node (literal (get_or ds i d).option (get_or ds i d).on)
-all_fall_back_at ts [] i d h lt = absurd (omega (arith, lt))
-all_fall_back_at ts (r ∷ rs) zero d h lt = h.0
-all_fall_back_at ts (r ∷ rs) (suc i) d h lt = all_fall_back_at ts rs i d h.1 (omega (arith, lt))
+-- the node of an item, in a table that has grown
+pub next_stands : {X : Type 0} (ts us : List Triple) → Extends ts us → (node : X → ℕ) (expr : X → Formula ℕ) (xs : List X) (i : ℕ) (x : X)
+    → AllStand ts xs node expr → i < length xs → x ≡ get_or xs i x → StandsFor us (node x) (expr x)
+next_stands ts us grown node expr xs i x h lt at =
+    stands_later grown (subst (λ y. StandsFor ts (node y) (expr y)) (sym at) (all_at (λ y. StandsFor ts (node y) (expr y)) xs i x h lt))
 
 -- the statements of the first elements and one more
 module _ {X : Type 0} (f : X → Formula ℕ) (xs : List X) (i : ℕ) (x : X) (here : i < length xs) (at : x ≡ get_or xs i x) where
@@ -140,10 +134,3 @@ module _ {X : Type 0} (f : X → Formula ℕ) (xs : List X) (i : ℕ) (x : X) (h
       subst (λ es. IsSet vs r count (keep_all cs es)) (sym stated_more)
       (subst (IsSet vs r count) (sym (keep_all-more cs (map f (take i xs)) (f x)))
       (narrows count (keep_all cs (map f (take i xs))) (f x) (before count cs is (omega (arith, both))) stands (omega (arith, both))))
-
-module _ (ts us : List Triple) (x : Extends ts us) where
-  pub next_preference : (rs : List Installed) (i : ℕ) (r : Installed) → AllStand ts rs → i < length rs → r ≡ get_or rs i r → StandsFor us r.node r.expr
-  next_preference rs i r h lt at = stands_later x (subst (λ (q : Installed). StandsFor ts q.node q.expr) (sym at) (all_stand_at ts rs i r h lt))
-
-  pub next_default : (ds : List Fallback) (i : ℕ) (d : Fallback) → AllFallBack ts ds → i < length ds → d ≡ get_or ds i d → StandsFor us d.node (literal d.option d.on)
-  next_default ds i d h lt at = stands_later x (subst (λ (q : Fallback). StandsFor ts q.node (literal q.option q.on)) (sym at) (all_fall_back_at ts ds i d h lt))

@@ -1,6 +1,6 @@
 -- Rules in order, with their positions and the nodes that stand for them.
 use Rattle.std.specs.Prelude.{ℕ, ◌<◌, Bool, true, false, nat_le, max, List, [], ◌∷◌, ◌++◌, map, length}
-use Rattle.std.specs.List.{filter}
+use Rattle.std.specs.List.{filter, AllByRecursion}
 use Rattle.cov_base.specs.declared.limits.TheConstants.{LIMITS}
 use Rattle.cov_dd.specs.declared.triple.Triple.{Triple}
 use Rattle.cov_dd.specs.Diagrams.{Stands}
@@ -70,21 +70,15 @@ StandsFor ts node e = Stands ts node 0 (reach e) (value e)
 abbrev pub StandsForAll : List Triple → ℕ → List (Formula ℕ) → Type 0
 StandsForAll ts node es = Stands ts node 0 (reach_of es) (is_valid es)
 
--- the node of each rule stands for its expression
-abbrev pub AllStand : List Triple → List Installed → Type 0
-AllStand ts [] = Unit {0}
-AllStand ts (r ∷ rs) = StandsFor ts r.node r.expr × AllStand ts rs
-
--- the node of each default is true on exactly the choices where its option has its value
-abbrev pub AllFallBack : List Triple → List Fallback → Type 0
-AllFallBack ts [] = Unit {0}
-AllFallBack ts (d ∷ ds) = StandsFor ts d.node (literal d.option d.on) × AllFallBack ts ds
+-- the node of each item stands for its expression
+abbrev pub AllStand : {X : Type 0} → List Triple → List X → (X → ℕ) → (X → Formula ℕ) → Type 0
+AllStand ts items node expr = AllByRecursion (λ x. StandsFor ts (node x) (expr x)) items
 
 -- each node that is kept has in this table the value of its rules
 pub record Holds (ts : List Triple) (s : Standing) : Type 0 where
-  pub constraints : AllStand ts s.constraints
-  pub preferences : AllStand ts s.preferences
-  pub defaults : AllFallBack ts s.defaults
+  pub constraints : AllStand ts s.constraints (λ r. r.node) (λ r. r.expr)
+  pub preferences : AllStand ts s.preferences (λ r. r.node) (λ r. r.expr)
+  pub defaults : AllStand ts s.defaults (λ d. d.node) (λ d. literal d.option d.on)
   pub conjunction : StandsForAll ts s.conjunction (expressions s.constraints)
 
 -- the nodes of a plan are those of a rule

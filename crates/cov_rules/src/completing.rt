@@ -1,13 +1,13 @@
 // The steps by which rules complete a partial choice. Each narrows a node that stands for the choices that are left.
-ghost use Rattle.std.specs.Prelude.{◌≡◌, ◌<◌, ◌≤◌, ℕ, List, Bool, true, length, IfOk, IfErr};
+ghost use Rattle.std.specs.Prelude.{◌≡◌, ◌<◌, ◌≤◌, ℕ, List, Bool, true, map, length, IfOk, IfErr};
 ghost use Rattle.std.specs.List.{list_any};
 ghost use Rattle.cov_base.specs.declared.limits.TheConstants.{CHOICE_WIDTH, LIMITS};
 ghost use Rattle.cov_dd.specs.Diagrams.{diagram_size, span, Extends};
 ghost use Rattle.cov_expr.specs.Formula.{Formula, reach, value};
-ghost use Rattle.cov_rules.specs.Completion.{Complete, answer_of, literals, fallbacks, has_any, keep, keep_all, least_unmet, first_open, is_open, IsSet, IsRefusalBy};
-ghost use Rattle.cov_rules.specs.Installing.{literal, expressions, reach_of, StandsFor, StandsForAll, AllStand, AllFallBack};
+ghost use Rattle.cov_rules.specs.Completion.{Complete, answer_of, literals, has_any, keep, keep_all, least_unmet, first_open, is_open, IsSet, IsRefusalBy};
+ghost use Rattle.cov_rules.specs.Installing.{literal, expressions, reach_of, StandsFor, StandsForAll, AllStand};
 
-use crate::rules::{Fallback, Installed, literal_node};
+use crate::rules::{Installed, literal_node};
 use cov_base::{Choice, Memory, OptionId, Steps, Uncounted};
 use cov_dd::{Node, TRUE, Table};
 
@@ -19,6 +19,19 @@ pub enum CompleteFault {
     Invalid { rule: u32 },
     /// The least option that has both values among the choices that are left.
     Incomplete { option: OptionId },
+}
+
+/// A rule by which choices are completed: those on which it is true are kept, if there are any.
+pub(crate) trait Wish {
+    /// The expression of the rule.
+    ghost wished: { Self → Formula ℕ };
+
+    /// The node that is kept for it.
+    ghost told: { Self → ℕ };
+
+    /// Tells that node.
+    fn node(&self) -> Node
+        ensures { result ≡ told self.now };
 }
 
 /// The node that is true on exactly the choices that agree with bindings.
@@ -57,40 +70,21 @@ fn narrowed(table: &mut Table, node: Node, wish: Node) -> Result<Node, Memory>
     Ok(node)
 }
 
-/// The choices that are left after preferences.
-pub(crate) fn preferred(
+/// The choices that are left after each of these wishes in order.
+pub(crate) fn left_after<W: Wish>(
     table: &mut Table,
     node: Node,
-    preferences: &[Installed],
+    wishes: &[W],
 ) -> Result<Node, Memory>
     requires node { node < diagram_size table.old }
-    requires preferences { AllStand table.old preferences.now }
+    requires wishes { AllStand table.old wishes.now W.told W.wished }
     ensures extends { Extends table.old table.new }
     ensures within { IfOk result (λ r. r < diagram_size table.new) }
-    ensures kept { IfOk result (λ r. (count : ℕ) (cs : List (List Bool)) → IsSet table.old node count cs → reach_of (expressions preferences.now) ≤ count → IsSet table.new r count (keep_all cs (expressions preferences.now))) }
+    ensures kept { IfOk result (λ r. (count : ℕ) (cs : List (List Bool)) → IsSet table.old node count cs → reach_of (map W.wished wishes.now) ≤ count → IsSet table.new r count (keep_all cs (map W.wished wishes.now))) }
 {
     let mut left = node;
-    for preference in preferences {
-        left = narrowed(table, left, preference.node)?;
-    }
-    Ok(left)
-}
-
-/// The choices that are left after defaults.
-pub(crate) fn defaulted(
-    table: &mut Table,
-    node: Node,
-    defaults: &[Fallback],
-) -> Result<Node, Memory>
-    requires node { node < diagram_size table.old }
-    requires defaults { AllFallBack table.old defaults.now }
-    ensures extends { Extends table.old table.new }
-    ensures within { IfOk result (λ r. r < diagram_size table.new) }
-    ensures kept { IfOk result (λ r. (count : ℕ) (cs : List (List Bool)) → IsSet table.old node count cs → reach_of (fallbacks defaults.now) ≤ count → IsSet table.new r count (keep_all cs (fallbacks defaults.now))) }
-{
-    let mut left = node;
-    for fallback in defaults {
-        left = narrowed(table, left, fallback.node)?;
+    for wish in wishes {
+        left = narrowed(table, left, wish.node())?;
     }
     Ok(left)
 }
@@ -103,7 +97,7 @@ pub(crate) fn least_unmet(
 ) -> Result<u32, Memory>
     requires few { length constraints.now ≤ LIMITS.rules }
     requires node { node < diagram_size table.old }
-    requires constraints { AllStand table.old constraints.now }
+    requires constraints { AllStand table.old constraints.now (λ r. r.node) (λ r. r.expr) }
     ensures extends { Extends table.old table.new }
     ensures unmet { IfOk result (λ rule. (count : ℕ) (cs : List (List Bool)) → IsSet table.old node count cs → reach_of (expressions constraints.now) ≤ count → rule ≡ least_unmet (expressions constraints.now) cs) }
 {

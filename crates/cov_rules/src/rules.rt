@@ -14,7 +14,7 @@ ghost use Rattle.cov_rules.specs.declared.rules.RuleFault.TheVariants.{NoVariant
 ghost use Rattle.cov_rules.specs.declared.rules.Rule.TheVariants.{Constraint as a_constraint, Prefer as a_preference, Default as a_default};
 
 use crate::completing::{
-    CompleteFault, agreement, defaulted, is_met, least_unmet, only_choice, preferred,
+    CompleteFault, Wish, agreement, is_met, least_unmet, left_after, only_choice,
 };
 use cov_base::{Choice, LIMITS, Memory, OptionId, Position, Steps, Uncounted};
 use cov_dd::{Node, TRUE, Table};
@@ -71,6 +71,26 @@ pub(crate) struct Fallback {
     option: OptionId,
     on: bool,
     pub(crate) node: Node,
+}
+
+impl Wish for Installed {
+    ghost wished = { λ r. r.expr };
+
+    ghost told = { λ r. r.node };
+
+    fn node(&self) -> Node {
+        self.node
+    }
+}
+
+impl Wish for Fallback {
+    ghost wished = { λ d. literal d.option d.on };
+
+    ghost told = { λ d. d.node };
+
+    fn node(&self) -> Node {
+        self.node
+    }
 }
 
 /// The rules in the order in which they were installed. The nodes are those of one table, which the caller lends.
@@ -336,8 +356,8 @@ impl Rules {
         ensures within { IfOk result (λ r. r < diagram_size table.new) }
         ensures kept { IfOk result (λ r. (count : ℕ) (cs : List (List Bool)) → IsSet table.old node count cs → reach_of (expressions self.now.standing.preferences) ≤ count → reach_of (fallbacks self.now.standing.defaults) ≤ count → IsSet table.new r count (keep_all (keep_all cs (expressions self.now.standing.preferences)) (fallbacks self.now.standing.defaults))) }
     {
-        let preferred = preferred(table, node, self.preferences.as_slice())?;
-        defaulted(table, preferred, self.defaults.as_slice())
+        let preferred = left_after(table, node, self.preferences.as_slice())?;
+        left_after(table, preferred, self.defaults.as_slice())
     }
 
     /// The node that is true on exactly the choices that meet all constraints.

@@ -14,29 +14,19 @@ returns-in-Some-find-clause-stands g t c =
 
 pub returns-in-Err-descend-clause-runs : goal.returns-in-Err-descend-clause-runs
 returns-in-Err-descend-clause-runs g t c =
-    both_runs c.args.operation c.args.self.now c.args.a c.args.b c.first_of-option.result c.sides-left.result.off c.sides-left.result.on c.sides-right.result.off c.sides-right.result.on c.args.memo.now.made c.args.steps.now c.requires.a c.requires.b c.first_of-option.ensures.first c.sides-left.ensures c.sides-right.ensures
-    c.descend.new.self c.descend.new.memo.made c.descend.new.steps c.in-Ok.ensures.runs
-    c.descend-2.new.self c.descend-2.new.memo.made c.descend-2.new.steps c.in-Err-descend.ensures.runs
+    both_runs c.requires.a c.requires.b c.first_of-option.ensures.first c.sides-left.ensures c.sides-right.ensures c.in-Ok.ensures.runs c.in-Err-descend.ensures.runs
 
 pub join-requires-clause-fresh : goal.join-requires-clause-fresh
 join-requires-clause-fresh g t c =
-    still_fresh c.args.operation c.args.self.now c.args.a c.args.b c.first_of-option.result c.sides-left.result.off c.sides-left.result.on c.sides-right.result.off c.sides-right.result.on c.args.memo.now.made c.args.steps.now c.requires.a c.requires.b c.first_of-option.ensures.first c.sides-left.ensures c.sides-right.ensures
-    c.descend.new.self c.descend.new.memo.made c.descend.new.steps c.in-Ok.ensures.runs
-    c.descend-2.new.self c.descend-2.new.memo.made c.descend-2.new.steps c.in-Ok-descend.ensures.runs
+    still_fresh c.requires.a c.requires.b c.first_of-option.ensures.first c.sides-left.ensures c.sides-right.ensures c.in-Ok.ensures.runs c.in-Ok-descend.ensures.runs
     (record { left = c.args.a; right = c.args.b }) refl refl c.in_default-find.ensures.none
 
 pub returns-clause-runs : goal.returns-clause-runs
 returns-clause-runs g t c =
-    joined_runs c.args.operation c.args.self.now c.args.a c.args.b c.first_of-option.result c.sides-left.result.off c.sides-left.result.on c.sides-right.result.off c.sides-right.result.on c.args.memo.now.made c.args.steps.now c.requires.a c.requires.b c.first_of-option.ensures.first c.sides-left.ensures c.sides-right.ensures
-    c.descend.new.self c.descend.new.memo.made c.descend.new.steps c.in-Ok.ensures.runs
-    c.descend-2.new.self c.descend-2.new.memo.made c.descend-2.new.steps c.in-Ok-descend.ensures.runs
-    c.in-Ok.off c.in-Ok-descend.on c.in-Ok.ensures.stands c.in-Ok-descend.ensures.stands
+    joined_runs c.requires.a c.requires.b c.first_of-option.ensures.first c.sides-left.ensures c.sides-right.ensures c.in-Ok.ensures.runs c.in-Ok-descend.ensures.runs c.in-Ok.ensures.stands c.in-Ok-descend.ensures.stands
     (record { left = c.args.a; right = c.args.b }) (record { option = c.first_of-option.result; off = c.in-Ok.off; on = c.in-Ok-descend.on }) refl refl refl refl refl c.join.new.self c.join.new.memo.made c.join.new.steps c.join.result c.join.ensures.ok c.join.ensures.err
 
 pub returns-clause-stands : goal.returns-clause-stands
 returns-clause-stands g t c =
-    joined_stands c.args.operation c.args.self.now c.args.a c.args.b c.first_of-option.result c.sides-left.result.off c.sides-left.result.on c.sides-right.result.off c.sides-right.result.on c.args.memo.now.made c.args.steps.now c.requires.a c.requires.b c.first_of-option.ensures.first c.sides-left.ensures c.sides-right.ensures
-    c.descend.new.self c.descend.new.memo.made c.descend.new.steps c.in-Ok.ensures.runs
-    c.descend-2.new.self c.descend-2.new.memo.made c.descend-2.new.steps c.in-Ok-descend.ensures.runs
-    c.in-Ok.off c.in-Ok-descend.on c.in-Ok.ensures.stands c.in-Ok-descend.ensures.stands
+    joined_stands c.requires.a c.requires.b c.first_of-option.ensures.first c.sides-left.ensures c.sides-right.ensures c.in-Ok.ensures.runs c.in-Ok-descend.ensures.runs c.in-Ok.ensures.stands c.in-Ok-descend.ensures.stands
     (record { left = c.args.a; right = c.args.b }) (record { option = c.first_of-option.result; off = c.in-Ok.off; on = c.in-Ok-descend.on }) refl refl refl refl refl c.join.new.self c.join.new.memo.made c.join.new.steps c.join.result c.join.ensures.ok

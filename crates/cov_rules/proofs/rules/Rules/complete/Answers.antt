@@ -1,12 +1,12 @@
-use Rattle.std.proofs.Common.{◌≡◌, true, false, Bool, List, sym, ap, subst, ◌∙◌}
+use Rattle.std.proofs.Common.{◌≡◌, sym, ap, subst, ◌∙◌}
 use Rattle.cov_dd.proofs.CallerLemmas.{extends_trans}
-use Rattle.cov_rules.specs.Completion.{Complete, has_any, agreeing, answer_of, completed, IsRefusalBy, IsSet}
-use Rattle.cov_rules.proofs.CallerLemmas.{holds_later}
+use Rattle.cov_rules.specs.Completion.{has_any, agreeing, IsRefusalBy, IsSet}
 use Rattle.cov_rules.proofs.Completed.{valid, left, invalid, answered, left_any, agreeing_found, valid_found}
 use Rattle.cov_rules.proofs.Holding.{holds_later}
 use Rattle.cov_rules.proofs.Narrowing.{set_later}
 use Rattle.cov_rules.proofs.Opening.{if_ok_also, if_err_also}
 use Rattle.cov_rules.proofs.rules.Rules.complete.Goals as goal
+use Rattle.cov_rules.proofs.rules.Rules.complete.Goals.{After-and, After-is_met, In-Ok-left}
 
 pub returns-in-Err-and-clause-extends : goal.returns-in-Err-and-clause-extends
 returns-in-Err-and-clause-extends c = extends_trans c.args.table.now c.agreement.new.table c.and.new.self c.in-Ok.ensures.extends c.in-Err-and.ensures.extends
@@ -30,70 +30,53 @@ returns-clause-extends c =
     extends_trans c.args.table.now c.left.new.table c.only_choice.new.table
     (extends_trans c.args.table.now c.and.new.self c.left.new.table (extends_trans c.args.table.now c.agreement.new.table c.and.new.self c.in-Ok.ensures.extends c.in-Ok-and.ensures.extends) c.in-Ok-left.ensures.extends) c.only_choice.ensures.extends
 
+-- the node of the agreeing choices stands for them
+agreed : (c : After-and) → IsSet c.agreement.new.table c.in-Ok.node c.args.count (agreeing c.args.count c.args.partial.now)
+agreed c =
+    agreeing_found c.args.count c.args.self.now _ c.self.view_is c.args.partial.now _ c.bindings.ensures.bindings c.requires.below c.requires.bound c.args.table.now c.agreement.new.table c.requires.holds c.in-Ok.ensures.extends c.in-Ok.node c.in-Ok.ensures.stands
+
+-- the node of the valid choices stands for them
+valids : (c : After-is_met) → IsSet c.and.new.self c.in-Ok-and.node c.args.count (valid c.args.count c.args.self.now.standing c.args.partial.now)
+valids c =
+    valid_found c.args.count c.args.self.now _ c.self.view_is c.args.partial.now _ c.bindings.ensures.bindings c.requires.below c.requires.bound c.args.table.now c.agreement.new.table c.requires.holds c.in-Ok.ensures.extends c.in-Ok.node c.in-Ok.ensures.stands
+    c.and.new.self c.in-Ok-and.node c.in-Ok-and.ensures.stands
+
+-- whether there is a valid choice
+found : (c : After-is_met) → has_any (valid c.args.count c.args.self.now.standing c.args.partial.now) ≡ c.is_met.result
+found c = sym (c.is_met.ensures c.args.count (valid c.args.count c.args.self.now.standing c.args.partial.now) (valids c))
+
 pub returns-then-not-is_met-clause-refused : goal.returns-then-not-is_met-clause-refused
 returns-then-not-is_met-clause-refused c =
     let n = c.args.count in
-    let s = c.args.self.now.standing in
     let partial = c.args.partial.now in
-    let valids =
-    valid_found n c.args.self.now _ c.self.view_is partial _ c.bindings.ensures.bindings c.requires.below c.requires.bound c.args.table.now c.agreement.new.table c.requires.holds c.in-Ok.ensures.extends c.in-Ok.node c.in-Ok.ensures.stands
-    c.and.new.self c.in-Ok-and.node c.in-Ok-and.ensures.stands in
-    let unmet : has_any (valid n s partial) ≡ false = sym (c.is_met.ensures n (valid n s partial) valids) ∙ c.if-not-is_met.true in
-    let agrees =
-    agreeing_found n c.args.self.now _ c.self.view_is partial _ c.bindings.ensures.bindings c.requires.below c.requires.bound c.args.table.now c.agreement.new.table c.requires.holds c.in-Ok.ensures.extends c.in-Ok.node c.in-Ok.ensures.stands in
-    subst (λ a. IsRefusalBy a c.unmet.result) (sym (invalid n s partial unmet))
-    (c.unmet.ensures.refused n (agreeing n partial) (set_later c.in-Ok-and.ensures.extends agrees) c.requires.below.constraints)
+    let at = goal.at.returns-then-not-is_met-clause-refused c in
+    subst (λ a. IsRefusalBy a c.unmet.result) (sym (invalid n c.args.self.now.standing partial (found at.After-is_met ∙ c.if-not-is_met.true)))
+    (c.unmet.ensures.refused n (agreeing n partial) (set_later c.in-Ok-and.ensures.extends (agreed at.After-and)) c.requires.below.constraints)
+
+-- the node of the choices that are left of the valid ones stands for them
+lefts : (c : In-Ok-left) → IsSet c.and.new.self c.in-Ok-and.node c.args.count (valid c.args.count c.args.self.now.standing c.args.partial.now)
+    → IsSet c.left.new.table c.in-Ok-left.node c.args.count (left c.args.count c.args.self.now.standing c.args.partial.now)
+lefts c is = c.in-Ok-left.ensures.kept c.args.count (valid c.args.count c.args.self.now.standing c.args.partial.now) is c.requires.below.preferences c.requires.below.defaults
 
 pub only_choice-requires-clause-options : goal.only_choice-requires-clause-options
 only_choice-requires-clause-options c =
-    let n = c.args.count in
-    let s = c.args.self.now.standing in
-    let partial = c.args.partial.now in
-    let valids =
-    valid_found n c.args.self.now _ c.self.view_is partial _ c.bindings.ensures.bindings c.requires.below c.requires.bound c.args.table.now c.agreement.new.table c.requires.holds c.in-Ok.ensures.extends c.in-Ok.node c.in-Ok.ensures.stands
-    c.and.new.self c.in-Ok-and.node c.in-Ok-and.ensures.stands in
-    let met : has_any (valid n s partial) ≡ true = sym (c.is_met.ensures n (valid n s partial) valids) ∙ c.if-not-is_met.false in
-    let lefts : IsSet c.left.new.table c.in-Ok-left.node n (left n s partial) = c.in-Ok-left.ensures.kept n (valid n s partial) valids c.requires.below.preferences c.requires.below.defaults in
-    lefts.options
+    let at = goal.at.only_choice-requires-clause-options c in
+    (lefts at.In-Ok-left (valids at.After-is_met)).options
 
 pub only_choice-requires-clause-some : goal.only_choice-requires-clause-some
 only_choice-requires-clause-some c cs is =
-    let n = c.args.count in
-    let s = c.args.self.now.standing in
-    let partial = c.args.partial.now in
-    let valids =
-    valid_found n c.args.self.now _ c.self.view_is partial _ c.bindings.ensures.bindings c.requires.below c.requires.bound c.args.table.now c.agreement.new.table c.requires.holds c.in-Ok.ensures.extends c.in-Ok.node c.in-Ok.ensures.stands
-    c.and.new.self c.in-Ok-and.node c.in-Ok-and.ensures.stands in
-    let met : has_any (valid n s partial) ≡ true = sym (c.is_met.ensures n (valid n s partial) valids) ∙ c.if-not-is_met.false in
-    let lefts : IsSet c.left.new.table c.in-Ok-left.node n (left n s partial) = c.in-Ok-left.ensures.kept n (valid n s partial) valids c.requires.below.preferences c.requires.below.defaults in
-    ap has_any (sym is.choices ∙ lefts.choices) ∙ left_any n s partial met
+    let at = goal.at.only_choice-requires-clause-some c in
+    ap has_any (sym is.choices ∙ (lefts at.In-Ok-left (valids at.After-is_met)).choices)
+    ∙ left_any c.args.count c.args.self.now.standing c.args.partial.now (found at.After-is_met ∙ c.if-not-is_met.false)
 
 pub returns-clause-complete : goal.returns-clause-complete
 returns-clause-complete c =
-    let n = c.args.count in
-    let s = c.args.self.now.standing in
-    let partial = c.args.partial.now in
-    let valids =
-    valid_found n c.args.self.now _ c.self.view_is partial _ c.bindings.ensures.bindings c.requires.below c.requires.bound c.args.table.now c.agreement.new.table c.requires.holds c.in-Ok.ensures.extends c.in-Ok.node c.in-Ok.ensures.stands
-    c.and.new.self c.in-Ok-and.node c.in-Ok-and.ensures.stands in
-    let met : has_any (valid n s partial) ≡ true = sym (c.is_met.ensures n (valid n s partial) valids) ∙ c.if-not-is_met.false in
-    let lefts : IsSet c.left.new.table c.in-Ok-left.node n (left n s partial) = c.in-Ok-left.ensures.kept n (valid n s partial) valids c.requires.below.preferences c.requires.below.defaults in
-    if_ok_also c.only_choice.result
-    (λ choice. (cs : List (List Bool)) → IsSet c.left.new.table c.in-Ok-left.node n cs → answer_of n cs ≡ Complete choice)
-    (λ choice. completed n s partial ≡ Complete choice)
-    (λ choice h. answered n s partial met ∙ h (left n s partial) lefts) c.only_choice.ensures.complete
+    let at = goal.at.returns-clause-complete c in
+    if_ok_also c.only_choice.result _ _
+    (λ choice h. answered c.args.count c.args.self.now.standing c.args.partial.now (found at.After-is_met ∙ c.if-not-is_met.false) ∙ h _ (lefts at.In-Ok-left (valids at.After-is_met))) c.only_choice.ensures.complete
 
 pub returns-clause-refused : goal.returns-clause-refused
 returns-clause-refused c =
-    let n = c.args.count in
-    let s = c.args.self.now.standing in
-    let partial = c.args.partial.now in
-    let valids =
-    valid_found n c.args.self.now _ c.self.view_is partial _ c.bindings.ensures.bindings c.requires.below c.requires.bound c.args.table.now c.agreement.new.table c.requires.holds c.in-Ok.ensures.extends c.in-Ok.node c.in-Ok.ensures.stands
-    c.and.new.self c.in-Ok-and.node c.in-Ok-and.ensures.stands in
-    let met : has_any (valid n s partial) ≡ true = sym (c.is_met.ensures n (valid n s partial) valids) ∙ c.if-not-is_met.false in
-    let lefts : IsSet c.left.new.table c.in-Ok-left.node n (left n s partial) = c.in-Ok-left.ensures.kept n (valid n s partial) valids c.requires.below.preferences c.requires.below.defaults in
-    if_err_also c.only_choice.result
-    (λ fault. (cs : List (List Bool)) → IsSet c.left.new.table c.in-Ok-left.node n cs → IsRefusalBy (answer_of n cs) fault)
-    (IsRefusalBy (completed n s partial))
-    (λ fault h. subst (λ a. IsRefusalBy a fault) (sym (answered n s partial met)) (h (left n s partial) lefts)) c.only_choice.ensures.refused
+    let at = goal.at.returns-clause-refused c in
+    if_err_also c.only_choice.result _ _
+    (λ fault h. subst (λ a. IsRefusalBy a fault) (sym (answered c.args.count c.args.self.now.standing c.args.partial.now (found at.After-is_met ∙ c.if-not-is_met.false))) (h _ (lefts at.In-Ok-left (valids at.After-is_met)))) c.only_choice.ensures.refused

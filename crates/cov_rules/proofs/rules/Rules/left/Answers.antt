@@ -1,27 +1,28 @@
 use Rattle.std.proofs.Common.{◌≡◌, ℕ, ◌≤◌, Bool, List, sym, ap, subst, ◌∙◌}
 use Rattle.cov_dd.proofs.CallerLemmas.{extends_trans}
 use Rattle.cov_rules.specs.Completion.{fallbacks, keep_all, IsSet}
-use Rattle.cov_rules.specs.Installing.{RulesValue, expressions, reach_of, AllFallBack}
-use Rattle.cov_rules.proofs.Holding.{all_fall_back_later}
+use Rattle.cov_rules.specs.Installing.{RulesValue, expressions, reach_of, literal, AllStand}
+use Rattle.cov_rules.specs.declared.rules.Fallback.{Fallback}
+use Rattle.cov_rules.proofs.Holding.{all_stand_later}
 use Rattle.cov_rules.proofs.Opening.{if_ok_also}
 use Rattle.cov_rules.proofs.rules.Rules.left.Goals as goal
 
-pub defaulted-requires-clause-defaults : goal.defaulted-requires-clause-defaults
-defaulted-requires-clause-defaults c =
-    subst (AllFallBack c.preferred.new.table) (sym (c.as_slice-2.ensures.value ∙ ap (λ (v : RulesValue). v.standing.defaults) c.self.view_is))
-    (all_fall_back_later c.in_ok-preferred.ensures.extends c.args.self.now.standing.defaults c.requires.holds.defaults)
+pub left_after-requires-2-clause-wishes : goal.left_after-requires-2-clause-wishes
+left_after-requires-2-clause-wishes c =
+    subst (λ (ds : List Fallback). AllStand c.left_after.new.table ds (λ d. d.node) (λ d. literal d.option d.on)) (sym (c.as_slice-2.ensures.value ∙ ap (λ (v : RulesValue). v.standing.defaults) c.self.view_is))
+    (all_stand_later (λ d. d.node) (λ d. literal d.option d.on) c.in_ok-preferred.ensures.extends c.args.self.now.standing.defaults c.requires.holds.defaults)
 
 pub returns-clause-extends : goal.returns-clause-extends
-returns-clause-extends c = extends_trans c.args.table.now c.preferred.new.table c.defaulted.new.table c.in_ok-preferred.ensures.extends c.defaulted.ensures.extends
+returns-clause-extends c = extends_trans c.args.table.now c.left_after.new.table c.left_after-2.new.table c.in_ok-preferred.ensures.extends c.left_after-2.ensures.extends
 
 pub returns-clause-kept : goal.returns-clause-kept
 returns-clause-kept c =
     let s = c.args.self.now.standing in
-    let us = c.preferred.new.table in
-    let vs = c.defaulted.new.table in
+    let us = c.left_after.new.table in
+    let vs = c.left_after-2.new.table in
     let prefers : c.as_slice.result.now ≡ s.preferences = c.as_slice.ensures.value ∙ ap (λ (v : RulesValue). v.standing.preferences) c.self.view_is in
     let falls : c.as_slice-2.result.now ≡ s.defaults = c.as_slice-2.ensures.value ∙ ap (λ (v : RulesValue). v.standing.defaults) c.self.view_is in
-    if_ok_also c.defaulted.result
+    if_ok_also c.left_after-2.result
     (λ r. (count : ℕ) (cs : List (List Bool)) → IsSet us c.in_ok-preferred.preferred count cs → reach_of (fallbacks c.as_slice-2.result.now) ≤ count → IsSet vs r count (keep_all cs (fallbacks c.as_slice-2.result.now)))
     (λ r. (count : ℕ) (cs : List (List Bool)) → IsSet c.args.table.now c.args.node count cs → reach_of (expressions s.preferences) ≤ count → reach_of (fallbacks s.defaults) ≤ count
     → IsSet vs r count (keep_all (keep_all cs (expressions s.preferences)) (fallbacks s.defaults)))
@@ -31,4 +32,4 @@ returns-clause-kept c =
     (subst (λ ps. IsSet us c.in_ok-preferred.preferred count (keep_all cs (expressions ps))) prefers
     (c.in_ok-preferred.ensures.kept count cs is (subst (λ ps. reach_of (expressions ps) ≤ count) (sym prefers) low_preferences)))
     (subst (λ ds. reach_of (fallbacks ds) ≤ count) (sym falls) low_defaults)))
-    c.defaulted.ensures.kept
+    c.left_after-2.ensures.kept
