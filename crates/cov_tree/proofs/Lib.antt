@@ -1,8 +1,10 @@
 pub mod Apart
+pub mod CallerLemmas
 pub mod Carried
 pub mod Clashing
 pub mod Examples
 pub mod Losing
+pub mod Made
 pub mod Once
 pub mod Options
 pub mod Parts

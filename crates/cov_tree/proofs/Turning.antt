@@ -41,6 +41,10 @@ node_within t (n ∷ reach) (suc x) h = node_within t reach x h.1
 pub within_grown : (old new : List Triple) → Extends old new → (reach : List ℕ) → AllByRecursion (λ n. n < diagram_size old) reach → AllByRecursion (λ n. n < diagram_size new) reach
 within_grown old new grows reach h = all-map (λ n. n < diagram_size old) (λ n. n < diagram_size new) (λ n k. omega (arith, k, grows.count)) reach h
 
+-- the node of a directory is one of the table, also once the table grew
+pub reach_within : (old new : List Triple) → Extends old new → (reach : List ℕ) (x node : ℕ) → AllByRecursion (λ n. n < diagram_size old) reach → node ≡ node_at reach x → node < diagram_size new
+reach_within old new grows reach x node h is = subst (λ n. n < diagram_size new) (sym is) (node_within new reach x (within_grown old new grows reach h))
+
 pub reached_grown : (old new : List Triple) → Extends old new → (reach : List ℕ) → AllByRecursion (λ n. n < diagram_size old) reach → (c : List Bool) (x : ℕ) → reached_in new reach c x ≡ reached_in old reach c x
 reached_grown old new grows reach h c x = grows.value (node_at reach x) (node_within old reach x h) c
 

@@ -1,12 +1,12 @@
 // Changes of the nodes of a store that are to come.
 ghost use Rattle.std.specs.Prelude.{◌≡◌, ◌<◌, ◌≤◌, ◌++◌, ◌∷◌, ℕ, List, Bool, [], None, Some, false, option_map, nat_eq, length, position, IfSome, OnOk, OnErr};
-ghost use Rattle.cov_base.specs.Rows.{RowChange, Created, Renamed, Moved, Removed, has_node, AreDistinct, AreOnce};
+ghost use Rattle.cov_base.specs.Rows.{Created, Renamed, Moved, Removed, has_node, AreDistinct, AreOnce};
 ghost use Rattle.cov_dd.specs.declared.triple.Triple.{Triple};
-ghost use Rattle.cov_dd.specs.Diagrams.{diagram_size, span, Extends};
+ghost use Rattle.cov_dd.specs.Diagrams.{diagram_size, Extends};
 ghost use Rattle.cov_tree.specs.Entries.{rows_in, nodes_of, kinds_of, AllAreWithin};
 ghost use Rattle.cov_tree.specs.Dated.{Dated, planned, rows_at, rows_with, nodes_in, kinds_in, nodes_with, kinds_with};
 ghost use Rattle.cov_tree.specs.Carried.{AreNodesAt, AreNodesWith, AreOnceAt, AreOnceWith, AreUnreadAt, AreUnreadWith};
-ghost use Rattle.cov_tree.specs.Changes.{Makes, IsAlike};
+ghost use Rattle.cov_tree.specs.Changes.{Makes, MayChange, Stays, IsAlike, IsMade};
 ghost use Rattle.cov_tree.specs.Shifts.{change_of, place_at, Becomes};
 
 use crate::Entries;
@@ -67,16 +67,9 @@ impl EntryPlan {
         ambition: Node,
     ) -> Result<(), Memory>
         requires fresh { has_node node (0 ∷ nodes_with self.old entries.now) ≡ false }
-        requires within { AreNodesWith table.old self.old entries.now }
-        requires once { AreOnceWith table.old self.old entries.now }
-        requires ambition { ambition < diagram_size table.old }
-        ensures extends { Extends table.old table.new }
-        ensures makes { (changes : List (RowChange × ℕ)) → Makes table.old entries.now self.old changes → OnOk result (Makes table.new entries.now self.new (changes ++ (Created node kind parent name.now, ambition) ∷ [])) }
-        ensures nodes { OnOk result (nodes_with self.new entries.now ≡ nodes_with self.old entries.now ++ node ∷ []) }
-        ensures kinds { OnOk result (kinds_with self.new entries.now ≡ kinds_with self.old entries.now ++ (node, kind) ∷ []) }
-        ensures within { AreNodesWith table.new self.new entries.now }
-        ensures once { AreOnceWith table.new self.new entries.now }
-        ensures options { (count : ℕ) → span table.old ambition ≤ count → AreUnreadWith table.old self.old entries.now count → AreUnreadWith table.new self.new entries.now count }
+        requires may { MayChange table.old entries.now self.old ambition }
+        ensures stays { Stays table.old table.new entries.now self.old self.new ambition }
+        ensures ok { OnOk result (IsMade table.old table.new entries.now self.old self.new (Created node kind parent name.now) ambition) }
         ensures err { OnErr result (IsAlike entries.now self.old self.new) }
     {
         // The row of a new node is seen on the ambition itself, so no node is made.
@@ -97,16 +90,9 @@ impl EntryPlan {
         name: &Name,
         ambition: Node,
     ) -> Result<(), Memory>
-        requires within { AreNodesWith table.old self.old entries.now }
-        requires once { AreOnceWith table.old self.old entries.now }
-        requires ambition { ambition < diagram_size table.old }
-        ensures extends { Extends table.old table.new }
-        ensures makes { (changes : List (RowChange × ℕ)) → Makes table.old entries.now self.old changes → OnOk result (Makes table.new entries.now self.new (changes ++ (Renamed node name.now, ambition) ∷ [])) }
-        ensures nodes { OnOk result (nodes_with self.new entries.now ≡ nodes_with self.old entries.now) }
-        ensures kinds { OnOk result (kinds_with self.new entries.now ≡ kinds_with self.old entries.now) }
-        ensures within { AreNodesWith table.new self.new entries.now }
-        ensures once { AreOnceWith table.new self.new entries.now }
-        ensures options { (count : ℕ) → span table.old ambition ≤ count → AreUnreadWith table.old self.old entries.now count → AreUnreadWith table.new self.new entries.now count }
+        requires may { MayChange table.old entries.now self.old ambition }
+        ensures stays { Stays table.old table.new entries.now self.old self.new ambition }
+        ensures ok { OnOk result (IsMade table.old table.new entries.now self.old self.new (Renamed node name.now) ambition) }
         ensures err { OnErr result (IsAlike entries.now self.old self.new) }
     {
         let shift = Shift::Renamed(name.copy()?);
@@ -122,16 +108,9 @@ impl EntryPlan {
         parent: NodeNo,
         ambition: Node,
     ) -> Result<(), Memory>
-        requires within { AreNodesWith table.old self.old entries.now }
-        requires once { AreOnceWith table.old self.old entries.now }
-        requires ambition { ambition < diagram_size table.old }
-        ensures extends { Extends table.old table.new }
-        ensures makes { (changes : List (RowChange × ℕ)) → Makes table.old entries.now self.old changes → OnOk result (Makes table.new entries.now self.new (changes ++ (Moved node parent, ambition) ∷ [])) }
-        ensures nodes { OnOk result (nodes_with self.new entries.now ≡ nodes_with self.old entries.now) }
-        ensures kinds { OnOk result (kinds_with self.new entries.now ≡ kinds_with self.old entries.now) }
-        ensures within { AreNodesWith table.new self.new entries.now }
-        ensures once { AreOnceWith table.new self.new entries.now }
-        ensures options { (count : ℕ) → span table.old ambition ≤ count → AreUnreadWith table.old self.old entries.now count → AreUnreadWith table.new self.new entries.now count }
+        requires may { MayChange table.old entries.now self.old ambition }
+        ensures stays { Stays table.old table.new entries.now self.old self.new ambition }
+        ensures ok { OnOk result (IsMade table.old table.new entries.now self.old self.new (Moved node parent) ambition) }
         ensures err { OnErr result (IsAlike entries.now self.old self.new) }
     {
         self.shift(entries, table, node, &Shift::Moved(parent), ambition)
@@ -145,16 +124,9 @@ impl EntryPlan {
         node: NodeNo,
         ambition: Node,
     ) -> Result<(), Memory>
-        requires within { AreNodesWith table.old self.old entries.now }
-        requires once { AreOnceWith table.old self.old entries.now }
-        requires ambition { ambition < diagram_size table.old }
-        ensures extends { Extends table.old table.new }
-        ensures makes { (changes : List (RowChange × ℕ)) → Makes table.old entries.now self.old changes → OnOk result (Makes table.new entries.now self.new (changes ++ (Removed node, ambition) ∷ [])) }
-        ensures nodes { OnOk result (nodes_with self.new entries.now ≡ nodes_with self.old entries.now) }
-        ensures kinds { OnOk result (kinds_with self.new entries.now ≡ kinds_with self.old entries.now) }
-        ensures within { AreNodesWith table.new self.new entries.now }
-        ensures once { AreOnceWith table.new self.new entries.now }
-        ensures options { (count : ℕ) → span table.old ambition ≤ count → AreUnreadWith table.old self.old entries.now count → AreUnreadWith table.new self.new entries.now count }
+        requires may { MayChange table.old entries.now self.old ambition }
+        ensures stays { Stays table.old table.new entries.now self.old self.new ambition }
+        ensures ok { OnOk result (IsMade table.old table.new entries.now self.old self.new (Removed node) ambition) }
         ensures err { OnErr result (IsAlike entries.now self.old self.new) }
     {
         self.shift(entries, table, node, &Shift::Removed, ambition)
@@ -169,16 +141,9 @@ impl EntryPlan {
         shift: &Shift,
         ambition: Node,
     ) -> Result<(), Memory>
-        requires within { AreNodesWith table.old self.old entries.now }
-        requires once { AreOnceWith table.old self.old entries.now }
-        requires ambition { ambition < diagram_size table.old }
-        ensures extends { Extends table.old table.new }
-        ensures makes { (changes : List (RowChange × ℕ)) → Makes table.old entries.now self.old changes → OnOk result (Makes table.new entries.now self.new (changes ++ (change_of node shift.now, ambition) ∷ [])) }
-        ensures nodes { OnOk result (nodes_with self.new entries.now ≡ nodes_with self.old entries.now) }
-        ensures kinds { OnOk result (kinds_with self.new entries.now ≡ kinds_with self.old entries.now) }
-        ensures within { AreNodesWith table.new self.new entries.now }
-        ensures once { AreOnceWith table.new self.new entries.now }
-        ensures options { (count : ℕ) → span table.old ambition ≤ count → AreUnreadWith table.old self.old entries.now count → AreUnreadWith table.new self.new entries.now count }
+        requires may { MayChange table.old entries.now self.old ambition }
+        ensures stays { Stays table.old table.new entries.now self.old self.new ambition }
+        ensures ok { OnOk result (IsMade table.old table.new entries.now self.old self.new (change_of node shift.now) ambition) }
         ensures err { OnErr result (IsAlike entries.now self.old self.new) }
     {
         self.begin(entries)?;

@@ -1,13 +1,15 @@
-use Rattle.std.proofs.Common.{◌≡◌, Some, subst, ◌∙◌}
+use Rattle.std.proofs.Common.{◌≡◌, ℕ, List, Some, refl, ap, subst, ◌∙◌}
+use Rattle.cov_base.specs.declared.number.Kind.{Kind}
 use Rattle.std.specs.Prelude.{OnOk, OnErr}
 use Rattle.cov_tree.specs.Dated.{planned}
 use Rattle.cov_tree.specs.Shifts.{change_of, Becomes}
-use Rattle.cov_tree.proofs.Carried.{alike}
-use Rattle.cov_tree.proofs.Once.{once_either, within_either, shifts_fresh}
-use Rattle.cov_tree.proofs.Options.{unread_either}
-use Rattle.cov_tree.proofs.Rows.{on_ok, on_err}
-use Rattle.cov_tree.proofs.Plans.{makes_more}
-use Rattle.cov_tree.specs.Entries.{rows_in}
+use Rattle.cov_tree.specs.declared.parting.Shift.{Shift}
+use Rattle.cov_tree.specs.declared.parting.Shift.TheVariants as shifts
+use Rattle.cov_tree.specs.Changes.{nodes_after, kinds_after}
+use Rattle.cov_tree.specs.Entries.{rows_in, nodes_of, kinds_of}
+use Rattle.cov_tree.proofs.Made.{stays_with, made_with, alike_with}
+use Rattle.cov_tree.proofs.Once.{shifts_fresh}
+use Rattle.cov_tree.proofs.Rows.{on_ok}
 use Rattle.cov_tree.proofs.plan.EntryPlan.shift.Goals as goal
 use Rattle.cov_tree.proofs.plan.EntryPlan.shift.Goals.{After-shift_entry}
 
@@ -23,29 +25,32 @@ becomes c =
 stays : (c : After-shift_entry) → OnErr c.shift_entry.result (c.shift_entry.new.list.items ≡ planned c.args.self.now c.args.entries.now.newest)
 stays c = subst (λ es. OnErr c.shift_entry.result (c.shift_entry.new.list.items ≡ es)) (list_is c) c.shift_entry.ensures.err
 
-pub returns-clause-makes : goal.returns-clause-makes
-returns-clause-makes c = λ changes m.
-    on_ok c.shift_entry.result _ _
-    (λ b.
-    makes_more c.args.table.now c.shift_entry.new.table c.shift_entry.ensures.extends c.args.entries.now c.shift_entry.new.list.items c.args.self.now changes
-    (change_of c.args.node c.args.shift.now) c.args.ambition c.requires.ambition m b)
-    (becomes c)
+-- a shift makes no node
+nodes_stay : (node : ℕ) (shift : Shift) (ns : List ℕ) → ns ≡ nodes_after (change_of node shift) ns
+nodes_stay node (shifts.Renamed name) ns = refl
+nodes_stay node (shifts.Moved parent) ns = refl
+nodes_stay node shifts.Removed ns = refl
 
-pub returns-clause-within : goal.returns-clause-within
-returns-clause-within c =
-    within_either c.shift_entry.result c.args.table.now c.shift_entry.new.table c.shift_entry.ensures.extends (planned c.args.self.now c.args.entries.now.newest) c.shift_entry.new.list.items
-    (change_of c.args.node c.args.shift.now) c.args.ambition c.requires.within (becomes c) (stays c)
+kinds_stay : (node : ℕ) (shift : Shift) (ks : List (ℕ × Kind)) → ks ≡ kinds_after (change_of node shift) ks
+kinds_stay node (shifts.Renamed name) ks = refl
+kinds_stay node (shifts.Moved parent) ks = refl
+kinds_stay node shifts.Removed ks = refl
 
-pub returns-clause-once : goal.returns-clause-once
-returns-clause-once c =
-    once_either c.shift_entry.result c.args.table.now c.shift_entry.new.table c.shift_entry.ensures.extends (planned c.args.self.now c.args.entries.now.newest) c.shift_entry.new.list.items
-    (change_of c.args.node c.args.shift.now) c.args.ambition c.requires.within c.requires.once
-    (λ d. shifts_fresh c.args.node c.args.shift.now (rows_in c.args.table.now d (planned c.args.self.now c.args.entries.now.newest))) (becomes c) (stays c)
+pub returns-clause-stays : goal.returns-clause-stays
+returns-clause-stays c =
+    stays_with c.shift_entry.result c.args.table.now c.shift_entry.new.table c.shift_entry.ensures.extends c.args.entries.now c.args.self.now c.shift_entry.new.list.items
+    (change_of c.args.node c.args.shift.now) c.args.ambition c.requires.may (becomes c) (stays c)
+    (λ d. shifts_fresh c.args.node c.args.shift.now (rows_in c.args.table.now d (planned c.args.self.now c.args.entries.now.newest)))
 
-pub returns-clause-options : goal.returns-clause-options
-returns-clause-options c =
-    unread_either c.shift_entry.result c.args.table.now c.shift_entry.new.table c.shift_entry.ensures.extends (planned c.args.self.now c.args.entries.now.newest) c.shift_entry.new.list.items
-    (change_of c.args.node c.args.shift.now) c.args.ambition c.requires.within (becomes c) (stays c)
+pub returns-clause-ok : goal.returns-clause-ok
+returns-clause-ok c =
+    let before = planned c.args.self.now c.args.entries.now.newest in
+    made_with c.shift_entry.result c.args.table.now c.shift_entry.new.table c.shift_entry.ensures.extends c.args.entries.now c.args.self.now c.shift_entry.new.list.items
+    (change_of c.args.node c.args.shift.now) c.args.ambition c.requires.may (becomes c)
+    (on_ok c.shift_entry.result _ _ (λ is. is ∙ ap nodes_of (list_is c) ∙ nodes_stay c.args.node c.args.shift.now (nodes_of before)) c.shift_entry.ensures.nodes)
+    (on_ok c.shift_entry.result _ _ (λ is. is ∙ ap kinds_of (list_is c) ∙ kinds_stay c.args.node c.args.shift.now (kinds_of before)) c.shift_entry.ensures.kinds)
 
 pub returns-clause-err : goal.returns-clause-err
-returns-clause-err c = on_err c.shift_entry.result _ _ (alike c.args.entries.now c.args.self.now (Some c.shift_entry.new.list.items)) (stays c)
+returns-clause-err c =
+    alike_with c.shift_entry.result c.args.table.now c.shift_entry.new.table c.shift_entry.ensures.extends c.args.entries.now c.args.self.now c.shift_entry.new.list.items
+    (change_of c.args.node c.args.shift.now) c.args.ambition c.requires.may (becomes c) (stays c)
