@@ -3,40 +3,69 @@ pub use Rattle.cov_edit.proofs.Examples.{absent_anchor, make_m}
 pub use Rattle.cov_edit.proofs.Replays.{all_within, fold-append, none_outside, numbers_from-append, replay-append, replay-commit}
 pub use Rattle.cov_edit.proofs.Rising.{all-rest, opened, rest-is, rest_of}
 pub use Rattle.cov_edit.proofs.TouchedNodes.{touched-rising}
-use Rattle.std.proofs.Common.{◌≡◌, ◌∙◌, refl, ap, ℕ, suc, ◌+◌, ◌≤◌, List, [], ◌∷◌, ◌++◌, length, arith}
+use Rattle.std.proofs.Common.{◌≡◌, ◌∙◌, refl, ap, ℕ, suc, ◌+◌, ◌≤◌, List, [], ◌∷◌, ◌++◌, length, Option, Some, None, arith}
+use Rattle.std.specs.List.{cons_option}
 use Rattle.std.proofs.lemmas.List.Sums.{sum_by-append}
-use Rattle.cov_base.specs.Addresses.{address_in, with_line, with_lines}
-use Rattle.cov_base.specs.Rows.{Created}
+use Rattle.cov_base.specs.Addresses.{with_line, with_lines}
 use Rattle.cov_edit.specs.declared.edit.Edit.{Edit}
 use Rattle.cov_edit.specs.declared.edit.Edit.TheVariants as edits
 use Rattle.cov_edit.specs.History.{text_bytes, edit_bytes}
-use Rattle.cov_edit.specs.Numbering.{Numbers, OnRows, Inserted, Deleted, node_number, line_number, nodes_made, anchors_of, numbered_from}
+use Rattle.cov_edit.specs.Numbering.{Numbers, node_count_after, line_count_after, nodes_made, anchor_of, anchors_of, numbered_edit, numbered_from}
 
 -- what edits make is what the first of them make and then the others
 pub anchors-append : (m : ℕ) (es fs : List Edit) → anchors_of m (es ++ fs) ≡ anchors_of m es ++ anchors_of m fs
 anchors-append m [] fs = refl
-anchors-append m (edits.New kind parent name ∷ es) fs = anchors-append m es fs
-anchors-append m (edits.Delete file line ∷ es) fs = anchors-append m es fs
-anchors-append m (edits.Insert file after text ∷ es) fs = ap (λ l. line_number m after ∷ l) (anchors-append m es fs)
+anchors-append m (e ∷ es) fs = ap (cons_option (anchor_of m e)) (anchors-append m es fs) ∙ behind (anchor_of m e)
+  where
+    behind : (o : Option ℕ) → cons_option o (anchors_of m es ++ anchors_of m fs) ≡ cons_option o (anchors_of m es) ++ anchors_of m fs
+    behind None = refl
+    behind (Some x) = refl
+
+-- nodes and lines that are counted after an edit, or the edit after them
+pub node_count_after-is : (node n : ℕ) (e : Edit) → node + node_count_after n e ≡ node_count_after node e + n
+node_count_after-is node n (edits.New kind parent name) = omega arith
+node_count_after-is node n (edits.Insert file after text) = refl
+node_count_after-is node n (edits.Delete file line) = refl
+node_count_after-is node n (edits.Rename which name) = refl
+node_count_after-is node n (edits.Move which parent) = refl
+node_count_after-is node n (edits.Remove which) = refl
+
+pub line_count_after-is : (line m : ℕ) (e : Edit) (ms : List ℕ) → line + length (cons_option (anchor_of m e) ms) ≡ line_count_after line e + length ms
+line_count_after-is line m (edits.New kind parent name) ms = refl
+line_count_after-is line m (edits.Insert file after text) ms = omega arith
+line_count_after-is line m (edits.Delete file which) ms = refl
+line_count_after-is line m (edits.Rename node name) ms = refl
+line_count_after-is line m (edits.Move node parent) ms = refl
+line_count_after-is line m (edits.Remove node) ms = refl
+
+node_count_after-most : (n : ℕ) (e : Edit) → node_count_after n e ≤ n + 1
+node_count_after-most n (edits.New kind parent name) = omega arith
+node_count_after-most n (edits.Insert file after text) = omega arith
+node_count_after-most n (edits.Delete file line) = omega arith
+node_count_after-most n (edits.Rename node name) = omega arith
+node_count_after-most n (edits.Move node parent) = omega arith
+node_count_after-most n (edits.Remove node) = omega arith
 
 pub nodes-append : (es fs : List Edit) → nodes_made (es ++ fs) ≡ nodes_made es + nodes_made fs
 nodes-append [] fs = omega arith
-nodes-append (edits.New kind parent name ∷ es) fs = let e = nodes-append es fs in omega (arith, e)
-nodes-append (edits.Insert file after text ∷ es) fs = nodes-append es fs
-nodes-append (edits.Delete file line ∷ es) fs = nodes-append es fs
+nodes-append (e ∷ es) fs =
+    let n = nodes-append es fs in
+    let a = node_count_after-is 0 (nodes_made (es ++ fs)) e in
+    let b = node_count_after-is 0 (nodes_made es) e in
+    omega (arith, n, a, b)
 
 -- edits make no more nodes and lines than there are edits
 pub nodes-most : (es : List Edit) → nodes_made es ≤ length es
 nodes-most [] = omega arith
-nodes-most (edits.New kind parent name ∷ es) = let e = nodes-most es in omega (arith, e)
-nodes-most (edits.Insert file after text ∷ es) = let e = nodes-most es in omega (arith, e)
-nodes-most (edits.Delete file line ∷ es) = let e = nodes-most es in omega (arith, e)
+nodes-most (e ∷ es) = let n = nodes-most es in let m = node_count_after-most (nodes_made es) e in omega (arith, n, m)
 
 pub lines-most : (m : ℕ) (es : List Edit) → length (anchors_of m es) ≤ length es
 lines-most m [] = omega arith
-lines-most m (edits.New kind parent name ∷ es) = let e = lines-most m es in omega (arith, e)
-lines-most m (edits.Insert file after text ∷ es) = let e = lines-most m es in omega (arith, e)
-lines-most m (edits.Delete file line ∷ es) = let e = lines-most m es in omega (arith, e)
+lines-most m (e ∷ es) = more (anchor_of m e) (lines-most m es)
+  where
+    more : (o : Option ℕ) → length (anchors_of m es) ≤ length es → length (cons_option o (anchors_of m es)) ≤ suc (length es)
+    more None h = omega (arith, h)
+    more (Some x) h = omega (arith, h)
 
 pub with_lines-append : (t : List (List ℕ)) (ms ns : List ℕ) → with_lines t (ms ++ ns) ≡ with_lines (with_lines t ms) ns
 with_lines-append t [] ns = refl
@@ -49,12 +78,9 @@ numbered-append ns t node line k l m [] fs e f =
     let a : node ≡ k = omega (arith, e) in
     let b : line ≡ l = omega (arith, f) in
     ap (λ x. numbered_from ns t x line fs) a ∙ ap (λ y. numbered_from ns t k y fs) b
-numbered-append ns t node line k l m (edits.New kind parent name ∷ es) fs e f =
-    ap (λ ds. OnRows (Created (node + 1) kind (node_number ns.nodes parent) name) ∷ ds) (numbered-append ns t (node + 1) line k l m es fs (omega (arith, e)) f)
-numbered-append ns t node line k l m (edits.Insert file after text ∷ es) fs e f =
-    ap (λ ds. Inserted (node_number ns.nodes file) (address_in t (line + 1)) text ∷ ds) (numbered-append ns t node (line + 1) k l m es fs e (omega (arith, f)))
-numbered-append ns t node line k l m (edits.Delete file which ∷ es) fs e f =
-    ap (λ ds. Deleted (node_number ns.nodes file) (address_in t (line_number (length ns.addresses) which)) ∷ ds) (numbered-append ns t node line k l m es fs e f)
+numbered-append ns t node line k l m (d ∷ es) fs e f =
+    ap (λ ds. numbered_edit ns t node line d ∷ ds)
+    (numbered-append ns t (node_count_after node d) (line_count_after line d) k l m es fs (e ∙ node_count_after-is node (nodes_made es) d) (f ∙ line_count_after-is line m d (anchors_of m es)))
 
 pub bytes-append : (es fs : List Edit) → text_bytes (es ++ fs) ≡ text_bytes es + text_bytes fs
 bytes-append es fs = sum_by-append edit_bytes es fs
@@ -62,6 +88,8 @@ bytes-append es fs = sum_by-append edit_bytes es fs
 -- edits insert as many lines wherever their numbers begin
 pub anchors-same_count : (m n : ℕ) (es : List Edit) → length (anchors_of m es) ≡ length (anchors_of n es)
 anchors-same_count m n [] = refl
-anchors-same_count m n (edits.New kind parent name ∷ es) = anchors-same_count m n es
-anchors-same_count m n (edits.Delete file line ∷ es) = anchors-same_count m n es
-anchors-same_count m n (edits.Insert file after text ∷ es) = ap suc (anchors-same_count m n es)
+anchors-same_count m n (e ∷ es) =
+    let a = line_count_after-is 0 m e (anchors_of m es) in
+    let b = line_count_after-is 0 n e (anchors_of n es) in
+    let c = anchors-same_count m n es in
+    omega (arith, a, b, c)

@@ -2,6 +2,7 @@
 use Rattle.std.proofs.Common.{◌≡◌, ℕ, Bool, true, false, List, [], ◌∷◌, ◌++◌, map, refl}
 use Rattle.std.specs.Prelude.{codes}
 use Rattle.cov_base.specs.Addresses.{line_of}
+use Rattle.cov_base.specs.Rows.{Row}
 use Rattle.cov_base.specs.declared.number.Kind.TheVariants as kinds
 use Rattle.cov_base.specs.declared.number.NodeRef.TheVariants as nodes
 use Rattle.cov_base.specs.declared.number.LineRef.TheVariants as lines
@@ -14,6 +15,7 @@ use Rattle.cov_edit.specs.History.{text_bytes}
 use Rattle.cov_edit.specs.Variant.{lines_of}
 use Rattle.cov_edit.specs.Replay.{replay}
 use Rattle.cov_edit.specs.Touched.{touched}
+use Rattle.cov_edit.specs.Numbering.{node_count}
 
 -- the number and the text of each line of file 1 in the variant of a choice
 abbrev read : List Bool → List Command → List (ℕ × List ℕ)
@@ -88,3 +90,61 @@ other_file = refl
 
 deletes_touch : touched (edits.Delete (nodes.Old 1) (lines.New 0) ∷ edits.Delete (nodes.New 0) (lines.Old 1) ∷ []) ≡ 1 ∷ []
 deletes_touch = refl
+
+-- a directory with a file and a second directory, then changes of the rows where d is on
+abbrev two_directories : List Command
+two_directories =
+    commands.Option (codes "d")
+    ∷ commands.Commit 1 (true ∷ []) True
+    (edits.New kinds.Dir (nodes.Old 0) (codes "src") ∷ edits.New kinds.File (nodes.New 0) (codes "a.c") ∷ edits.New kinds.Dir (nodes.Old 0) (codes "doc")
+    ∷ edits.Insert (nodes.New 1) (lines.Old 0) (codes "one") ∷ [])
+    ∷ []
+
+abbrev with_changes : List Edit → List Command
+with_changes es = two_directories ++ commands.Commit 2 (true ∷ []) (On 0) es ∷ []
+
+abbrev rows_at : List Bool → List Command → List Row
+rows_at c history = (replay c history).rows
+
+abbrev src : Row
+src = record { node = 1; kind = kinds.Dir; parent = 0; name = codes "src" }
+
+abbrev a_c : Row
+a_c = record { node = 2; kind = kinds.File; parent = 1; name = codes "a.c" }
+
+abbrev doc : Row
+doc = record { node = 3; kind = kinds.Dir; parent = 0; name = codes "doc" }
+
+directories : rows_at (false ∷ []) (with_changes (edits.Rename (nodes.Old 1) (codes "lib") ∷ [])) ≡ src ∷ a_c ∷ doc ∷ []
+directories = refl
+
+renamed_within : rows_at (true ∷ []) (with_changes (edits.Rename (nodes.Old 1) (codes "lib") ∷ []))
+    ≡ record { node = 1; kind = kinds.Dir; parent = 0; name = codes "lib" } ∷ a_c ∷ doc ∷ []
+renamed_within = refl
+
+moved_within : rows_at (true ∷ []) (with_changes (edits.Move (nodes.Old 2) (nodes.Old 3) ∷ []))
+    ≡ src ∷ record { node = 2; kind = kinds.File; parent = 3; name = codes "a.c" } ∷ doc ∷ []
+moved_within = refl
+
+removed_within : rows_at (true ∷ []) (with_changes (edits.Remove (nodes.Old 2) ∷ [])) ≡ src ∷ doc ∷ []
+removed_within = refl
+
+-- an absent file keeps its line, and what comes later for it changes no row
+removed_stays : rows_at (true ∷ []) (with_changes (edits.Remove (nodes.Old 2) ∷ edits.Rename (nodes.Old 2) (codes "b.c") ∷ edits.Move (nodes.Old 2) (nodes.Old 0) ∷ []))
+    ≡ src ∷ doc ∷ []
+removed_stays = refl
+
+removed_keeps_lines : map (λ l. l.text) (lines_of (replay (true ∷ []) (with_changes (edits.Remove (nodes.Old 2) ∷ []))) 2) ≡ codes "one" ∷ []
+removed_keeps_lines = refl
+
+-- a node that the same edits made, moved into another that they made
+own_moved : rows_at (true ∷ []) (with_changes (edits.New kinds.Dir (nodes.Old 3) (codes "x") ∷ edits.New kinds.Dir (nodes.Old 1) (codes "y") ∷ edits.Move (nodes.New 0) (nodes.New 1) ∷ []))
+    ≡ src ∷ a_c ∷ doc ∷ record { node = 4; kind = kinds.Dir; parent = 5; name = codes "x" } ∷ record { node = 5; kind = kinds.Dir; parent = 1; name = codes "y" } ∷ []
+own_moved = refl
+
+changes_make_no_node : node_count (with_changes (edits.Rename (nodes.Old 1) (codes "lib") ∷ edits.Move (nodes.Old 2) (nodes.Old 3) ∷ edits.Remove (nodes.Old 2) ∷ [])) ≡ 4
+changes_make_no_node = refl
+
+-- a rename, a move and a removal touch their node, and a move not the directory into which it goes
+changes_touch : touched (edits.Rename (nodes.Old 5) (codes "x") ∷ edits.Move (nodes.Old 3) (nodes.Old 1) ∷ edits.Remove (nodes.Old 4) ∷ edits.Remove (nodes.New 0) ∷ []) ≡ 3 ∷ 4 ∷ 5 ∷ []
+changes_touch = refl

@@ -9,9 +9,15 @@ abbrev pub has_line_text : Edit → Bool
 has_line_text (edits.New kind parent name) = true
 has_line_text (edits.Insert file after text) = is_line_text text
 has_line_text (edits.Delete file line) = true
+has_line_text (edits.Rename node name) = true
+has_line_text (edits.Move node parent) = true
+has_line_text (edits.Remove node) = true
 
 -- whether an edit's name is well spelt and its text can be a line's
 abbrev pub fits_edit : Edit → Bool
 fits_edit (edits.New kind parent name) = is_name name
 fits_edit (edits.Insert file after text) = is_line_text text
 fits_edit (edits.Delete file line) = true
+fits_edit (edits.Rename node name) = is_name name
+fits_edit (edits.Move node parent) = true
+fits_edit (edits.Remove node) = true

@@ -1,7 +1,8 @@
 -- The numbers of nodes and lines, and the addresses of lines.
-use Rattle.std.specs.Prelude.{ℕ, ◌+◌, List, [], ◌∷◌, length}
+use Rattle.std.specs.Prelude.{ℕ, ◌+◌, List, [], ◌∷◌, length, Option, Some, None}
+use Rattle.std.specs.List.{filter_map}
 use Rattle.cov_base.specs.Addresses.{address_in, with_lines}
-use Rattle.cov_base.specs.Rows.{RowChange, Created}
+use Rattle.cov_base.specs.Rows.{RowChange, Created, Renamed, Moved, Removed}
 use Rattle.cov_base.specs.declared.number.NodeRef.{NodeRef}
 use Rattle.cov_base.specs.declared.number.NodeRef.TheVariants as nodes
 use Rattle.cov_base.specs.declared.number.LineRef.{LineRef}
@@ -30,19 +31,41 @@ abbrev pub line_number : ℕ → LineRef → ℕ
 line_number n (lines.Old x) = x
 line_number n (lines.New i) = n + 1 + i
 
+-- how many nodes there are after an edit, of how many there were before it
+abbrev pub node_count_after : ℕ → Edit → ℕ
+node_count_after node (edits.New kind parent name) = node + 1
+node_count_after node (edits.Insert file after text) = node
+node_count_after node (edits.Delete file line) = node
+node_count_after node (edits.Rename which name) = node
+node_count_after node (edits.Move which parent) = node
+node_count_after node (edits.Remove which) = node
+
+-- how many lines there are after an edit, of how many there were before it
+abbrev pub line_count_after : ℕ → Edit → ℕ
+line_count_after line (edits.New kind parent name) = line
+line_count_after line (edits.Insert file after text) = line + 1
+line_count_after line (edits.Delete file which) = line
+line_count_after line (edits.Rename node name) = line
+line_count_after line (edits.Move node parent) = line
+line_count_after line (edits.Remove node) = line
+
 -- how many nodes edits make
 abbrev pub nodes_made : List Edit → ℕ
 nodes_made [] = 0
-nodes_made (edits.New kind parent name ∷ es) = 1 + nodes_made es
-nodes_made (edits.Insert file after text ∷ es) = nodes_made es
-nodes_made (edits.Delete file line ∷ es) = nodes_made es
+nodes_made (e ∷ es) = node_count_after (nodes_made es) e
+
+-- the anchor of the line that an edit inserts, if it inserts one, n lines having been made before
+abbrev pub anchor_of : ℕ → Edit → Option ℕ
+anchor_of n (edits.New kind parent name) = None
+anchor_of n (edits.Insert file after text) = Some (line_number n after)
+anchor_of n (edits.Delete file line) = None
+anchor_of n (edits.Rename node name) = None
+anchor_of n (edits.Move node parent) = None
+anchor_of n (edits.Remove node) = None
 
 -- the anchors of the lines that edits insert, n lines having been made before
 abbrev pub anchors_of : ℕ → List Edit → List ℕ
-anchors_of n [] = []
-anchors_of n (edits.New kind parent name ∷ es) = anchors_of n es
-anchors_of n (edits.Insert file after text ∷ es) = line_number n after ∷ anchors_of n es
-anchors_of n (edits.Delete file line ∷ es) = anchors_of n es
+anchors_of n es = filter_map (anchor_of n) es
 
 -- the numbers after edits
 abbrev pub numbers_after : Numbers → List Edit → Numbers
@@ -75,16 +98,20 @@ pub data NumberedEdit : Type 0 where
   Inserted : (file : ℕ) (address text : List ℕ) → NumberedEdit
   Deleted : (file : ℕ) (address : List ℕ) → NumberedEdit
 
--- the edits by numbers and addresses: ns are the numbers before them all, table has the addresses of these edits' lines
--- too, and node and line are how many there are before the first of these
+-- an edit by numbers and addresses: ns are the numbers before all edits, table has the addresses of their lines too, and
+-- node and line are how many there are before this one
+abbrev pub numbered_edit : Numbers → List (List ℕ) → ℕ → ℕ → Edit → NumberedEdit
+numbered_edit ns table node line (edits.New kind parent name) = OnRows (Created (node + 1) kind (node_number ns.nodes parent) name)
+numbered_edit ns table node line (edits.Insert file after text) = Inserted (node_number ns.nodes file) (address_in table (line + 1)) text
+numbered_edit ns table node line (edits.Delete file which) = Deleted (node_number ns.nodes file) (address_in table (line_number (length ns.addresses) which))
+numbered_edit ns table node line (edits.Rename which name) = OnRows (Renamed (node_number ns.nodes which) name)
+numbered_edit ns table node line (edits.Move which parent) = OnRows (Moved (node_number ns.nodes which) (node_number ns.nodes parent))
+numbered_edit ns table node line (edits.Remove which) = OnRows (Removed (node_number ns.nodes which))
+
+-- the edits by numbers and addresses, each by those before it
 abbrev pub numbered_from : Numbers → List (List ℕ) → ℕ → ℕ → List Edit → List NumberedEdit
 numbered_from ns table node line [] = []
-numbered_from ns table node line (edits.New kind parent name ∷ es) =
-    OnRows (Created (node + 1) kind (node_number ns.nodes parent) name) ∷ numbered_from ns table (node + 1) line es
-numbered_from ns table node line (edits.Insert file after text ∷ es) =
-    Inserted (node_number ns.nodes file) (address_in table (line + 1)) text ∷ numbered_from ns table node (line + 1) es
-numbered_from ns table node line (edits.Delete file which ∷ es) =
-    Deleted (node_number ns.nodes file) (address_in table (line_number (length ns.addresses) which)) ∷ numbered_from ns table node line es
+numbered_from ns table node line (e ∷ es) = numbered_edit ns table node line e ∷ numbered_from ns table (node_count_after node e) (line_count_after line e) es
 
 -- the edits by numbers and addresses, drawn after these numbers
 abbrev pub numbered : Numbers → List Edit → List NumberedEdit

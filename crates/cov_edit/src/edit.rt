@@ -25,6 +25,20 @@ pub enum Edit {
         file: NodeRef,
         line: LineRef,
     },
+    /// Gives a file or directory another name in its directory.
+    Rename {
+        node: NodeRef,
+        name: Name,
+    },
+    /// Puts a file or directory into another directory.
+    Move {
+        node: NodeRef,
+        parent: NodeRef,
+    },
+    /// Takes out a file or a directory.
+    Remove {
+        node: NodeRef,
+    },
 }
 
 impl Edit {
@@ -47,6 +61,15 @@ impl Edit {
                 file: *file,
                 line: *line,
             }),
+            Edit::Rename { node, name } => Ok(Edit::Rename {
+                node: *node,
+                name: name.copy()?,
+            }),
+            Edit::Move { node, parent } => Ok(Edit::Move {
+                node: *node,
+                parent: *parent,
+            }),
+            Edit::Remove { node } => Ok(Edit::Remove { node: *node }),
         }
     }
 
@@ -55,10 +78,11 @@ impl Edit {
         ensures { fits_edit self.now ≡ has_line_text self.now }
     {
         match self {
-            Edit::New { name, .. } => {
+            Edit::New { name, .. } | Edit::Rename { name, .. } => {
                 name.as_slice();
             }
-            Edit::Insert { .. } | Edit::Delete { .. } => {}
+            Edit::Insert { .. } | Edit::Delete { .. } | Edit::Move { .. } | Edit::Remove { .. } =>
+                {}
         }
     }
 }

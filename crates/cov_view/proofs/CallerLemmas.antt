@@ -1,17 +1,19 @@
--- Lemmas on refusals and references, for the proofs of callers.
+-- Lemmas on refusals, references and rows of a history's nodes, for the proofs of callers.
 pub use Rattle.cov_view.proofs.Changes.{not_there}
+pub use Rattle.cov_view.proofs.Placed.{old-append, rows-old}
 pub use Rattle.cov_view.proofs.Refusing.{fault-by}
-use Rattle.std.proofs.Common.{◌≡◌, ℕ, zero, suc, Bool, true, false, ◌||◌, not, List, [], ◌∷◌, ◌++◌, Option, Some, None, refl, arith}
+use Rattle.std.proofs.Common.{◌≡◌, ℕ, zero, suc, Bool, true, false, ◌||◌, not, List, [], ◌∷◌, ◌++◌, length, Option, Some, None, refl, arith}
 use Rattle.std.proofs.lemmas.Bool.{and_parts, not-false, or_parts}
 use Rattle.cov_base.specs.declared.number.Kind.{Kind}
 use Rattle.cov_base.specs.declared.number.NodeRef.{NodeRef}
 use Rattle.cov_base.specs.declared.number.LineRef.{LineRef}
 use Rattle.cov_base.specs.declared.number.LineRef.TheVariants as lines
+use Rattle.cov_base.specs.Rows.{row_of}
 use Rattle.cov_edit.specs.declared.edit.Edit.TheVariants as edits
 use Rattle.cov_edit.specs.Numbering.{Numbers, node_number, line_number}
 use Rattle.cov_edit.specs.Variant.{Variant}
-use Rattle.cov_view.specs.References.{is_head, is_known_node}
-use Rattle.cov_view.specs.Refusals.{when, first_of, shows_node, is_dir, shows_line, has_name, refusal}
+use Rattle.cov_view.specs.References.{is_root, is_head, is_known_node}
+use Rattle.cov_view.specs.Refusals.{when, first_of, shows_node, is_dir, shows_line, has_name, has_name_beside, has_name_of, is_within, is_parent, refusal}
 
 module _ {F : Type 0} where
   -- a test that doesn't hold refuses nothing
@@ -72,6 +74,41 @@ module _ (ns : Numbers) (v : Variant) where
       let had = none-when (is_head line || not (shows_line ns v (node_number ns.nodes file) line)) _ _ a_file.1 in
       let parts = or_parts (is_head line) (not (shows_line ns v (node_number ns.nodes file) line)) had.0 in
       (not-false _ there.0, parts.0, not-false _ parts.1)
+
+  -- another name that isn't refused is that of a node below the root, and its directory has none of that name
+  pub rename-accepted : (node : NodeRef) (name : List ℕ) → refusal ns v (edits.Rename node name) ≡ None
+      → (is_root node ≡ false) × (shows_node ns v node ≡ true) × (has_name_beside v.rows (row_of v.rows (node_number ns.nodes node)) name ≡ false)
+  rename-accepted node name h =
+      let below = none-when (is_root node) _ _ h in
+      let there = none-when (not (shows_node ns v node)) _ _ below.1 in
+      (below.0, not-false _ there.0, (none-when (has_name_beside v.rows (row_of v.rows (node_number ns.nodes node)) name) _ _ there.1).0)
+
+  -- a move that isn't refused is of a node below the root, into a directory that isn't within it and has none of its name
+  pub move-accepted : (node parent : NodeRef) → refusal ns v (edits.Move node parent) ≡ None
+      → (is_root node ≡ false) × (shows_node ns v node ≡ true) × (shows_node ns v parent ≡ true) × (is_dir v.rows (node_number ns.nodes parent) ≡ true)
+      × (is_within v.rows (length v.rows) (node_number ns.nodes node) (node_number ns.nodes parent) ≡ false)
+      × (has_name_of v.rows (node_number ns.nodes parent) (row_of v.rows (node_number ns.nodes node)) ≡ false)
+  move-accepted node parent h =
+      let below = none-when (is_root node) _ _ h in
+      let there = none-when (not (shows_node ns v node)) _ _ below.1 in
+      let into = none-when (not (shows_node ns v parent)) _ _ there.1 in
+      let a_dir = none-when (not (is_dir v.rows (node_number ns.nodes parent))) _ _ into.1 in
+      let apart = none-when (is_within v.rows (length v.rows) (node_number ns.nodes node) (node_number ns.nodes parent)) _ _ a_dir.1 in (
+        below.0,
+        not-false _ there.0,
+        not-false _ into.0,
+        not-false _ a_dir.0,
+        apart.0,
+        (none-when (has_name_of v.rows (node_number ns.nodes parent) (row_of v.rows (node_number ns.nodes node))) _ _ apart.1).0,
+      )
+
+  -- a removal that isn't refused is of a node below the root that is no node's parent
+  pub remove-accepted : (node : NodeRef) → refusal ns v (edits.Remove node) ≡ None
+      → (is_root node ≡ false) × (shows_node ns v node ≡ true) × (is_parent v.rows (node_number ns.nodes node) ≡ false)
+  remove-accepted node h =
+      let below = none-when (is_root node) _ _ h in
+      let there = none-when (not (shows_node ns v node)) _ _ below.1 in
+      (below.0, not-false _ there.0, (none-when (is_parent v.rows (node_number ns.nodes node)) _ _ there.1).0)
 
 -- the head has number 0
 pub head-number : (n : ℕ) (line : LineRef) → is_head line ≡ true → line_number n line ≡ 0

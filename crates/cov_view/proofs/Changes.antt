@@ -1,7 +1,6 @@
 -- Rows that change.
 use Rattle.std.proofs.Common.{◌≡◌, ℕ, suc, ◌+◌, ◌<◌, ◌≤◌, Bool, true, false, cond, ◌||◌, not, nat_lt, List, [], ◌∷◌, ◌++◌, length, get_or, set, Some, None, Result, Ok, Err, OnOk, OnErr, option_map, position, refl, sym, ap, subst, ◌∙◌, arith}
 use Rattle.std.specs.List.{position_or_len}
-use Rattle.std.proofs.lemmas.Bool.{or_from, or_parts}
 use Rattle.std.proofs.lemmas.Bool.Decides.{nat_tests}
 use Rattle.std.proofs.lemmas.Bool.{or_parts, or_from}
 use Rattle.cov_base.specs.declared.number.Kind.TheVariants as kinds
@@ -11,6 +10,7 @@ use Rattle.cov_view.specs.References.{is_root, same_node, is_new_below}
 use Rattle.cov_view.specs.Seen.{row_at, has_row, kind_in, at_row, with_lines_by, AreRows}
 use Rattle.cov_view.specs.declared.line.ViewLine.{ViewLine}
 use Rattle.cov_view.specs.declared.row.ViewRow.{ViewRow}
+use Rattle.cov_view.proofs.Standing.{same_node-sym, has_row-append, rows-changed}
 
 set_first : (node : NodeRef) (f : ViewRow → ViewRow) (rows : List ViewRow) (d : ViewRow) → position_or_len (λ r. same_node r.node node) rows < length rows
     → set rows (position_or_len (λ r. same_node r.node node) rows) (f (get_or rows (position_or_len (λ r. same_node r.node node) rows) d)) ≡ at_row node f rows
@@ -65,35 +65,6 @@ pub lines_set : (node : NodeRef) (f : List ViewLine → List ViewLine) (rows : L
     → ls ≡ f (get_or rows i d).lines → set rows i (with_lines_by (λ old. ls) (get_or rows i d)) ≡ at_row node (with_lines_by f) rows
 lines_set node f rows d i ls found is = ap (λ new. set rows i (with_lines_by (λ old. new) (get_or rows i d))) is ∙ set_found node (with_lines_by f) rows d i found
 
-pub same_node-sym : (a b : NodeRef) → same_node a b ≡ same_node b a
-same_node-sym (nodes.Old x) (nodes.Old y) = grind (arith, nat_tests)
-same_node-sym (nodes.Old x) (nodes.New j) = refl
-same_node-sym (nodes.New i) (nodes.Old y) = refl
-same_node-sym (nodes.New i) (nodes.New j) = grind (arith, nat_tests)
-
-has_row-lines : (n node : NodeRef) (f : List ViewLine → List ViewLine) (rows : List ViewRow) → has_row (at_row node (with_lines_by f) rows) n ≡ has_row rows n
-has_row-lines n node f [] = refl
-has_row-lines n node f (r ∷ rows) = at (same_node r.node node) (has_row-lines n node f rows)
-  where
-    at : (b : Bool) → has_row (at_row node (with_lines_by f) rows) n ≡ has_row rows n
-        → has_row (cond b (with_lines_by f r ∷ rows) (r ∷ at_row node (with_lines_by f) rows)) n ≡ (same_node r.node n || has_row rows n)
-    at true rest = refl
-    at false rest = ap (λ b. same_node r.node n || b) rest
-
--- other lines of a node leave the rows as they are
-pub rows-lines : (made : ℕ) (node : NodeRef) (f : List ViewLine → List ViewLine) (rows : List ViewRow) → AreRows made rows → AreRows made (at_row node (with_lines_by f) rows)
-rows-lines made node f [] h = tt
-rows-lines made node f (r ∷ rows) h = at (same_node r.node node) (rows-lines made node f rows h.3)
-  where
-    at : (b : Bool) → AreRows made (at_row node (with_lines_by f) rows) → AreRows made (cond b (with_lines_by f r ∷ rows) (r ∷ at_row node (with_lines_by f) rows))
-    at true rest = h
-    at false rest = (h.0, h.1, has_row-lines r.node node f rows ∙ h.2, rest)
-
-has_row-append : (n : NodeRef) (rows : List ViewRow) (r : ViewRow) → has_row rows n ≡ false → same_node r.node n ≡ false → has_row (rows ++ r ∷ []) n ≡ false
-has_row-append n [] r h e = or_from (same_node r.node n) false e refl
-has_row-append n (q ∷ rows) r h e =
-    or_from (same_node q.node n) (has_row (rows ++ r ∷ []) n) (or_parts (same_node q.node n) (has_row rows n) h).0 (has_row-append n rows r (or_parts (same_node q.node n) (has_row rows n) h).1 e)
-
 -- a new node's row joins the rows
 pub rows-append : (made : ℕ) (rows : List ViewRow) (r : ViewRow) → AreRows made rows → is_root r.node ≡ false → is_new_below made r.node ≡ true → has_row rows r.node ≡ false
     → AreRows made (rows ++ r ∷ [])
@@ -139,11 +110,11 @@ not_there rows node h = at (is_root node) h
     at true k = absurd (cc)
     at false k = (refl, row_none rows node k)
 
--- the rows stay rows whether or not a line was added
-pub rows-kept : {A F : Type 0} (r : Result A F) (made : ℕ) (node : NodeRef) (f : List ViewLine → List ViewLine) (old new : List ViewRow)
-    → OnOk r (new ≡ at_row node (with_lines_by f) old) → OnErr r (new ≡ old) → AreRows made old → AreRows made new
-rows-kept (Ok x) made node f old new ok err h = subst (AreRows made) (sym ok) (rows-lines made node f old h)
-rows-kept (Err e) made node f old new ok err h = subst (AreRows made) (sym err) h
+-- the rows stay rows whether or not one was changed, which keeps its node
+pub rows-kept : {A F : Type 0} (r : Result A F) (made : ℕ) (node : NodeRef) (f : ViewRow → ViewRow) → ((q : ViewRow) → (f q).node ≡ q.node) → (old new : List ViewRow)
+    → OnOk r (new ≡ at_row node f old) → OnErr r (new ≡ old) → AreRows made old → AreRows made new
+rows-kept (Ok x) made node f same old new ok err h = subst (AreRows made) (sym ok) (rows-changed node f same made old h)
+rows-kept (Err e) made node f same old new ok err h = subst (AreRows made) (sym err) h
 
 -- the rows stay rows whether or not a node's row was added
 pub rows-added : {A F : Type 0} (q : Result A F) (made : ℕ) (old new : List ViewRow) (r : ViewRow) → OnOk q (new ≡ old ++ r ∷ []) → OnErr q (new ≡ old) → AreRows made old

@@ -18,7 +18,8 @@ use Rattle.cov_view.specs.Views.{line_by_number, by_number, ShowsLines, IsMade, 
 use Rattle.cov_view.specs.declared.line.ViewLine.{ViewLine}
 use Rattle.cov_view.specs.declared.row.ViewRow.{ViewRow}
 use Rattle.cov_view.proofs.Naming.{same-node, same-line, node-same, made-known, made-known_line}
-use Rattle.cov_view.proofs.Inserts.{rows-same, all-at_row}
+use Rattle.cov_view.proofs.Inserts.{rows-same}
+use Rattle.cov_view.proofs.Standing.{stand-once, all-at_row}
 
 filter-same : {X : Type 0} (p q : X → Bool) (xs : List X) → AllByRecursion (λ x. p x ≡ q x) xs → filter p xs ≡ filter q xs
 filter-same p q [] h = refl
@@ -125,11 +126,11 @@ module _ (ns : Numbers) (table : List (List ℕ)) (s : Seen) (v : Variant) (show
     lines = all-at_row Stays (ShowsLines ns v') file (with_lines_by (without_ref line))
         (λ r e p. own-lines r e p.1.1 p.0)
         (λ r e p. other-lines r e (and_parts (is_made_node ns.nodes s.nodes_made r.node) (is_made_node ns.nodes s.nodes_made r.parent) p.1.0).0 p.0)
-        s.nodes_made s.rows once (all-both (ShowsLines ns v) (IsMade ns s) Stays (λ r h k. (h, k)) s.rows shows.lines shows.made);
+        s.rows (stand-once s.nodes_made s.rows once) (all-both (ShowsLines ns v) (IsMade ns s) Stays (λ r h k. (h, k)) s.rows shows.lines shows.made);
     made = all-at_row (IsMade ns s) (IsMade ns (seen_after s (edits.Delete file line))) file (with_lines_by (without_ref line))
         (λ r e p. (p.0, all-filter (λ (l : ViewLine). is_made_line (length ns.addresses) s.lines_made l.line ≡ true) (λ l. not (same_line l.line line)) r.lines p.1))
         (λ r e p. p)
-        s.nodes_made s.rows once shows.made;
+        s.rows (stand-once s.nodes_made s.rows once) shows.made;
     in_order = in_order-filter line_address (λ l. not (is_line (node_number ns.nodes file) (address_in table N) l)) v.lines shows.in_order;
     files = all-filter (λ (l : Line). l.file ≤ ns.nodes + s.nodes_made) (λ l. not (is_line (node_number ns.nodes file) (address_in table N) l)) v.lines shows.files;
     addresses = all-filter (λ (l : Line). IsLineOf table (length table) l.address) (λ l. not (is_line (node_number ns.nodes file) (address_in table N) l)) v.lines shows.addresses;

@@ -1,7 +1,9 @@
 -- What a view finds is what each variant that it shows has.
 use Rattle.std.proofs.Common.{◌≡◌, ℕ, zero, suc, Bool, true, false, cond, ◌&&◌, nat_eq, IfSome, IfOk, OnOk, Result, Ok, Err, nat_le, List, [], ◌∷◌, map, Option, Some, None, is_some, option_map, refl, sym, ap, subst, ◌∙◌, arith}
 use Rattle.std.specs.Str.{bytes_eq}
-use Rattle.std.specs.List.{find, AllByRecursion}
+use Rattle.std.specs.List.{filter, find, AllByRecursion}
+use Rattle.std.specs.List.Sorted.{IsPermutation}
+use Rattle.cov_view.proofs.Listed.{listed-shown}
 use Rattle.std.proofs.lemmas.Bool.Decides.{nat_tests}
 use Rattle.std.proofs.lemmas.Bool.{and_parts}
 use Rattle.cov_base.specs.declared.number.Kind.{Kind}
@@ -11,20 +13,19 @@ use Rattle.cov_base.specs.declared.number.NodeRef.TheVariants as nodes
 use Rattle.cov_base.specs.Rows.{Row, row_of}
 use Rattle.cov_edit.specs.Numbering.{Numbers, node_number}
 use Rattle.cov_edit.specs.Variant.{Variant}
+use Rattle.cov_view.specs.Listing.{IsListingOf, in_listing_order, listed, listed_in}
+use Rattle.cov_view.specs.declared.listing.DirRow.{DirRow}
 use Rattle.cov_view.specs.References.{is_root, is_dir_kind, same_node, is_known_node, is_made_node}
 use Rattle.cov_view.specs.Refusals.{shows_node, is_dir}
 use Rattle.cov_view.specs.Paths.{from_number, child_node, path_node, kind_of, shown_kind, AreLinesOf}
-use Rattle.cov_view.specs.Seen.{Seen, row_at, kind_in, child_in, from_node, node_at, file_lines, lines_in}
+use Rattle.cov_view.specs.Seen.{Seen, row_at, kind_in, kind_is_dir, child_in, from_node, node_at, file_lines, lines_in}
 use Rattle.cov_view.specs.Views.{row_by_number, IsMade, Shows}
 use Rattle.cov_view.specs.declared.line.ViewLine.{ViewLine}
 use Rattle.cov_view.specs.declared.row.ViewRow.{ViewRow}
-use Rattle.cov_view.proofs.Naming.{same-node, row-known, row-unknown, below_root, kind_below, there-known, kind_is_dir, dir}
+use Rattle.cov_view.proofs.Naming.{same-node, row-known, row-unknown, below_root, kind_below, there-known, dir}
 use Rattle.cov_view.proofs.Refusing.{file_row, shown_lines, made_lines, here, is_dir-rows}
-use Rattle.cov_view.proofs.Showing.{there-made}
-
-node-itself : (a : NodeRef) → same_node a a ≡ true
-node-itself (nodes.Old x) = grind (arith, nat_tests)
-node-itself (nodes.New i) = grind (arith, nat_tests)
+use Rattle.cov_view.proofs.Refusing.{there-made}
+use Rattle.cov_view.proofs.Standing.{node-itself}
 
 -- a row that is found is that of its node, which is there
 found-there : (p : ViewRow → Bool) (rows : List ViewRow) (r : ViewRow) → find p rows ≡ Some r → is_some (row_at rows r.node) ≡ true
@@ -71,10 +72,6 @@ node-there rows (name ∷ names) dir node h e = at (child_in rows dir name) refl
         → is_some (kind_in rows node) ≡ true
     at None f k rest = absurd (cc)
     at (Some child) f k rest = rest child (child-there rows dir name child f) k
-
-node-cond : {X Y : Type 0} (g : X → Y) (b : Bool) (x : X) (o : Option X) → option_map g (cond b (Some x) o) ≡ cond b (Some (g x)) (option_map g o)
-node-cond g true x o = refl
-node-cond g false x o = refl
 
 module _ (ns : Numbers) (s : Seen) where
   -- a name leads from a directory to one node, by references and by numbers
@@ -182,6 +179,16 @@ module _ (ns : Numbers) (table : List (List ℕ)) (s : Seen) (v : Variant) (show
       lines-are : (r : ViewRow) → r.kind ≡ kinds.File → file_lines (Some r) ≡ Some ls → r.lines ≡ ls
       lines-are r k f = (let g : Some r.lines ≡ Some ls = sym (ap (λ (x : Kind). cond (is_dir_kind x) None (Some r.lines)) k) ∙ f in cc)
 
+  -- a listing in a view is one of its variant
+  pub listing-shown : (node : NodeRef) (listing : List DirRow) → kind_in s.rows node ≡ Some kinds.Dir → listing ≡ listed_in s.rows node → IsListingOf ns v node listing
+  listing-shown node listing kind h = record {
+    there = there-shown node kinds.Dir kind;
+    is_directory = dir-shown node kinds.Dir kind;
+    rows = h
+        ∙ sym (ap (λ (rows : List Row). listed rows (node_number ns.nodes node)) shows.rows
+        ∙ ap in_listing_order (listed-shown ns s node s.rows (there-known ns s s.rows shows.made node (ap is_some kind)) shows.made));
+  }
+
 pub some : {A : Type 0} (o : Option A) (P : A → Type 0) → ((x : A) → o ≡ Some x → P x) → IfSome o P
 some None P f = tt
 some (Some x) P f = f x refl
@@ -189,3 +196,7 @@ some (Some x) P f = f x refl
 pub ok : {A F : Type 0} (r : Result A F) (P : Type 0) (Q R : A → Type 0) → OnOk r P → IfOk r Q → ((x : A) → P → Q x → R x) → IfOk r R
 ok (Ok x) P Q R p q f = f x p q
 ok (Err e) P Q R p q f = tt
+
+pub if-ok : {A F : Type 0} (r : Result A F) (P Q : A → Type 0) → IfOk r P → ((x : A) → P x → Q x) → IfOk r Q
+if-ok (Ok x) P Q p f = f x p
+if-ok (Err e) P Q p f = tt

@@ -2,7 +2,7 @@
 use Rattle.std.proofs.Common.{◌≡◌, ℕ, zero, suc, ◌+◌, ◌<◌, ◌≤◌, Bool, true, false, cond, ◌||◌, nat_eq, List, [], ◌∷◌, ◌++◌, length, map, Some, ◌⊎◌, inl, inr, refl, sym, ap, subst, ◌∙◌, arith}
 use Rattle.std.specs.List.{list_any, AllByRecursion}
 use Rattle.std.proofs.lemmas.Bool.Decides.{nat_tests}
-use Rattle.std.proofs.lemmas.Bool.{and_parts, or_parts}
+use Rattle.std.proofs.lemmas.Bool.{and_parts}
 use Rattle.cov_base.specs.declared.number.NodeRef.{NodeRef}
 use Rattle.cov_base.specs.declared.number.LineRef.{LineRef}
 use Rattle.cov_base.specs.declared.number.LineRef.TheVariants as lines
@@ -13,13 +13,14 @@ use Rattle.cov_edit.specs.Numbering.{Numbers, Inserted, node_number, line_number
 use Rattle.cov_edit.specs.Variant.{Variant, Line, line_address, lines_of, edited}
 use Rattle.cov_view.specs.References.{is_head, same_node, same_line, is_known_line, is_made_node, is_made_line}
 use Rattle.cov_view.specs.Lines.{is_among, after_ref}
-use Rattle.cov_view.specs.Seen.{Seen, row_at, has_row, at_row, with_lines_by, seen_after, AreRows}
+use Rattle.cov_view.specs.Seen.{Seen, row_at, at_row, with_lines_by, seen_after, AreRows}
 use Rattle.cov_view.specs.Views.{row_by_number, line_by_number, by_number, ShowsLines, IsMade, Shows}
 use Rattle.cov_view.specs.declared.line.ViewLine.{ViewLine}
 use Rattle.cov_view.specs.declared.row.ViewRow.{ViewRow}
 use Rattle.cov_view.proofs.Naming.{same-node, same-line, node-same, line-same, made-known, made-known_line, made-number, made-line_number, made-more_line}
 use Rattle.cov_view.proofs.CallerLemmas.{head-number}
 use Rattle.cov_view.proofs.Refusing.{among-known}
+use Rattle.cov_view.proofs.Standing.{stand-once, all-at_row, only-found}
 
 pub rows-same : (ns : Numbers) (file : NodeRef) (f : List ViewLine → List ViewLine) (rows : List ViewRow) → map (row_by_number ns) (at_row file (with_lines_by f) rows) ≡ map (row_by_number ns) rows
 rows-same ns file f [] = refl
@@ -29,46 +30,6 @@ rows-same ns file f (r ∷ rows) = at (same_node r.node file) (rows-same ns file
         → map (row_by_number ns) (cond b (with_lines_by f r ∷ rows) (r ∷ at_row file (with_lines_by f) rows)) ≡ map (row_by_number ns) (r ∷ rows)
     at true rest = refl
     at false rest = ap (λ l. row_by_number ns r ∷ l) rest
-
-module _ (P Q : ViewRow → Type 0) (node : NodeRef) (f : ViewRow → ViewRow)
-    (one : (r : ViewRow) → same_node r.node node ≡ true → P r → Q (f r)) (other : (r : ViewRow) → same_node r.node node ≡ false → P r → Q r) where
-  all-others : (rows : List ViewRow) → has_row rows node ≡ false → AllByRecursion P rows → AllByRecursion Q rows
-  all-others [] h all = tt
-  all-others (r ∷ rows) h all =
-      let apart = or_parts (same_node r.node node) (has_row rows node) h in
-      (other r apart.0 all.0, all-others rows apart.1 all.1)
-
-  -- what the changed row has and what all others have
-  pub all-at_row : (made : ℕ) (rows : List ViewRow) → AreRows made rows → AllByRecursion P rows → AllByRecursion Q (at_row node f rows)
-  all-at_row made [] once all = tt
-  all-at_row made (r ∷ rows) once all = at (same_node r.node node) refl (all-at_row made rows once.3 all.1)
-    where
-      at : (b : Bool) → same_node r.node node ≡ b → AllByRecursion Q (at_row node f rows) → AllByRecursion Q (cond b (f r ∷ rows) (r ∷ at_row node f rows))
-      at true e rest = (one r e all.0, all-others rows (ap (has_row rows) (sym (node-same r.node node e)) ∙ once.2) all.1)
-      at false e rest = (other r e all.0, rest)
-
-none-found : (file : NodeRef) (A : ViewRow → Type 0) (rows : List ViewRow) → has_row rows file ≡ false → AllByRecursion (λ r. same_node r.node file ≡ true → A r) rows
-none-found file A [] h = tt
-none-found file A (r ∷ rows) h = at (same_node r.node file) refl h (λ k. none-found file A rows k)
-  where
-    at : (b : Bool) → same_node r.node file ≡ b → (b || has_row rows file) ≡ false → (has_row rows file ≡ false → AllByRecursion (λ q. same_node q.node file ≡ true → A q) rows)
-        → AllByRecursion (λ q. same_node q.node file ≡ true → A q) (r ∷ rows)
-    at true e k rest = absurd (cc)
-    at false e k rest = ((λ t. absurd (cc)), rest k)
-
--- the one row of a node is the row that is found
-only-found : (made : ℕ) (file : NodeRef) (A : ViewRow → Type 0) (rows : List ViewRow) → AreRows made rows → ((r : ViewRow) → row_at rows file ≡ Some r → A r)
-    → AllByRecursion (λ r. same_node r.node file ≡ true → A r) rows
-only-found made file A [] once h = tt
-only-found made file A (r ∷ rows) once h = at (same_node r.node file) refl (λ k. only-found made file A rows once.3 k)
-  where
-    at : (b : Bool) → same_node r.node file ≡ b → (((q : ViewRow) → row_at rows file ≡ Some q → A q) → AllByRecursion (λ q. same_node q.node file ≡ true → A q) rows)
-        → AllByRecursion (λ q. same_node q.node file ≡ true → A q) (r ∷ rows)
-    at true e rest = (
-      (λ t. h r (ap (λ b. cond b (Some r) (row_at rows file)) e)),
-      none-found file A rows (ap (has_row rows) (sym (node-same r.node file e)) ∙ once.2),
-    )
-    at false e rest = ((λ t. absurd (cc)), rest (λ q k. h q (ap (λ b. cond b (Some r) (row_at rows file)) e ∙ k)))
 
 after_first-same : {X : Type 0} (t u : X → Bool) (x : X) (ys : List X) → AllByRecursion (λ y. t y ≡ u y) ys → after_first t x ys ≡ after_first u x ys
 after_first-same t u x [] h = refl
@@ -243,11 +204,11 @@ module _ (ns : Numbers) (table : List (List ℕ)) (s : Seen) (v : Variant) (show
     lines = all-at_row Stays (ShowsLines ns (edited v (Inserted (node_number ns.nodes file) (line_address (next_line ns table file after text)) text))) file (with_lines_by (after_ref after (next_seen s text)))
         (λ r e p. own-lines r e p.1.1 (p.2 e) p.0)
         (λ r e p. other-lines r e (and_parts (is_made_node ns.nodes s.nodes_made r.node) (is_made_node ns.nodes s.nodes_made r.parent) p.1.0).0 p.0)
-        s.nodes_made s.rows once all_kept;
+        s.rows (stand-once s.nodes_made s.rows once) all_kept;
     made = all-at_row (IsMade ns s) (IsMade ns (seen_after s (edits.Insert file after text))) file (with_lines_by (after_ref after (next_seen s text)))
         (λ r e p. (p.0, all-after_ref IsMadeLine after (next_seen s text) r.lines (grind (arith, nat_tests)) (more r.lines p.1)))
         (λ r e p. (p.0, more r.lines p.1))
-        s.nodes_made s.rows once shows.made;
+        s.rows (stand-once s.nodes_made s.rows once) shows.made;
     in_order = placed-in_order line_address (next_line ns table file after text) v.lines shows.in_order
         (all-map (λ (l : Line). IsLineOf table (length table) l.address)
         (λ l. stands_before (line_address (next_line ns table file after text)) (line_address l) ≡ false → stands_before (line_address l) (line_address (next_line ns table file after text)) ≡ true)
@@ -262,7 +223,7 @@ module _ (ns : Numbers) (table : List (List ℕ)) (s : Seen) (v : Variant) (show
   }
     where
       anchors : AllByRecursion (λ (r : ViewRow). same_node r.node file ≡ true → (is_head after || is_among after r.lines) ≡ true) s.rows
-      anchors = only-found s.nodes_made file (λ r. (is_head after || is_among after r.lines) ≡ true) s.rows once anchor
+      anchors = only-found file (λ r. (is_head after || is_among after r.lines) ≡ true) s.rows (stand-once s.nodes_made s.rows once) anchor
 
       all_kept : AllByRecursion Stays s.rows
       all_kept =

@@ -5,7 +5,6 @@ use Rattle.std.specs.Str.{bytes_eq}
 use Rattle.std.proofs.lemmas.Bool.Decides.{nat_tests}
 use Rattle.std.proofs.lemmas.Bool.{and_parts}
 use Rattle.cov_base.proofs.CallerLemmas.{is_some-map}
-use Rattle.cov_base.specs.declared.number.Kind.{Kind}
 use Rattle.cov_base.specs.declared.number.Kind.TheVariants as kinds
 use Rattle.cov_base.specs.declared.number.NodeRef.{NodeRef}
 use Rattle.cov_base.specs.declared.number.NodeRef.TheVariants as nodes
@@ -13,9 +12,9 @@ use Rattle.cov_base.specs.declared.number.LineRef.{LineRef}
 use Rattle.cov_base.specs.declared.number.LineRef.TheVariants as lines
 use Rattle.cov_base.specs.Rows.{Row, row_of, is_present}
 use Rattle.cov_edit.specs.Numbering.{Numbers, node_number, line_number}
-use Rattle.cov_view.specs.References.{is_root, is_dir_kind, same_node, same_line, is_known_node, is_known_line, is_made_node, is_made_line}
+use Rattle.cov_view.specs.References.{is_root, same_node, same_line, is_known_node, is_known_line, is_made_node, is_made_line}
 use Rattle.cov_view.specs.Refusals.{row_is_dir, is_dir, has_name}
-use Rattle.cov_view.specs.Seen.{Seen, row_at, kind_in, has_child}
+use Rattle.cov_view.specs.Seen.{Seen, row_at, kind_in, kind_is_dir, has_child}
 use Rattle.cov_view.specs.Views.{row_by_number, IsMade}
 use Rattle.cov_view.specs.declared.row.ViewRow.{ViewRow}
 
@@ -117,11 +116,6 @@ any-row (r ∷ rows) n = at (nat_eq r.node n) (any-row rows n)
     at : (b : Bool) → list_any (λ q. nat_eq q.node n) rows ≡ is_some (row_of rows n) → (b || list_any (λ q. nat_eq q.node n) rows) ≡ is_some (cond b (Some r) (row_of rows n))
     at true rest = refl
     at false rest = rest
-
--- whether a kind is there and is that of directories
-abbrev pub kind_is_dir : Option Kind → Bool
-kind_is_dir None = false
-kind_is_dir (Some k) = is_dir_kind k
 
 not_zero : (rows : List Row) (n : ℕ) → (n ≡ 0 → ⊥) → is_dir rows n ≡ row_is_dir (row_of rows n)
 not_zero rows zero h = absurd (h refl)

@@ -1,10 +1,9 @@
 -- A view still shows its variant after an edit of both.
-use Rattle.std.proofs.Common.{◌≡◌, ℕ, zero, suc, ◌+◌, ◌≤◌, Bool, true, false, cond, nat_eq, nat_lt, List, [], ◌∷◌, ◌++◌, map, Option, Some, None, is_some, option_map, refl, sym, ap, subst, ◌∙◌, arith}
+use Rattle.std.proofs.Common.{◌≡◌, ℕ, ◌+◌, ◌≤◌, Bool, true, false, cond, nat_eq, nat_lt, List, [], ◌∷◌, ◌++◌, map, refl, sym, ap, ◌∙◌, arith}
 use Rattle.std.specs.List.{filter, AllByRecursion}
 use Rattle.std.proofs.lemmas.Bool.Decides.{nat_tests}
 use Rattle.std.proofs.lemmas.Bool.{and_from, and_parts}
 use Rattle.cov_base.specs.declared.number.Kind.{Kind}
-use Rattle.cov_base.specs.declared.number.Kind.TheVariants as kinds
 use Rattle.cov_base.specs.declared.number.NodeRef.{NodeRef}
 use Rattle.cov_base.specs.declared.number.NodeRef.TheVariants as nodes
 use Rattle.cov_base.specs.Rows.{Row, Created}
@@ -12,12 +11,11 @@ use Rattle.cov_base.proofs.CallerLemmas.{all-map, all-append}
 use Rattle.cov_edit.specs.declared.edit.Edit.TheVariants as edits
 use Rattle.cov_edit.specs.Numbering.{Numbers, OnRows, node_number}
 use Rattle.cov_edit.specs.Variant.{Variant, Line, edited}
-use Rattle.cov_view.specs.References.{is_root, is_made_node}
-use Rattle.cov_view.specs.Seen.{Seen, row_at, kind_in, seen_after}
+use Rattle.cov_view.specs.References.{is_made_node}
+use Rattle.cov_view.specs.Seen.{Seen, seen_after}
 use Rattle.cov_view.specs.Views.{row_by_number, by_number, ShowsLines, IsMade, Shows}
 use Rattle.cov_view.specs.declared.row.ViewRow.{ViewRow}
-use Rattle.cov_view.proofs.Naming.{node-same, made-more}
-use Rattle.cov_view.proofs.Refusing.{found}
+use Rattle.cov_view.proofs.Naming.{made-more}
 
 map-append : {X Y : Type 0} (g : X → Y) (xs : List X) (x : X) → map g (xs ++ x ∷ []) ≡ map g xs ++ g x ∷ []
 map-append g [] x = refl
@@ -26,26 +24,6 @@ map-append g (y ∷ xs) x = ap (λ l. g y ∷ l) (map-append g xs x)
 filter-none : {X : Type 0} (p : X → Bool) (xs : List X) → AllByRecursion (λ x. p x ≡ false) xs → filter p xs ≡ []
 filter-none p [] h = refl
 filter-none p (x ∷ xs) h = ap (λ b. cond b (x ∷ filter p xs) (filter p xs)) h.0 ∙ filter-none p xs h.1
-
--- the root and what is there is made
-pub there-made : (ns : Numbers) (s : Seen) (node : NodeRef) → AllByRecursion (IsMade ns s) s.rows → is_some (kind_in s.rows node) ≡ true → is_made_node ns.nodes s.nodes_made node ≡ true
-there-made ns s node made h = at (is_root node) refl h
-  where
-    of_root : (n : NodeRef) → is_root n ≡ true → is_made_node ns.nodes s.nodes_made n ≡ true
-    of_root (nodes.Old zero) e = grind (arith, nat_tests)
-    of_root (nodes.Old (suc x)) e = absurd (cc)
-    of_root (nodes.New i) e = absurd (cc)
-
-    of_row : (o : Option ViewRow) → row_at s.rows node ≡ o → is_some (option_map (λ (r : ViewRow). r.kind) o) ≡ true → is_made_node ns.nodes s.nodes_made node ≡ true
-    of_row None e k = absurd (cc)
-    of_row (Some r) e k =
-        let own = found (IsMade ns s) s.rows node r made e in
-        subst (λ (n : NodeRef). is_made_node ns.nodes s.nodes_made n ≡ true) (node-same r.node node own.1)
-        (and_parts (is_made_node ns.nodes s.nodes_made r.node) (is_made_node ns.nodes s.nodes_made r.parent) own.0.0).0
-
-    at : (b : Bool) → is_root node ≡ b → is_some (cond b (Some kinds.Dir) (option_map (λ (r : ViewRow). r.kind) (row_at s.rows node))) ≡ true → is_made_node ns.nodes s.nodes_made node ≡ true
-    at true e k = of_root node e
-    at false e k = of_row (row_at s.rows node) refl k
 
 -- the row of a node that is made next
 abbrev next_row : Seen → Kind → NodeRef → List ℕ → ViewRow

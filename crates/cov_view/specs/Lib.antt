@@ -1,7 +1,10 @@
 pub mod Keys
 pub mod Lines
+pub mod Listing
+pub mod Ordering
 pub mod Paths
 pub mod References
 pub mod Refusals
 pub mod Seen
+pub mod Soundness
 pub mod Views

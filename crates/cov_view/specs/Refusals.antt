@@ -1,16 +1,18 @@
 -- Which edits a variant refuses.
 use Rattle.std.specs.Prelude.{ℕ, zero, suc, ◌+◌, Bool, true, false, ◌&&◌, ◌||◌, not, nat_eq, List, [], ◌∷◌, length, Option, Some, None}
+use Rattle.std.specs.Option.{option_map_or}
 use Rattle.std.specs.Str.{bytes_eq}
 use Rattle.std.specs.List.{list_any}
 use Rattle.cov_base.specs.declared.number.NodeRef.{NodeRef}
 use Rattle.cov_base.specs.declared.number.LineRef.{LineRef}
 use Rattle.cov_base.specs.Addresses.{line_of}
+use Rattle.cov_base.specs.Faults.{from_parent}
 use Rattle.cov_base.specs.Rows.{Row, row_of, is_present}
 use Rattle.cov_edit.specs.declared.edit.Edit.{Edit}
 use Rattle.cov_edit.specs.declared.edit.Edit.TheVariants as edits
 use Rattle.cov_edit.specs.Numbering.{Numbers, NumberedEdit, numbered, node_number, line_number}
 use Rattle.cov_edit.specs.Variant.{Variant, edited}
-use Rattle.cov_view.specs.References.{is_head, is_dir_kind, is_known_node, is_known_line}
+use Rattle.cov_view.specs.References.{is_root, is_head, is_dir_kind, is_known_node, is_known_line}
 use Rattle.cov_view.specs.declared.fault.EditFault.{EditFault}
 use Rattle.cov_view.specs.declared.fault.EditFault.TheVariants as faults
 
@@ -49,6 +51,23 @@ shows_line ns v file line =
 abbrev pub has_name : List Row → ℕ → List ℕ → Bool
 has_name rows dir name = list_any (λ r. nat_eq r.parent dir && bytes_eq r.name name) rows
 
+-- whether the directory of a row, if there is one, has a node of that name
+abbrev pub has_name_beside : List Row → Option Row → List ℕ → Bool
+has_name_beside rows o name = option_map_or (λ r. has_name rows r.parent name) o false
+
+-- whether a directory has a node with the name of a row, if there is one
+abbrev pub has_name_of : List Row → ℕ → Option Row → Bool
+has_name_of rows dir o = option_map_or (λ r. has_name rows dir r.name) o false
+
+-- whether a node is another, or lies below it by at most so many steps to the parent
+abbrev pub is_within : List Row → ℕ → ℕ → ℕ → Bool
+is_within rows zero top node = nat_eq node top
+is_within rows (suc steps) top node = nat_eq node top || from_parent (row_of rows node) (is_within rows steps top)
+
+-- whether some node has a node as its parent
+abbrev pub is_parent : List Row → ℕ → Bool
+is_parent rows node = list_any (λ r. nat_eq r.parent node) rows
+
 -- the first refusal of an edit on a variant; ns are the numbers after which it is numbered
 abbrev pub refusal : Numbers → Variant → Edit → Option EditFault
 refusal ns v (edits.New kind parent name) =
@@ -66,12 +85,33 @@ refusal ns v (edits.Delete file line) =
     first_of (when (not (shows_node ns v file)) faults.NoSuchNode
     ∷ when (is_dir v.rows f) faults.NotFile
     ∷ when (is_head line || not (shows_line ns v f line)) faults.NoSuchLine ∷ [])
+refusal ns v (edits.Rename node name) =
+    let x = node_number ns.nodes node in
+    first_of (when (is_root node) faults.IsRoot
+    ∷ when (not (shows_node ns v node)) faults.NoSuchNode
+    ∷ when (has_name_beside v.rows (row_of v.rows x) name) faults.NameTaken ∷ [])
+refusal ns v (edits.Move node parent) =
+    let x = node_number ns.nodes node in
+    let dir = node_number ns.nodes parent in
+    first_of (when (is_root node) faults.IsRoot
+    ∷ when (not (shows_node ns v node)) faults.NoSuchNode
+    ∷ when (not (shows_node ns v parent)) faults.NoSuchNode
+    ∷ when (not (is_dir v.rows dir)) faults.NotDirectory
+    ∷ when (is_within v.rows (length v.rows) x dir) faults.IntoItself
+    ∷ when (has_name_of v.rows dir (row_of v.rows x)) faults.NameTaken ∷ [])
+refusal ns v (edits.Remove node) =
+    first_of (when (is_root node) faults.IsRoot
+    ∷ when (not (shows_node ns v node)) faults.NoSuchNode
+    ∷ when (is_parent v.rows (node_number ns.nodes node)) faults.NotEmpty ∷ [])
 
--- whether an edit may want memory; what only takes away doesn't
+-- whether an edit may want memory; what only takes away or moves doesn't
 abbrev pub takes_memory : Edit → Bool
 takes_memory (edits.New kind parent name) = true
 takes_memory (edits.Insert file after text) = true
 takes_memory (edits.Delete file line) = false
+takes_memory (edits.Rename node name) = true
+takes_memory (edits.Move node parent) = false
+takes_memory (edits.Remove node) = false
 
 -- a refusal of edit i, or else that of those after it
 abbrev pub refused_at : ℕ → Option EditFault → Option (ℕ × EditFault) → Option (ℕ × EditFault)

@@ -1,8 +1,8 @@
 -- What a view keeps, by references, and what edits do to it.
-use Rattle.std.specs.Prelude.{◌≡◌, ℕ, ◌+◌, Bool, true, false, ◌&&◌, ◌||◌, not, List, [], ◌∷◌, ◌++◌, Option, Some, None, option_map, if◌then◌else◌}
+use Rattle.std.specs.Prelude.{◌≡◌, ℕ, zero, suc, ◌+◌, Bool, true, false, ◌&&◌, ◌||◌, not, List, [], ◌∷◌, ◌++◌, length, Option, Some, None, is_some, option_map, if◌then◌else◌}
 use Rattle.std.specs.Option.{option_map_or}
 use Rattle.std.specs.Str.{bytes_eq}
-use Rattle.std.specs.List.{find, list_any}
+use Rattle.std.specs.List.{filter, find, list_any}
 use Rattle.cov_base.specs.declared.number.Kind.{Kind}
 use Rattle.cov_base.specs.declared.number.Kind.TheVariants as kinds
 use Rattle.cov_base.specs.declared.number.NodeRef.{NodeRef}
@@ -79,15 +79,83 @@ line_fault None had = Some faults.NoSuchNode
 line_fault (Some kinds.Dir) had = Some faults.NotFile
 line_fault (Some kinds.File) had = if had then None else Some faults.NoSuchLine
 
+-- whether a node is there
+abbrev pub is_there : List ViewRow → NodeRef → Bool
+is_there rows node = is_some (kind_in rows node)
+
+-- whether a kind is there and is that of directories
+abbrev pub kind_is_dir : Option Kind → Bool
+kind_is_dir None = false
+kind_is_dir (Some k) = is_dir_kind k
+
+-- whether the directory of a row, if there is one, has a node of that name
+abbrev pub has_child_beside : List ViewRow → Option ViewRow → List ℕ → Bool
+has_child_beside rows o name = option_map_or (λ r. has_child rows r.parent name) o false
+
+-- whether a directory has a node with the name of a row, if there is one
+abbrev pub has_child_of : List ViewRow → NodeRef → Option ViewRow → Bool
+has_child_of rows dir o = option_map_or (λ r. has_child rows dir r.name) o false
+
+-- whether a node is another, or lies below it by at most so many steps to the parent
+abbrev pub lies_within : List ViewRow → ℕ → NodeRef → NodeRef → Bool
+lies_within rows zero top node = same_node node top
+lies_within rows (suc steps) top node = same_node node top || option_map_or (λ r. lies_within rows steps top r.parent) (row_at rows node) false
+
+-- whether some node has a node as its parent
+abbrev pub has_children : List ViewRow → NodeRef → Bool
+has_children rows node = list_any (λ r. same_node r.parent node) rows
+
+-- the refusal of another name for a node
+abbrev pub rename_fault : List ViewRow → NodeRef → List ℕ → Option EditFault
+rename_fault rows node name =
+    if is_root node then Some faults.IsRoot
+    else if not (is_there rows node) then Some faults.NoSuchNode
+    else if has_child_beside rows (row_at rows node) name then Some faults.NameTaken
+    else None
+
+-- the refusal of another directory for a node
+abbrev pub move_fault : List ViewRow → NodeRef → NodeRef → Option EditFault
+move_fault rows node parent =
+    if is_root node then Some faults.IsRoot
+    else if not (is_there rows node) then Some faults.NoSuchNode
+    else if not (is_there rows parent) then Some faults.NoSuchNode
+    else if not (kind_is_dir (kind_in rows parent)) then Some faults.NotDirectory
+    else if lies_within rows (length rows) node parent then Some faults.IntoItself
+    else if has_child_of rows parent (row_at rows node) then Some faults.NameTaken
+    else None
+
+-- the refusal of taking a node out
+abbrev pub remove_fault : List ViewRow → NodeRef → Option EditFault
+remove_fault rows node =
+    if is_root node then Some faults.IsRoot
+    else if not (is_there rows node) then Some faults.NoSuchNode
+    else if has_children rows node then Some faults.NotEmpty
+    else None
+
 -- the refusal of an edit by references
 abbrev pub seen_fault : List ViewRow → Edit → Option EditFault
 seen_fault rows (edits.New kind parent name) = new_fault (kind_in rows parent) (has_child rows parent name)
 seen_fault rows (edits.Insert file after text) = line_fault (kind_in rows file) (is_head after || has_line_in rows file after)
 seen_fault rows (edits.Delete file line) = line_fault (kind_in rows file) (not (is_head line) && has_line_in rows file line)
+seen_fault rows (edits.Rename node name) = rename_fault rows node name
+seen_fault rows (edits.Move node parent) = move_fault rows node parent
+seen_fault rows (edits.Remove node) = remove_fault rows node
 
 -- a row with other lines
 abbrev pub with_lines_by : (List ViewLine → List ViewLine) → ViewRow → ViewRow
 with_lines_by f r = record { node = r.node; kind = r.kind; parent = r.parent; name = r.name; lines = f r.lines }
+
+-- a row with another name
+abbrev pub with_name_by : List ℕ → ViewRow → ViewRow
+with_name_by name r = record { node = r.node; kind = r.kind; parent = r.parent; name = name; lines = r.lines }
+
+-- a row with another parent
+abbrev pub with_parent_by : NodeRef → ViewRow → ViewRow
+with_parent_by parent r = record { node = r.node; kind = r.kind; parent = parent; name = r.name; lines = r.lines }
+
+-- the rows without that of a node
+abbrev pub without_node : NodeRef → List ViewRow → List ViewRow
+without_node node rows = filter (λ r. not (same_node r.node node)) rows
 
 -- the rows with that of a node changed
 abbrev pub at_row : NodeRef → (ViewRow → ViewRow) → List ViewRow → List ViewRow
@@ -111,6 +179,26 @@ seen_after s (edits.Delete file line) = record {
   nodes_made = s.nodes_made;
   lines_made = s.lines_made;
 }
+seen_after s (edits.Rename node name) = record {
+  rows = at_row node (with_name_by name) s.rows;
+  nodes_made = s.nodes_made;
+  lines_made = s.lines_made;
+}
+seen_after s (edits.Move node parent) = record {
+  rows = at_row node (with_parent_by parent) s.rows;
+  nodes_made = s.nodes_made;
+  lines_made = s.lines_made;
+}
+seen_after s (edits.Remove node) = record {
+  rows = without_node node s.rows;
+  nodes_made = s.nodes_made;
+  lines_made = s.lines_made;
+}
+
+-- no node has two rows
+abbrev pub StandOnce : List ViewRow → Type 0
+StandOnce [] = Unit {0}
+StandOnce (r ∷ rows) = (has_row rows r.node ≡ false) × StandOnce rows
 
 -- rows of nodes that each stand once, none of them the root, those that edits made being the first so many
 abbrev pub AreRows : ℕ → List ViewRow → Type 0

@@ -52,6 +52,9 @@ abbrev pub table_after : Numbers → List (List ℕ) → Edit → List (List ℕ
 table_after ns table (edits.New kind parent name) = table
 table_after ns table (edits.Insert file after text) = with_line table (line_number (length ns.addresses) after)
 table_after ns table (edits.Delete file line) = table
+table_after ns table (edits.Rename node name) = table
+table_after ns table (edits.Move node parent) = table
+table_after ns table (edits.Remove node) = table
 
 -- the next edit by numbers, after those by which a view came to be
 abbrev pub next_by_number : Numbers → List (List ℕ) → Seen → Edit → List NumberedEdit

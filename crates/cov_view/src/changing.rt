@@ -1,13 +1,13 @@
-// Changes of the lines of one row.
+// Changes of one row.
 ghost use Rattle.std.specs.Prelude.{◌≡◌, [], ◌∷◌, ◌++◌, OnOk, OnErr, position};
 ghost use Rattle.cov_view.specs.Lines.{after_ref, without_ref};
 ghost use Rattle.cov_view.specs.References.{same_node};
-ghost use Rattle.cov_view.specs.Seen.{at_row, with_lines_by};
+ghost use Rattle.cov_view.specs.Seen.{at_row, with_lines_by, with_name_by, with_parent_by};
 
 use crate::ViewLine;
 use crate::line::{delete, insert_after};
 use crate::row::ViewRow;
-use cov_base::{LineRef, Memory, NodeRef};
+use cov_base::{LineRef, Memory, Name, NodeRef};
 
 /// Puts a line at the end of a file, whose row stands at a place.
 pub(crate) fn append_line(
@@ -56,6 +56,33 @@ pub(crate) fn delete_line(
 {
     match place {
         Some(at) => delete(&mut rows[at].lines, line),
+        None => {}
+    }
+}
+
+/// Gives a node, whose row stands at a place, another name.
+pub(crate) fn set_name(rows: &mut [ViewRow], node: &NodeRef, place: Option<usize>, name: Name)
+    requires { place ≡ position (λ r. same_node r.node node.now) rows.old }
+    ensures { rows.new ≡ at_row node.now (with_name_by name) rows.old }
+{
+    match place {
+        Some(at) => rows[at].name = name,
+        None => {}
+    }
+}
+
+/// Gives a node, whose row stands at a place, another parent.
+pub(crate) fn set_parent(
+    rows: &mut [ViewRow],
+    node: &NodeRef,
+    place: Option<usize>,
+    parent: &NodeRef,
+)
+    requires { place ≡ position (λ r. same_node r.node node.now) rows.old }
+    ensures { rows.new ≡ at_row node.now (with_parent_by parent.now) rows.old }
+{
+    match place {
+        Some(at) => rows[at].parent = *parent,
         None => {}
     }
 }

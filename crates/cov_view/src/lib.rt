@@ -5,10 +5,13 @@ mod changing;
 mod children;
 mod fault;
 mod line;
+mod listing;
 mod row;
 mod rows;
+mod soundness;
 mod view;
 
-pub use fault::{EditFault, ReadFaultOfView};
+pub use fault::{EditFault, Fault, ListFault, ReadFaultOfView};
 pub use line::{ViewLine, ViewLines, is_head};
+pub use listing::{DirRow, DirRows};
 pub use view::View;

@@ -1,6 +1,6 @@
 // The nodes of a variant.
 ghost use Rattle.std.specs.Prelude.{◌≡◌, ◌&&◌, ◌||◌, not};
-ghost use Rattle.cov_view.specs.References.{is_root, is_head};
+ghost use Rattle.cov_view.specs.References.{is_root, is_head, same_node};
 ghost use Rattle.cov_view.specs.Seen.{has_line_in};
 
 use crate::rows::Rows;
@@ -43,5 +43,20 @@ pub(crate) fn is_root(node: &NodeRef) -> bool
     match node {
         NodeRef::Old(number) => number.number() == 0,
         NodeRef::New(_) => false,
+    }
+}
+
+pub(crate) fn same_node(left: &NodeRef, right: &NodeRef) -> bool
+    ensures { result ≡ same_node left.now right.now }
+{
+    match left {
+        NodeRef::Old(x) => match right {
+            NodeRef::Old(y) => x.number() == y.number(),
+            NodeRef::New(_) => false,
+        },
+        NodeRef::New(i) => match right {
+            NodeRef::Old(_) => false,
+            NodeRef::New(j) => *i == *j,
+        },
     }
 }

@@ -1,23 +1,20 @@
 // The rows of a view, each found by its node with one look-up.
-ghost use Rattle.std.specs.Prelude.{◌≡◌, ◌<◌, ◌&&◌, [], ◌∷◌, ◌++◌, false, IfSome, OnOk, OnErr, length, position, slice_get};
-ghost use Rattle.std.specs.List.{find};
+ghost use Rattle.std.specs.Prelude.{◌≡◌, ◌<◌, [], ◌∷◌, ◌++◌, false, IfSome, OnOk, OnErr, length, position, slice_get};
 ghost use Rattle.std.specs.Option.{option_copied};
-ghost use Rattle.std.specs.Str.{bytes_eq};
 ghost use Rattle.cov_view.specs.Lines.{after_ref, without_ref};
 ghost use Rattle.cov_view.specs.References.{same_node};
-ghost use Rattle.cov_view.specs.Seen.{row_at, has_row, has_child, child_in, at_row, with_lines_by};
+ghost use Rattle.cov_view.specs.Seen.{row_at, has_row, kind_in, is_there, has_child, child_in, has_child_beside, has_child_of, has_children, lies_within, StandOnce, at_row, with_lines_by, with_name_by, with_parent_by, without_node};
 
 use crate::ViewLine;
-use crate::changing::{append_line, delete_line, insert_line};
+use crate::changing::{append_line, delete_line, insert_line, set_name, set_parent};
 use crate::children::Children;
-use crate::row::ViewRow;
-use cov_base::{LineRef, Memory, NodeRef};
+use crate::row::{ViewRow, is_root, same_node};
+use cov_base::{Kind, LineRef, Memory, Name, NodeRef};
 use indexmap::IndexSet;
 use std::alloc::Global;
 use std::marker::Model;
 
-/// The rows in the order in which they were added; the i-th key is the node of row i, and each name in a directory is found
-/// at its first row.
+/// The rows in the order in which they were added; the i-th key is the node of row i, and no node stands twice.
 #[derive(Debug, Drop)]
 pub(crate) struct Rows {
     rows: Vec<ViewRow>,
@@ -28,13 +25,14 @@ pub(crate) struct Rows {
 impl Model for Rows {
     ghost use Rattle.std.specs.Prelude.{◌≡◌, List, map};
     ghost use Rattle.cov_view.specs.declared.row.ViewRow.{ViewRow};
-    ghost use Rattle.cov_view.specs.Keys.{AreChildren};
+    ghost use Rattle.cov_view.specs.Keys.{IsIndex};
+    ghost use Rattle.cov_view.specs.Seen.{StandOnce};
 
     ghost Value = { List ViewRow };
 
     ghost view = { λ r. r.rows.items };
 
-    ghost invariant = { λ r. (r.keys.keys ≡ map (λ row. row.node) r.rows.items) × AreChildren r.rows.items r.children.places.entries };
+    ghost invariant = { λ r. (r.keys.keys ≡ map (λ row. row.node) r.rows.items) × StandOnce r.rows.items × IsIndex r.children.is_kept r.rows.items r.children.nodes.entries };
 }
 
 impl Rows {
@@ -89,36 +87,96 @@ impl Rows {
         }
     }
 
+    /// The kind of a node, if it is there.
+    pub(crate) fn kind_of(&self, node: &NodeRef) -> Option<Kind>
+        ensures { result ≡ kind_in self.now node.now }
+    {
+        if is_root(node) {
+            return Some(Kind::Dir);
+        }
+        match self.get(node) {
+            Some(row) => Some(row.kind),
+            None => None,
+        }
+    }
+
+    /// Whether a node is there.
+    pub(crate) fn is_there(&self, node: &NodeRef) -> bool
+        ensures { result ≡ is_there self.now node.now }
+    {
+        self.kind_of(node).is_some()
+    }
+
     /// Whether a directory has a node of that name.
     pub(crate) fn has_child(&self, dir: &NodeRef, name: &[u8]) -> bool
         ensures { result ≡ has_child self.now dir.now name.now }
     {
-        self.child(dir, name).is_some()
+        self.child_in(dir, name).is_some()
     }
 
     /// The node of that name in a directory.
     pub(crate) fn child_in(&self, dir: &NodeRef, name: &[u8]) -> Option<NodeRef>
         ensures { result ≡ child_in self.now dir.now name.now }
     {
-        match self.child(dir, name) {
-            Some(row) => Some(row.node),
-            None => None,
+        self.children.node(self.rows.as_slice(), dir, name)
+    }
+
+    /// Whether the directory of a node, if it has a row, has a node of that name.
+    pub(crate) fn has_child_beside(&self, node: &NodeRef, name: &[u8]) -> bool
+        ensures { result ≡ has_child_beside self.now (row_at self.now node.now) name.now }
+    {
+        match self.get(node) {
+            Some(row) => self.has_child(&row.parent, name),
+            None => false,
         }
     }
 
-    fn child(&self, dir: &NodeRef, name: &[u8]) -> Option<&ViewRow>
-        ensures { option_copied result ≡ find (λ r. same_node r.parent dir.now && bytes_eq r.name name.now) self.now }
+    /// Whether a directory has a node with the name of another, if that has a row.
+    pub(crate) fn has_child_of(&self, dir: &NodeRef, node: &NodeRef) -> bool
+        ensures { result ≡ has_child_of self.now dir.now (row_at self.now node.now) }
     {
-        match self.children.place(dir, name) {
-            Some(at) => self.row(at),
-            None => None,
+        match self.get(node) {
+            Some(row) => self.has_child(dir, row.name.as_slice()),
+            None => false,
         }
+    }
+
+    /// Whether some node has a node as its parent. It takes time in the rows.
+    pub(crate) fn has_children(&self, node: &NodeRef) -> bool
+        ensures { result ≡ has_children self.now node.now }
+    {
+        self.rows.iter().any(|row| same_node(&row.parent, node))
+    }
+
+    /// Whether a node is another, or lies below it. It takes time in the depth of the node.
+    pub(crate) fn lies_within(&self, top: &NodeRef, node: &NodeRef) -> bool
+        ensures { result ≡ lies_within self.now (length self.now) top.now node.now }
+    {
+        let mut at = *node;
+        'steps: for _ in 0..self.rows.as_slice().len() {
+            if same_node(&at, top) {
+                return true;
+            }
+            match self.get(&at) {
+                Some(row) => at = row.parent,
+                None => return false,
+            }
+        }
+        same_node(&at, top)
     }
 
     fn row(&self, at: usize) -> Option<&ViewRow>
         ensures { option_copied result ≡ slice_get self.now at }
     {
         self.rows.get(at)
+    }
+
+    /// All rows, in the order in which they were added.
+    pub(crate) fn as_slice(&self) -> &[ViewRow]
+        ensures rows { result.now ≡ self.now }
+        ensures once { StandOnce self.now }
+    {
+        self.rows.as_slice()
     }
 
     /// Puts a line at the end of a file.
@@ -150,5 +208,44 @@ impl Rows {
     {
         let place = self.place(file);
         delete_line(&mut self.rows, file, place, line);
+    }
+
+    /// Gives a node another name.
+    pub(crate) fn set_name(&mut self, node: &NodeRef, name: Name) -> Result<(), Memory>
+        ensures ok { OnOk result (self.new ≡ at_row node.now (with_name_by name) self.old) }
+        ensures err { OnErr result (self.new ≡ self.old) }
+    {
+        let key = Vec::from_slice(*self.rows.allocator(), name.as_slice())?;
+        self.children.make_room()?;
+        let place = self.place(node);
+        self.children
+            .change_name(self.rows.as_slice(), node, place, key);
+        set_name(&mut self.rows, node, place, name);
+        Ok(())
+    }
+
+    /// Gives a node another parent, without memory.
+    pub(crate) fn set_parent(&mut self, node: &NodeRef, parent: &NodeRef)
+        ensures { self.new ≡ at_row node.now (with_parent_by parent.now) self.old }
+    {
+        let place = self.place(node);
+        self.children
+            .change_parent(self.rows.as_slice(), node, place, parent);
+        set_parent(&mut self.rows, node, place, parent);
+    }
+
+    /// Takes the row of a node out, without memory and in the time that the rows behind it take to close up.
+    pub(crate) fn remove(&mut self, node: &NodeRef)
+        ensures { self.new ≡ without_node node.now self.old }
+    {
+        let place = self.place(node);
+        self.children.leave(self.rows.as_slice(), node, place);
+        match place {
+            Some(at) => {
+                self.keys.shift_remove_index(at);
+                self.rows.remove(at);
+            }
+            None => {}
+        }
     }
 }

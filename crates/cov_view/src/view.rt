@@ -1,5 +1,5 @@
 // One variant with edits on top.
-ghost use Rattle.std.specs.Prelude.{◌≡◌, ◌<◌, ◌-◌, ◌^◌, ◌+◌, ◌&&◌, true, false, List, ℕ, [], ◌∷◌, ◌++◌, length, None, Some, is_some, option_map, IfSome, IfOk, IfErr, IsErrOf, OnOk, OnErr};
+ghost use Rattle.std.specs.Prelude.{◌≡◌, ◌<◌, ◌-◌, ◌^◌, ◌+◌, ◌&&◌, not, true, false, List, ℕ, [], ◌∷◌, ◌++◌, length, map, None, Some, is_some, option_map, IfSome, IfOk, IfErr, IsErrOf, OnOk, OnErr};
 ghost use Rattle.std.specs.List.{fold};
 ghost use Rattle.cov_base.specs.Addresses.{IsTable};
 ghost use Rattle.cov_base.specs.declared.number.Kind.TheVariants.{File, Dir};
@@ -9,15 +9,19 @@ ghost use Rattle.cov_edit.specs.Numbering.{Numbers, node_number, nodes_made, anc
 ghost use Rattle.cov_edit.specs.Variant.{Variant, edited};
 ghost use Rattle.cov_view.specs.References.{is_made_node};
 ghost use Rattle.cov_view.specs.Lines.{after_ref, without_ref};
+ghost use Rattle.cov_view.specs.Listing.{IsListingOf, listed_in};
 ghost use Rattle.cov_view.specs.Refusals.{shows_node, is_dir, refusal, takes_memory};
 ghost use Rattle.cov_view.specs.Paths.{path_node, shown_kind, AreLinesOf};
-ghost use Rattle.cov_view.specs.Seen.{Seen, kind_in, node_at, lines_in, has_child, new_fault, line_fault, seen_fault, seen_after, at_row, with_lines_by, AreRows};
+ghost use Rattle.cov_view.specs.Seen.{Seen, kind_in, node_at, lines_in, has_child, is_there, kind_is_dir, new_fault, line_fault, rename_fault, move_fault, remove_fault, seen_fault, seen_after, at_row, with_lines_by, with_name_by, with_parent_by, without_node, AreRows};
+ghost use Rattle.cov_view.specs.Soundness.{AreOld, old_row, fault_in};
 ghost use Rattle.cov_view.specs.Views.{Shows, table_after, next_by_number, FaultBy};
 
 use crate::line::copied;
+use crate::listing::listing;
 use crate::row::{ViewRow, is_root, shows_anchor, shows_line};
 use crate::rows::Rows;
-use crate::{EditFault, ReadFaultOfView, ViewLine, ViewLines};
+use crate::soundness::first_fault;
+use crate::{DirRows, EditFault, Fault, ListFault, ReadFaultOfView, ViewLine, ViewLines};
 use cov_base::{Kind, LineNo, LineRef, Memory, Name, NodeNo, NodeRef, Path, Text};
 use cov_edit::Edit;
 use std::alloc::Global;
@@ -118,13 +122,7 @@ impl View {
     fn kind_of(&self, node: &NodeRef) -> Option<Kind>
         ensures { result ≡ kind_in self.now.rows node.now }
     {
-        if is_root(node) {
-            return Some(Kind::Dir);
-        }
-        match self.rows.get(node) {
-            Some(row) => Some(row.kind),
-            None => None,
-        }
+        self.rows.kind_of(node)
     }
 
     /// The node to which a path leads, None exactly where a name on it isn't there. It takes no memory, and time
@@ -135,14 +133,24 @@ impl View {
         ensures shown { (ns : Numbers) (table : List (List ℕ)) (v : Variant) → Shows ns table self.now v → option_map (node_number ns.nodes) result ≡ path_node v.rows 0 path.now }
         ensures made { IfSome result (λ node. (ns : Numbers) (table : List (List ℕ)) (v : Variant) → Shows ns table self.now v → is_made_node ns.nodes self.now.nodes_made node ≡ true) }
     {
-        self.node_at(path)
+        self.follow(path.as_slice())
     }
 
-    fn node_at(&self, path: &Path) -> Option<NodeRef>
+    /// The node to which names lead from the root, as `resolve` says it of those of a path.
+    pub fn follow(&self, names: &[Name]) -> Option<NodeRef>
+        ensures node { result ≡ node_at self.now.rows (NodeRef.Old 0) names.now }
+        ensures there { IfSome result (λ node. is_some (kind_in self.now.rows node) ≡ true) }
+        ensures shown { (ns : Numbers) (table : List (List ℕ)) (v : Variant) → Shows ns table self.now v → option_map (node_number ns.nodes) result ≡ path_node v.rows 0 names.now }
+        ensures made { IfSome result (λ node. (ns : Numbers) (table : List (List ℕ)) (v : Variant) → Shows ns table self.now v → is_made_node ns.nodes self.now.nodes_made node ≡ true) }
+    {
+        self.node_at(names)
+    }
+
+    fn node_at(&self, path: &[Name]) -> Option<NodeRef>
         ensures { result ≡ node_at self.now.rows (NodeRef.Old 0) path.now }
     {
         let mut node = NodeRef::Old(NodeNo::new(0));
-        'names: for name in path.as_slice() {
+        'names: for name in path {
             match self.rows.child_in(&node, name.as_slice()) {
                 Some(child) => node = child,
                 None => return None,
@@ -185,9 +193,50 @@ impl View {
         }
     }
 
+    /// What is in a directory, in byte order of names. `NoSuchNode` and `NotDirectory` come exactly where the node isn't
+    /// there and where it is a file. It takes time in the nodes.
+    pub fn list(&self, dir: NodeRef) -> Result<DirRows, ListFault>
+        ensures directory { OnOk result (kind_in self.now.rows dir ≡ Some Dir) }
+        ensures rows { IfOk result (λ rows. rows ≡ listed_in self.now.rows dir) }
+        ensures absent { IsErrOf result ListFault.NoSuchNode → kind_in self.now.rows dir ≡ None }
+        ensures not_directory { IsErrOf result ListFault.NotDirectory → kind_in self.now.rows dir ≡ Some File }
+        ensures shown { IfOk result (λ rows. (ns : Numbers) (table : List (List ℕ)) (v : Variant) → Shows ns table self.now v → IsListingOf ns v dir rows) }
+        ensures absent_shown { IsErrOf result ListFault.NoSuchNode → (ns : Numbers) (table : List (List ℕ)) (v : Variant) → Shows ns table self.now v → shows_node ns v dir ≡ false }
+        ensures not_directory_shown { IsErrOf result ListFault.NotDirectory → (ns : Numbers) (table : List (List ℕ)) (v : Variant) → Shows ns table self.now v → (shows_node ns v dir && not (is_dir v.rows (node_number ns.nodes dir))) ≡ true }
+    {
+        self.list_of(&dir)
+    }
+
+    fn list_of(&self, dir: &NodeRef) -> Result<DirRows, ListFault>
+        ensures directory { OnOk result (kind_in self.now.rows dir.now ≡ Some Dir) }
+        ensures rows { IfOk result (λ rows. rows ≡ listed_in self.now.rows dir.now) }
+        ensures absent { IsErrOf result ListFault.NoSuchNode → kind_in self.now.rows dir.now ≡ None }
+        ensures not_directory { IsErrOf result ListFault.NotDirectory → kind_in self.now.rows dir.now ≡ Some File }
+    {
+        match self.kind_of(dir) {
+            None => Err(ListFault::NoSuchNode),
+            Some(Kind::File) => Err(ListFault::NotDirectory),
+            Some(Kind::Dir) => match listing(self.rows.allocator(), self.rows.as_slice(), dir) {
+                Ok(rows) => Ok(rows),
+                Err(Memory) => Err(ListFault::Memory),
+            },
+        }
+    }
+
+    /// The first fault of a view of nodes that a history has, None exactly where each variant that it shows is sound. It
+    /// takes time in the nodes and their depths.
+    pub fn first_fault(&self) -> Result<Option<Fault>, Memory>
+        requires { AreOld self.now.rows }
+        ensures fault { IfOk result (λ fault. fault ≡ fault_in (map old_row self.now.rows)) }
+        ensures shown { IfOk result (λ fault. (ns : Numbers) (table : List (List ℕ)) (v : Variant) → Shows ns table self.now v → fault ≡ fault_in v.rows) }
+    {
+        first_fault(self.rows.allocator(), &self.rows)
+    }
+
     /// Applies an edit, unless the rows of the view refuse it, as then each variant that it shows does; the view then stays
     /// as it is. `Memory` may come where nothing refuses the edit.
-    /// An insertion or deletion takes time in the lines of its file, a new node in its name. A deletion takes no memory.
+    /// An insertion or deletion takes time in the lines of its file, a new node or name in the name, a move in the depth of
+    /// its directory, a removal in the nodes. A deletion, a move and a removal take no memory.
     pub fn apply(&mut self, edit: &Edit) -> Result<(), EditFault>
         requires nodes { self.old.nodes_made < 2 ^ 32 - 1 }
         requires lines { self.old.lines_made < 2 ^ 32 - 1 }
@@ -224,6 +273,9 @@ impl View {
                 self.line_fault(file, shows_anchor(rows, file, after))
             }
             Edit::Delete { file, line } => self.line_fault(file, shows_line(rows, file, line)),
+            Edit::Rename { node, name } => self.rename_fault(node, name.as_slice()),
+            Edit::Move { node, parent } => self.move_fault(node, parent),
+            Edit::Remove { node } => self.remove_fault(node),
         }
     }
 
@@ -250,6 +302,66 @@ impl View {
                 true => None,
                 false => Some(EditFault::NoSuchLine),
             },
+        }
+    }
+
+    fn rename_fault(&self, node: &NodeRef, name: &[u8]) -> Option<EditFault>
+        ensures { result ≡ rename_fault self.now.rows node.now name.now }
+    {
+        if is_root(node) {
+            return Some(EditFault::IsRoot);
+        }
+        if !self.rows.is_there(node) {
+            return Some(EditFault::NoSuchNode);
+        }
+        if self.rows.has_child_beside(node, name) {
+            return Some(EditFault::NameTaken);
+        }
+        None
+    }
+
+    fn move_fault(&self, node: &NodeRef, parent: &NodeRef) -> Option<EditFault>
+        ensures { result ≡ move_fault self.now.rows node.now parent.now }
+    {
+        if is_root(node) {
+            return Some(EditFault::IsRoot);
+        }
+        if !self.rows.is_there(node) || !self.rows.is_there(parent) {
+            return Some(EditFault::NoSuchNode);
+        }
+        if !self.is_dir(parent) {
+            return Some(EditFault::NotDirectory);
+        }
+        if self.rows.lies_within(node, parent) {
+            return Some(EditFault::IntoItself);
+        }
+        if self.rows.has_child_of(parent, node) {
+            return Some(EditFault::NameTaken);
+        }
+        None
+    }
+
+    fn remove_fault(&self, node: &NodeRef) -> Option<EditFault>
+        ensures { result ≡ remove_fault self.now.rows node.now }
+    {
+        if is_root(node) {
+            return Some(EditFault::IsRoot);
+        }
+        if !self.rows.is_there(node) {
+            return Some(EditFault::NoSuchNode);
+        }
+        if self.rows.has_children(node) {
+            return Some(EditFault::NotEmpty);
+        }
+        None
+    }
+
+    fn is_dir(&self, node: &NodeRef) -> bool
+        ensures { result ≡ kind_is_dir (kind_in self.now.rows node.now) }
+    {
+        match self.kind_of(node) {
+            Some(Kind::Dir) => true,
+            Some(Kind::File) | None => false,
         }
     }
 
@@ -299,6 +411,35 @@ impl View {
         self.rows.delete_line(file, line);
     }
 
+    // Gives a node another name.
+    fn rename(&mut self, node: &NodeRef, name: &Name) -> Result<(), Memory>
+        ensures rows { OnOk result (self.new.rows ≡ at_row node.now (with_name_by name.now) self.old.rows) }
+        ensures nodes { self.new.nodes_made ≡ self.old.nodes_made }
+        ensures lines { self.new.lines_made ≡ self.old.lines_made }
+        ensures err { OnErr result (self.new ≡ self.old) }
+    {
+        let name = name.copy()?;
+        self.rows.set_name(node, name)
+    }
+
+    // Gives a node another directory.
+    fn put_into(&mut self, node: &NodeRef, parent: &NodeRef)
+        ensures rows { self.new.rows ≡ at_row node.now (with_parent_by parent.now) self.old.rows }
+        ensures nodes { self.new.nodes_made ≡ self.old.nodes_made }
+        ensures lines { self.new.lines_made ≡ self.old.lines_made }
+    {
+        self.rows.set_parent(node, parent);
+    }
+
+    // Takes a node out.
+    fn remove(&mut self, node: &NodeRef)
+        ensures rows { self.new.rows ≡ without_node node.now self.old.rows }
+        ensures nodes { self.new.nodes_made ≡ self.old.nodes_made }
+        ensures lines { self.new.lines_made ≡ self.old.lines_made }
+    {
+        self.rows.remove(node);
+    }
+
     // Does what an edit does.
     fn act(&mut self, edit: &Edit) -> Result<(), Memory>
         requires nodes { self.old.nodes_made < 2 ^ 32 - 1 }
@@ -314,6 +455,15 @@ impl View {
             Edit::Insert { file, after, text } => self.insert(file, after, text),
             Edit::Delete { file, line } => {
                 self.delete(file, line);
+                Ok(())
+            }
+            Edit::Rename { node, name } => self.rename(node, name),
+            Edit::Move { node, parent } => {
+                self.put_into(node, parent);
+                Ok(())
+            }
+            Edit::Remove { node } => {
+                self.remove(node);
                 Ok(())
             }
         }

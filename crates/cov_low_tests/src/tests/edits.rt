@@ -8,7 +8,7 @@ use cov_expr::{Expr, Part};
 use std::alloc::Global;
 use std::test::Fail;
 
-// A file, a line in it, and that line taken out.
+// A file, a line in it, that line taken out, and the file renamed, moved and taken out.
 fn add_edits(alloc: Global, edits: &mut Edits) -> Result<(), Fail> {
     edits.push(Edit::New {
         kind: Kind::File,
@@ -23,6 +23,17 @@ fn add_edits(alloc: Global, edits: &mut Edits) -> Result<(), Fail> {
     edits.push(Edit::Delete {
         file: NodeRef::New(0),
         line: LineRef::New(0),
+    })?;
+    edits.push(Edit::Rename {
+        node: NodeRef::New(0),
+        name: Name::read(alloc, b"n")?,
+    })?;
+    edits.push(Edit::Move {
+        node: NodeRef::New(0),
+        parent: NodeRef::Old(NodeNo::new(0)),
+    })?;
+    edits.push(Edit::Remove {
+        node: NodeRef::New(0),
     })?;
     Ok(())
 }

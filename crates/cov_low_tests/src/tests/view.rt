@@ -1,7 +1,10 @@
 //! A variant with edits on top.
+ghost use Rattle.std.specs.Prelude.{OnOk};
+ghost use Rattle.cov_view.specs.Soundness.{AreOld};
+
 use cov_base::{Kind, LineNo, LineRef, Name, NodeNo, NodeRef, Path, Text};
 use cov_edit::Edit;
-use cov_view::{View, ViewLines};
+use cov_view::{DirRows, Fault, View, ViewLines};
 use std::alloc::Global;
 use std::process::Abort;
 use std::test::Fail;
@@ -37,11 +40,20 @@ fn apply(view: &mut View, edit: &Edit) -> Result<(), Fail> {
     Ok(view.apply(edit)?)
 }
 
-// Makes a file in the root.
-fn make_file(alloc: Global, view: &mut View, name: &[u8]) -> Result<(), Fail> {
+// Makes a node in the root.
+fn make(alloc: Global, view: &mut View, kind: Kind, name: &[u8]) -> Result<(), Fail> {
     let edit = Edit::New {
-        kind: Kind::File,
+        kind,
         parent: NodeRef::Old(NodeNo::new(0)),
+        name: Name::read(alloc, name)?,
+    };
+    apply(view, &edit)
+}
+
+// Gives the file `m` another name.
+fn rename(alloc: Global, view: &mut View, name: &[u8]) -> Result<(), Fail> {
+    let edit = Edit::Rename {
+        node: the_file(),
         name: Name::read(alloc, name)?,
     };
     apply(view, &edit)
@@ -72,8 +84,23 @@ fn change(alloc: Global, view: &mut View) -> Result<(), Fail> {
     add_line(alloc, view, 2, b"two")?;
     insert(alloc, view, LineRef::Old(LineNo::new(1)), b"between")?;
     insert(alloc, view, LineRef::New(0), b"behind it")?;
-    make_file(alloc, view, b"n")?;
+    make(alloc, view, Kind::File, b"n")?;
     delete(view, LineRef::Old(LineNo::new(1)))
+}
+
+// Puts the file `m` as `k` into a directory, and takes the file `n` out.
+fn rearrange(alloc: Global, view: &mut View) -> Result<(), Fail> {
+    make(alloc, view, Kind::Dir, b"d")?;
+    let into = Edit::Move {
+        node: the_file(),
+        parent: NodeRef::New(1),
+    };
+    apply(view, &into)?;
+    rename(alloc, view, b"k")?;
+    let gone = Edit::Remove {
+        node: NodeRef::New(0),
+    };
+    apply(view, &gone)
 }
 
 fn add_text(all: &mut Text, lines: &ViewLines, index: usize) -> Result<(), Fail> {
@@ -105,12 +132,12 @@ fn leads_to(
     alloc: Global,
     view: &View,
     path: &[u8],
-    node: NodeRef,
+    node: Option<NodeRef>,
 ) -> Result<(), Fail> {
     let path = Path::read(alloc, path)?;
     let found = view.resolve(&path);
     drop(path);
-    assert!(rt; found == Some(node));
+    assert!(rt; found == node);
     Ok(())
 }
 
@@ -128,8 +155,8 @@ fn has_text(
 
 fn check(rt: &impl Abort, alloc: Global, view: &mut View) -> Result<(), Fail> {
     change(alloc, view)?;
-    leads_to(rt, alloc, view, b"/m", the_file())?;
-    leads_to(rt, alloc, view, b"/n", NodeRef::New(0))?;
+    leads_to(rt, alloc, view, b"/m", Some(the_file()))?;
+    leads_to(rt, alloc, view, b"/n", Some(NodeRef::New(0)))?;
     has_text(rt, alloc, view, the_file(), b"between|behind it|two|")?;
     has_text(rt, alloc, view, NodeRef::New(0), b"")
 }
@@ -138,6 +165,112 @@ fn check(rt: &impl Abort, alloc: Global, view: &mut View) -> Result<(), Fail> {
 fn edits_are_seen(rt: HostRuntime) -> Result<(), Fail> {
     let mut view = View::new(rt.alloc())?;
     let seen = check(&rt, rt.alloc(), &mut view);
+    drop(view);
+    seen
+}
+
+fn check_names(rt: &impl Abort, alloc: Global, view: &mut View) -> Result<(), Fail> {
+    change(alloc, view)?;
+    rearrange(alloc, view)?;
+    leads_to(rt, alloc, view, b"/d/k", Some(the_file()))?;
+    leads_to(rt, alloc, view, b"/m", None)?;
+    leads_to(rt, alloc, view, b"/d/m", None)?;
+    leads_to(rt, alloc, view, b"/n", None)?;
+    has_text(rt, alloc, view, the_file(), b"between|behind it|two|")
+}
+
+#[test]
+fn names_change(rt: HostRuntime) -> Result<(), Fail> {
+    let mut view = View::new(rt.alloc())?;
+    let seen = check_names(&rt, rt.alloc(), &mut view);
+    drop(view);
+    seen
+}
+
+// Adds what is listed in the root: the kind as `d` or `f`, the name and a stroke.
+fn add_listed(all: &mut Text, rows: &DirRows, index: usize) -> Result<(), Fail> {
+    if let Some(row) = rows.get(index) {
+        all.append(match row.kind {
+            Kind::Dir => b"d ",
+            Kind::File => b"f ",
+        })?;
+        all.append(row.name.as_slice())?;
+        all.append(b"|")?;
+    }
+    Ok(())
+}
+
+fn listed(alloc: Global, view: &View) -> Result<Text, Fail> {
+    let rows = view.list(NodeRef::Old(NodeNo::new(0)))?;
+    let mut all = Text::new(alloc);
+    for index in 0..rows.len() {
+        add_listed(&mut all, &rows, index)?;
+    }
+    Ok(all)
+}
+
+fn check_list(rt: &impl Abort, alloc: Global, view: &mut View) -> Result<(), Fail> {
+    make(alloc, view, Kind::File, b"b")?;
+    make(alloc, view, Kind::Dir, b"a")?;
+    make(alloc, view, Kind::File, b"ab")?;
+    make(alloc, view, Kind::File, b"B")?;
+    make(alloc, view, Kind::File, "\u{e9}".as_bytes())?;
+    let text = listed(alloc, view)?;
+    assert!(rt; text.as_slice() == "f B|d a|f ab|f b|f \u{e9}|".as_bytes());
+    Ok(())
+}
+
+#[test]
+fn a_directory_is_listed(rt: HostRuntime) -> Result<(), Fail> {
+    let mut view = View::new(rt.alloc())?;
+    let seen = check_list(&rt, rt.alloc(), &mut view);
+    drop(view);
+    seen
+}
+
+// Adds a directory that a history has.
+fn add_dir(alloc: Global, view: &mut View, node: u32, parent: u32, name: &[u8]) -> Result<(), Fail>
+    requires { AreOld view.old.rows }
+    ensures { OnOk result (AreOld view.new.rows) }
+{
+    let name = Name::read(alloc, name)?;
+    if view.kind(NodeRef::Old(NodeNo::new(node))).is_some() {
+        return Err(Fail::from("a node twice"));
+    }
+    view.add_row(NodeNo::new(node), Kind::Dir, NodeNo::new(parent), &name)?;
+    Ok(())
+}
+
+fn has_fault(rt: &impl Abort, view: &View, fault: Option<Fault>) -> Result<(), Fail>
+    requires { AreOld view.now.rows }
+{
+    let found = view.first_fault()?;
+    assert!(rt; found == fault);
+    Ok(())
+}
+
+fn check_faults(rt: &impl Abort, alloc: Global, view: &mut View) -> Result<(), Fail>
+    requires { AreOld view.old.rows }
+{
+    has_fault(rt, view, None)?;
+    add_dir(alloc, view, 4, 3, b"b")?;
+    add_dir(alloc, view, 3, 4, b"b")?;
+    let node = NodeNo::new(3);
+    has_fault(rt, view, Some(Fault::Loop { node }))?;
+    add_dir(alloc, view, 8, 9, b"x")?;
+    let node = NodeNo::new(8);
+    has_fault(rt, view, Some(Fault::Orphan { node }))?;
+    add_dir(alloc, view, 5, 0, b"a")?;
+    add_dir(alloc, view, 2, 0, b"a")?;
+    let low = NodeNo::new(2);
+    let high = NodeNo::new(5);
+    has_fault(rt, view, Some(Fault::Clash { low, high }))
+}
+
+#[test]
+fn faults_in_their_order(rt: HostRuntime) -> Result<(), Fail> {
+    let mut view = View::new(rt.alloc())?;
+    let seen = check_faults(&rt, rt.alloc(), &mut view);
     drop(view);
     seen
 }

@@ -1,0 +1,44 @@
+use Rattle.std.proofs.Common.{◌≡◌, List, position, ap, sym, subst, ◌∙◌}
+use Rattle.std.specs.List.{remove}
+use Rattle.cov_view.specs.Keys.{IsIndex}
+use Rattle.cov_view.specs.References.{same_node}
+use Rattle.cov_view.specs.Seen.{without_node, StandOnce}
+use Rattle.cov_view.specs.declared.row.ViewRow.{ViewRow}
+use Rattle.cov_view.proofs.Keys.{keys_of, keys-remove, no_place, removed_row}
+use Rattle.cov_view.proofs.Standing.{none-among, none-without, once-without}
+use Rattle.cov_view.proofs.rows.Rows.remove.Goals as goal
+
+-- the rows are those without the node's
+left : (c : goal.After-drop-remove-in-Some) → c.remove.new.self.items ≡ without_node c.args.node.now c.self.inside.rows.items
+left c =
+    c.remove.ensures.items
+    ∙ removed_row c.args.node.now c.self.inside.rows.items c.in-Some.at c.self.invariant.1
+    (ap (λ (rows : List ViewRow). position (λ r. same_node r.node c.args.node.now) rows) c.self.view_is ∙ sym c.place-place.ensures.place ∙ c.in-Some.is)
+
+-- no row is the node's
+same : (c : goal.In-None) → without_node c.args.node.now c.self.inside.rows.items ≡ c.self.inside.rows.items
+same c =
+    none-without c.args.node.now c.self.inside.rows.items
+    (none-among c.self.inside.rows.items c.args.node.now
+    (no_place (λ r. same_node r.node c.args.node.now) c.self.inside.rows.items
+    (ap (λ (rows : List ViewRow). position (λ r. same_node r.node c.args.node.now) rows) c.self.view_is ∙ sym c.place-place.ensures.place ∙ c.in-None.is)))
+
+pub invariant_of-self : goal.invariant_of-self
+invariant_of-self c = (
+  c.shift_remove_index.ensures.keys ∙ ap (λ ks. remove ks c.in-Some.at) c.self.invariant.0 ∙ sym (keys-remove c.self.inside.rows.items c.in-Some.at) ∙ ap keys_of (sym c.remove.ensures.items),
+  subst StandOnce (sym (left c)) (once-without c.args.node.now c.self.inside.rows.items c.self.invariant.1),
+  subst (λ (rows : List ViewRow). IsIndex c.leave.new.self.is_kept rows c.leave.new.self.nodes.entries) (ap (without_node c.args.node.now) c.as_slice.ensures.value ∙ sym (left c)) c.leave.ensures,
+)
+
+pub invariant_of-self-in-None : goal.invariant_of-self-in-None
+invariant_of-self-in-None c = (
+  c.self.invariant.0,
+  c.self.invariant.1,
+  subst (λ (rows : List ViewRow). IsIndex c.leave.new.self.is_kept rows c.leave.new.self.nodes.entries) (ap (without_node c.args.node.now) c.as_slice.ensures.value ∙ same c) c.leave.ensures,
+)
+
+pub returns-in-Some : goal.returns-in-Some
+returns-in-Some c = left c ∙ ap (without_node c.args.node.now) c.self.view_is
+
+pub returns-in-None : goal.returns-in-None
+returns-in-None c = sym (same c) ∙ ap (without_node c.args.node.now) c.self.view_is
