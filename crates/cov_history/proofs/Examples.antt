@@ -15,6 +15,7 @@ use Rattle.cov_edit.specs.Numbering.{OnRows, Deleted}
 use Rattle.cov_edit.proofs.CallerLemmas.{make_m, absent_anchor as history}
 use Rattle.cov_history.specs.Verdict.{verdict}
 use Rattle.cov_history.specs.declared.refusal.Refusal.TheVariants as refusals
+use Rattle.cov_history.specs.FileNodes.{files_made, files_of}
 use Rattle.cov_history.specs.FileOfLine.{file_of_line_in}
 use Rattle.cov_history.specs.Kept.{kept_number, kept_of, entries_of, kept_after, entries_after, lines_seen, rows_seen}
 
@@ -108,3 +109,125 @@ one_choice = refl
 
 no_valid_choice : verdict (with_two_options ++ commands.Constraint (Not (And (On 0) (On 1))) ∷ []) (commands.Commit 3 (false ∷ true ∷ []) (On 1) (insert_1 (codes "no") ∷ [])) ≡ None
 no_valid_choice = refl
+
+-- a rename, a move and a removal of a node are overtaken by another edit of it, and a new node in it isn't
+abbrev make_dir : List ℕ → Edit
+make_dir name = edits.New kinds.Dir (nodes.Old 0) name
+
+abbrev renamed_twice : List Command
+renamed_twice =
+    commands.Commit 0 [] True (make_dir (codes "a") ∷ make_dir (codes "b") ∷ [])
+    ∷ commands.Commit 1 [] True (edits.Rename (nodes.Old 1) (codes "c") ∷ [])
+    ∷ []
+
+late_rename : verdict renamed_twice (commands.Commit 1 [] True (edits.Rename (nodes.Old 1) (codes "d") ∷ [])) ≡ Some (refusals.Overtaken 2)
+late_rename = refl
+
+late_move : verdict renamed_twice (commands.Commit 1 [] True (edits.Move (nodes.Old 1) (nodes.Old 2) ∷ [])) ≡ Some (refusals.Overtaken 2)
+late_move = refl
+
+late_removal : verdict renamed_twice (commands.Commit 1 [] True (edits.Remove (nodes.Old 1) ∷ [])) ≡ Some (refusals.Overtaken 2)
+late_removal = refl
+
+late_target : verdict renamed_twice (commands.Commit 1 [] True (edits.Move (nodes.Old 2) (nodes.Old 1) ∷ [])) ≡ None
+late_target = refl
+
+taken_name : verdict renamed_twice (commands.Commit 2 [] True (make_dir (codes "d") ∷ edits.Rename (nodes.Old 1) (codes "b") ∷ [])) ≡ Some (refusals.BadRecord 1)
+taken_name = refl
+
+into_itself : verdict renamed_twice (commands.Commit 2 [] True (edits.Move (nodes.Old 1) (nodes.Old 2) ∷ edits.Move (nodes.Old 2) (nodes.Old 1) ∷ [])) ≡ Some (refusals.BadRecord 1)
+into_itself = refl
+
+not_empty : verdict renamed_twice (commands.Commit 2 [] True (edits.Move (nodes.Old 1) (nodes.Old 2) ∷ edits.Remove (nodes.Old 2) ∷ [])) ≡ Some (refusals.BadRecord 1)
+not_empty = refl
+
+emptied : verdict renamed_twice (commands.Commit 2 [] True (edits.Remove (nodes.Old 1) ∷ edits.Remove (nodes.Old 2) ∷ [])) ≡ None
+emptied = refl
+
+-- a file that is there where d is on has its name taken by another that would be there everywhere
+abbrev make_x : Edit
+make_x = edits.New kinds.File (nodes.Old 0) (codes "x")
+
+abbrev with_x : List Command
+with_x = commands.Option (codes "d") ∷ commands.Commit 1 (true ∷ []) (On 0) (make_x ∷ []) ∷ []
+
+is_clash : verdict with_x (commands.Commit 2 (false ∷ []) True (make_x ∷ [])) ≡ Some (refusals.Clash 1 2 (true ∷ []))
+is_clash = refl
+
+-- not so where they meet on no choice, or on none that is valid
+is_apart : verdict with_x (commands.Commit 2 (false ∷ []) (Not (On 0)) (make_x ∷ [])) ≡ None
+is_apart = refl
+
+is_invalid : verdict (with_x ++ commands.Constraint (Not (On 0)) ∷ []) (commands.Commit 3 (false ∷ []) True (make_x ∷ [])) ≡ None
+is_invalid = refl
+
+-- of several choices the first is named
+first_choice : verdict (with_x ++ commands.Option (codes "e") ∷ []) (commands.Commit 3 (false ∷ true ∷ []) True (make_x ∷ [])) ≡ Some (refusals.Clash 1 2 (true ∷ false ∷ []))
+first_choice = refl
+
+-- a commit that is overtaken too is refused as such, and for its fault once its base is the end
+abbrev with_z : List Command
+with_z =
+    commands.Option (codes "d")
+    ∷ commands.Commit 1 (false ∷ []) (Not (On 0)) (edits.New kinds.File (nodes.Old 0) (codes "z") ∷ [])
+    ∷ commands.Commit 1 (true ∷ []) (On 0) (make_x ∷ [])
+    ∷ commands.Commit 3 (true ∷ []) (On 0) (edits.Rename (nodes.Old 2) (codes "y") ∷ [])
+    ∷ []
+
+abbrev another_z : ℕ → Command
+another_z base = commands.Commit base (true ∷ []) True (edits.Rename (nodes.Old 2) (codes "w") ∷ edits.New kinds.File (nodes.Old 0) (codes "z") ∷ [])
+
+late_clash : verdict with_z (another_z 3) ≡ Some (refusals.Overtaken 4)
+late_clash = refl
+
+then_clash : verdict with_z (another_z 4) ≡ Some (refusals.Clash 1 3 (false ∷ []))
+then_clash = refl
+
+-- a directory is taken out where it has no file, and would be so too where it has one
+abbrev with_child : List Command
+with_child =
+    commands.Option (codes "d")
+    ∷ commands.Commit 1 (true ∷ []) True (make_dir (codes "a") ∷ [])
+    ∷ commands.Commit 2 (true ∷ []) (On 0) (edits.New kinds.File (nodes.Old 1) (codes "x") ∷ [])
+    ∷ []
+
+is_orphan : verdict with_child (commands.Commit 3 (false ∷ []) True (edits.Remove (nodes.Old 1) ∷ [])) ≡ Some (refusals.Orphan 2 (true ∷ []))
+is_orphan = refl
+
+not_there : verdict with_child (commands.Commit 3 (false ∷ []) (Not (On 0)) (edits.Remove (nodes.Old 1) ∷ [])) ≡ None
+not_there = refl
+
+-- two directories, each moved into the other, and a file in a directory that is gone where p is on
+abbrev with_move : List Command
+with_move =
+    commands.Option (codes "p")
+    ∷ commands.Commit 1 (true ∷ []) True (make_dir (codes "a") ∷ make_dir (codes "b") ∷ make_dir (codes "c") ∷ [])
+    ∷ commands.Commit 2 (true ∷ []) (On 0) (edits.Move (nodes.Old 1) (nodes.Old 2) ∷ edits.Remove (nodes.Old 3) ∷ [])
+    ∷ []
+
+is_loop : verdict with_move (commands.Commit 3 (false ∷ []) True (edits.Move (nodes.Old 2) (nodes.Old 1) ∷ [])) ≡ Some (refusals.Loop 1 (true ∷ []))
+is_loop = refl
+
+new_orphan : verdict with_move (commands.Commit 3 (false ∷ []) True (edits.New kinds.File (nodes.Old 3) (codes "x") ∷ [])) ≡ Some (refusals.Orphan 4 (true ∷ []))
+new_orphan = refl
+
+-- of two directories with a file each, the nodes 2 and 4 are files, whatever happens to them later
+abbrev in_dirs : List Edit
+in_dirs = make_dir (codes "a") ∷ edits.New kinds.File (nodes.New 0) (codes "x") ∷ make_dir (codes "b") ∷ edits.New kinds.File (nodes.New 2) (codes "y") ∷ []
+
+abbrev with_files : List Command
+with_files =
+    commands.Option (codes "d")
+    ∷ commands.Commit 1 (true ∷ []) (On 0) in_dirs
+    ∷ commands.Commit 2 (true ∷ []) True (edits.Rename (nodes.Old 4) (codes "z") ∷ edits.Move (nodes.Old 2) (nodes.Old 3) ∷ edits.Remove (nodes.Old 1) ∷ [])
+    ∷ commands.Commit 2 (false ∷ []) (Not (On 0)) (make_m ∷ edits.Insert (nodes.New 0) (lines.Old 0) (codes "A") ∷ [])
+    ∷ []
+
+files_of_edits : files_made 7 in_dirs ≡ 9 ∷ 11 ∷ []
+files_of_edits = refl
+
+files_of_history : files_of with_files ≡ 2 ∷ 4 ∷ 5 ∷ []
+files_of_history = refl
+
+file_of_line_A : file_of_line_in with_files ≡ 5 ∷ []
+file_of_line_A = refl

@@ -1,11 +1,10 @@
 -- What a commit shows of its files where other commits stand after its base.
-use Rattle.std.proofs.Common.{◌≡◌, ℕ, suc, ◌+◌, ◌<◌, ◌≤◌, Bool, true, false, cond, ◌||◌, ◌&&◌, nat_eq, List, [], ◌∷◌, ◌++◌, length, map, take, drop, Option, Some, None, option_map, refl, sym, ap, subst, ◌∙◌, arith}
+use Rattle.std.proofs.Common.{◌≡◌, ℕ, suc, ◌+◌, ◌<◌, ◌≤◌, Bool, true, false, cond, ◌||◌, ◌&&◌, nat_eq, List, [], ◌∷◌, ◌++◌, length, map, take, drop, Option, Some, None, refl, sym, ap, subst, ◌∙◌, arith}
 use Rattle.std.specs.List.{filter, list_any, filter_map, cons_option, AllByRecursion}
 use Rattle.std.proofs.Math.Seq.{take-length}
 use Rattle.std.proofs.lemmas.Bool.{or_right}
 use Rattle.std.proofs.lemmas.Bool.Decides.{nat_tests}
 use Rattle.cov_base.specs.Addresses.{address_in, with_lines, IsTable, IsLineOf}
-use Rattle.cov_base.specs.declared.number.Kind.TheVariants as kinds
 use Rattle.cov_base.specs.declared.number.NodeRef.{NodeRef}
 use Rattle.cov_base.specs.declared.number.NodeRef.TheVariants as nodes
 use Rattle.cov_base.proofs.CallerLemmas.{all-map, all-filter, inside, address_in-with_lines, length-with_lines}
@@ -20,15 +19,17 @@ use Rattle.cov_edit.specs.Touched.{old_node, touched_by, has_number, have_common
 use Rattle.cov_edit.specs.Variant.{Line, lines_of}
 use Rattle.cov_edit.specs.Replay.{replay}
 use Rattle.cov_edit.proofs.CallerLemmas.{anchors-same_count, replay-commit, all_within, touched-rising}
-use Rattle.cov_rules.proofs.CallerLemmas.{value_same, is_on-take, fails_on_each}
+use Rattle.cov_rules.proofs.CallerLemmas.{fails_on_each, value_by_first_options}
 use Rattle.cov_view.specs.References.{is_known_node}
 use Rattle.cov_view.specs.Paths.{kind_of}
+use Rattle.cov_history.specs.BadChoices.{unsound_refusal}
 use Rattle.cov_history.specs.Kept.{Kept, seen_at, is_seen, the_item, items_seen, held_by}
 use Rattle.cov_history.specs.Laws.{text_of}
 use Rattle.cov_history.specs.Overtaking.{share_choice, overtakes, overtaken_from, overtaken}
 use Rattle.cov_history.specs.Reach.{AreReached, IsHeldInReach}
 use Rattle.cov_history.specs.Sessions.{Session, IsGood, seen, commit_of}
 use Rattle.cov_history.specs.Verdict.{IsLegal, verdict, when_full, size_refusals, has_no_edits, as_overtaken}
+use Rattle.cov_history.specs.declared.refusal.Refusal.{Refusal}
 use Rattle.cov_history.specs.declared.refusal.Refusal.TheVariants as refusals
 use Rattle.cov_view.specs.Refusals.{when}
 use Rattle.cov_view.proofs.CallerLemmas.{none-first, none-behind}
@@ -41,12 +42,9 @@ use Rattle.cov_history.proofs.Renumbering.{renumbered, address_renumbered, renum
 use Rattle.cov_history.proofs.Replays.{joined, replay-seen}
 use Rattle.cov_history.proofs.Sessions.{good-passes}
 use Rattle.cov_history.proofs.Shown.{replay-stands}
-use Rattle.cov_history.proofs.Touching.{IsSameAt, LeavesOn, replay-left}
+use Rattle.cov_history.proofs.Touching.{IsSameAt, kind_by, LeavesOn, replay-left}
 
 -- only the options that a history declares count in its replay
-value-front : (n : ℕ) (c : List Bool) (e : Formula ℕ) → reach e ≤ n → value e c ≡ value e (take n c)
-value-front n c e h = value_same e c (take n c) (λ o lt. sym (is_on-take n c o (omega (arith, lt, h))))
-
 module _ (history : List Command) (c : List Bool) where
   abbrev count : ℕ
   count = option_count history
@@ -62,7 +60,7 @@ module _ (history : List Command) (c : List Bool) where
       low = subst (λ hs. reach (seen_at k.changes p) ≤ option_count hs) (take-length history) (seen-reached history p k.changes h.0)
 
       same : is_seen c p k ≡ is_seen (take count c) p k
-      same = value-front count c (seen_at k.changes p) low
+      same = sym (value_by_first_options count (seen_at k.changes p) c low)
 
       at : (a b : Bool) → a ≡ b → items_seen c p ks ≡ items_seen (take count c) p ks
           → map the_item (cond a (k ∷ filter (is_seen c p) ks) (filter (is_seen c p) ks)) ≡ map the_item (cond b (k ∷ filter (is_seen (take count c) p) ks) (filter (is_seen (take count c) p) ks))
@@ -130,9 +128,15 @@ no-position (Some p) h = absurd (cc)
 not-overtaken : (history : List Command) (s : Session) → IsGood history s → verdict history (commit_of s) ≡ None → overtaken history s.base s.ambition s.edits ≡ None
 not-overtaken history s good accepted =
     no-position (overtaken history s.base s.ambition s.edits)
-    (none-first (as_overtaken (overtaken history s.base s.ambition s.edits)) []
-    (none-behind (when_full history ∷ (size_refusals history s.edits ++ when (has_no_edits s.edits) refusals.Empty ∷ [])) (as_overtaken (overtaken history s.base s.ambition s.edits) ∷ [])
+    (none-first late (unsound ∷ [])
+    (none-behind (when_full history ∷ (size_refusals history s.edits ++ when (has_no_edits s.edits) refusals.Empty ∷ [])) (late ∷ unsound ∷ [])
     (sym (good-passes history s good) ∙ accepted))).0
+  where
+    late : Option Refusal
+    late = as_overtaken (overtaken history s.base s.ambition s.edits)
+
+    unsound : Option Refusal
+    unsound = unsound_refusal history s.ambition (commit_of s)
 
 -- a touched node of known edits is an old one
 named-low : (n node : ℕ) (file : NodeRef) (es : List Edit) → is_known_node n file ≡ true → has_number node (cons_option (old_node file) (filter_map touched_by es)) ≡ true
@@ -146,9 +150,12 @@ named-low n node (nodes.New i) es k j rest = rest j
 
 touched-low : (n m node : ℕ) (es : List Edit) → AreKnown n m es → has_number node (filter_map touched_by es) ≡ true → node ≤ n
 touched-low n m node [] known h = absurd (cc)
-touched-low n m node (edits.New kind parent name ∷ es) known h = touched-low n m node es known h
-touched-low n m node (edits.Insert file after text ∷ es) known h = named-low n node file es known.0 h (touched-low n m node es known.2)
-touched-low n m node (edits.Delete file which ∷ es) known h = named-low n node file es known.0 h (touched-low n m node es known.2)
+touched-low n m node (edits.New kind parent name ∷ es) known h = touched-low n m node es known.1 h
+touched-low n m node (edits.Insert file after text ∷ es) known h = named-low n node file es known.0.0 h (touched-low n m node es known.1)
+touched-low n m node (edits.Delete file which ∷ es) known h = named-low n node file es known.0.0 h (touched-low n m node es known.1)
+touched-low n m node (edits.Rename which name ∷ es) known h = named-low n node which es known.0 h (touched-low n m node es known.1)
+touched-low n m node (edits.Move which parent ∷ es) known h = named-low n node which es known.0 h (touched-low n m node es known.1)
+touched-low n m node (edits.Remove which ∷ es) known h = named-low n node which es known.0 h (touched-low n m node es known.1)
 
 -- the lines of a replay are of the table with more lines
 replay-in_table : (c : List Bool) (history : List Command) (es : List Edit) → IsInTable (numbers_after (numbers_of history) es).addresses (length (numbers_of history).addresses) (replay c history)
@@ -214,7 +221,7 @@ module _ (history : List Command) (s : Session) (c : List Bool) (file : ℕ) (le
   inside-ambition : value s.ambition c ≡ true
   inside-ambition =
       let low : reach s.ambition ≤ length s.choice = subst (λ k. reach s.ambition ≤ k) (sym good.of_all_options) good.in_reach in
-      value-front (length s.choice) c s.ambition low ∙ ap (value s.ambition) front ∙ good.in_ambition
+      sym (value_by_first_options (length s.choice) s.ambition c low) ∙ ap (value s.ambition) front ∙ good.in_ambition
 
   -- at the base, the choices show the same
   at-base : replay c before ≡ replay s.choice before
@@ -237,7 +244,7 @@ module _ (history : List Command) (s : Session) (c : List Bool) (file : ℕ) (le
 
   start-alike : IsAlike nb nh more tb th (is_table-of before s.edits) (is_table-of history s.edits) same file old (base-nodes s.base history) (replay s.choice before) (replay c history)
   start-alike = record {
-    kind = ap (λ o. cond (nat_eq file 0) (Some kinds.Dir) (option_map (λ r. r.kind) o)) since-base.row;
+    kind = ap (kind_by file) since-base.row;
     lines = since-base.lines
         ∙ sym (low-lines n m nb.addresses (is_table-of before []) (omega arith) (lines_of (replay s.choice before) file)
         (all-filter (λ l. IsLineOf nb.addresses n l.address) (λ l. nat_eq l.file file) (replay s.choice before).lines (replay-stands s.choice before).1));

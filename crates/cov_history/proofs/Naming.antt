@@ -5,7 +5,7 @@ use Rattle.std.proofs.lemmas.List.{take-append-drop}
 use Rattle.std.proofs.lemmas.Bool.{and_parts}
 use Rattle.std.proofs.lemmas.Bool.Decides.{nat_tests}
 use Rattle.cov_base.specs.Addresses.{address_in}
-use Rattle.cov_base.specs.Rows.{Row, Created, is_present}
+use Rattle.cov_base.specs.Rows.{Row, with_name, with_parent, is_present}
 use Rattle.cov_base.specs.declared.number.NodeRef.{NodeRef}
 use Rattle.cov_base.specs.declared.number.NodeRef.TheVariants as nodes
 use Rattle.cov_base.proofs.CallerLemmas.{all-map, all-append, all-filter, all-placed}
@@ -15,20 +15,23 @@ use Rattle.cov_edit.specs.declared.edit.Edit.TheVariants as edits
 use Rattle.cov_edit.specs.declared.command.Command.{Command}
 use Rattle.cov_edit.specs.declared.command.Command.TheVariants as commands
 use Rattle.cov_edit.specs.History.{option_count, first_false_in}
-use Rattle.cov_edit.specs.Numbering.{Numbers, NumberedEdit, OnRows, Inserted, Deleted, node_number, line_number, nodes_made, no_numbers, numbers_after, numbers_from, numbers_of, numbered_from}
+use Rattle.cov_edit.specs.Numbering.{Numbers, node_number, line_number, node_count_after, line_count_after, nodes_made, no_numbers, numbers_after, numbers_from, numbers_of, numbered_edit, numbered_from}
 use Rattle.cov_edit.specs.Variant.{Variant, Line, bare, line_address, is_line, edited}
 use Rattle.cov_edit.specs.Replay.{applying, commit_changes, changes_from, applied, replay}
-use Rattle.cov_edit.proofs.CallerLemmas.{fold-append, numbers_from-append, replay-append, replay-commit}
-use Rattle.cov_view.proofs.CallerLemmas.{new-accepted, insert-accepted, delete-accepted, none-first, none-behind}
+use Rattle.cov_edit.proofs.CallerLemmas.{fold-append, node_count_after-is, numbers_from-append, replay-append, replay-commit}
+use Rattle.cov_view.proofs.CallerLemmas.{new-accepted, insert-accepted, delete-accepted, rename-accepted, move-accepted, remove-accepted, none-first, none-behind}
 use Rattle.cov_view.specs.References.{is_known_node, is_made_node}
 use Rattle.cov_view.specs.Refusals.{when, refusal, refused_from, first_refused}
 use Rattle.cov_view.specs.declared.fault.EditFault.{EditFault}
 use Rattle.cov_history.specs.declared.refusal.Refusal.{Refusal}
 use Rattle.cov_history.specs.declared.refusal.Refusal.TheVariants as refusals
+use Rattle.cov_history.specs.BadChoices.{unsound_refusal}
 use Rattle.cov_history.specs.Naming.{NamesOnlyMade}
 use Rattle.cov_history.specs.Overtaking.{overtaken}
 use Rattle.cov_history.specs.Verdict.{verdict, when_full, size_refusals, as_invalid, as_bad_record, as_overtaken, has_no_edits, IsLegalFrom, IsLegal}
+use Rattle.cov_history.proofs.ChangedRows.{renamed-field, moved-field}
 use Rattle.cov_history.proofs.Sessions.{edit-accepted, rest-accepted}
+use Rattle.cov_history.proofs.Standing.{all-mapped}
 
 abbrev pub the_node : Row → ℕ
 the_node r = r.node
@@ -49,16 +52,23 @@ further number count more xs le h = all-map (λ x. number x ≤ count) (λ x. nu
 one-more : {X : Type 0} (number : X → ℕ) (count : ℕ) (xs : List X) (x : X) → number x ≤ count + 1 → AreUpTo number count xs → AreUpTo number (count + 1) (xs ++ x ∷ [])
 one-more number count xs x new h = all-append (λ y. number y ≤ count + 1) xs (x ∷ []) (further number count (count + 1) xs (omega arith) h) (new, tt)
 
-either-way : (P : Variant → Type 0) (b : Bool) (v w : Variant) → P v → P w → P (cond b v w)
+pub either-way : (P : Variant → Type 0) (b : Bool) (v w : Variant) → P v → P w → P (cond b v w)
 either-way P true v w p q = p
 either-way P false v w p q = q
 
--- the node that each edit names is one of the first n, the root, or made by the edits before it, of which so many made nodes
+-- the nodes that an edit names are each one of the first n, the root, or made by the edits before it, which made so many
+abbrev pub IsNamed : ℕ → ℕ → Edit → Type 0
+IsNamed n made (edits.New kind parent name) = is_made_node n made parent ≡ true
+IsNamed n made (edits.Insert file after text) = is_made_node n made file ≡ true
+IsNamed n made (edits.Delete file line) = is_made_node n made file ≡ true
+IsNamed n made (edits.Rename node name) = is_made_node n made node ≡ true
+IsNamed n made (edits.Move node parent) = (is_made_node n made node ≡ true) × (is_made_node n made parent ≡ true)
+IsNamed n made (edits.Remove node) = is_made_node n made node ≡ true
+
+-- so are those that each edit names, in turn
 abbrev pub AreNamed : ℕ → ℕ → List Edit → Type 0
 AreNamed n made [] = Unit {0}
-AreNamed n made (edits.New kind parent name ∷ es) = (is_made_node n made parent ≡ true) × AreNamed n (made + 1) es
-AreNamed n made (edits.Insert file after text ∷ es) = (is_made_node n made file ≡ true) × AreNamed n made es
-AreNamed n made (edits.Delete file line ∷ es) = (is_made_node n made file ≡ true) × AreNamed n made es
+AreNamed n made (e ∷ es) = IsNamed n made e × AreNamed n (node_count_after made e) es
 
 -- what the rows of a variant and the verdict tell of references
 present-below : (count node : ℕ) (rows : List Row) → AreUpTo the_node count rows → list_any (λ r. nat_eq r.node node) rows ≡ true → node ≤ count
@@ -90,79 +100,131 @@ made-number n m made (nodes.New i) le h =
     let own : i + 1 ≤ made = grind (arith, nat_tests, one) in
     omega (arith, own)
 
+-- an accepted edit names what is made
+named-accepted : (ns : Numbers) (made : ℕ) (v : Variant) (e : Edit) → AreUpTo the_node (ns.nodes + made) v.rows → refusal ns v e ≡ None → IsNamed ns.nodes made e
+named-accepted ns made v (edits.New kind parent name) h accepted = known-made ns.nodes made parent v.rows h (new-accepted ns v kind parent name accepted).0
+named-accepted ns made v (edits.Insert file after text) h accepted = known-made ns.nodes made file v.rows h (insert-accepted ns v file after text accepted).0
+named-accepted ns made v (edits.Delete file which) h accepted = known-made ns.nodes made file v.rows h (delete-accepted ns v file which accepted).0
+named-accepted ns made v (edits.Rename node name) h accepted = known-made ns.nodes made node v.rows h (rename-accepted ns v node name accepted).1
+named-accepted ns made v (edits.Move node parent) h accepted =
+    let parts = move-accepted ns v node parent accepted in
+    (known-made ns.nodes made node v.rows h parts.1, known-made ns.nodes made parent v.rows h parts.2)
+named-accepted ns made v (edits.Remove node) h accepted = known-made ns.nodes made node v.rows h (remove-accepted ns v node accepted).1
+
+-- numbers of rows that a change of each leaves stay up to a count
+up_to-same : (number : Row → ℕ) (f : Row → Row) (count : ℕ) (rows : List Row) → ((r : Row) → number (f r) ≡ number r) → AreUpTo number count rows → AreUpTo number count (map f rows)
+up_to-same number f count rows same h = all-mapped (λ r. number r ≤ count) (λ r. number r ≤ count) f (λ r low. subst (λ n. n ≤ count) (sym (same r)) low) rows h
+
+renamed-up_to : (number : Row → ℕ) (node : ℕ) (name : List ℕ) (count : ℕ) (rows : List Row)
+    → ((r : Row) → number (record { node = r.node; kind = r.kind; parent = r.parent; name = name }) ≡ number r) → AreUpTo number count rows → AreUpTo number count (map (with_name node name) rows)
+renamed-up_to number node name count rows same h = up_to-same number (with_name node name) count rows (λ r. renamed-field number node name r (same r)) h
+
+moved-nodes : (node parent count : ℕ) (rows : List Row) → AreUpTo the_node count rows → AreUpTo the_node count (map (with_parent node parent) rows)
+moved-nodes node parent count rows h = up_to-same the_node (with_parent node parent) count rows (λ r. moved-field the_node node parent r refl) h
+
+moved-parents : (node parent count : ℕ) (rows : List Row) → parent ≤ count → AreUpTo the_parent count rows → AreUpTo the_parent count (map (with_parent node parent) rows)
+moved-parents node parent count rows below h =
+    all-mapped (λ r. r.parent ≤ count) (λ r. r.parent ≤ count) (with_parent node parent) (λ r low. at r low (nat_eq r.node node)) rows h
+  where
+    at : (r : Row) → r.parent ≤ count → (b : Bool) → the_parent (cond b (record { node = r.node; kind = r.kind; parent = parent; name = r.name }) r) ≤ count
+    at r low true = below
+    at r low false = low
+
+-- the rows after an edit are of the nodes made by then
+pub nodes-edit : (ns : Numbers) (t : List (List ℕ)) (node line : ℕ) (v : Variant) (e : Edit) → AreUpTo the_node node v.rows
+    → AreUpTo the_node (node_count_after node e) (edited v (numbered_edit ns t node line e)).rows
+nodes-edit ns t node line v (edits.New kind parent name) h =
+    one-more the_node node v.rows (record { node = node + 1; kind = kind; parent = node_number ns.nodes parent; name = name }) (omega arith) h
+nodes-edit ns t node line v (edits.Insert file after text) h = h
+nodes-edit ns t node line v (edits.Delete file which) h = h
+nodes-edit ns t node line v (edits.Rename which name) h = renamed-up_to the_node (node_number ns.nodes which) name node v.rows (λ r. refl) h
+nodes-edit ns t node line v (edits.Move which parent) h = moved-nodes (node_number ns.nodes which) (node_number ns.nodes parent) node v.rows h
+nodes-edit ns t node line v (edits.Remove which) h = all-filter (λ r. r.node ≤ node) (λ r. not (nat_eq r.node (node_number ns.nodes which))) v.rows h
+
+-- nodes that are as many more than others are so after an edit
+count-alike : (old node made : ℕ) (e : Edit) → node ≡ old + made → node_count_after node e ≡ old + node_count_after made e
+count-alike old node made e same =
+    let here = node_count_after-is node 0 e in
+    let there = node_count_after-is old made e in
+    let more = node_count_after-is old 0 e in
+    omega (arith, same, here, there, more)
+
 -- accepted edits name what is made when it is their turn
 pub accepted-named : (ns : Numbers) (t : List (List ℕ)) (node made line k : ℕ) (v : Variant) (es : List Edit) → node ≡ ns.nodes + made → AreUpTo the_node (ns.nodes + made) v.rows
     → refused_from ns v k es (numbered_from ns t node line es) ≡ None → AreNamed ns.nodes made es
 accepted-named ns t node made line k v [] e h accepted = tt
-accepted-named ns t node made line k v (edits.New kind parent name ∷ es) e h accepted =
-    let next : node + 1 ≡ ns.nodes + (made + 1) = omega (arith, e) in
-    let own : node + 1 ≤ ns.nodes + made + 1 = omega (arith, e) in
-    let more : ns.nodes + made + 1 ≡ ns.nodes + (made + 1) = omega arith in
-    let row : Row = record { node = node + 1; kind = kind; parent = node_number ns.nodes parent; name = name } in (
-      known-made ns.nodes made parent v.rows h (new-accepted ns v kind parent name (edit-accepted k (refusal ns v (edits.New kind parent name)) _ accepted)).0,
-      accepted-named ns t (node + 1) (made + 1) line (k + 1) (edited v (OnRows (Created (node + 1) kind (node_number ns.nodes parent) name))) es next
-          (subst (λ n. AreUpTo the_node n (v.rows ++ row ∷ [])) more (one-more the_node (ns.nodes + made) v.rows row own h))
-          (rest-accepted k (refusal ns v (edits.New kind parent name)) _ accepted),
+accepted-named ns t node made line k v (d ∷ es) e h accepted =
+    let next = count-alike ns.nodes node made d e in (
+      named-accepted ns made v d h (edit-accepted k (refusal ns v d) _ accepted),
+      accepted-named ns t (node_count_after node d) (node_count_after made d) (line_count_after line d) (k + 1) (edited v (numbered_edit ns t node line d)) es next
+          (subst (λ x. AreUpTo the_node x (edited v (numbered_edit ns t node line d)).rows) next (nodes-edit ns t node line v d (subst (λ x. AreUpTo the_node x v.rows) (sym e) h)))
+          (rest-accepted k (refusal ns v d) _ accepted),
     )
-accepted-named ns t node made line k v (edits.Insert file after text ∷ es) e h accepted = (
-  known-made ns.nodes made file v.rows h (insert-accepted ns v file after text (edit-accepted k (refusal ns v (edits.Insert file after text)) _ accepted)).0,
-  accepted-named ns t node made (line + 1) (k + 1) (edited v (Inserted (node_number ns.nodes file) (address_in t (line + 1)) text)) es e h
-      (rest-accepted k (refusal ns v (edits.Insert file after text)) _ accepted),
-)
-accepted-named ns t node made line k v (edits.Delete file which ∷ es) e h accepted = (
-  known-made ns.nodes made file v.rows h (delete-accepted ns v file which (edit-accepted k (refusal ns v (edits.Delete file which)) _ accepted)).0,
-  accepted-named ns t node made line (k + 1) (edited v (Deleted (node_number ns.nodes file) (address_in t (line_number (length ns.addresses) which)))) es e h
-      (rest-accepted k (refusal ns v (edits.Delete file which)) _ accepted),
-)
+
+-- what is named stays so when more is made
+names-later : (count more : ℕ) (v : Variant) → count ≤ more → NamesOnlyMade count v → NamesOnlyMade more v
+names-later count more v le h = record { nodes = further the_node count more v.rows le h.nodes; parents = further the_parent count more v.rows le h.parents; files = further the_file count more v.lines le h.files }
+
+-- a variant names only what is made after an edit that does
+names-edit : (n : ℕ) (ns : Numbers) (t : List (List ℕ)) (node made line : ℕ) (v : Variant) (e : Edit) → n ≤ ns.nodes → node ≡ ns.nodes + made → IsNamed n made e → NamesOnlyMade node v
+    → NamesOnlyMade (node_count_after node e) (edited v (numbered_edit ns t node line e))
+names-edit n ns t node made line v (edits.New kind parent name) le begun named h =
+    let row : Row = record { node = node + 1; kind = kind; parent = node_number ns.nodes parent; name = name } in
+    let at_parent : node_number ns.nodes parent ≤ ns.nodes + made = made-number n ns.nodes made parent le named in
+    let below : node_number ns.nodes parent ≤ node + 1 = omega (arith, at_parent, begun) in
+    record {
+      nodes = one-more the_node node v.rows row (omega arith) h.nodes;
+      parents = one-more the_parent node v.rows row below h.parents;
+      files = further the_file node (node + 1) v.lines (omega arith) h.files;
+    }
+names-edit n ns t node made line v (edits.Insert file after text) le begun named h =
+    let new : Line = record { file = node_number ns.nodes file; address = address_in t (line + 1); text = text } in
+    let at_file : node_number ns.nodes file ≤ ns.nodes + made = made-number n ns.nodes made file le named in
+    let below : node_number ns.nodes file ≤ node = omega (arith, at_file, begun) in
+    record { nodes = h.nodes; parents = h.parents; files = all-placed line_address (λ l. l.file ≤ node) new v.lines below h.files }
+names-edit n ns t node made line v (edits.Delete file which) le begun named h =
+    let f : ℕ = node_number ns.nodes file in
+    let address : List ℕ = address_in t (line_number (length ns.addresses) which) in
+    record { nodes = h.nodes; parents = h.parents; files = all-filter (λ l. l.file ≤ node) (λ l. not (is_line f address l)) v.lines h.files }
+names-edit n ns t node made line v (edits.Rename which name) le begun named h = record {
+  nodes = renamed-up_to the_node (node_number ns.nodes which) name node v.rows (λ r. refl) h.nodes;
+  parents = renamed-up_to the_parent (node_number ns.nodes which) name node v.rows (λ r. refl) h.parents;
+  files = h.files;
+}
+names-edit n ns t node made line v (edits.Move which parent) le begun named h =
+    let at_parent : node_number ns.nodes parent ≤ ns.nodes + made = made-number n ns.nodes made parent le named.1 in
+    let below : node_number ns.nodes parent ≤ node = omega (arith, at_parent, begun) in
+    record {
+      nodes = moved-nodes (node_number ns.nodes which) (node_number ns.nodes parent) node v.rows h.nodes;
+      parents = moved-parents (node_number ns.nodes which) (node_number ns.nodes parent) node v.rows below h.parents;
+      files = h.files;
+    }
+names-edit n ns t node made line v (edits.Remove which) le begun named h = record {
+  nodes = all-filter (λ r. r.node ≤ node) (λ r. not (nat_eq r.node (node_number ns.nodes which))) v.rows h.nodes;
+  parents = all-filter (λ r. r.parent ≤ node) (λ r. not (nat_eq r.node (node_number ns.nodes which))) v.rows h.parents;
+  files = h.files;
+}
 
 -- edits, each where it applies
 module _ (c : List Bool) (within : Formula ℕ) where
   nodes-edits : (ns : Numbers) (t : List (List ℕ)) (node line total : ℕ) (v : Variant) (es : List Edit) → total ≡ node + nodes_made es → AreUpTo the_node node v.rows
       → AreUpTo the_node total (fold (applied c) v (map (applying within) (numbered_from ns t node line es))).rows
   nodes-edits ns t node line total v [] e h = let same : node ≡ total = omega (arith, e) in subst (λ n. AreUpTo the_node n v.rows) same h
-  nodes-edits ns t node line total v (edits.New kind parent name ∷ es) e h =
-      let row : Row = record { node = node + 1; kind = kind; parent = node_number ns.nodes parent; name = name } in
-      let d : NumberedEdit = OnRows (Created (node + 1) kind (node_number ns.nodes parent) name) in
-      nodes-edits ns t (node + 1) line total (applied c v (applying within d)) es (omega (arith, e))
-      (either-way (λ w. AreUpTo the_node (node + 1) w.rows) (value within c) (edited v d) v
-      (one-more the_node node v.rows row (omega arith) h) (further the_node node (node + 1) v.rows (omega arith) h))
-  nodes-edits ns t node line total v (edits.Insert file after text ∷ es) e h =
-      let d : NumberedEdit = Inserted (node_number ns.nodes file) (address_in t (line + 1)) text in
-      nodes-edits ns t node (line + 1) total (applied c v (applying within d)) es e
-      (either-way (λ w. AreUpTo the_node node w.rows) (value within c) (edited v d) v h h)
-  nodes-edits ns t node line total v (edits.Delete file which ∷ es) e h =
-      let d : NumberedEdit = Deleted (node_number ns.nodes file) (address_in t (line_number (length ns.addresses) which)) in
-      nodes-edits ns t node line total (applied c v (applying within d)) es e
-      (either-way (λ w. AreUpTo the_node node w.rows) (value within c) (edited v d) v h h)
+  nodes-edits ns t node line total v (d ∷ es) e h =
+      let more = node_count_after-is node 0 d in
+      nodes-edits ns t (node_count_after node d) (line_count_after line d) total (applied c v (applying within (numbered_edit ns t node line d))) es (e ∙ node_count_after-is node (nodes_made es) d)
+      (either-way (λ w. AreUpTo the_node (node_count_after node d) w.rows) (value within c) (edited v (numbered_edit ns t node line d)) v
+      (nodes-edit ns t node line v d h) (further the_node node (node_count_after node d) v.rows (omega (arith, more)) h))
 
   names-edits : (n : ℕ) (ns : Numbers) (t : List (List ℕ)) (node made line total : ℕ) (v : Variant) (es : List Edit) → n ≤ ns.nodes → node ≡ ns.nodes + made → total ≡ node + nodes_made es
       → AreNamed n made es → NamesOnlyMade node v → NamesOnlyMade total (fold (applied c) v (map (applying within) (numbered_from ns t node line es)))
   names-edits n ns t node made line total v [] le begun e named h = let same : node ≡ total = omega (arith, e) in subst (λ m. NamesOnlyMade m v) same h
-  names-edits n ns t node made line total v (edits.New kind parent name ∷ es) le begun e named h =
-      let row : Row = record { node = node + 1; kind = kind; parent = node_number ns.nodes parent; name = name } in
-      let d : NumberedEdit = OnRows (Created (node + 1) kind (node_number ns.nodes parent) name) in
-      let at_parent : node_number ns.nodes parent ≤ ns.nodes + made = made-number n ns.nodes made parent le named.0 in
-      let below : node_number ns.nodes parent ≤ node + 1 = omega (arith, at_parent, begun) in
-      let files : AreUpTo the_file (node + 1) v.lines = further the_file node (node + 1) v.lines (omega arith) h.files in
-      names-edits n ns t (node + 1) (made + 1) line total (applied c v (applying within d)) es le (omega (arith, begun)) (omega (arith, e)) named.1
-      (either-way (NamesOnlyMade (node + 1)) (value within c) (edited v d) v
-      (record { nodes = one-more the_node node v.rows row (omega arith) h.nodes; parents = one-more the_parent node v.rows row below h.parents; files = files })
-      (record { nodes = further the_node node (node + 1) v.rows (omega arith) h.nodes; parents = further the_parent node (node + 1) v.rows (omega arith) h.parents; files = files }))
-  names-edits n ns t node made line total v (edits.Insert file after text ∷ es) le begun e named h =
-      let new : Line = record { file = node_number ns.nodes file; address = address_in t (line + 1); text = text } in
-      let d : NumberedEdit = Inserted (node_number ns.nodes file) (address_in t (line + 1)) text in
-      let at_file : node_number ns.nodes file ≤ ns.nodes + made = made-number n ns.nodes made file le named.0 in
-      let below : node_number ns.nodes file ≤ node = omega (arith, at_file, begun) in
-      names-edits n ns t node made (line + 1) total (applied c v (applying within d)) es le begun e named.1
-      (either-way (NamesOnlyMade node) (value within c) (edited v d) v
-      (record { nodes = h.nodes; parents = h.parents; files = all-placed line_address (λ l. l.file ≤ node) new v.lines below h.files }) h)
-  names-edits n ns t node made line total v (edits.Delete file which ∷ es) le begun e named h =
-      let f : ℕ = node_number ns.nodes file in
-      let address : List ℕ = address_in t (line_number (length ns.addresses) which) in
-      let d : NumberedEdit = Deleted f address in
-      names-edits n ns t node made line total (applied c v (applying within d)) es le begun e named.1
-      (either-way (NamesOnlyMade node) (value within c) (edited v d) v
-      (record { nodes = h.nodes; parents = h.parents; files = all-filter (λ l. l.file ≤ node) (λ l. not (is_line f address l)) v.lines h.files }) h)
+  names-edits n ns t node made line total v (d ∷ es) le begun e named h =
+      let more = node_count_after-is node 0 d in
+      names-edits n ns t (node_count_after node d) (node_count_after made d) (line_count_after line d) total (applied c v (applying within (numbered_edit ns t node line d))) es le
+      (count-alike ns.nodes node made d begun) (e ∙ node_count_after-is node (nodes_made es) d) named.1
+      (either-way (NamesOnlyMade (node_count_after node d)) (value within c) (edited v (numbered_edit ns t node line d)) v
+      (names-edit n ns t node made line v d le begun named.0 h) (names-later node (node_count_after node d) v (omega (arith, more)) h))
 
 -- nodes have the numbers that the history drew, legal or not
 module _ (c : List Bool) where
@@ -182,7 +244,7 @@ module _ (c : List Bool) where
   pub nodes-replay : (history : List Command) → AreUpTo the_node (numbers_of history).nodes (replay c history).rows
   nodes-replay history = nodes-from no_numbers bare history tt
 
-nodes-grow : (ns : Numbers) (history : List Command) → ns.nodes ≤ (numbers_from ns history).nodes
+pub nodes-grow : (ns : Numbers) (history : List Command) → ns.nodes ≤ (numbers_from ns history).nodes
 nodes-grow ns [] = omega arith
 nodes-grow ns (commands.Commit base choice ambition es ∷ history) =
     let rest : ns.nodes + nodes_made es ≤ (numbers_from (numbers_after ns es) history).nodes = nodes-grow (numbers_after ns es) history in
@@ -204,21 +266,37 @@ no-record : (refused : Option (ℕ × EditFault)) → as_bad_record refused ≡ 
 no-record None h = refl
 no-record (Some r) h = absurd (cc)
 
-pub edits-accepted : (history : List Command) (base : ℕ) (choice : List Bool) (ambition : Formula ℕ) (es : List Edit) → verdict history (commands.Commit base choice ambition es) ≡ None
-    → first_refused (numbers_of (take base history)) (replay choice (take base history)) es ≡ None
-edits-accepted history base choice ambition es h =
-    no-record (first_refused (numbers_of (take base history)) (replay choice (take base history)) es)
-    (none-first (as_bad_record (first_refused (numbers_of (take base history)) (replay choice (take base history)) es)) last
-    (none-behind front (as_bad_record (first_refused (numbers_of (take base history)) (replay choice (take base history)) es) ∷ last) h)).0
+-- none of its last refusals holds
+ends-accepted : (history : List Command) (base : ℕ) (choice : List Bool) (ambition : Formula ℕ) (es : List Edit) → verdict history (commands.Commit base choice ambition es) ≡ None
+    → (first_refused (numbers_of (take base history)) (replay choice (take base history)) es ≡ None) × (unsound_refusal history ambition (commands.Commit base choice ambition es) ≡ None)
+ends-accepted history base choice ambition es h =
+    let behind = none-first bad_record (late ∷ unsound ∷ []) (none-behind front (bad_record ∷ late ∷ unsound ∷ []) h) in
+    let at_end = none-first unsound [] (none-first late (unsound ∷ []) behind.1).1 in
+    (no-record (first_refused (numbers_of (take base history)) (replay choice (take base history)) es) behind.0, at_end.0)
   where
-    last : List (Option Refusal)
-    last = as_overtaken (overtaken history base ambition es) ∷ []
+    bad_record : Option Refusal
+    bad_record = as_bad_record (first_refused (numbers_of (take base history)) (replay choice (take base history)) es)
+
+    late : Option Refusal
+    late = as_overtaken (overtaken history base ambition es)
+
+    unsound : Option Refusal
+    unsound = unsound_refusal history ambition (commands.Commit base choice ambition es)
 
     front : List (Option Refusal)
     front =
         when_full history ∷ when (nat_lt (length history) base) refusals.BadBase
         ∷ when (not (nat_eq (length choice) (option_count (take base history))) || nat_lt (option_count (take base history)) (reach ambition)) refusals.BadOption
         ∷ (size_refusals history es ++ as_invalid (first_false_in (take base history) choice) ∷ when (not (value ambition choice)) refusals.OutsideAmbition ∷ when (has_no_edits es) refusals.Empty ∷ [])
+
+pub edits-accepted : (history : List Command) (base : ℕ) (choice : List Bool) (ambition : Formula ℕ) (es : List Edit) → verdict history (commands.Commit base choice ambition es) ≡ None
+    → first_refused (numbers_of (take base history)) (replay choice (take base history)) es ≡ None
+edits-accepted history base choice ambition es h = (ends-accepted history base choice ambition es h).0
+
+-- and it would leave no fault within its ambition
+pub sound-accepted : (history : List Command) (base : ℕ) (choice : List Bool) (ambition : Formula ℕ) (es : List Edit) → verdict history (commands.Commit base choice ambition es) ≡ None
+    → unsound_refusal history ambition (commands.Commit base choice ambition es) ≡ None
+sound-accepted history base choice ambition es h = (ends-accepted history base choice ambition es h).1
 
 -- what a legal history's replay names is made
 module _ (c : List Bool) where

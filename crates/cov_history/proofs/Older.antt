@@ -6,7 +6,6 @@ use Rattle.std.proofs.lemmas.List.{take-append-drop}
 use Rattle.std.proofs.lemmas.Bool.{and_parts, or_right}
 use Rattle.std.proofs.lemmas.Bool.Decides.{nat_tests}
 use Rattle.cov_base.specs.Addresses.{address_in, line_of, IsTable, IsLineOf}
-use Rattle.cov_base.specs.Rows.{Created}
 use Rattle.cov_base.specs.declared.number.NodeRef.{NodeRef}
 use Rattle.cov_base.specs.declared.number.NodeRef.TheVariants as nodes
 use Rattle.cov_base.specs.declared.number.LineRef.{LineRef}
@@ -18,10 +17,10 @@ use Rattle.cov_edit.specs.declared.edit.Edit.{Edit}
 use Rattle.cov_edit.specs.declared.edit.Edit.TheVariants as edits
 use Rattle.cov_edit.specs.declared.command.Command.{Command}
 use Rattle.cov_edit.specs.declared.command.Command.TheVariants as commands
-use Rattle.cov_edit.specs.Numbering.{Numbers, NumberedEdit, OnRows, Inserted, Deleted, node_number, line_number, anchors_of, numbers_after, numbers_of, numbered_from, numbered}
+use Rattle.cov_edit.specs.Numbering.{Numbers, NumberedEdit, OnRows, Inserted, Deleted, node_number, line_number, node_count_after, line_count_after, anchors_of, numbers_after, numbers_of, numbered_edit, numbered_from, numbered}
 use Rattle.cov_edit.specs.Variant.{Variant, Line, line_address, is_line, edited}
 use Rattle.cov_edit.specs.Replay.{replay}
-use Rattle.cov_edit.proofs.CallerLemmas.{anchors-same_count}
+use Rattle.cov_edit.proofs.CallerLemmas.{anchors-same_count, line_count_after-is}
 use Rattle.cov_view.proofs.CallerLemmas.{node-known, insert-accepted, delete-accepted, head-number, below-head}
 use Rattle.cov_view.specs.References.{is_head, is_known_node, is_known_line}
 use Rattle.cov_view.specs.Refusals.{shows_line, refusal, refused_from, first_refused}
@@ -161,29 +160,36 @@ module _ (nb nh : Numbers) where
   number-at : (t : List (List ℕ)) (k : ℕ) → IsTable t → k < length t → line_of (address_in t (k + 1)) ≡ k + 1
   number-at t k table below = subst (λ n. line_of (address_in t n) ≡ n) (let one : suc k ≡ k + 1 = omega arith in one) (line_of-in t k table below)
 
+  -- so they are after an edit that is accepted
+  edit-now : (q : ℕ) (within : Formula ℕ) (tb th : List (List ℕ)) (xb xh lb lh j : ℕ) (v : Variant) (ks : List (Kept Line)) (e : Edit)
+      → IsTable tb → IsTable th → lb ≡ mb + j → lh ≡ mh + j → line_count_after lb e ≤ length tb → line_count_after lh e ≤ length th → refusal nb v e ≡ None → AreKeptNow v ks
+      → AreKeptNow (edited v (numbered_edit nb tb xb lb e)) (kept_after q within ks (numbered_edit nh th xh lh e))
+  edit-now q within tb th xb xh lb lh j v ks (edits.New kind parent name) is_tb is_th eb eh below_b below_h accepted kept = kept
+  edit-now q within tb th xb xh lb lh j v ks (edits.Insert file after text) is_tb is_th eb eh below_b below_h accepted kept =
+      let nb_line : line_of (address_in tb (lb + 1)) ≡ mb + j + 1 = number-at tb lb is_tb (omega (arith, below_b)) ∙ ap (λ n. n + 1) eb in
+      let nh_line : line_of (address_in th (lh + 1)) ≡ mh + j + 1 = number-at th lh is_th (omega (arith, below_h)) ∙ ap (λ n. n + 1) eh in
+      insert-now q within v ks file (address_in tb (lb + 1)) (address_in th (lh + 1)) text j (node-known nb v file (insert-accepted nb v file after text accepted).0) nb_line nh_line kept
+  edit-now q within tb th xb xh lb lh j v ks (edits.Delete file which) is_tb is_th eb eh below_b below_h accepted kept =
+      delete-now q within v ks (node_number nb.nodes file) (node_number nh.nodes file) (address_in tb (line_number mb which)) (address_in th (line_number mh which)) kept
+  edit-now q within tb th xb xh lb lh j v ks (edits.Rename which name) is_tb is_th eb eh below_b below_h accepted kept = kept
+  edit-now q within tb th xb xh lb lh j v ks (edits.Move which parent) is_tb is_th eb eh below_b below_h accepted kept = kept
+  edit-now q within tb th xb xh lb lh j v ks (edits.Remove which) is_tb is_th eb eh below_b below_h accepted kept = kept
+
   -- so they are after each edit that is accepted
   pub edits-now : (q : ℕ) (within : Formula ℕ) (tb th : List (List ℕ)) (xb xh lb lh j k m : ℕ) (v : Variant) (ks : List (Kept Line)) (begun later : List Edit)
       → IsTable tb → IsTable th → lb ≡ mb + j → lh ≡ mh + j → lb + length (anchors_of m begun) ≤ length tb → lh + length (anchors_of m begun) ≤ length th
       → refused_from nb v k (begun ++ later) (numbered_from nb tb xb lb (begun ++ later)) ≡ None → AreKeptNow v ks
       → AreKeptNow (fold edited v (numbered_from nb tb xb lb begun)) (fold (kept_after q within) ks (numbered_from nh th xh lh begun))
   edits-now q within tb th xb xh lb lh j k m v ks [] later is_tb is_th eb eh below_b below_h accepted kept = kept
-  edits-now q within tb th xb xh lb lh j k m v ks (edits.New kind parent name ∷ begun) later is_tb is_th eb eh below_b below_h accepted kept =
-      edits-now q within tb th (xb + 1) (xh + 1) lb lh j (k + 1) m (edited v (OnRows (Created (xb + 1) kind (node_number nb.nodes parent) name))) ks begun later is_tb is_th eb eh below_b below_h
-      (rest-accepted k (refusal nb v (edits.New kind parent name)) _ accepted) kept
-  edits-now q within tb th xb xh lb lh j k m v ks (edits.Insert file after text ∷ begun) later is_tb is_th eb eh below_b below_h accepted kept =
-      let nb_line : line_of (address_in tb (lb + 1)) ≡ mb + j + 1 = number-at tb lb is_tb (omega (arith, below_b)) ∙ ap (λ n. n + 1) eb in
-      let nh_line : line_of (address_in th (lh + 1)) ≡ mh + j + 1 = number-at th lh is_th (omega (arith, below_h)) ∙ ap (λ n. n + 1) eh in
-      edits-now q within tb th xb xh (lb + 1) (lh + 1) (j + 1) (k + 1) m (edited v (Inserted (node_number nb.nodes file) (address_in tb (lb + 1)) text))
-      (kept_after q within ks (Inserted (node_number nh.nodes file) (address_in th (lh + 1)) text)) begun later is_tb is_th
-      (omega (arith, eb)) (omega (arith, eh)) (omega (arith, below_b)) (omega (arith, below_h))
-      (rest-accepted k (refusal nb v (edits.Insert file after text)) _ accepted)
-      (insert-now q within v ks file (address_in tb (lb + 1)) (address_in th (lh + 1)) text j
-      (node-known nb v file (insert-accepted nb v file after text (edit-accepted k (refusal nb v (edits.Insert file after text)) _ accepted)).0) nb_line nh_line kept)
-  edits-now q within tb th xb xh lb lh j k m v ks (edits.Delete file which ∷ begun) later is_tb is_th eb eh below_b below_h accepted kept =
-      edits-now q within tb th xb xh lb lh j (k + 1) m (edited v (Deleted (node_number nb.nodes file) (address_in tb (line_number mb which))))
-      (kept_after q within ks (Deleted (node_number nh.nodes file) (address_in th (line_number mh which)))) begun later is_tb is_th eb eh below_b below_h
-      (rest-accepted k (refusal nb v (edits.Delete file which)) _ accepted)
-      (delete-now q within v ks (node_number nb.nodes file) (node_number nh.nodes file) (address_in tb (line_number mb which)) (address_in th (line_number mh which)) kept)
+  edits-now q within tb th xb xh lb lh j k m v ks (e ∷ begun) later is_tb is_th eb eh below_b below_h accepted kept =
+      let count_b = line_count_after-is lb m e (anchors_of m begun) in
+      let count_h = line_count_after-is lh m e (anchors_of m begun) in
+      let count = line_count_after-is j m e (anchors_of m begun) in
+      edits-now q within tb th (node_count_after xb e) (node_count_after xh e) (line_count_after lb e) (line_count_after lh e) (line_count_after j e) (k + 1) m
+      (edited v (numbered_edit nb tb xb lb e)) (kept_after q within ks (numbered_edit nh th xh lh e)) begun later is_tb is_th
+      (omega (arith, eb, count_b, count)) (omega (arith, eh, count_h, count)) (omega (arith, below_b, count_b)) (omega (arith, below_h, count_h))
+      (rest-accepted k (refusal nb v e) _ accepted)
+      (edit-now q within tb th xb xh lb lh j v ks e is_tb is_th eb eh (omega (arith, below_b, count_b)) (omega (arith, below_h, count_h)) (edit-accepted k (refusal nb v e) _ accepted) kept)
 
 -- the lines of the base's replay are kept now
 start-now : (base : ℕ) (history : List Command) (c : List Bool) → IsLegal history

@@ -19,6 +19,7 @@ use Rattle.cov_view.proofs.CallerLemmas.{none-first, none-when}
 use Rattle.cov_view.specs.Refusals.{when, first_refused}
 use Rattle.cov_history.specs.declared.refusal.Refusal.{Refusal}
 use Rattle.cov_history.specs.declared.refusal.Refusal.TheVariants as refusals
+use Rattle.cov_history.specs.BadChoices.{unsound_refusal}
 use Rattle.cov_history.specs.Kept.{Kept, seen_at, new_item, hidden, taken_up, hidden_where, replaced_where, kept_address, new_line, is_row, rows_kept_after, Holding, nothing_held, held_after, held_from, held_by}
 use Rattle.cov_history.specs.Reach.{IsReached, AreReached, IsHeldInReach}
 use Rattle.cov_history.specs.Overtaking.{overtaken}
@@ -26,7 +27,7 @@ use Rattle.cov_history.specs.Verdict.{verdict, when_full, size_refusals, as_inva
 use Rattle.cov_history.proofs.Standing.{all-mapped}
 
 -- later, more options are declared
-options-later : (p q : ℕ) (history : List Command) → p ≤ q → option_count (take p history) ≤ option_count (take q history)
+pub options-later : (p q : ℕ) (history : List Command) → p ≤ q → option_count (take p history) ≤ option_count (take q history)
 options-later zero q history h = omega arith
 options-later (suc p) zero history h = absurd (omega (arith, h))
 options-later (suc p) (suc q) [] h = omega arith
@@ -112,7 +113,7 @@ held-longer history later held h = record {
 }
 
 -- an accepted commit's base is in the history, and its ambition names only options declared there
-accepted-reach : (history : List Command) (base : ℕ) (choice : List Bool) (ambition : Formula ℕ) (es : List Edit) → verdict history (commands.Commit base choice ambition es) ≡ None
+pub accepted-reach : (history : List Command) (base : ℕ) (choice : List Bool) (ambition : Formula ℕ) (es : List Edit) → verdict history (commands.Commit base choice ambition es) ≡ None
     → (base ≤ length history) × (reach ambition ≤ option_count (take base history))
 accepted-reach history base choice ambition es h =
     let behind_full = none-first (when_full history) (bad_base ∷ bad_option ∷ others) h in
@@ -137,7 +138,8 @@ accepted-reach history base choice ambition es h =
     others : List (Option Refusal)
     others =
         size_refusals history es ++ as_invalid (first_false_in (take base history) choice) ∷ when (not (value ambition choice)) refusals.OutsideAmbition
-        ∷ when (has_no_edits es) refusals.Empty ∷ as_bad_record (first_refused (numbers_of (take base history)) (replay choice (take base history)) es) ∷ as_overtaken (overtaken history base ambition es) ∷ []
+        ∷ when (has_no_edits es) refusals.Empty ∷ as_bad_record (first_refused (numbers_of (take base history)) (replay choice (take base history)) es)
+        ∷ as_overtaken (overtaken history base ambition es) ∷ unsound_refusal history ambition (commands.Commit base choice ambition es) ∷ []
 
 commit-reached : (history : List Command) (q base : ℕ) (choice : List Bool) (ambition : Formula ℕ) (es : List Edit) (held : Holding) (ds : List NumberedEdit)
     → q ≡ length history → verdict history (commands.Commit base choice ambition es) ≡ None → IsHeldInReach history held

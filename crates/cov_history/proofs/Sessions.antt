@@ -5,17 +5,15 @@ use Rattle.std.proofs.lemmas.List.{take-append-drop, take-append-le}
 use Rattle.std.proofs.lemmas.Bool.{and_parts}
 use Rattle.std.proofs.lemmas.Bool.Decides.{nat_tests}
 use Rattle.cov_base.proofs.CallerLemmas.{any-filter}
-use Rattle.cov_base.specs.Addresses.{address_in, line_of}
-use Rattle.cov_base.specs.Rows.{Created}
+use Rattle.cov_base.specs.Addresses.{line_of}
 use Rattle.cov_base.specs.declared.number.LineRef.{LineRef}
 use Rattle.cov_expr.specs.Formula.{Formula, value, reach}
 use Rattle.cov_expr.specs.Validity.{is_valid, first_false}
 use Rattle.cov_edit.specs.declared.edit.Edit.{Edit}
-use Rattle.cov_edit.specs.declared.edit.Edit.TheVariants as edits
 use Rattle.cov_edit.specs.declared.command.Command.{Command}
 use Rattle.cov_edit.specs.declared.command.Command.TheVariants as commands
 use Rattle.cov_edit.specs.History.{option_count, constraints_of, is_valid_in}
-use Rattle.cov_edit.specs.Numbering.{Numbers, OnRows, Inserted, Deleted, no_numbers, node_number, line_number, numbers_from, numbers_of, numbered_from, numbered}
+use Rattle.cov_edit.specs.Numbering.{Numbers, no_numbers, node_count_after, line_count_after, line_number, numbers_from, numbers_of, numbered_edit, numbered_from, numbered}
 use Rattle.cov_edit.specs.Variant.{Variant, edited}
 use Rattle.cov_edit.specs.Replay.{changes_from, applied, replay}
 use Rattle.cov_edit.proofs.CallerLemmas.{numbers_from-append, replay-append, replay-commit, all_within}
@@ -25,6 +23,7 @@ use Rattle.cov_view.specs.Refusals.{when, first_of, shows_line, refusal, refused
 use Rattle.cov_view.specs.declared.fault.EditFault.{EditFault}
 use Rattle.cov_history.specs.declared.refusal.Refusal.{Refusal}
 use Rattle.cov_history.specs.declared.refusal.Refusal.TheVariants as refusals
+use Rattle.cov_history.specs.BadChoices.{unsound_refusal}
 use Rattle.cov_history.specs.Kept.{Holding, variant_seen, kept_number, file_kept}
 use Rattle.cov_history.specs.Verdict.{verdict, as_invalid, as_bad_record, as_overtaken, has_no_edits, size_refusals, when_full}
 use Rattle.cov_history.specs.Overtaking.{overtaken}
@@ -73,7 +72,13 @@ none-false c es h =
     ap (λ b. as_invalid (option_map (λ n. n + 1) (cond b (Some (position_or_len (λ f. not (value f c)) es)) None))) e
 
 pub good-passes : (history : List Command) (s : Session) → IsGood history s
-    → verdict history (commit_of s) ≡ first_of (when_full history ∷ (size_refusals history s.edits ++ when (has_no_edits s.edits) refusals.Empty ∷ as_overtaken (overtaken history s.base s.ambition s.edits) ∷ []))
+    → verdict history (commit_of s)
+    ≡ first_of (when_full history
+    ∷ (size_refusals history s.edits
+    ++ when (has_no_edits s.edits) refusals.Empty
+    ∷ as_overtaken (overtaken history s.base s.ambition s.edits)
+    ∷ unsound_refusal history s.ambition (commit_of s)
+    ∷ []))
 good-passes history s good =
     let within : s.base ≤ length history = good.within in
     let count : length s.choice ≡ option_count (take s.base history) = good.of_all_options in
@@ -81,14 +86,14 @@ good-passes history s good =
     let at_base : nat_lt (length history) s.base ≡ false = grind (arith, nat_tests, within) in
     let counted : nat_eq (length s.choice) (option_count (take s.base history)) ≡ true = grind (arith, nat_tests, count) in
     let reached : nat_lt (option_count (take s.base history)) (reach s.ambition) ≡ false = grind (arith, nat_tests, below) in
-    first-cons (when_full history) (bad_base ∷ bad_option ∷ sizes ++ ends) (sizes ++ empty ∷ last ∷ [])
+    first-cons (when_full history) (bad_base ∷ bad_option ∷ sizes ++ ends) (sizes ++ empty ∷ last)
     (first-not_when (nat_lt (length history) s.base) refusals.BadBase (bad_option ∷ sizes ++ ends) at_base
     ∙ first-not_when (not (nat_eq (length s.choice) (option_count (take s.base history))) || nat_lt (option_count (take s.base history)) (reach s.ambition)) refusals.BadOption (sizes ++ ends)
     (ap (λ b. not b || nat_lt (option_count (take s.base history)) (reach s.ambition)) counted ∙ reached)
-    ∙ first-behind sizes ends (empty ∷ last ∷ [])
-    (first-skip invalid (outside ∷ empty ∷ bad_record ∷ last ∷ []) (none-false s.choice (constraints_of (take s.base history)) good.valid)
-    ∙ first-not_when (not (value s.ambition s.choice)) refusals.OutsideAmbition (empty ∷ bad_record ∷ last ∷ []) (ap not good.in_ambition)
-    ∙ first-cons empty (bad_record ∷ last ∷ []) (last ∷ []) (first-skip bad_record (last ∷ []) (ap as_bad_record good.accepted))))
+    ∙ first-behind sizes ends (empty ∷ last)
+    (first-skip invalid (outside ∷ empty ∷ bad_record ∷ last) (none-false s.choice (constraints_of (take s.base history)) good.valid)
+    ∙ first-not_when (not (value s.ambition s.choice)) refusals.OutsideAmbition (empty ∷ bad_record ∷ last) (ap not good.in_ambition)
+    ∙ first-cons empty (bad_record ∷ last) last (first-skip bad_record last (ap as_bad_record good.accepted))))
   where
     sizes : List (Option Refusal)
     sizes = size_refusals history s.edits
@@ -111,11 +116,11 @@ good-passes history s good =
     bad_record : Option Refusal
     bad_record = as_bad_record (first_refused (numbers_of (take s.base history)) (replay s.choice (take s.base history)) s.edits)
 
-    last : Option Refusal
-    last = as_overtaken (overtaken history s.base s.ambition s.edits)
+    last : List (Option Refusal)
+    last = as_overtaken (overtaken history s.base s.ambition s.edits) ∷ unsound_refusal history s.ambition (commit_of s) ∷ []
 
     ends : List (Option Refusal)
-    ends = invalid ∷ outside ∷ empty ∷ bad_record ∷ last ∷ []
+    ends = invalid ∷ outside ∷ empty ∷ bad_record ∷ last
 
 -- commands without commits draw no numbers and change nothing
 no-commit : (ns : Numbers) (history : List Command) → has_commit history ≡ false → (numbers_from ns history ≡ ns) × (changes_from ns history ≡ [])
@@ -154,18 +159,10 @@ rest-accepted k (Some f) later h = absurd (cc)
 
 pub turn-accepted : (ns : Numbers) (t : List (List ℕ)) (node line k : ℕ) (v : Variant) (begun : List Edit) (e : Edit) (later : List Edit)
     → refused_from ns v k (begun ++ e ∷ later) (numbered_from ns t node line (begun ++ e ∷ later)) ≡ None → refusal ns (fold edited v (numbered_from ns t node line begun)) e ≡ None
-turn-accepted ns t node line k v [] (edits.New kind parent name) later h = edit-accepted k (refusal ns v (edits.New kind parent name)) _ h
-turn-accepted ns t node line k v [] (edits.Insert file after text) later h = edit-accepted k (refusal ns v (edits.Insert file after text)) _ h
-turn-accepted ns t node line k v [] (edits.Delete file which) later h = edit-accepted k (refusal ns v (edits.Delete file which)) _ h
-turn-accepted ns t node line k v (edits.New kind parent name ∷ begun) e later h =
-    turn-accepted ns t (node + 1) line (k + 1) (edited v (OnRows (Created (node + 1) kind (node_number ns.nodes parent) name))) begun e later
-    (rest-accepted k (refusal ns v (edits.New kind parent name)) _ h)
-turn-accepted ns t node line k v (edits.Insert file after text ∷ begun) e later h =
-    turn-accepted ns t node (line + 1) (k + 1) (edited v (Inserted (node_number ns.nodes file) (address_in t (line + 1)) text)) begun e later
-    (rest-accepted k (refusal ns v (edits.Insert file after text)) _ h)
-turn-accepted ns t node line k v (edits.Delete file which ∷ begun) e later h =
-    turn-accepted ns t node line (k + 1) (edited v (Deleted (node_number ns.nodes file) (address_in t (line_number (length ns.addresses) which)))) begun e later
-    (rest-accepted k (refusal ns v (edits.Delete file which)) _ h)
+turn-accepted ns t node line k v [] e later h = edit-accepted k (refusal ns v e) _ h
+turn-accepted ns t node line k v (d ∷ begun) e later h =
+    turn-accepted ns t (node_count_after node d) (line_count_after line d) (k + 1) (edited v (numbered_edit ns t node line d)) begun e later
+    (rest-accepted k (refusal ns v d) _ h)
 
 -- a line that a choice shows is kept
 pub line-shown : (c : List Bool) (p : ℕ) (held : Holding) (v : Variant) (ns : Numbers) (file : ℕ) (line : LineRef) → variant_seen c p held ≡ v → shows_line ns v file line ≡ true

@@ -9,8 +9,9 @@ use Rattle.cov_edit.specs.declared.edit.Edit.{Edit}
 use Rattle.cov_edit.specs.declared.edit.Edit.TheVariants as edits
 use Rattle.cov_edit.specs.declared.command.Command.{Command}
 use Rattle.cov_edit.specs.declared.command.Command.TheVariants as commands
-use Rattle.cov_edit.specs.Numbering.{Numbers, NumberedEdit, OnRows, Inserted, Deleted, no_numbers, anchors_of, numbers_after, numbers_from, numbers_of, numbered_from, numbered}
+use Rattle.cov_edit.specs.Numbering.{Numbers, NumberedEdit, OnRows, Inserted, Deleted, no_numbers, node_count_after, line_count_after, anchors_of, numbers_after, numbers_from, numbers_of, numbered_edit, numbered_from, numbered}
 use Rattle.cov_edit.specs.Variant.{Line, is_line}
+use Rattle.cov_edit.proofs.CallerLemmas.{line_count_after-is}
 use Rattle.cov_history.specs.Kept.{Kept, IsUpTo, new_item, hidden, taken_up, hidden_where, replaced_where, kept_address, new_line, is_row, rows_kept_after, Holding, nothing_held, held_after, held_from, held_by, IsHolding}
 
 -- how many lines there are after an edit
@@ -30,18 +31,38 @@ abbrev pub AreNext : List (List ℕ) → ℕ → List NumberedEdit → Type 0
 AreNext t n [] = Unit {0}
 AreNext t n (d ∷ ds) = IsNext t n d × AreNext t (count_after n d) ds
 
+-- an edit by numbers counts its line as the edit does
+count-edit : (ns : Numbers) (t : List (List ℕ)) (node line n : ℕ) (e : Edit) → count_after n (numbered_edit ns t node line e) ≡ line_count_after n e
+count-edit ns t node line n (edits.New kind parent name) = refl
+count-edit ns t node line n (edits.Insert file after text) = refl
+count-edit ns t node line n (edits.Delete file which) = refl
+count-edit ns t node line n (edits.Rename which name) = refl
+count-edit ns t node line n (edits.Move which parent) = refl
+count-edit ns t node line n (edits.Remove which) = refl
+
+next-edit : (ns : Numbers) (t : List (List ℕ)) (node line : ℕ) (e : Edit) → line_count_after line e ≤ length t → IsNext t line (numbered_edit ns t node line e)
+next-edit ns t node line (edits.New kind parent name) h = tt
+next-edit ns t node line (edits.Insert file after text) h = (omega (arith, h), refl)
+next-edit ns t node line (edits.Delete file which) h = tt
+next-edit ns t node line (edits.Rename which name) h = tt
+next-edit ns t node line (edits.Move which parent) h = tt
+next-edit ns t node line (edits.Remove which) h = tt
+
 pub numbered-next : (ns : Numbers) (t : List (List ℕ)) (node line m : ℕ) (es : List Edit) → line + length (anchors_of m es) ≤ length t
     → AreNext t line (numbered_from ns t node line es)
 numbered-next ns t node line m [] h = tt
-numbered-next ns t node line m (edits.New kind parent name ∷ es) h = (tt, numbered-next ns t (node + 1) line m es h)
-numbered-next ns t node line m (edits.Delete file which ∷ es) h = (tt, numbered-next ns t node line m es h)
-numbered-next ns t node line m (edits.Insert file after text ∷ es) h = ((omega (arith, h), refl), numbered-next ns t node (line + 1) m es (omega (arith, h)))
+numbered-next ns t node line m (e ∷ es) h =
+    let count = line_count_after-is line m e (anchors_of m es) in (
+      next-edit ns t node line e (omega (arith, h, count)),
+      subst (λ n. AreNext t n (numbered_from ns t (node_count_after node e) (line_count_after line e) es)) (sym (count-edit ns t node line line e))
+          (numbered-next ns t (node_count_after node e) (line_count_after line e) m es (omega (arith, h, count))),
+    )
 
 pub numbered-count : (ns : Numbers) (t : List (List ℕ)) (node line m : ℕ) (es : List Edit) → fold count_after line (numbered_from ns t node line es) ≡ line + length (anchors_of m es)
 numbered-count ns t node line m [] = omega arith
-numbered-count ns t node line m (edits.New kind parent name ∷ es) = numbered-count ns t (node + 1) line m es
-numbered-count ns t node line m (edits.Delete file which ∷ es) = numbered-count ns t node line m es
-numbered-count ns t node line m (edits.Insert file after text ∷ es) = omega (arith, numbered-count ns t node (line + 1) m es)
+numbered-count ns t node line m (e ∷ es) =
+    ap (λ n. fold count_after n (numbered_from ns t (node_count_after node e) (line_count_after line e) es)) (count-edit ns t node line line e)
+    ∙ numbered-count ns t (node_count_after node e) (line_count_after line e) m es ∙ sym (line_count_after-is line m e (anchors_of m es))
 
 pub all-mapped : {X Y : Type 0} (P : X → Type 0) (Q : Y → Type 0) (f : X → Y) → ((x : X) → P x → Q (f x)) → (xs : List X) → AllByRecursion P xs → AllByRecursion Q (map f xs)
 all-mapped P Q f g [] h = tt

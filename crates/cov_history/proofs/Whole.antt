@@ -1,10 +1,12 @@
 -- What a history holds has all that the history makes.
-use Rattle.std.proofs.Common.{◌≡◌, ℕ, zero, suc, ◌+◌, ◌<◌, ◌≤◌, Bool, true, false, ◌||◌, nat_eq, Some, List, [], ◌∷◌, ◌++◌, ◌⊎◌, inl, inr, length, length-append, map, slice_get, append_assoc, append-nil, refl, sym, ap, subst, ◌∙◌, arith}
-use Rattle.std.specs.List.{fold, list_any}
+use Rattle.std.proofs.Common.{◌≡◌, ℕ, zero, suc, ◌+◌, ◌<◌, ◌≤◌, Bool, true, false, cond, ◌||◌, nat_eq, Some, List, [], ◌∷◌, ◌++◌, ◌⊎◌, inl, inr, length, length-append, map, slice_get, append_assoc, append-nil, refl, sym, ap, subst, ◌∙◌, arith}
+use Rattle.std.specs.List.{fold, list_any, cons_option}
+use Rattle.std.proofs.lemmas.Bool.{or_right}
 use Rattle.std.proofs.lemmas.Bool.Decides.{nat_tests}
 use Rattle.std.proofs.lemmas.List.Folds.{list_any-append}
 use Rattle.cov_base.specs.Addresses.{address_in, placed, IsTable}
-use Rattle.cov_base.specs.Rows.{Row}
+use Rattle.cov_base.specs.Rows.{Row, RowChange, Created, Renamed, Moved, Removed, with_name, with_parent}
+use Rattle.cov_base.specs.declared.number.Kind.{Kind}
 use Rattle.cov_base.proofs.CallerLemmas.{line_of-in, length-with_lines}
 use Rattle.cov_order.specs.Orders.{has_line}
 use Rattle.cov_expr.specs.Formula.{Formula}
@@ -12,11 +14,12 @@ use Rattle.cov_edit.specs.declared.edit.Edit.{Edit}
 use Rattle.cov_edit.specs.declared.edit.Edit.TheVariants as edits
 use Rattle.cov_edit.specs.declared.command.Command.{Command}
 use Rattle.cov_edit.specs.declared.command.Command.TheVariants as commands
-use Rattle.cov_edit.specs.Numbering.{Numbers, node_number, line_number, nodes_made, anchors_of, no_numbers, numbers_after, numbers_from, numbers_of, numbered_from, numbered}
+use Rattle.cov_edit.specs.Numbering.{Numbers, node_number, line_number, node_count_after, line_count_after, nodes_made, anchors_of, no_numbers, numbers_after, numbers_from, numbers_of, numbered_edit, numbered_from, numbered}
 use Rattle.cov_edit.specs.Variant.{Line, is_line}
-use Rattle.cov_history.specs.Kept.{Kept, hidden_where, kept_address, kept_number, new_item, new_line, kept_after, is_row, entries_after, Holding, nothing_held, held_after, held_from, kept_of, file_kept, is_kept_anchor}
+use Rattle.cov_edit.proofs.CallerLemmas.{node_count_after-is, line_count_after-is}
+use Rattle.cov_history.specs.Kept.{Kept, hidden, taken_up, hidden_where, replaced_where, kept_address, kept_number, new_item, new_line, kept_after, is_row, rows_kept_after, entries_after, Holding, nothing_held, held_after, held_from, kept_of, file_kept, is_kept_anchor}
 use Rattle.cov_history.specs.Files.{file_order}
-use Rattle.cov_history.specs.FileOfLine.{new_file_of_line, file_of_line_from, file_of_line_in, AreFilesOfLines, IsWhole}
+use Rattle.cov_history.specs.FileOfLine.{new_file, new_file_of_line, file_of_line_from, file_of_line_in, AreFilesOfLines, IsWhole}
 use Rattle.cov_history.proofs.Appends.{lines-edits, rows-edits}
 use Rattle.cov_history.proofs.Deletes.{order-hidden, lines-apart}
 use Rattle.cov_history.proofs.Files.{anchor-case, anchor-stays, anchor-new}
@@ -56,6 +59,9 @@ file_of_line-edits : (q : ℕ) (within : Formula ℕ) (ns : Numbers) (t : List (
     → AreFilesOfLines (fold (kept_after q within) ks (numbered_from ns t node line es)) 0 (file_of_line ++ new_file_of_line ns.nodes es)
 file_of_line-edits q within ns t node line m [] ks file_of_line table low e h = subst (AreFilesOfLines ks 0) (sym (append-nil file_of_line)) h
 file_of_line-edits q within ns t node line m (edits.New kind parent name ∷ es) ks file_of_line table low e h = file_of_line-edits q within ns t (node + 1) line m es ks file_of_line table low e h
+file_of_line-edits q within ns t node line m (edits.Rename which name ∷ es) ks file_of_line table low e h = file_of_line-edits q within ns t node line m es ks file_of_line table low e h
+file_of_line-edits q within ns t node line m (edits.Move which parent ∷ es) ks file_of_line table low e h = file_of_line-edits q within ns t node line m es ks file_of_line table low e h
+file_of_line-edits q within ns t node line m (edits.Remove which ∷ es) ks file_of_line table low e h = file_of_line-edits q within ns t node line m es ks file_of_line table low e h
 file_of_line-edits q within ns t node line m (edits.Delete file which ∷ es) ks file_of_line table low e h =
     let test : Line → Bool = is_line (node_number ns.nodes file) (address_in t (line_number (length ns.addresses) which)) in
     file_of_line-edits q within ns t node line m es (map (hidden_where test q within) ks) file_of_line table low e
@@ -74,11 +80,21 @@ file_of_line-edits q within ns t node line m (edits.Insert file after text ∷ e
     (files_of_lines-stay ks (placed kept_address new ks) (λ g l i. anchor-stays g l new ks i) 0 file_of_line h)
     (anchor-new f (0 + length file_of_line + 1) new ks refl (number ∙ place))))
 
+new_file-count : (n m line : ℕ) (e : Edit) (files : List ℕ) → line + length (cons_option (new_file n e) files) ≡ line_count_after line e + length files
+new_file-count n m line (edits.New kind parent name) files = refl
+new_file-count n m line (edits.Insert file after text) files = omega arith
+new_file-count n m line (edits.Delete file which) files = refl
+new_file-count n m line (edits.Rename node name) files = refl
+new_file-count n m line (edits.Move node parent) files = refl
+new_file-count n m line (edits.Remove node) files = refl
+
 pub new-files_of_lines-count : (n m : ℕ) (es : List Edit) → length (new_file_of_line n es) ≡ length (anchors_of m es)
 new-files_of_lines-count n m [] = refl
-new-files_of_lines-count n m (edits.New kind parent name ∷ es) = new-files_of_lines-count n m es
-new-files_of_lines-count n m (edits.Delete file line ∷ es) = new-files_of_lines-count n m es
-new-files_of_lines-count n m (edits.Insert file after text ∷ es) = ap (λ k. suc k) (new-files_of_lines-count n m es)
+new-files_of_lines-count n m (e ∷ es) =
+    let files = new_file-count n m 0 e (new_file_of_line n es) in
+    let anchors = line_count_after-is 0 m e (anchors_of m es) in
+    let same = new-files_of_lines-count n m es in
+    omega (arith, files, anchors, same)
 
 -- more of a history keeps each line in its file, and puts each new one into its own
 file_of_line-along : (q : ℕ) (ns : Numbers) (held : Holding) (history : List Command) (file_of_line : List ℕ) → IsTable ns.addresses → length file_of_line ≡ length ns.addresses → AreFilesOfLines held.lines 0 file_of_line
@@ -102,38 +118,84 @@ file_of_line-along q ns held (commands.Commit base choice ambition es ∷ histor
     (subst (λ ks. AreFilesOfLines ks 0 (file_of_line ++ new_file_of_line ns.nodes es)) (sym (lines-edits (q + 1) ambition held (numbered ns es)))
     (file_of_line-edits (q + 1) ambition ns t ns.nodes m m es held.lines file_of_line (table-after ns es table) (omega (arith, grown)) e h)))
 
+-- whether there is a row of a node
+abbrev has_row_of : ℕ → List (Kept Row) → Bool
+has_row_of node ks = list_any (λ k. is_row node k.item) ks
+
 -- there is a row of each node up to a number
 abbrev HasRows : ℕ → List (Kept Row) → Type 0
-HasRows count ks = (node : ℕ) → 0 < node → node ≤ count → list_any (λ k. is_row node k.item) ks ≡ true
+HasRows count ks = (node : ℕ) → 0 < node → node ≤ count → has_row_of node ks ≡ true
+
+first_or_rest : (first rest later : Bool) → (first || rest) ≡ true → (rest ≡ true → later ≡ true) → (first || later) ≡ true
+first_or_rest true rest later h f = refl
+first_or_rest false rest later h f = f h
+
+module _ (q : ℕ) (within : Formula ℕ) (node : ℕ) where
+  row-replaced : (test : Row → Bool) (next : Row → Row) (ks : List (Kept Row)) → has_row_of node ks ≡ true → has_row_of node (replaced_where test next q within ks) ≡ true
+  row-replaced test next [] h = h
+  row-replaced test next (k ∷ ks) h = at (test k.item) (row-replaced test next ks)
+    where
+      later : List (Kept Row)
+      later = replaced_where test next q within ks
+
+      at : (b : Bool) → (has_row_of node ks ≡ true → has_row_of node later ≡ true) → has_row_of node (cond b (hidden q within k ∷ taken_up q within next k ∷ later) (k ∷ later)) ≡ true
+      at true rest =
+          first_or_rest (is_row node k.item) (has_row_of node ks) (is_row node (next k.item) || has_row_of node later) h
+          (λ j. or_right (is_row node (next k.item)) (has_row_of node later) (rest j))
+      at false rest = first_or_rest (is_row node k.item) (has_row_of node ks) (has_row_of node later) h rest
+
+  row-hidden : (test : Row → Bool) (ks : List (Kept Row)) → has_row_of node (map (hidden_where test q within) ks) ≡ has_row_of node ks
+  row-hidden test [] = refl
+  row-hidden test (k ∷ ks) = at (test k.item) ∙ ap (λ b. is_row node k.item || b) (row-hidden test ks)
+    where
+      later : List (Kept Row)
+      later = map (hidden_where test q within) ks
+
+      at : (b : Bool) → has_row_of node (cond b (hidden q within k) k ∷ later) ≡ has_row_of node (k ∷ later)
+      at true = refl
+      at false = refl
+
+  -- a change leaves a row of a node that has one
+  row-stays : (ks : List (Kept Row)) (change : RowChange) → has_row_of node ks ≡ true → has_row_of node (rows_kept_after q within ks change) ≡ true
+  row-stays ks (Created other kind parent name) h =
+      let new : Kept Row = new_item q within (record { node = other; kind = kind; parent = parent; name = name }) in
+      list_any-append (λ k. is_row node k.item) ks (new ∷ []) ∙ ap (λ b. b || (nat_eq other node || false)) h
+  row-stays ks (Renamed other name) h = row-replaced (is_row other) (with_name other name) ks h
+  row-stays ks (Moved other parent) h = row-replaced (is_row other) (with_parent other parent) ks h
+  row-stays ks (Removed other) h = row-hidden (is_row other) ks ∙ h
 
 -- a new row behind others
-row-more : (q : ℕ) (within : Formula ℕ) (row : Row) (ks : List (Kept Row)) (count : ℕ) → row.node ≡ count + 1 → HasRows count ks → HasRows (count + 1) (ks ++ new_item q within row ∷ [])
-row-more q within row ks count e h = λ node above low. list_any-append (λ k. is_row node k.item) ks (new_item q within row ∷ []) ∙ at node above low (nat_eq row.node node) refl
+row-more : (q : ℕ) (within : Formula ℕ) (node : ℕ) (kind : Kind) (parent : ℕ) (name : List ℕ) (ks : List (Kept Row)) → HasRows node ks
+    → HasRows (node + 1) (rows_kept_after q within ks (Created (node + 1) kind parent name))
+row-more q within node kind parent name ks h = λ x above low. at x above low (nat_eq (node + 1) x) refl
   where
-    left : (a b : Bool) → a ≡ true → (a || b) ≡ true
-    left true b i = refl
-    left false b i = absurd (cc)
+    new : Kept Row
+    new = new_item q within (record { node = node + 1; kind = kind; parent = parent; name = name })
 
-    right : (a : Bool) → (a || (true || false)) ≡ true
-    right true = refl
-    right false = refl
+    at : (x : ℕ) → 0 < x → x ≤ node + 1 → (b : Bool) → nat_eq (node + 1) x ≡ b → has_row_of x (ks ++ new ∷ []) ≡ true
+    at x above low true i =
+        list_any-append (λ k. is_row x k.item) ks (new ∷ []) ∙ ap (λ b. has_row_of x ks || (b || false)) i ∙ or_right (has_row_of x ks) (true || false) refl
+    at x above low false i =
+        let below : x ≤ node = grind (arith, nat_tests, i, low) in
+        row-stays q within x ks (Created (node + 1) kind parent name) (h x above below)
 
-    at : (node : ℕ) → 0 < node → node ≤ count + 1 → (b : Bool) → nat_eq row.node node ≡ b → (list_any (λ k. is_row node k.item) ks || (nat_eq row.node node || false)) ≡ true
-    at node above low true i = ap (λ b. list_any (λ k. is_row node k.item) ks || (b || false)) i ∙ right (list_any (λ k. is_row node k.item) ks)
-    at node above low false i =
-        let below : node ≤ count = grind (arith, nat_tests, i, e, low) in
-        left (list_any (λ k. is_row node k.item) ks) (nat_eq row.node node || false) (h node above below)
+rows-edit : (q : ℕ) (within : Formula ℕ) (ns : Numbers) (t : List (List ℕ)) (node line : ℕ) (e : Edit) (ks : List (Kept Row)) → HasRows node ks
+    → HasRows (node_count_after node e) (entries_after q within ks (numbered_edit ns t node line e))
+rows-edit q within ns t node line (edits.New kind parent name) ks h = row-more q within node kind (node_number ns.nodes parent) name ks h
+rows-edit q within ns t node line (edits.Insert file after text) ks h = h
+rows-edit q within ns t node line (edits.Delete file which) ks h = h
+rows-edit q within ns t node line (edits.Rename which name) ks h = λ x above low. row-stays q within x ks (Renamed (node_number ns.nodes which) name) (h x above low)
+rows-edit q within ns t node line (edits.Move which parent) ks h =
+    λ x above low. row-stays q within x ks (Moved (node_number ns.nodes which) (node_number ns.nodes parent)) (h x above low)
+rows-edit q within ns t node line (edits.Remove which) ks h = λ x above low. row-stays q within x ks (Removed (node_number ns.nodes which)) (h x above low)
 
 rows-more : (q : ℕ) (within : Formula ℕ) (ns : Numbers) (t : List (List ℕ)) (node line : ℕ) (es : List Edit) (ks : List (Kept Row)) → HasRows node ks
     → HasRows (node + nodes_made es) (fold (entries_after q within) ks (numbered_from ns t node line es))
 rows-more q within ns t node line [] ks h = subst (λ n. HasRows n ks) (let same : node ≡ node + 0 = omega arith in same) h
-rows-more q within ns t node line (edits.New kind parent name ∷ es) ks h =
-    let row : Row = record { node = node + 1; kind = kind; parent = node_number ns.nodes parent; name = name } in
-    let after : List (Kept Row) = ks ++ new_item q within row ∷ [] in
-    subst (λ n. HasRows n (fold (entries_after q within) after (numbered_from ns t (node + 1) line es))) (let same : node + 1 + nodes_made es ≡ node + (1 + nodes_made es) = omega arith in same)
-    (rows-more q within ns t (node + 1) line es after (row-more q within row ks node refl h))
-rows-more q within ns t node line (edits.Insert file after text ∷ es) ks h = rows-more q within ns t node (line + 1) es ks h
-rows-more q within ns t node line (edits.Delete file which ∷ es) ks h = rows-more q within ns t node line es ks h
+rows-more q within ns t node line (e ∷ es) ks h =
+    let after : List (Kept Row) = entries_after q within ks (numbered_edit ns t node line e) in
+    subst (λ n. HasRows n (fold (entries_after q within) after (numbered_from ns t (node_count_after node e) (line_count_after line e) es))) (sym (node_count_after-is node (nodes_made es) e))
+    (rows-more q within ns t (node_count_after node e) (line_count_after line e) es after (rows-edit q within ns t node line e ks h))
 
 rows-along : (q : ℕ) (ns : Numbers) (held : Holding) (history : List Command) → HasRows ns.nodes held.rows → HasRows (numbers_from ns history).nodes (held_from q held ns history).rows
 rows-along q ns held [] h = h

@@ -1,6 +1,6 @@
 -- Whether a history holds all that it makes: the file of each line, and the rows.
-use Rattle.std.specs.Prelude.{◌≡◌, ℕ, ◌+◌, ◌<◌, ◌≤◌, true, List, [], ◌∷◌, ◌++◌, length, map, Some, slice_get}
-use Rattle.std.specs.List.{list_any}
+use Rattle.std.specs.Prelude.{◌≡◌, ℕ, ◌+◌, ◌<◌, ◌≤◌, true, List, [], ◌∷◌, ◌++◌, length, map, Option, Some, None, slice_get}
+use Rattle.std.specs.List.{list_any, filter_map}
 use Rattle.cov_order.specs.Orders.{has_line, AreLines}
 use Rattle.cov_edit.specs.declared.edit.Edit.{Edit}
 use Rattle.cov_edit.specs.declared.edit.Edit.TheVariants as edits
@@ -11,12 +11,18 @@ use Rattle.cov_edit.specs.Variant.{Line}
 use Rattle.cov_history.specs.Kept.{Kept, kept_number, is_row, kept_of, entries_of, is_kept_anchor}
 use Rattle.cov_history.specs.Files.{file_order}
 
+-- the file of the line that an edit inserts, if it inserts one, n nodes having been made before
+abbrev pub new_file : ℕ → Edit → Option ℕ
+new_file n (edits.New kind parent name) = None
+new_file n (edits.Insert file after text) = Some (node_number n file)
+new_file n (edits.Delete file line) = None
+new_file n (edits.Rename node name) = None
+new_file n (edits.Move node parent) = None
+new_file n (edits.Remove node) = None
+
 -- the files of the lines that edits insert, n nodes having been made before
 abbrev pub new_file_of_line : ℕ → List Edit → List ℕ
-new_file_of_line n [] = []
-new_file_of_line n (edits.New kind parent name ∷ es) = new_file_of_line n es
-new_file_of_line n (edits.Insert file after text ∷ es) = node_number n file ∷ new_file_of_line n es
-new_file_of_line n (edits.Delete file line ∷ es) = new_file_of_line n es
+new_file_of_line n es = filter_map (new_file n) es
 
 -- the files of the lines that more of a history inserts, n nodes having been made before
 abbrev pub file_of_line_from : ℕ → List Command → List ℕ

@@ -1,9 +1,12 @@
 -- Laws of what a history holds.
-use Rattle.std.specs.Prelude.{◌≡◌, ℕ, ◌+◌, ◌<◌, ◌≤◌, Bool, true, false, nat_eq, List, [], ◌∷◌, ◌++◌, take, drop, length, map, Some, None}
+use Rattle.std.specs.Prelude.{◌≡◌, ℕ, ◌+◌, ◌<◌, ◌≤◌, Bool, true, false, not, nat_eq, List, [], ◌∷◌, ◌++◌, take, drop, length, map, Some, None, is_some, if◌then◌else◌}
 use Rattle.std.specs.List.{fold, list_any, AllByRecursion}
+use Rattle.cov_base.specs.Choices.{with_option}
+use Rattle.cov_base.specs.Faults.{in_node_order, fault_of}
+use Rattle.cov_base.specs.Rows.{changed, has_node, AreOnce}
 use Rattle.cov_base.specs.Addresses.{IsTable, IsLineOf, AreInOrder, number_by, after_anchor, after_anchor_by}
 use Rattle.cov_order.specs.Orders.{has_line, AreLines}
-use Rattle.cov_expr.specs.Formula.{Formula}
+use Rattle.cov_expr.specs.Formula.{Formula, value, reach}
 use Rattle.cov_edit.specs.declared.edit.Edit.{Edit}
 use Rattle.cov_edit.specs.declared.command.Command.{Command}
 use Rattle.cov_edit.specs.declared.command.Command.TheVariants as commands
@@ -11,9 +14,13 @@ use Rattle.cov_edit.specs.Numbering.{numbers_of, numbered}
 use Rattle.cov_edit.specs.History.{option_count, is_valid_in}
 use Rattle.cov_edit.specs.Variant.{Line, line_address, lines_of}
 use Rattle.cov_view.specs.Paths.{kind_of}
-use Rattle.cov_edit.specs.Touched.{touch}
+use Rattle.cov_edit.specs.Touched.{touch, AreRising}
+use Rattle.cov_view.specs.References.{is_dir_kind}
+use Rattle.cov_history.specs.FileNodes.{files_made, files_from, files_of, NamesFile}
 use Rattle.cov_rules.specs.Completion.{Incomplete}
+use Rattle.cov_history.specs.BadChoices.{fault_after, bad_choice, unsound_refusal}
 use Rattle.cov_history.specs.Completing.{completed_in}
+use Rattle.cov_history.specs.RowChanges.{changes_rows, row_changes}
 use Rattle.cov_history.specs.Overtaking.{overtaken}
 use Rattle.cov_edit.specs.Replay.{replay}
 use Rattle.cov_history.specs.Kept.{kept_number, kept_after, entries_after, held_from, held_by, kept_of, entries_of, lines_seen, rows_seen, variant_seen, file_kept, is_kept_anchor, IsHolding}
@@ -100,10 +107,16 @@ AnchorsStay = (history : List Command) (ambition : Formula ℕ) (i : Insertion)
 abbrev pub GoodSessionsStay : Type 0
 GoodSessionsStay = (history later : List Command) (s : Session) → IsGood history s → IsGood (history ++ later) s
 
--- the commit of a good session is refused only where it is too large, empty or overtaken, or the history is full
+-- the commit of a good session is refused only where it is too large, empty, overtaken or would leave a fault, or the history is full
 abbrev pub GoodCommitsPass : Type 0
 GoodCommitsPass = (history : List Command) (s : Session) → IsGood history s
-    → verdict history (commit_of s) ≡ first_of (when_full history ∷ (size_refusals history s.edits ++ when (has_no_edits s.edits) refusals.Empty ∷ as_overtaken (overtaken history s.base s.ambition s.edits) ∷ []))
+    → verdict history (commit_of s)
+    ≡ first_of (when_full history
+    ∷ (size_refusals history s.edits
+    ++ when (has_no_edits s.edits) refusals.Empty
+    ∷ as_overtaken (overtaken history s.base s.ambition s.edits)
+    ∷ unsound_refusal history s.ambition (commit_of s)
+    ∷ []))
 
 -- where no commit stands after the base, the commit of a good session shows what the session saw
 abbrev pub CommitShowsSeen : Type 0
@@ -203,3 +216,88 @@ SeenStays = (history later : List Command) (s : Session) → s.base ≤ length h
 -- an option that the rules of a history leave open is declared
 abbrev pub OpenOptionsAreDeclared : Type 0
 OpenOptionsAreDeclared = (history : List Command) (partial : List (ℕ × Bool)) (option : ℕ) → completed_in history partial ≡ Incomplete (Some option) → option < option_count history
+
+-- the rows of a replay stand in order of their nodes
+abbrev pub RowsAreInOrder : Type 0
+RowsAreInOrder = (c : List Bool) (history : List Command) → in_node_order (replay c history).rows ≡ (replay c history).rows
+
+-- no node has two rows in a replay, and the root has none
+abbrev pub RowsAreOnce : Type 0
+RowsAreOnce = (c : List Bool) (history : List Command) → AreOnce (replay c history).rows
+
+-- a commit makes its changes of the rows, in order, where its ambition is true
+abbrev pub CommitChangesRows : Type 0
+CommitChangesRows = (c : List Bool) (history : List Command) (base : ℕ) (choice : List Bool) (ambition : Formula ℕ) (es : List Edit)
+    → (replay c (history ++ commands.Commit base choice ambition es ∷ [])).rows
+    ≡ (if value ambition c then fold changed (replay c history).rows (row_changes (numbered (numbers_of history) es)) else (replay c history).rows)
+
+-- edits of lines alone leave the rows
+abbrev pub LinesKeepRows : Type 0
+LinesKeepRows = (c : List Bool) (history : List Command) (base : ℕ) (choice : List Bool) (ambition : Formula ℕ) (es : List Edit)
+    → list_any changes_rows es ≡ false → (replay c (history ++ commands.Commit base choice ambition es ∷ [])).rows ≡ (replay c history).rows
+
+-- the replay of a legal history reads no option that the history doesn't declare
+abbrev pub LegalIsUnread : Type 0
+LegalIsUnread = (history : List Command) → IsLegal history → (option : ℕ) → option_count history ≤ option → (c : List Bool)
+    → replay (with_option c option true) history ≡ replay (with_option c option false) history
+
+-- the replay with a commit more reads none either, if its ambition has only declared options
+abbrev pub CommitIsUnread : Type 0
+CommitIsUnread = (history : List Command) (base : ℕ) (choice : List Bool) (ambition : Formula ℕ) (es : List Edit) → IsLegal history → reach ambition ≤ option_count history
+    → (option : ℕ) → option_count history ≤ option → (c : List Bool)
+    → replay (with_option c option true) (history ++ commands.Commit base choice ambition es ∷ [])
+    ≡ replay (with_option c option false) (history ++ commands.Commit base choice ambition es ∷ [])
+
+-- where no choice is bad, a command leaves no fault on a valid choice within the ambition
+abbrev pub NoneBadIsSound : Type 0
+NoneBadIsSound = (history : List Command) (ambition : Formula ℕ) (k : Command) → bad_choice history ambition k ≡ None
+    → (c : List Bool) → length c ≡ option_count history → is_valid_in history c ≡ true → value ambition c ≡ true → fault_after history k c ≡ None
+
+-- a bad choice is one of all declared options, valid and within the ambition, and the command leaves a fault on it
+abbrev pub BadHasFault : Type 0
+BadHasFault = (history : List Command) (ambition : Formula ℕ) (k : Command) (c : List Bool) → bad_choice history ambition k ≡ Some c
+    → (length c ≡ option_count history) × (is_valid_in history c ≡ true) × (value ambition c ≡ true) × (is_some (fault_after history k c) ≡ true)
+
+-- each valid variant of a legal history is sound, and so on all longer choices
+abbrev pub LegalIsSound : Type 0
+LegalIsSound = (history : List Command) (c : List Bool) → IsLegal history → option_count history ≤ length c → is_valid_in history c ≡ true → fault_of (replay c history).rows ≡ None
+
+-- a commit of edits of lines alone has no bad choice after a legal history
+abbrev pub LinesStaySound : Type 0
+LinesStaySound = (history : List Command) (base : ℕ) (choice : List Bool) (ambition : Formula ℕ) (es : List Edit) → IsLegal history
+    → list_any changes_rows es ≡ false → bad_choice history ambition (commands.Commit base choice ambition es) ≡ None
+
+-- the files of a history rise, and are nodes that it made, not the root
+abbrev pub FilesRise : Type 0
+FilesRise = (history : List Command) → AreRising (files_of history) × AllByRecursion (λ file. (0 < file) × (file ≤ (numbers_of history).nodes)) (files_of history)
+
+-- those of a longer history begin with those of the shorter, and a commit more adds those that its edits make
+abbrev pub FilesGoOn : Type 0
+FilesGoOn = (history : List Command)
+    → ((later : List Command) → files_of (history ++ later) ≡ files_of history ++ files_from (numbers_of history).nodes later)
+    × ((base : ℕ) (choice : List Bool) (ambition : Formula ℕ) (es : List Edit)
+    → files_of (history ++ commands.Commit base choice ambition es ∷ []) ≡ files_of history ++ files_made (numbers_of history).nodes es)
+
+-- in each replay, the rows of files are just those whose nodes are files of the history
+abbrev pub RowsTellFiles : Type 0
+RowsTellFiles = (c : List Bool) (history : List Command) → AllByRecursion (λ r. has_node r.node (files_of history) ≡ not (is_dir_kind r.kind)) (replay c history).rows
+
+-- in a legal history, the file of each kept line is one
+abbrev pub LinesAreInFiles : Type 0
+LinesAreInFiles = (history : List Command) → IsLegal history → AllByRecursion (λ k. has_node k.item.file (files_of history) ≡ true) (kept_of history)
+
+-- the inserts and deletes of a commit that is accepted name files of the history with the commit, whatever stands after its base
+abbrev pub AcceptedNamesFiles : Type 0
+AcceptedNamesFiles = (history : List Command) (base : ℕ) (choice : List Bool) (ambition : Formula ℕ) (es : List Edit)
+    → verdict history (commands.Commit base choice ambition es) ≡ None
+    → AllByRecursion (NamesFile (files_of (history ++ commands.Commit base choice ambition es ∷ [])) (numbers_of history).nodes) es
+
+-- each insert or delete of a good session names a file of the history or one that the edits before it make, whatever stands after the base
+abbrev pub TurnNamesFile : Type 0
+TurnNamesFile = (history : List Command) (s : Session) (begun later : List Edit) (e : Edit) → IsGood history s → begun ++ e ∷ later ≡ s.edits
+    → NamesFile (files_of history ++ files_made (numbers_of history).nodes begun) (numbers_of history).nodes e
+
+-- when the first of a good session's edits are done, the file of each held line is one of the history, or one that these edits make
+abbrev pub AmidIsInFiles : Type 0
+AmidIsInFiles = (history : List Command) (s : Session) (begun later : List Edit) → IsLegal history → IsGood history s → begun ++ later ≡ s.edits
+    → AllByRecursion (λ k. has_node k.item.file (files_of history ++ files_made (numbers_of history).nodes begun) ≡ true) (held_amid history s.ambition s.edits begun).lines

@@ -1,5 +1,7 @@
+pub mod BadChoices
 pub mod Completing
 pub mod Deletions
+pub mod FileNodes
 pub mod FileOfLine
 pub mod Files
 pub mod Insertions
@@ -8,5 +10,6 @@ pub mod Laws
 pub mod Naming
 pub mod Overtaking
 pub mod Reach
+pub mod RowChanges
 pub mod Sessions
 pub mod Verdict

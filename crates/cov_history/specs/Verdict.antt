@@ -15,6 +15,7 @@ use Rattle.cov_edit.specs.Numbering.{numbers_of, nodes_made, anchors_of, line_co
 use Rattle.cov_edit.specs.Replay.{replay}
 use Rattle.cov_view.specs.Refusals.{when, first_of, first_refused}
 use Rattle.cov_view.specs.declared.fault.EditFault.{EditFault}
+use Rattle.cov_history.specs.BadChoices.{unsound_refusal}
 use Rattle.cov_history.specs.Overtaking.{overtaken}
 use Rattle.cov_history.specs.declared.refusal.Refusal.{Refusal}
 use Rattle.cov_history.specs.declared.refusal.Refusal.TheVariants as refusals
@@ -88,6 +89,7 @@ refusals_of history (commands.Commit base choice ambition es) =
     ∷ when (has_no_edits es) refusals.Empty
     ∷ as_bad_record (first_refused (numbers_of (take base history)) (replay choice (take base history)) es)
     ∷ as_overtaken (overtaken history base ambition es)
+    ∷ unsound_refusal history ambition (commands.Commit base choice ambition es)
     ∷ [])
 
 -- the refusal of a history that has as many commands as it holds

@@ -1,5 +1,5 @@
 //! Laws of what a history holds and accepts. Each function does nothing; what it ensures is the law.
-ghost use Rattle.cov_history.specs.Laws.{LinesFollowReplay, RowsFollowReplay, HoldingFollowsReplay, HoldingStands, HoldingIsWhole, HoldingGoesOn, CommitKeepsLines, CommitKeepsRows, FileFollowsReplay, ShownIsKept, InsertAfterAnchor, InsertInOneFile, InsertIsNumbered, AnchorsStay, GoodSessionsStay, GoodCommitsPass, CommitShowsSeen, AcceptedIsAnchored, DeclarationsHoldNothing, FileShowsReplay, InsertIsDated, OrderTakesInsert, LegalIsInReach, ReplayStands, LegalIsMade, DeleteIsDated, DeleteInOneFile, AcceptedIsThere, DeleteKeepsOrder, LinesAreDistinct, CommitShowsFiles, SeenStays, OpenOptionsAreDeclared};
+ghost use Rattle.cov_history.specs.Laws.{LinesFollowReplay, RowsFollowReplay, HoldingFollowsReplay, HoldingStands, HoldingIsWhole, HoldingGoesOn, CommitKeepsLines, CommitKeepsRows, FileFollowsReplay, ShownIsKept, InsertAfterAnchor, InsertInOneFile, InsertIsNumbered, AnchorsStay, GoodSessionsStay, GoodCommitsPass, CommitShowsSeen, AcceptedIsAnchored, DeclarationsHoldNothing, FileShowsReplay, InsertIsDated, OrderTakesInsert, LegalIsInReach, ReplayStands, LegalIsMade, DeleteIsDated, DeleteInOneFile, AcceptedIsThere, DeleteKeepsOrder, LinesAreDistinct, CommitShowsFiles, SeenStays, OpenOptionsAreDeclared, RowsAreInOrder, RowsAreOnce, CommitChangesRows, LinesKeepRows, LegalIsUnread, CommitIsUnread, NoneBadIsSound, BadHasFault, LegalIsSound, LinesStaySound, FilesRise, FilesGoOn, RowsTellFiles, LinesAreInFiles, AcceptedNamesFiles, TurnNamesFile, AmidIsInFiles};
 
 /// At each position, the lines seen on a choice are those of the replay of the history up to there.
 pub fn lines_follow_replay()
@@ -76,7 +76,7 @@ pub fn good_sessions_stay()
     ensures { GoodSessionsStay }
 {}
 
-/// The commit of a good session is refused only where it is too large, empty or overtaken, or the history is full.
+/// The commit of a good session is refused only where it is too large, empty, overtaken or would leave a fault, or the history is full.
 pub fn good_commits_pass()
     ensures { GoodCommitsPass }
 {}
@@ -164,4 +164,89 @@ pub fn seen_stays()
 /// An option that the rules of a history leave open is declared.
 pub fn open_options_are_declared()
     ensures { OpenOptionsAreDeclared }
+{}
+
+/// The rows of a replay stand in order of their nodes.
+pub fn rows_are_in_order()
+    ensures { RowsAreInOrder }
+{}
+
+/// No node has two rows in a replay, and the root has none.
+pub fn rows_are_once()
+    ensures { RowsAreOnce }
+{}
+
+/// A commit makes its changes of the rows, in order, where its ambition is true.
+pub fn commit_changes_rows()
+    ensures { CommitChangesRows }
+{}
+
+/// Edits of lines alone leave the rows.
+pub fn lines_keep_rows()
+    ensures { LinesKeepRows }
+{}
+
+/// The replay of a legal history reads no option that the history doesn't declare.
+pub fn legal_is_unread()
+    ensures { LegalIsUnread }
+{}
+
+/// The replay with a commit more reads none either, if its ambition has only declared options.
+pub fn commit_is_unread()
+    ensures { CommitIsUnread }
+{}
+
+/// Where no choice is bad, a command leaves no fault on a valid choice within the ambition.
+pub fn none_bad_is_sound()
+    ensures { NoneBadIsSound }
+{}
+
+/// A bad choice is one of all declared options, valid and within the ambition, and the command leaves a fault on it.
+pub fn bad_has_fault()
+    ensures { BadHasFault }
+{}
+
+/// Each valid variant of a legal history is sound.
+pub fn legal_is_sound()
+    ensures { LegalIsSound }
+{}
+
+/// A commit of edits of lines alone has no bad choice after a legal history.
+pub fn lines_stay_sound()
+    ensures { LinesStaySound }
+{}
+
+/// The files of a history rise, and are nodes that it made.
+pub fn files_rise()
+    ensures { FilesRise }
+{}
+
+/// The files of a longer history begin with those of the shorter, and a commit adds those that its edits make.
+pub fn files_go_on()
+    ensures { FilesGoOn }
+{}
+
+/// The rows of files are just those whose nodes are files of the history, on each choice.
+pub fn rows_tell_files()
+    ensures { RowsTellFiles }
+{}
+
+/// In a legal history, the file of each kept line is one.
+pub fn lines_are_in_files()
+    ensures { LinesAreInFiles }
+{}
+
+/// The inserts and deletes of a commit that is accepted name files of the history with the commit.
+pub fn accepted_names_files()
+    ensures { AcceptedNamesFiles }
+{}
+
+/// Each insert or delete of a good session names a file of the history, or one that the edits before it make.
+pub fn turn_names_file()
+    ensures { TurnNamesFile }
+{}
+
+/// When the first of a good session's edits are done, each held line is in a file of the history or in one that they make.
+pub fn amid_is_in_files()
+    ensures { AmidIsInFiles }
 {}
