@@ -1,52 +1,31 @@
 -- What is kept after a commit: lists, rows and numbers.
-use Rattle.std.proofs.Common.{◌≡◌, ℕ, zero, suc, ◌+◌, ◌<◌, ◌≤◌, Bool, false, cond, nat_eq, List, [], ◌∷◌, ◌++◌, length, length-append, map, Some, None, slice_get, append_assoc, append-nil, refl, sym, ap, ◌∙◌, arith}
+use Rattle.std.proofs.Common.{◌≡◌, ℕ, zero, suc, ◌+◌, ◌<◌, ◌≤◌, Bool, true, false, cond, nat_eq, List, [], ◌∷◌, ◌++◌, length, length-append, map, None, slice_get, append_assoc, append-nil, refl, sym, ap, ◌∙◌, arith}
 use Rattle.std.specs.List.{fold, AllByRecursion}
 use Rattle.std.proofs.lemmas.Bool.Decides.{nat_tests}
 use Rattle.cov_base.specs.Addresses.{line_of, IsLineOf}
-use Rattle.cov_base.specs.Rows.{Row}
 use Rattle.cov_base.proofs.CallerLemmas.{all-filter, line_of-in, length-with_lines}
-use Rattle.cov_base.specs.declared.number.Kind.{Kind}
-use Rattle.cov_base.specs.declared.number.NodeRef.{NodeRef}
 use Rattle.cov_expr.specs.Formula.{Formula}
 use Rattle.cov_edit.specs.declared.edit.Edit.{Edit}
 use Rattle.cov_edit.specs.declared.edit.Edit.TheVariants as edits
 use Rattle.cov_edit.specs.declared.command.Command.{Command}
 use Rattle.cov_edit.specs.declared.command.Command.TheVariants as commands
-use Rattle.cov_edit.specs.Numbering.{Numbers, node_number, anchors_of, no_numbers, numbers_after, numbers_of, numbered_from}
+use Rattle.cov_history.specs.RowChanges.{changes_rows}
+use Rattle.cov_edit.specs.Numbering.{Numbers, node_count_after, line_count_after, numbered_edit, nodes_made, anchors_of, no_numbers, numbers_after, numbers_of, numbered_from}
 use Rattle.cov_edit.specs.Variant.{Line}
 use Rattle.cov_edit.proofs.CallerLemmas.{numbers_from-append}
-use Rattle.cov_engine.specs.declared.store.CommitMark.{CommitMark}
-use Rattle.cov_engine.specs.declared.stored_file.StoredFile.{StoredFile}
-use Rattle.cov_history.specs.Kept.{Kept, new_item, kept_address, kept_number, kept_after, entries_after, kept_of, file_kept}
+use Rattle.cov_history.specs.Kept.{Kept, kept_address, kept_number, kept_after, kept_of, file_kept}
 use Rattle.cov_history.specs.Files.{dated_number, dated, file_dated}
-use Rattle.cov_engine.specs.Showing.{change_in, change_of}
-use Rattle.cov_engine.specs.Holdings.{kept_row}
+use Rattle.cov_engine.specs.RowPlans.{made_by}
 use Rattle.cov_history.specs.FileOfLine.{new_file_of_line}
-use Rattle.cov_engine.specs.Staging.{Contents, contents, new_files}
+use Rattle.cov_engine.specs.Staging.{Contents, new_files}
 use Rattle.cov_history.proofs.CallerLemmas.{all-mapped, holding-stands, new-files_of_lines-count}
 use Rattle.cov_engine.proofs.Named.{the_file, AreInFiles}
 
 -- lists
-get-front : {X : Type 0} (xs ys : List X) (i : ℕ) → i < length xs → slice_get (xs ++ ys) i ≡ slice_get xs i
-get-front [] ys i h = absurd (omega (arith, h))
-get-front (x ∷ xs) ys zero h = refl
-get-front (x ∷ xs) ys (suc i) h = get-front xs ys i (omega (arith, h))
-
-get-next : {X : Type 0} (xs : List X) (y : X) (ys : List X) → slice_get (xs ++ y ∷ ys) (length xs) ≡ Some y
-get-next [] y ys = refl
-get-next (x ∷ xs) y ys = get-next xs y ys
-
 pub get-behind : {X : Type 0} (xs : List X) (i : ℕ) → length xs ≤ i → slice_get xs i ≡ None
 get-behind [] i h = refl
 get-behind (x ∷ xs) zero h = absurd (omega (arith, h))
 get-behind (x ∷ xs) (suc i) h = get-behind xs i (omega (arith, h))
-
--- a commit more leaves the changes of those before it
-pub change-front : (commits : List CommitMark) (mark : CommitMark) (commit : ℕ) → commit < length commits → change_of (commits ++ mark ∷ []) commit ≡ change_of commits commit
-change-front commits mark commit h = ap change_in (get-front commits (mark ∷ []) commit h)
-
-pub change-last : (commits : List CommitMark) (mark : CommitMark) → change_of (commits ++ mark ∷ []) (length commits) ≡ (mark.position, mark.ambition)
-change-last commits mark = ap change_in (get-next commits mark [])
 
 pub numbers-dated : (ks : List (Kept Line)) → map dated_number (map dated ks) ≡ map kept_number ks
 numbers-dated [] = refl
@@ -60,50 +39,33 @@ file-empty count file (k ∷ ks) h files =
     let differs : nat_eq k.item.file file ≡ false = grind (arith, nat_tests, low, h) in
     ap (λ b. cond b (k ∷ file_kept file ks) (file_kept file ks)) differs ∙ file-empty count file ks h files.1
 
--- a making of a row leaves the lines
-pub new-same : (q : ℕ) (within : Formula ℕ) (ns : Numbers) (t : List (List ℕ)) (node line : ℕ) (ks : List (Kept Line)) (begun : List Edit) (kind : Kind) (parent : NodeRef) (name : List ℕ)
-    → fold (kept_after q within) ks (numbered_from ns t node line (begun ++ edits.New kind parent name ∷ [])) ≡ fold (kept_after q within) ks (numbered_from ns t node line begun)
-new-same q within ns t node line ks [] kind parent name = refl
-new-same q within ns t node line ks (edits.New k p n ∷ begun) kind parent name = new-same q within ns t (node + 1) line ks begun kind parent name
-new-same q within ns t node line ks (edits.Insert file after text ∷ begun) kind parent name = new-same q within ns t node (line + 1) _ begun kind parent name
-new-same q within ns t node line ks (edits.Delete file which ∷ begun) kind parent name = new-same q within ns t node line _ begun kind parent name
+-- an edit that changes rows leaves the lines
+pub lines-left : (q : ℕ) (within : Formula ℕ) (ns : Numbers) (t : List (List ℕ)) (node line : ℕ) (ks : List (Kept Line)) (e : Edit) → changes_rows e ≡ true → kept_after q within ks (numbered_edit ns t node line e) ≡ ks
+lines-left q within ns t node line ks (edits.New kind parent name) is = refl
+lines-left q within ns t node line ks (edits.Insert file after text) is = absurd (cc)
+lines-left q within ns t node line ks (edits.Delete file which) is = absurd (cc)
+lines-left q within ns t node line ks (edits.Rename which name) is = refl
+lines-left q within ns t node line ks (edits.Move which parent) is = refl
+lines-left q within ns t node line ks (edits.Remove which) is = refl
 
-abbrev pub row_of_contents : Contents → Row
-row_of_contents s = record { node = s.node; kind = s.kind; parent = s.parent; name = s.name }
+pub rows-same : (q : ℕ) (within : Formula ℕ) (ns : Numbers) (t : List (List ℕ)) (node line : ℕ) (ks : List (Kept Line)) (begun : List Edit) (e : Edit) → changes_rows e ≡ true
+    → fold (kept_after q within) ks (numbered_from ns t node line (begun ++ e ∷ [])) ≡ fold (kept_after q within) ks (numbered_from ns t node line begun)
+rows-same q within ns t node line ks [] e is = lines-left q within ns t node line ks e is
+rows-same q within ns t node line ks (d ∷ begun) e is =
+    rows-same q within ns t (node_count_after node d) (line_count_after line d) (kept_after q within ks (numbered_edit ns t node line d)) begun e is
 
-abbrev pub kept_contents : List CommitMark → Contents → Kept Row
-kept_contents commits s = record { item = row_of_contents s; changes = change_of commits s.commit ∷ [] }
-
-pub rows-of-contents : (commits : List CommitMark) (stored : List StoredFile) → map (kept_contents commits) (map contents stored) ≡ map (kept_row commits) stored
-rows-of-contents commits [] = refl
-rows-of-contents commits (e ∷ es) = ap (λ ks. kept_row commits e ∷ ks) (rows-of-contents commits es)
+-- and inserts no line
+pub no-anchor : (m : ℕ) (e : Edit) → changes_rows e ≡ true → anchors_of m (e ∷ []) ≡ []
+no-anchor m (edits.New kind parent name) is = refl
+no-anchor m (edits.Insert file after text) is = absurd (cc)
+no-anchor m (edits.Delete file line) is = absurd (cc)
+no-anchor m (edits.Rename node name) is = refl
+no-anchor m (edits.Move node parent) is = refl
+no-anchor m (edits.Remove node) is = refl
 
 pub map-append : {X Y : Type 0} (f : X → Y) (xs ys : List X) → map f (xs ++ ys) ≡ map f xs ++ map f ys
 map-append f [] ys = refl
 map-append f (x ∷ xs) ys = ap (λ zs. f x ∷ zs) (map-append f xs ys)
-
--- the rows that edits make come behind those before
-pub rows-behind : (q : ℕ) (within : Formula ℕ) (ms : Numbers) (t : List (List ℕ)) (node line commit : ℕ) (commits : List CommitMark) (ks : List (Kept Row)) (es : List Edit) → change_of commits commit ≡ (q, within)
-    → fold (entries_after q within) ks (numbered_from ms t node line es) ≡ ks ++ map (kept_contents commits) (new_files ms.nodes commit node es)
-rows-behind q within ms t node line commit commits ks [] is = sym (append-nil ks)
-rows-behind q within ms t node line commit commits ks (edits.New kind parent name ∷ es) is =
-    let row : Row = record { node = node + 1; kind = kind; parent = node_number ms.nodes parent; name = name } in
-    rows-behind q within ms t (node + 1) line commit commits (ks ++ new_item q within row ∷ []) es is
-    ∙ append_assoc ks (new_item q within row ∷ []) (map (kept_contents commits) (new_files ms.nodes commit (node + 1) es))
-    ∙ ap (λ change. ks ++ with_change row change ∷ map (kept_contents commits) (new_files ms.nodes commit (node + 1) es)) (sym is)
-  where
-    with_change : Row → ℕ × Formula ℕ → Kept Row
-    with_change row change = record { item = row; changes = change ∷ [] }
-rows-behind q within ms t node line commit commits ks (edits.Insert file after text ∷ es) is = rows-behind q within ms t node (line + 1) commit commits ks es is
-rows-behind q within ms t node line commit commits ks (edits.Delete file which ∷ es) is = rows-behind q within ms t node line commit commits ks es is
-
-pub old-rows : (commits : List CommitMark) (mark : CommitMark) (stored : List StoredFile) → AllByRecursion (λ e. e.commit < length commits) stored → map (kept_row (commits ++ mark ∷ [])) stored ≡ map (kept_row commits) stored
-old-rows commits mark [] all = refl
-old-rows commits mark (e ∷ es) all =
-    ap (λ change. with_change change ∷ map (kept_row (commits ++ mark ∷ [])) es) (change-front commits mark e.commit all.0) ∙ ap (λ ks. kept_row commits e ∷ ks) (old-rows commits mark es all.1)
-  where
-    with_change : ℕ × Formula ℕ → Kept Row
-    with_change change = record { item = record { node = e.node; kind = e.kind; parent = e.parent; name = e.name }; changes = change ∷ [] }
 
 -- the numbers of the lines in a file of a history
 pub in-range : (history : List Command) (file : ℕ) → AllByRecursion (λ d. (1 ≤ dated_number d) × (dated_number d ≤ length (numbers_of history).addresses)) (file_dated file (kept_of history))
@@ -117,14 +79,35 @@ in-range history file =
     (omega (arith, own), omega (arith, own, less)))
     (file_kept file (kept_of history)) (all-filter (λ k. IsLineOf t (length t) (kept_address k)) (λ k. nat_eq k.item.file file) (kept_of history) stands.1.numbered_lines)
 
-pub new-files-all : (P : Contents → Type 0) (n commit made : ℕ) (es : List Edit)
-    → ((node parent : ℕ) (kind : Kind) (name : List ℕ) → made < node → P (record { node = node; kind = kind; parent = parent; name = name; commit = commit; lines = []; newest = 0 }))
-    → AllByRecursion P (new_files n commit made es)
-new-files-all P n commit made [] f = tt
-new-files-all P n commit made (edits.New kind parent name ∷ es) f =
-    (f (made + 1) (node_number n parent) kind name (omega arith), new-files-all P n commit (made + 1) es (λ node parent kind name h. f node parent kind name (omega (arith, h))))
-new-files-all P n commit made (edits.Insert file after text ∷ es) f = new-files-all P n commit made es f
-new-files-all P n commit made (edits.Delete file line ∷ es) f = new-files-all P n commit made es f
+pub new-files-all : (P : Contents → Type 0) (made : ℕ) (es : List Edit) → ((node : ℕ) → made < node → P (record { node = node; lines = []; newest = 0 })) → AllByRecursion P (new_files made es)
+new-files-all P made [] f = tt
+new-files-all P made (edits.New kind parent name ∷ es) f = (f (made + 1) (omega arith), new-files-all P (made + 1) es (λ node h. f node (omega (arith, h))))
+new-files-all P made (edits.Insert file after text ∷ es) f = new-files-all P made es f
+new-files-all P made (edits.Delete file line ∷ es) f = new-files-all P made es f
+new-files-all P made (edits.Rename node name ∷ es) f = new-files-all P made es f
+new-files-all P made (edits.Move node parent ∷ es) f = new-files-all P made es f
+new-files-all P made (edits.Remove node ∷ es) f = new-files-all P made es f
+
+-- edits make as many files as nodes
+pub new-files-count : (made : ℕ) (es : List Edit) → length (new_files made es) ≡ nodes_made es
+new-files-count made [] = refl
+new-files-count made (edits.New kind parent name ∷ es) = let rest = new-files-count (made + 1) es in omega (arith, rest)
+new-files-count made (edits.Insert file after text ∷ es) = new-files-count made es
+new-files-count made (edits.Delete file line ∷ es) = new-files-count made es
+new-files-count made (edits.Rename node name ∷ es) = new-files-count made es
+new-files-count made (edits.Move node parent ∷ es) = new-files-count made es
+new-files-count made (edits.Remove node ∷ es) = new-files-count made es
+
+-- they are of the nodes that come behind those before
+pub new-files-nodes : (made : ℕ) (es : List Edit) (before : List ℕ) → made_by made es before ≡ before ++ map (λ (s : Contents). s.node) (new_files made es)
+new-files-nodes made [] before = sym (append-nil before)
+new-files-nodes made (edits.New kind parent name ∷ es) before =
+    new-files-nodes (made + 1) es (before ++ (made + 1) ∷ []) ∙ append_assoc before ((made + 1) ∷ []) (map (λ (s : Contents). s.node) (new_files (made + 1) es))
+new-files-nodes made (edits.Insert file after text ∷ es) before = new-files-nodes made es before
+new-files-nodes made (edits.Delete file line ∷ es) before = new-files-nodes made es before
+new-files-nodes made (edits.Rename node name ∷ es) before = new-files-nodes made es before
+new-files-nodes made (edits.Move node parent ∷ es) before = new-files-nodes made es before
+new-files-nodes made (edits.Remove node ∷ es) before = new-files-nodes made es before
 
 pub line-files-after : (history : List Command) (base : ℕ) (choice : List Bool) (ambition : Formula ℕ) (es : List Edit) (file_of_line : List ℕ) (n : ℕ) → length file_of_line ≡ length (numbers_of history).addresses
     → length (file_of_line ++ new_file_of_line n es) ≡ length (numbers_of (history ++ commands.Commit base choice ambition es ∷ [])).addresses

@@ -1,9 +1,8 @@
 -- The marks of commits decide which overtakes.
-use Rattle.std.proofs.Common.{◌≡◌, ℕ, zero, suc, ◌+◌, ◌-◌, ◌<◌, ◌≤◌, Bool, true, false, cond, ◌&&◌, List, [], ◌∷◌, ◌++◌, length, take, drop, replicate, length-append, Option, Some, ◌⊎◌, inl, inr, refl, sym, ap, subst, ◌∙◌, arith}
-use Rattle.std.specs.List.{list_any, AllByRecursion}
-use Rattle.std.proofs.lemmas.List.{length-take, length-replicate}
+use Rattle.std.proofs.Common.{◌≡◌, ℕ, zero, suc, ◌+◌, ◌<◌, ◌≤◌, Bool, true, false, cond, ◌&&◌, List, [], ◌∷◌, drop, Option, Some, ◌⊎◌, inl, inr, refl, sym, ap, subst, ◌∙◌, arith}
+use Rattle.std.specs.List.{AllByRecursion}
 use Rattle.std.proofs.lemmas.Bool.{and_from}
-use Rattle.cov_base.specs.Choices.{all_choices, is_on}
+use Rattle.cov_base.specs.Choices.{is_on}
 use Rattle.cov_base.specs.declared.limits.TheConstants.{CHOICE_WIDTH}
 use Rattle.cov_dd.specs.declared.triple.Triple.{Triple}
 use Rattle.cov_dd.specs.Diagrams.{diagram_size, value_in, Extends}
@@ -11,7 +10,7 @@ use Rattle.cov_dd.proofs.CallerLemmas.{extends_trans}
 use Rattle.cov_base.proofs.CallerLemmas.{all-map}
 use Rattle.cov_expr.specs.Formula.{Formula, value, reach}
 use Rattle.cov_rules.specs.Installing.{reach_of}
-use Rattle.cov_rules.proofs.CallerLemmas.{value_same, is_valid_same, is_on-take, is_on-padded, none_passes, fails_on_each}
+use Rattle.cov_rules.proofs.CallerLemmas.{value_same, is_valid_same, none_short, none_wide}
 use Rattle.cov_edit.specs.declared.edit.Edit.{Edit}
 use Rattle.cov_edit.specs.declared.command.Command.{Command}
 use Rattle.cov_edit.specs.declared.command.Command.TheVariants as commands
@@ -23,19 +22,6 @@ use Rattle.cov_engine.specs.Overtakers.{AreApart, Overtakes, IsFirstOf, IsOverta
 use Rattle.cov_history.specs.Overtaking.{share_choice, overtakes, overtaken_from, overtaken}
 use Rattle.cov_engine.specs.declared.store.CommitMark.{CommitMark}
 use Rattle.cov_engine.proofs.Marking.{marks-grown}
-
--- a test that reads only the first options of a choice fails on each choice of 128 options just where it fails on each of so many
-module _ (count : ℕ) (f : List Bool → Bool) (most : count ≤ CHOICE_WIDTH) (reads : (c d : List Bool) → ((o : ℕ) → o < count → is_on c o ≡ is_on d o) → f c ≡ f d) where
-  pub apart-none : ((c : List Bool) → length c ≡ CHOICE_WIDTH → f c ≡ false) → list_any f (all_choices count) ≡ false
-  apart-none none = none_passes count f (λ c long.
-      let padded : List Bool = c ++ replicate (CHOICE_WIDTH - count) false in
-      let full : length padded ≡ CHOICE_WIDTH = omega (arith, most, long, length-append c (replicate (CHOICE_WIDTH - count) false), length-replicate (CHOICE_WIDTH - count) false) in
-      reads c padded (λ o lt. sym (is_on-padded c (CHOICE_WIDTH - count) o)) ∙ none padded full)
-
-  pub none-apart : list_any f (all_choices count) ≡ false → (c : List Bool) → length c ≡ CHOICE_WIDTH → f c ≡ false
-  none-apart none c long =
-      reads c (take count c) (λ o lt. sym (is_on-take count c o lt))
-      ∙ fails_on_each count f none (take count c) (omega (arith, long, most, length-take count c))
 
 module _ (history : List Command) (ts : List Triple) (base within : ℕ) (ambition : Formula ℕ) (es : List Edit)
     (most : option_count history ≤ CHOICE_WIDTH) (named : reach_of (constraints_of history) ≤ option_count history) (own : reach ambition ≤ option_count history)
@@ -67,10 +53,10 @@ module _ (history : List Command) (ts : List Triple) (base within : ℕ) (ambiti
 
     -- it has one just where the ambitions share a valid choice
     apart : share_choice history other ambition ≡ false → AreApart ts m.node within
-    apart none c long = same c ∙ none-apart count shared most reads none c long
+    apart none c long = same c ∙ none_wide count count shared most reads (omega arith) none c long
 
     unshared : AreApart ts m.node within → share_choice history other ambition ≡ false
-    unshared none = apart-none count shared most reads (λ c long. sym (same c) ∙ none c long)
+    unshared none = none_short count count shared most reads (λ c long. sym (same c) ∙ none c long)
 
     yes-overtakes : (old : ℕ) (choice : List Bool) → Overtakes ts base within (touched es) m → overtakes history ambition es (commands.Commit old choice other fs) ≡ true
     yes-overtakes old choice h = at (share_choice history other ambition) refl

@@ -1,6 +1,6 @@
 -- The lines of the files that are shown.
 use Rattle.std.specs.List.{fold, filter, AllByRecursion}
-use Rattle.std.proofs.Common.{◌≡◌, refl, ap, sym, subst, ◌∙◌, ℕ, Bool, true, false, cond, ◌||◌, List, [], ◌∷◌, ◌++◌, map, take, None, nat_eq, length, ◌+◌, ◌≤◌, append-nil, append_assoc, arith}
+use Rattle.std.proofs.Common.{◌≡◌, refl, ap, sym, subst, ◌∙◌, ℕ, Bool, true, false, cond, ◌||◌, List, [], ◌∷◌, ◌++◌, map, take, Some, None, nat_eq, length, ◌+◌, ◌≤◌, append-nil, append_assoc, arith}
 use Rattle.std.proofs.lemmas.Bool.Decides.{nat_tests}
 use Rattle.cov_base.specs.declared.number.Kind.{Kind}
 use Rattle.cov_base.specs.declared.number.Kind.TheVariants as kinds
@@ -24,12 +24,13 @@ use Rattle.cov_view.specs.References.{same_node, is_made_line}
 use Rattle.cov_view.specs.Seen.{has_row, kind_in, at_row, with_lines_by}
 use Rattle.cov_view.specs.Views.{ShowsLines, line_by_number, by_number}
 use Rattle.cov_view.proofs.CallerLemmas.{not_there}
-use Rattle.cov_engine.specs.declared.store.CommitMark.{CommitMark}
+use Rattle.cov_base.specs.Rows.{Row}
 use Rattle.cov_engine.specs.declared.stored_file.StoredFile.{StoredFile}
 use Rattle.cov_history.specs.Kept.{kept_of}
 use Rattle.cov_history.specs.Files.{DatedLine, ShownLine, as_shown, dated_as_shown, dated_shown, is_dated_seen, file_dated}
 use Rattle.cov_engine.specs.Nodes.{AreDated}
-use Rattle.cov_engine.specs.Showing.{with_row, with_lines, with_stored_file, AreFresh}
+use Rattle.cov_engine.specs.Showing.{bare_row, with_row, with_lines, with_node, AreFresh}
+use Rattle.cov_engine.specs.Visibility.{item_of}
 use Rattle.cov_engine.specs.Holdings.{IsFileOf}
 use Rattle.cov_history.proofs.CallerLemmas.{all-mapped, file-shows}
 
@@ -112,7 +113,7 @@ module _ (c : List Bool) (at : ℕ) (numbers : Numbers) (history : List Command)
   abbrev pub Shown : ViewRow → Type 0
   Shown r = ShowsLines numbers (replay c (take at history)) r × AllByRecursion (λ l. is_made_line (length numbers.addresses) 0 l.line ≡ true) r.lines
 
-module _ (ts : List Triple) (c : List Bool) (at : ℕ) (commits : List CommitMark) (numbers : Numbers) (history : List Command) (low : AllByRecursion (λ l. line_of l.address ≤ length numbers.addresses) (replay c (take at history)).lines) where
+module _ (ts : List Triple) (c : List Bool) (at : ℕ) (stored : List StoredFile) (numbers : Numbers) (history : List Command) (low : AllByRecursion (λ l. line_of l.address ≤ length numbers.addresses) (replay c (take at history)).lines) where
   abbrev IsShown : ViewRow → Type 0
   IsShown = Shown c at numbers history low
 
@@ -124,30 +125,33 @@ module _ (ts : List Triple) (c : List Bool) (at : ℕ) (commits : List CommitMar
       ∙ sym (dated-rows ts c at (option_count history) (file_dated file (kept_of history)) ls are)
       ∙ sym (by-row numbers (rows_at ts c at ls))
 
-  kinds-lines : (k : Kind) (e : StoredFile) (rows : List ViewRow) → kind_in rows (nodes.Old e.node) ≡ None → AllByRecursion IsShown rows → IsFileOf history ts e
-      → AllByRecursion IsShown (with_lines ts c at k e (rows ++ record { node = nodes.Old e.node; kind = k; parent = nodes.Old e.parent; name = e.name; lines = [] } ∷ []))
-  kinds-lines kinds.File e rows fresh shown file =
-      let r : ViewRow = record { node = nodes.Old e.node; kind = kinds.File; parent = nodes.Old e.parent; name = e.name; lines = [] } in
-      let own : List FileRow = rows_at ts c at e.file.lines in
-      let same : nat_eq e.node e.node ≡ true = grind (arith, nat_tests) in
-      subst (AllByRecursion IsShown) (sym (file-last e.node rows r own (not_there rows (nodes.Old e.node) fresh).1 same))
+  -- something is stored of a node, with the lines of its file
+  abbrev pub IsStored : ℕ → Type 0
+  IsStored node = (e : StoredFile) × (item_of stored node ≡ Some e) × (e.node ≡ node) × IsFileOf history ts e
+
+  kinds-lines : (k : Kind) (node parent : ℕ) (name : List ℕ) (rows : List ViewRow) → kind_in rows (nodes.Old node) ≡ None → AllByRecursion IsShown rows → IsStored node
+      → AllByRecursion IsShown (with_lines ts c at k node (item_of stored node) (rows ++ bare_row (record { node = node; kind = k; parent = parent; name = name }) ∷ []))
+  kinds-lines kinds.File node parent name rows fresh shown file =
+      let r : ViewRow = bare_row (record { node = node; kind = kinds.File; parent = parent; name = name }) in
+      let own : List FileRow = rows_at ts c at file.0.file.lines in
+      let same : nat_eq node node ≡ true = grind (arith, nat_tests) in
+      let lines : AreDated ts (option_count history) (file_dated node (kept_of history)) file.0.file.lines =
+      subst (λ n. AreDated ts (option_count history) (file_dated n (kept_of history)) file.0.file.lines) file.2 file.3.lines in
+      subst (λ o. AllByRecursion IsShown (with_lines ts c at kinds.File node o (rows ++ r ∷ []))) (sym file.1)
+      (subst (AllByRecursion IsShown) (sym (file-last node rows r own (not_there rows (nodes.Old node) fresh).1 same))
       (all-one IsShown rows (with_lines_by (λ l. l ++ map view_line own) r) shown (
-        (λ f. file-lines e.node e.file.lines file.lines),
-        lines-made numbers (replay c (take at history)) e.node (map view_line own) low (file-lines e.node e.file.lines file.lines),
-      ))
-  kinds-lines kinds.Dir e rows fresh shown file =
-      all-one IsShown rows (record { node = nodes.Old e.node; kind = kinds.Dir; parent = nodes.Old e.parent; name = e.name; lines = [] }) shown ((λ f. absurd (dir f)), tt)
+        (λ f. file-lines node file.0.file.lines lines),
+        lines-made numbers (replay c (take at history)) node (map view_line own) low (file-lines node file.0.file.lines lines),
+      )))
+  kinds-lines kinds.Dir node parent name rows fresh shown file =
+      all-one IsShown rows (bare_row (record { node = node; kind = kinds.Dir; parent = parent; name = name })) shown ((λ f. absurd (dir f)), tt)
     where
       dir : true ≡ false → ⊥
       dir f = cc
 
-  either-lines : (b : Bool) (rows added : List ViewRow) → AllByRecursion IsShown rows → AllByRecursion IsShown added → AllByRecursion IsShown (cond b added rows)
-  either-lines true rows added h k = k
-  either-lines false rows added h k = h
-
-  -- so do the rows of all stored files
-  pub stored-lines : (rows : List ViewRow) (es : List StoredFile) → AllByRecursion IsShown rows → AreFresh ts c at commits rows es → AllByRecursion (IsFileOf history ts) es
-      → AllByRecursion IsShown (fold (with_stored_file ts c at commits) rows es)
+  -- so do the rows of all nodes of which something is stored
+  pub stored-lines : (rows : List ViewRow) (rs : List Row) → AllByRecursion IsShown rows → AreFresh ts c at stored rows rs → AllByRecursion (λ r. IsStored r.node) rs
+      → AllByRecursion IsShown (fold (with_node ts c at stored) rows rs)
   stored-lines rows [] shown fresh files = shown
-  stored-lines rows (e ∷ es) shown fresh files =
-      stored-lines (with_stored_file ts c at commits rows e) es (either-lines _ rows _ shown (kinds-lines e.kind e rows fresh.0 shown files.0)) fresh.1 files.1
+  stored-lines rows (r ∷ rs) shown fresh files =
+      stored-lines (with_node ts c at stored rows r) rs (kinds-lines r.kind r.node r.parent r.name rows fresh.0 shown files.0) fresh.1 files.1

@@ -1,9 +1,8 @@
 -- The file of each line has a stored file.
-use Rattle.std.proofs.Common.{◌≡◌, ℕ, zero, suc, ◌+◌, ◌-◌, ◌<◌, ◌≤◌, Bool, true, false, cond, not, nat_eq, None, Option, Some, List, [], ◌∷◌, ◌++◌, ◌⊎◌, inl, inr, length, map, take, slice_get, refl, sym, ap, subst, ◌∙◌, arith}
+use Rattle.std.proofs.Common.{◌≡◌, ℕ, zero, suc, ◌+◌, ◌-◌, ◌<◌, ◌≤◌, Bool, true, false, cond, not, nat_eq, None, Option, Some, List, [], ◌∷◌, ◌++◌, ◌⊎◌, inl, inr, length, take, slice_get, refl, sym, ap, subst, ◌∙◌, arith}
 use Rattle.std.specs.List.{fold, list_any, AllByRecursion}
 use Rattle.std.proofs.lemmas.Bool.Decides.{nat_tests}
 use Rattle.cov_base.specs.Addresses.{address_in}
-use Rattle.cov_base.specs.Rows.{Created}
 use Rattle.cov_base.specs.declared.number.NodeRef.{NodeRef}
 use Rattle.cov_base.specs.declared.number.NodeRef.TheVariants as nodes
 use Rattle.cov_base.proofs.CallerLemmas.{all-placed, all-both}
@@ -13,7 +12,7 @@ use Rattle.cov_edit.specs.declared.edit.Edit.{Edit}
 use Rattle.cov_edit.specs.declared.edit.Edit.TheVariants as edits
 use Rattle.cov_edit.specs.declared.command.Command.{Command}
 use Rattle.cov_edit.specs.declared.command.Command.TheVariants as commands
-use Rattle.cov_edit.specs.Numbering.{Numbers, OnRows, Inserted, Deleted, node_number, line_number, no_numbers, numbers_after, numbers_of, numbered_from, line_count}
+use Rattle.cov_edit.specs.Numbering.{Numbers, node_count_after, line_count_after, numbered_edit, node_number, line_number, numbers_after, numbers_of, numbered_from, line_count}
 use Rattle.cov_edit.specs.Replay.{replay}
 use Rattle.cov_edit.specs.Variant.{Variant, Line, is_line, edited}
 use Rattle.cov_view.specs.Refusals.{when, first_of, shows_node, is_dir, refused_from, refusal}
@@ -21,22 +20,29 @@ use Rattle.cov_view.specs.References.{is_root}
 use Rattle.cov_view.specs.declared.fault.EditFault.TheVariants as faults
 use Rattle.cov_engine.specs.declared.stored_file.StoredFile.{StoredFile}
 use Rattle.cov_engine.specs.declared.store.CommitMark.{CommitMark}
-use Rattle.cov_history.specs.Kept.{Kept, hidden, hidden_where, kept_address, kept_number, new_line, kept_after, nothing_held, Holding, kept_of, file_kept, is_kept_anchor}
-use Rattle.cov_engine.specs.Holdings.{kept_row, IsFileOf, IsHeldBy}
+use Rattle.cov_history.specs.Kept.{Kept, hidden, hidden_where, kept_address, kept_number, new_line, kept_after, Holding, kept_of, file_kept, is_kept_anchor}
+use Rattle.cov_tree.specs.Dated.{Dated}
+use Rattle.cov_engine.specs.Staging.{AreNumbered}
+use Rattle.cov_engine.specs.Holdings.{IsFileOf, IsHeldBy}
 use Rattle.cov_history.specs.Sessions.{has_commit}
 use Rattle.cov_history.specs.Verdict.{verdict, IsLegal}
 use Rattle.cov_engine.specs.Visibility.{item_of, stored_file_of}
 use Rattle.cov_history.proofs.CallerLemmas.{commit-lines, anchor-case, edits-accepted, no_commit-holds, edit-accepted, rest-accepted, all-mapped, file_of_line-has}
-use Rattle.cov_engine.proofs.Fresh.{NodesFrom, history-nodes}
 use Rattle.cov_engine.proofs.Named.{the_file, legal-files}
 use Rattle.cov_engine.proofs.States.{along-legal}
 
--- no edit inserts into the root
+-- an edit doesn't insert into the root
+abbrev IsNotAtRoot : Edit → Type 0
+IsNotAtRoot (edits.New kind parent name) = Unit {0}
+IsNotAtRoot (edits.Insert file after text) = is_root file ≡ false
+IsNotAtRoot (edits.Delete file line) = Unit {0}
+IsNotAtRoot (edits.Rename node name) = Unit {0}
+IsNotAtRoot (edits.Move node parent) = Unit {0}
+IsNotAtRoot (edits.Remove node) = Unit {0}
+
+-- no edit does
 abbrev NoneAtRoot : List Edit → Type 0
-NoneAtRoot [] = Unit {0}
-NoneAtRoot (edits.New kind parent name ∷ es) = NoneAtRoot es
-NoneAtRoot (edits.Insert file after text ∷ es) = (is_root file ≡ false) × NoneAtRoot es
-NoneAtRoot (edits.Delete file line ∷ es) = NoneAtRoot es
+NoneAtRoot es = AllByRecursion IsNotAtRoot es
 
 not-root : (ns : Numbers) (v : Variant) (file : NodeRef) → is_dir v.rows (node_number ns.nodes file) ≡ false → is_root file ≡ false
 not-root ns v (nodes.Old zero) h = absurd (cc)
@@ -48,20 +54,21 @@ second-passes true b f g os h = absurd (cc)
 second-passes false true f g os h = absurd (cc)
 second-passes false false f g os h = refl
 
+accepted-file : (ns : Numbers) (v : Variant) (e : Edit) → refusal ns v e ≡ None → IsNotAtRoot e
+accepted-file ns v (edits.New kind parent name) accepted = tt
+accepted-file ns v (edits.Insert file after text) accepted =
+    not-root ns v file (second-passes (not (shows_node ns v file)) (is_dir v.rows (node_number ns.nodes file)) faults.NoSuchNode faults.NotFile _ accepted)
+accepted-file ns v (edits.Delete file which) accepted = tt
+accepted-file ns v (edits.Rename node name) accepted = tt
+accepted-file ns v (edits.Move node parent) accepted = tt
+accepted-file ns v (edits.Remove node) accepted = tt
+
 accepted-files : (ns : Numbers) (t : List (List ℕ)) (node line k : ℕ) (v : Variant) (es : List Edit) → refused_from ns v k es (numbered_from ns t node line es) ≡ None → NoneAtRoot es
 accepted-files ns t node line k v [] accepted = tt
-accepted-files ns t node line k v (edits.New kind parent name ∷ es) accepted =
-    accepted-files ns t (node + 1) line (k + 1) (edited v (OnRows (Created (node + 1) kind (node_number ns.nodes parent) name))) es
-    (rest-accepted k (refusal ns v (edits.New kind parent name)) _ accepted)
-accepted-files ns t node line k v (edits.Insert file after text ∷ es) accepted = (
-  not-root ns v file (second-passes (not (shows_node ns v file)) (is_dir v.rows (node_number ns.nodes file)) faults.NoSuchNode faults.NotFile _
-      (edit-accepted k (refusal ns v (edits.Insert file after text)) _ accepted)),
-  accepted-files ns t node (line + 1) (k + 1) (edited v (Inserted (node_number ns.nodes file) (address_in t (line + 1)) text)) es
-      (rest-accepted k (refusal ns v (edits.Insert file after text)) _ accepted),
+accepted-files ns t node line k v (e ∷ es) accepted = (
+  accepted-file ns v e (edit-accepted k (refusal ns v e) _ accepted),
+  accepted-files ns t (node_count_after node e) (line_count_after line e) (k + 1) (edited v (numbered_edit ns t node line e)) es (rest-accepted k (refusal ns v e) _ accepted),
 )
-accepted-files ns t node line k v (edits.Delete file which ∷ es) accepted =
-    accepted-files ns t node line (k + 1) (edited v (Deleted (node_number ns.nodes file) (address_in t (line_number (length ns.addresses) which)))) es
-    (rest-accepted k (refusal ns v (edits.Delete file which)) _ accepted)
 
 -- held lines stand below the root
 abbrev AreBelow : List (Kept Line) → Type 0
@@ -79,18 +86,23 @@ hidden-below q within file address k h = by (is_line file address k.item)
     by true = h
     by false = h
 
+below-edit : (q : ℕ) (within : Formula ℕ) (ns : Numbers) (t : List (List ℕ)) (node line : ℕ) (ks : List (Kept Line)) (e : Edit) → IsNotAtRoot e → AreBelow ks → AreBelow (kept_after q within ks (numbered_edit ns t node line e))
+below-edit q within ns t node line ks (edits.New kind parent name) inner h = h
+below-edit q within ns t node line ks (edits.Insert file after text) inner h =
+    all-placed kept_address (λ k. 0 < the_file k) (new_line q within (node_number ns.nodes file) (address_in t (line + 1)) text) ks (below-root ns.nodes file inner) h
+below-edit q within ns t node line ks (edits.Delete file which) inner h =
+    let f : ℕ = node_number ns.nodes file in
+    let address : List ℕ = address_in t (line_number (length ns.addresses) which) in
+    all-mapped (λ k. 0 < the_file k) (λ k. 0 < the_file k) (hidden_where (is_line f address) q within) (λ k below. hidden-below q within f address k below) ks h
+below-edit q within ns t node line ks (edits.Rename which name) inner h = h
+below-edit q within ns t node line ks (edits.Move which parent) inner h = h
+below-edit q within ns t node line ks (edits.Remove which) inner h = h
+
 below-edits : (q : ℕ) (within : Formula ℕ) (ns : Numbers) (t : List (List ℕ)) (node line : ℕ) (ks : List (Kept Line)) (es : List Edit) → NoneAtRoot es → AreBelow ks
     → AreBelow (fold (kept_after q within) ks (numbered_from ns t node line es))
 below-edits q within ns t node line ks [] none h = h
-below-edits q within ns t node line ks (edits.New kind parent name ∷ es) none h = below-edits q within ns t (node + 1) line ks es none h
-below-edits q within ns t node line ks (edits.Insert file after text ∷ es) none h =
-    below-edits q within ns t node (line + 1) (kept_after q within ks (Inserted (node_number ns.nodes file) (address_in t (line + 1)) text)) es none.1
-    (all-placed kept_address (λ k. 0 < the_file k) (new_line q within (node_number ns.nodes file) (address_in t (line + 1)) text) ks (below-root ns.nodes file none.0) h)
-below-edits q within ns t node line ks (edits.Delete file which ∷ es) none h =
-    let f : ℕ = node_number ns.nodes file in
-    let address : List ℕ = address_in t (line_number (length ns.addresses) which) in
-    below-edits q within ns t node line (kept_after q within ks (Deleted f address)) es none
-    (all-mapped (λ k. 0 < the_file k) (λ k. 0 < the_file k) (hidden_where (is_line f address) q within) (λ k below. hidden-below q within f address k below) ks h)
+below-edits q within ns t node line ks (e ∷ es) none h =
+    below-edits q within ns t (node_count_after node e) (line_count_after line e) (kept_after q within ks (numbered_edit ns t node line e)) es none.1 (below-edit q within ns t node line ks e none.0 h)
 
 same-below : (history : List Command) (k : Command) → has_commit (k ∷ []) ≡ false → AreBelow (kept_of history) → AreBelow (kept_of (history ++ k ∷ []))
 same-below history k none h = subst (λ (held : Holding). AreBelow held.lines) (sym (no_commit-holds history (k ∷ []) none)) h
@@ -135,25 +147,6 @@ none-kept P file (k ∷ ks) h never = at (nat_eq k.item.file file) refl (none-ke
     at true e rest = absurd (never (subst P (equal k.item.file file e) h.0))
     at false e rest = rest
 
--- the stored files are of the next nodes, in order
-module _ (commits : List CommitMark) where
-  stored-at : (n m i : ℕ) (es : List StoredFile) → NodesFrom n m (map (kept_row commits) es) → n + i < m → (e : StoredFile) × (slice_get es i ≡ Some e)
-  stored-at n m i [] counted below = let end : n ≡ m = counted in absurd (omega (arith, end, below))
-  stored-at n m zero (e ∷ es) counted below = (e, refl)
-  stored-at n m (suc i) (e ∷ es) counted below = stored-at (suc n) m i es counted.1 (omega (arith, below))
-
-  stored-is : (P : StoredFile → Type 0) (n m i : ℕ) (es : List StoredFile) (e : StoredFile) → NodesFrom n m (map (kept_row commits) es) → AllByRecursion P es → slice_get es i ≡ Some e
-      → (e.node ≡ n + i + 1) × P e
-  stored-is P n m i [] e counted h at = absurd (cc)
-  stored-is P n m zero (f ∷ es) e counted h at =
-      let same : f ≡ e = cc in
-      let own : f.node ≡ suc n = counted.0 in
-      subst (λ g. (g.node ≡ n + 0 + 1) × P g) same (omega (arith, own), h.0)
-  stored-is P n m (suc i) (f ∷ es) e counted h at =
-      let rest = stored-is P (suc n) m i es e counted.1 h.1 at in
-      let number : e.node ≡ suc n + i + 1 = rest.0 in
-      (omega (arith, number), rest.1)
-
 -- items by their numbers
 module _ {X : Type 0} where
   pub item-suc : (xs : List X) (n : ℕ) → item_of xs (suc n) ≡ slice_get xs n
@@ -186,24 +179,48 @@ module _ {X : Type 0} where
   item-none xs zero h = inl refl
   item-none xs (suc n) h = let end = slice-end xs n (sym (item-suc xs n) ∙ h) in inr (omega (arith, end))
 
-module _ (history : List Command) (ts : List Triple) (commits : List CommitMark) (file_of_line : List ℕ) (stored : List StoredFile) (legal : IsLegal history) (held : IsHeldBy history ts commits file_of_line stored) where
-  counted : NodesFrom 0 (numbers_of history).nodes (map (kept_row commits) stored)
-  counted = subst (NodesFrom 0 (numbers_of history).nodes) held.rows (history-nodes 0 no_numbers nothing_held history refl)
+-- the stored files are of the next nodes, in order
+stored-at : (i : ℕ) (es : List StoredFile) → i < length es → (e : StoredFile) × (slice_get es i ≡ Some e)
+stored-at i [] below = absurd (omega (arith, below))
+stored-at zero (e ∷ es) below = (e, refl)
+stored-at (suc i) (e ∷ es) below = stored-at i es (omega (arith, below))
 
+stored-is : (P : StoredFile → Type 0) (n i : ℕ) (es : List StoredFile) (e : StoredFile) → AreNumbered n es → AllByRecursion P es → slice_get es i ≡ Some e → (e.node ≡ n + i + 1) × P e
+stored-is P n i [] e numbered h at = absurd (cc)
+stored-is P n zero (f ∷ es) e numbered h at =
+    let same : f ≡ e = cc in
+    let own : f.node ≡ n + 1 = numbered.0 in
+    subst (λ g. (g.node ≡ n + 0 + 1) × P g) same (omega (arith, own), h.0)
+stored-is P n (suc i) (f ∷ es) e numbered h at =
+    let rest = stored-is P (n + 1) i es e numbered.1 h.1 at in
+    let number : e.node ≡ n + 1 + i + 1 = rest.0 in
+    (omega (arith, number), rest.1)
+
+-- something is stored of each of the first nodes but the root
+pub item-there : (P : StoredFile → Type 0) (stored : List StoredFile) (node : ℕ) → AreNumbered 0 stored → AllByRecursion P stored → 0 < node → node ≤ length stored
+    → (e : StoredFile) × (item_of stored node ≡ Some e) × (e.node ≡ node) × P e
+item-there P stored zero numbered h above below = absurd (omega (arith, above))
+item-there P stored (suc n) numbered h above below =
+    let at = stored-at n stored (omega (arith, below)) in
+    let is = stored-is P 0 n stored at.0 numbered h at.1 in
+    let number : at.0.node ≡ 0 + n + 1 = is.0 in
+    (at.0, item-suc stored n ∙ at.1, omega (arith, number), is.1)
+
+module _ (history : List Command) (ts : List Triple) (commits : List CommitMark) (file_of_line : List ℕ) (entries : Dated) (stored : List StoredFile) (legal : IsLegal history) (held : IsHeldBy history ts commits file_of_line entries stored) where
   -- the stored file of a number is the file's
   pub stored-held : (file : ℕ) (e : StoredFile) → item_of stored file ≡ Some e → (e.node ≡ file) × IsFileOf history ts e
   stored-held file e h =
       let at = item-some stored file e h in
-      let is = stored-is commits (IsFileOf history ts) 0 (numbers_of history).nodes at.0 stored e counted held.files at.2 in
+      let is = stored-is (IsFileOf history ts) 0 at.0 stored e held.numbered held.files at.2 in
       let number : e.node ≡ 0 + at.0 + 1 = is.0 in
       let own : file ≡ at.0 + 1 = at.1 in
       (omega (arith, number, own), is.1)
 
   made-there : (file : ℕ) → IsMade history file → item_of stored file ≡ None → ⊥
-  made-there zero made none = let above : 0 < 0 = made.0 in omega (arith, above)
-  made-there (suc n) made none =
-      let at = stored-at commits 0 (numbers_of history).nodes n stored counted (let below : suc n ≤ (numbers_of history).nodes = made.1 in omega (arith, below)) in
-      let there : Some at.0 ≡ None = sym at.1 ∙ sym (item-suc stored n) ∙ none in
+  made-there file made none =
+      let below : file ≤ length stored = (let few : file ≤ (numbers_of history).nodes = made.1 in let counted = held.counted in omega (arith, few, counted)) in
+      let at = item-there (IsFileOf history ts) stored file held.numbered held.files made.0 below in
+      let there : Some at.0 ≡ None = sym at.1 ∙ none in
       cc
 
   -- a number without a stored file has no lines

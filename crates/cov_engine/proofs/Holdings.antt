@@ -1,11 +1,14 @@
 -- What is kept of rows and lines, and the views of it.
-use Rattle.std.proofs.Common.{◌≡◌, refl, ap, sym, subst, ◌∙◌, ℕ, zero, suc, ◌≤◌, Bool, true, false, cond, List, [], ◌∷◌, ◌++◌, length, map, take, append-nil, append_assoc, arith}
+use Rattle.std.proofs.Common.{◌≡◌, refl, ap, sym, subst, ◌∙◌, ℕ, zero, suc, ◌<◌, ◌≤◌, Bool, true, false, cond, nat_eq, nat_le, List, [], ◌∷◌, ◌++◌, length, map, take, slice_get, ◌-◌, Option, Some, None, append-nil, append_assoc, arith}
+use Rattle.std.proofs.lemmas.List.{take-append-le, take_all}
+use Rattle.std.proofs.lemmas.Bool.Decides.{nat_tests}
 use Rattle.std.specs.List.{fold}
 use Rattle.cov_base.specs.declared.number.Kind.{Kind}
 use Rattle.cov_base.specs.declared.number.Kind.TheVariants as kinds
 use Rattle.cov_base.specs.declared.number.NodeRef.{NodeRef}
 use Rattle.cov_base.specs.Rows.{Row}
-use Rattle.cov_base.proofs.CallerLemmas.{all-map}
+use Rattle.cov_base.proofs.CallerLemmas.{all-append, all-map}
+use Rattle.cov_view.specs.Soundness.{is_old_row, AreOld, old_row}
 use Rattle.cov_dd.specs.declared.triple.Triple.{Triple}
 use Rattle.cov_dd.specs.Diagrams.{Extends}
 use Rattle.cov_expr.specs.Formula.{value}
@@ -14,7 +17,7 @@ use Rattle.cov_file.specs.Dated.{DatedLine as FileLine, vis_at, rows_at}
 use Rattle.cov_edit.specs.declared.command.Command.{Command}
 use Rattle.cov_edit.specs.declared.command.Command.TheVariants as commands
 use Rattle.cov_edit.specs.History.{option_count}
-use Rattle.cov_edit.specs.Numbering.{Numbers}
+use Rattle.cov_edit.specs.Numbering.{Numbers, no_numbers}
 use Rattle.cov_edit.specs.Variant.{Variant}
 use Rattle.cov_edit.specs.Replay.{replay}
 use Rattle.cov_view.specs.declared.line.ViewLine.{ViewLine}
@@ -24,16 +27,21 @@ use Rattle.cov_view.specs.Seen.{at_row, with_lines_by}
 use Rattle.cov_view.specs.Views.{row_by_number}
 use Rattle.cov_engine.specs.declared.store.CommitMark.{CommitMark}
 use Rattle.cov_engine.specs.declared.stored_file.StoredFile.{StoredFile}
-use Rattle.cov_history.specs.Kept.{seen_at, Holding, held_by, kept_of, rows_seen}
+use Rattle.cov_history.specs.Kept.{seen_at, Holding, held_by, kept_of}
 use Rattle.cov_history.specs.Files.{DatedLine, file_dated}
 use Rattle.cov_history.specs.FileOfLine.{AreFilesOfLines}
 use Rattle.cov_engine.specs.Nodes.{AreDated}
-use Rattle.cov_engine.specs.Showing.{change_of, AreInReach, with_row, with_lines, with_stored_file}
-use Rattle.cov_engine.specs.Holdings.{kept_row, IsFileOf, IsHeldBy}
+use Rattle.cov_engine.specs.Showing.{bare_row, with_row, with_lines, with_node}
+use Rattle.cov_engine.specs.Visibility.{item_of}
+use Rattle.cov_engine.specs.Holdings.{IsFileOf, AreEntriesOf, IsHeldBy}
+use Rattle.cov_tree.specs.Carried.{AreNodesAt}
+use Rattle.cov_tree.specs.Dated.{Dated, rows_at as entry_rows, nodes_in}
+use Rattle.cov_tree.proofs.CallerLemmas.{nodes_stay, rows_stay}
 use Rattle.cov_history.specs.Sessions.{has_commit}
 use Rattle.cov_engine.proofs.Marking.{marks-grown, marks-declared}
 use Rattle.cov_engine.proofs.Nodes.{stands-on}
-use Rattle.cov_history.proofs.CallerLemmas.{holding-goes_on, seen-cons, replay-seen}
+use Rattle.cov_edit.proofs.CallerLemmas.{replay-append}
+use Rattle.cov_history.proofs.CallerLemmas.{holding-goes_on}
 use Rattle.cov_engine.proofs.States.{numbers-kept, length-one}
 
 map-one : {A B : Type 0} (f : A → B) (xs : List A) (x : A) → map f (xs ++ x ∷ []) ≡ map f xs ++ f x ∷ []
@@ -49,38 +57,52 @@ rows-same : (ns : Numbers) (node : NodeRef) (f : List ViewLine → List ViewLine
 rows-same ns node f [] = refl
 rows-same ns node f (r ∷ rows) = one-same ns (same_node r.node node) f r rows (at_row node (with_lines_by f) rows) (rows-same ns node f rows)
 
-module _ (ns : Numbers) (ts : List Triple) (c : List Bool) (at : ℕ) (commits : List CommitMark) where
+abbrev pub no_files : List StoredFile
+no_files = []
+
+module _ (ns : Numbers) (ts : List Triple) (c : List Bool) (at : ℕ) (stored : List StoredFile) where
   file-same : (file : ℕ) (rows : List ViewRow) (shown : List FileRow) → map (row_by_number ns) (fold (with_row file) rows shown) ≡ map (row_by_number ns) rows
   file-same file rows [] = refl
   file-same file rows (r ∷ shown) = file-same file (with_row file rows r) shown ∙ rows-same ns _ _ rows
 
-  kinds-same : (kind : Kind) (e : StoredFile) (rows : List ViewRow) → map (row_by_number ns) (with_lines ts c at kind e rows) ≡ map (row_by_number ns) rows
-  kinds-same kinds.File e rows = file-same e.node rows (rows_at ts c at e.file.lines)
-  kinds-same kinds.Dir e rows = refl
+  kinds-same : (kind : Kind) (node : ℕ) (e : Option StoredFile) (rows : List ViewRow) → map (row_by_number ns) (with_lines ts c at kind node e rows) ≡ map (row_by_number ns) rows
+  kinds-same kinds.File node (Some e) rows = file-same node rows (rows_at ts c at e.file.lines)
+  kinds-same kinds.File node None rows = refl
+  kinds-same kinds.Dir node e rows = refl
 
-  stored-row : (b : Bool) (rows added : List ViewRow) (row : ViewRow) (x : Row) (s : List Row) → map (row_by_number ns) added ≡ map (row_by_number ns) (rows ++ row ∷ []) → row_by_number ns row ≡ x
-      → map (row_by_number ns) (cond b added rows) ++ s ≡ map (row_by_number ns) rows ++ cond b (x ∷ s) s
-  stored-row true rows added row x s h e =
-      ap (λ rs. rs ++ s) (h ∙ map-one (row_by_number ns) rows row)
-      ∙ append_assoc (map (row_by_number ns) rows) (row_by_number ns row ∷ []) s
-      ∙ ap (λ y. map (row_by_number ns) rows ++ y ∷ s) e
-  stored-row false rows added row x s h e = refl
+  pub nodes-rows : (rows : List ViewRow) (rs : List Row) → map (row_by_number ns) (fold (with_node ts c at stored) rows rs) ≡ map (row_by_number ns) rows ++ rs
+  nodes-rows rows [] = sym (append-nil (map (row_by_number ns) rows))
+  nodes-rows rows (r ∷ rs) =
+      nodes-rows (with_node ts c at stored rows r) rs
+      ∙ ap (λ xs. xs ++ rs) (kinds-same r.kind r.node (item_of stored r.node) (rows ++ bare_row r ∷ []) ∙ map-one (row_by_number ns) rows (bare_row r))
+      ∙ append_assoc (map (row_by_number ns) rows) (r ∷ []) rs
 
-  pub stored-rows : (rows : List ViewRow) (es : List StoredFile)
-      → map (row_by_number ns) (fold (with_stored_file ts c at commits) rows es) ≡ map (row_by_number ns) rows ++ rows_seen c at (map (kept_row commits) es)
-  stored-rows rows [] = sym (append-nil (map (row_by_number ns) rows))
-  stored-rows rows (e ∷ es) =
-      stored-rows (with_stored_file ts c at commits rows e) es
-      ∙ stored-row (value (seen_at (change_of commits e.commit ∷ []) at) c) rows _ _ _ (rows_seen c at (map (kept_row commits) es)) (kinds-same e.kind e _) refl
-      ∙ ap (λ rs. map (row_by_number ns) rows ++ rs) (sym (seen-cons c at (kept_row commits e) (map (kept_row commits) es)))
+-- without stored files no lines are shown
+no-item : (node : ℕ) → item_of no_files node ≡ None
+no-item node = at (nat_eq node 0)
+  where
+    at : (b : Bool) → cond b None (slice_get no_files (node - 1)) ≡ None
+    at true = refl
+    at false = refl
+
+-- rows without lines name nodes that a history has, and are told by their numbers
+pub rows-old : (ts : List Triple) (c : List Bool) (at : ℕ) (rows : List ViewRow) (rs : List Row) → AreOld rows → AreOld (fold (with_node ts c at no_files) rows rs)
+rows-old ts c at rows [] h = h
+rows-old ts c at rows (r ∷ rs) h =
+    rows-old ts c at (with_node ts c at no_files rows r) rs
+    (subst (λ o. AreOld (with_lines ts c at r.kind r.node o (rows ++ bare_row r ∷ []))) (sym (no-item r.node)) (plain r.kind (all-append (λ s. is_old_row s ≡ true) rows (bare_row r ∷ []) h (refl, tt))))
+  where
+    plain : (k : Kind) → AreOld (rows ++ bare_row r ∷ []) → AreOld (with_lines ts c at k r.node None (rows ++ bare_row r ∷ []))
+    plain kinds.File all = all
+    plain kinds.Dir all = all
+
+pub rows-told : (ts : List Triple) (c : List Bool) (at : ℕ) (rs : List Row) → map old_row (fold (with_node ts c at no_files) [] rs) ≡ rs
+rows-told ts c at rs = nodes-rows no_numbers ts c at no_files [] rs
 
 -- the rows that are shown are those of the replay
-pub view-rows : (ns : Numbers) (ts : List Triple) (c : List Bool) (at : ℕ) (history : List Command) (commits : List CommitMark) (file_of_line : List ℕ) (stored : List StoredFile) → IsHeldBy history ts commits file_of_line stored
-    → map (row_by_number ns) (fold (with_stored_file ts c at commits) [] stored) ≡ (replay c (take at history)).rows
-view-rows ns ts c at history commits file_of_line stored held =
-    stored-rows ns ts c at commits [] stored
-    ∙ ap (λ rows. rows_seen c at rows) (sym held.rows)
-    ∙ ap (λ (v : Variant). v.rows) (replay-seen c at history)
+pub view-rows : (ns : Numbers) (ts : List Triple) (c : List Bool) (at : ℕ) (history : List Command) (entries : Dated) (stored : List StoredFile) → AreEntriesOf history ts entries
+    → map (row_by_number ns) (fold (with_node ts c at stored) [] (entry_rows ts c at entries)) ≡ (replay c (take at history)).rows
+view-rows ns ts c at history entries stored of_entries = nodes-rows ns ts c at stored [] (entry_rows ts c at entries) ∙ of_entries.rows c at
 
 pub more-options : (at : ℕ) (history later : List Command) → option_count (take at history) ≤ option_count (take at (history ++ later))
 more-options zero history later = omega arith
@@ -94,9 +116,6 @@ more-options (suc n) (commands.Constraint expr ∷ history) later = more-options
 more-options (suc n) (commands.Prefer expr ∷ history) later = more-options n history later
 more-options (suc n) (commands.Default option on ∷ history) later = more-options n history later
 more-options (suc n) (commands.Commit base choice ambition es ∷ history) later = more-options n history later
-
-pub in-reach : (count more at : ℕ) (commits : List CommitMark) → AreInReach count at commits → count ≤ more → AreInReach more at commits
-in-reach count more at commits within h = λ commit seen. let e = within commit seen in omega (arith, e, h)
 
 held-same : (history : List Command) (k : Command) → has_commit (k ∷ []) ≡ false → held_by (history ++ k ∷ []) ≡ held_by history
 held-same history (commands.Option name) h = holding-goes_on history (commands.Option name ∷ [])
@@ -134,30 +153,70 @@ dated-on old new count more (d ∷ ds) (l ∷ ls) grown few h = (
 pub itself : (ts : List Triple) → Extends ts ts
 itself ts = record { more = []; is = refl; count = omega arith; least = λ a within. refl; most = λ a within. refl; value = λ a within c. refl }
 
+-- the entries are so with a table that has more entries
+pub entries-grown : (history : List Command) (old new : List Triple) (entries : Dated) → AreEntriesOf history old entries → Extends old new → AreEntriesOf history new entries
+entries-grown history old new entries held grown = record {
+  rows = λ c p. rows_stay.at old new entries grown held.within c p ∙ held.rows c p;
+  within = nodes_stay.at old new entries grown held.within;
+  from = held.from;
+}
+
 -- what is held is so with a table that has more entries
-pub held-grown : (history : List Command) (old new : List Triple) (commits : List CommitMark) (file_of_line : List ℕ) (stored : List StoredFile) → IsHeldBy history old commits file_of_line stored → Extends old new
-    → IsHeldBy history new commits file_of_line stored
-held-grown history old new commits file_of_line stored held grown = record {
-  rows = held.rows;
+pub held-grown : (history : List Command) (old new : List Triple) (commits : List CommitMark) (file_of_line : List ℕ) (entries : Dated) (stored : List StoredFile) → IsHeldBy history old commits file_of_line entries stored → Extends old new
+    → IsHeldBy history new commits file_of_line entries stored
+held-grown history old new commits file_of_line entries stored held grown = record {
+  of_entries = entries-grown history old new entries held.of_entries grown;
+  made = held.made;
+  numbered = held.numbered;
+  counted = held.counted;
   files = all-map (IsFileOf history old) (IsFileOf history new)
       (λ e h. record {
         lines = dated-on old new (option_count history) (option_count history) (file_dated e.node (kept_of history)) e.file.lines grown (omega arith) h.lines;
         newest = h.newest;
       })
       stored held.files;
-  in_reach = held.in_reach;
   lines = held.lines;
   in_files = held.in_files;
-  made_by_commits = held.made_by_commits;
   few = held.few;
   marks = marks-grown old new (option_count history) (option_count history) grown (omega arith) 0 history commits held.marks;
 }
 
+replay-same : (c : List Bool) (history : List Command) (k : Command) → has_commit (k ∷ []) ≡ false → replay c (history ++ k ∷ []) ≡ replay c history
+replay-same c history (commands.Option name) h = replay-append c history (commands.Option name ∷ [])
+replay-same c history (commands.Constraint expr) h = replay-append c history (commands.Constraint expr ∷ [])
+replay-same c history (commands.Prefer expr) h = replay-append c history (commands.Prefer expr ∷ [])
+replay-same c history (commands.Default option on) h = replay-append c history (commands.Default option on ∷ [])
+replay-same c history (commands.Commit base choice ambition es) h = absurd (cc)
+
+-- up to the length of a history, and beyond it
+pub take-before : (p : ℕ) (history : List Command) (k : Command) → p ≤ length history → take p (history ++ k ∷ []) ≡ take p history
+take-before p history k h = take-append-le p history (k ∷ []) h
+
+pub take-beyond : (p : ℕ) (history : List Command) → length history ≤ p → take p history ≡ history
+take-beyond p history h = take_all p history h
+
+rows-declared : (c : List Bool) (p : ℕ) (history : List Command) (k : Command) → has_commit (k ∷ []) ≡ false → replay c (take p (history ++ k ∷ [])) ≡ replay c (take p history)
+rows-declared c p history k h = by (nat_le p (length history)) refl
+  where
+    by : (b : Bool) → nat_le p (length history) ≡ b → replay c (take p (history ++ k ∷ [])) ≡ replay c (take p history)
+    by true e = ap (replay c) (take-before p history k (grind (arith, nat_tests, e)))
+    by false e =
+        let above : length history < p = grind (arith, nat_tests, e) in
+        let one = length-one history k in
+        ap (replay c) (take-beyond p (history ++ k ∷ []) (omega (arith, above, one))) ∙ replay-same c history k h ∙ ap (replay c) (sym (take-beyond p history (omega (arith, above))))
+
 -- a declaration leaves what is held as it is
-pub held-declared : (history longer : List Command) (k : Command) (ts : List Triple) (commits : List CommitMark) (file_of_line : List ℕ) (stored : List StoredFile) → IsHeldBy history ts commits file_of_line stored
-    → has_commit (k ∷ []) ≡ false → longer ≡ history ++ k ∷ [] → IsHeldBy longer ts commits file_of_line stored
-held-declared history longer k ts commits file_of_line stored held h e = rw e (record {
-  rows = ap (λ (held : Holding). held.rows) (held-same history k h) ∙ held.rows;
+pub held-declared : (history longer : List Command) (k : Command) (ts : List Triple) (commits : List CommitMark) (file_of_line : List ℕ) (entries : Dated) (stored : List StoredFile)
+    → IsHeldBy history ts commits file_of_line entries stored → has_commit (k ∷ []) ≡ false → longer ≡ history ++ k ∷ [] → IsHeldBy longer ts commits file_of_line entries stored
+held-declared history longer k ts commits file_of_line entries stored held h e = rw e (record {
+  of_entries = record {
+    rows = λ c p. held.of_entries.rows c p ∙ sym (ap (λ (v : Variant). v.rows) (rows-declared c p history k h));
+    within = held.of_entries.within;
+    from = let one = length-one history k in let from = held.of_entries.from in omega (arith, one, from);
+  };
+  made = held.made;
+  numbered = held.numbered;
+  counted = held.counted ∙ ap (λ (ns : Numbers). ns.nodes) (sym (numbers-kept history k h));
   files = all-map (IsFileOf history ts) (IsFileOf (history ++ k ∷ []) ts)
       (λ stored file. record {
         lines = subst (λ (held : Holding). AreDated ts (option_count (history ++ k ∷ [])) (file_dated stored.node held.lines) stored.file.lines) (sym (held-same history k h))
@@ -165,26 +224,37 @@ held-declared history longer k ts commits file_of_line stored held h e = rw e (r
         newest = let one = length-one history k in let newest = file.newest in omega (arith, one, newest);
       })
       stored held.files;
-  in_reach = λ at. in-reach (option_count (take at history)) _ at commits (held.in_reach at) (more-options at history (k ∷ []));
   lines = held.lines ∙ ap (λ ns. length ns.addresses) (sym (numbers-kept history k h));
   in_files = subst (λ (held : Holding). AreFilesOfLines held.lines 0 file_of_line) (sym (held-same history k h)) held.in_files;
-  made_by_commits = held.made_by_commits;
   few = let one = length-one history k in let few = held.few in omega (arith, one, few);
   marks = marks-declared ts (option_count (history ++ k ∷ [])) 0 history k commits h
       (marks-grown ts ts (option_count history) (option_count (history ++ k ∷ [])) (itself ts) (as-many-options history (k ∷ [])) 0 history commits held.marks);
 })
 
+abbrev no_commands : List Command
+no_commands = []
+
+take-none : (p : ℕ) → take p no_commands ≡ no_commands
+take-none zero = refl
+take-none (suc p) = refl
+
 -- before any command nothing is held
-pub held-none : (history : List Command) (ts : List Triple) (commits : List CommitMark) (file_of_line : List ℕ) (stored : List StoredFile) → history ≡ [] → commits ≡ [] → file_of_line ≡ [] → stored ≡ []
-    → IsHeldBy history ts commits file_of_line stored
-held-none history ts commits file_of_line stored he ce le ee =
+pub held-none : (history : List Command) (ts : List Triple) (commits : List CommitMark) (file_of_line : List ℕ) (entries : Dated) (stored : List StoredFile) → history ≡ [] → commits ≡ [] → file_of_line ≡ [] → stored ≡ []
+    → entries.from ≡ 0 → ((table : List Triple) (c : List Bool) (p : ℕ) → entry_rows table c p entries ≡ []) → nodes_in entries ≡ [] → ((table : List Triple) → AreNodesAt table entries)
+    → IsHeldBy history ts commits file_of_line entries stored
+held-none history ts commits file_of_line entries stored he ce le ee from none nodes within =
     rw (he, ce, le, ee) (record {
-      rows = refl;
+      of_entries = record {
+        rows = λ c p. none ts c p ∙ ap (λ h. (replay c h).rows) (sym (take-none p));
+        within = within ts;
+        from = omega (arith, from);
+      };
+      made = nodes;
+      numbered = tt;
+      counted = refl;
       files = tt;
-      in_reach = λ at commit seen. omega arith;
       lines = refl;
       in_files = tt;
-      made_by_commits = tt;
       few = omega arith;
       marks = refl;
     })

@@ -1,9 +1,8 @@
 -- A commit that is staged, and then installed.
-use Rattle.std.proofs.Common.{◌≡◌, ℕ, zero, suc, ◌+◌, ◌<◌, ◌≤◌, ◌^◌, Bool, true, false, ◌||◌, nat_eq, nat_lt, List, [], ◌∷◌, ◌++◌, length, map, take, drop, append-nil, Option, Some, None, refl, sym, ap, subst, ◌∙◌, arith}
+use Rattle.std.proofs.Common.{◌≡◌, ℕ, ◌+◌, ◌<◌, ◌≤◌, ◌^◌, Bool, true, false, ◌||◌, nat_eq, nat_lt, List, [], ◌∷◌, ◌++◌, length, length-append, map, take, drop, append-nil, Option, Some, None, refl, sym, ap, subst, ◌∙◌, arith}
 use Rattle.std.specs.List.{AllByRecursion}
 use Rattle.std.specs.Option.{option_map_or}
-use Rattle.std.proofs.lemmas.Bool.Decides.{nat_tests}
-use Rattle.std.proofs.lemmas.List.{take-append-drop}
+use Rattle.std.proofs.lemmas.List.{take-append-drop, length-map}
 use Rattle.cov_base.proofs.CallerLemmas.{all-map, all-both, all-append}
 use Rattle.cov_base.specs.declared.limits.TheConstants.{LIMITS}
 use Rattle.cov_expr.specs.Formula.{Formula, reach}
@@ -11,19 +10,23 @@ use Rattle.cov_edit.specs.declared.edit.Edit.{Edit}
 use Rattle.cov_edit.specs.declared.command.Command.{Command}
 use Rattle.cov_edit.specs.declared.command.Command.TheVariants as commands
 use Rattle.cov_edit.specs.History.{options_of, option_count, text_bytes, byte_count}
-use Rattle.cov_edit.specs.Numbering.{nodes_made, anchors_of, no_numbers, numbers_after, numbers_of, line_count, node_count}
+use Rattle.cov_edit.specs.Numbering.{Numbers, nodes_made, anchors_of, no_numbers, numbers_of, line_count, node_count}
 use Rattle.cov_view.specs.Refusals.{when, first_of}
 use Rattle.cov_engine.specs.declared.store.CommitMark.{CommitMark}
 use Rattle.cov_engine.specs.declared.stored_file.StoredFile.{StoredFile}
 use Rattle.cov_history.specs.declared.refusal.Refusal.{Refusal}
 use Rattle.cov_history.specs.declared.refusal.Refusal.TheVariants as refusals
 use Rattle.cov_engine.specs.Marks.{AreMarks}
-use Rattle.cov_history.specs.Kept.{nothing_held, held_by, kept_of, entries_of}
+use Rattle.cov_history.specs.Kept.{held_by, kept_of}
 use Rattle.cov_history.specs.Files.{dated, file_dated}
-use Rattle.cov_engine.specs.Showing.{change_in, change_of, AreInReach}
-use Rattle.cov_engine.specs.Holdings.{kept_row, IsFileOf, IsHeldBy}
+use Rattle.cov_tree.specs.declared.entry.Entry.{Entry}
+use Rattle.cov_tree.specs.Dated.{Dated}
+use Rattle.cov_engine.specs.RowPlans.{IsSet}
+use Rattle.cov_engine.specs.Holdings.{stored_node, IsFileOf, IsHeldBy}
 use Rattle.cov_history.specs.Sessions.{IsGood, session_of}
-use Rattle.cov_history.specs.Verdict.{IsLegal, verdict, when_full, refusals_of}
+use Rattle.cov_edit.specs.Replay.{replay}
+use Rattle.cov_view.specs.Refusals.{first_refused}
+use Rattle.cov_history.specs.Verdict.{IsLegal, verdict, when_full, refusals_of, size_refusals}
 use Rattle.cov_history.specs.FileOfLine.{new_file_of_line, AreFilesOfLines}
 use Rattle.cov_engine.specs.Staging.{Contents, contents, new_files, AreNear, AreLow, AreNumbered, HasRoom, named_line}
 use Rattle.cov_engine.specs.Staged.{IsStaged}
@@ -34,37 +37,18 @@ use Rattle.cov_dd.specs.declared.triple.Triple.{Triple}
 use Rattle.cov_engine.specs.Carrying.{IsChangedIn, IsCarriedOut, AreCarriedOut, CanCarryOutAll, AreAllCarriedOut, AreInstalled, plan_file, with_other_lines}
 use Rattle.cov_engine.specs.declared.edit_plan.EditPlan.{EditPlan}
 use Rattle.cov_engine.specs.declared.edit_plan.EditPlan.TheVariants as plans
-use Rattle.cov_history.proofs.CallerLemmas.{commit-lines, commit-rows, lines-edits, all-mapped, base-nodes, edits-accepted, new-files_of_lines-count}
+use Rattle.cov_history.proofs.CallerLemmas.{commit-lines, lines-edits, all-mapped, base-nodes, new-files_of_lines-count}
 use Rattle.cov_engine.proofs.FileLines.{all-unmapped}
-use Rattle.cov_engine.proofs.Fresh.{NodesFrom, history-nodes}
-use Rattle.cov_engine.proofs.Holdings.{as-many-options, more-options, in-reach}
+use Rattle.cov_edit.proofs.CallerLemmas.{numbers_from-append}
+use Rattle.cov_engine.proofs.Holdings.{as-many-options}
+use Rattle.cov_engine.proofs.Rooms.{staged-numbers}
+use Rattle.cov_engine.proofs.RowPlans.{entries-committed}
 use Rattle.cov_engine.proofs.States.{length-one, not-below, options-append}
 use Rattle.cov_engine.proofs.Marking.{marks-committed}
 use Rattle.cov_engine.proofs.Named.{edits-named, named-near, legal-files}
 use Rattle.cov_engine.proofs.MidCommit.{IsHere, AreHere, carried, line-files-along, named-low}
 use Rattle.cov_engine.proofs.Started.{planned-right}
-use Rattle.cov_engine.proofs.Committed.{kept_contents, rows-of-contents, map-append, rows-behind, old-rows, new-files-all, line-files-after, file-empty, change-front, change-last, get-behind}
-
-numbers-in : (k m : ℕ) (commits : List CommitMark) (stored : List StoredFile) → NodesFrom k m (map (kept_row commits) stored) → AreNumbered k stored
-numbers-in k m commits [] h = tt
-numbers-in k m commits (e ∷ es) h =
-    let own : e.node ≡ suc k = h.0 in
-    let one : k + 1 ≡ suc k = omega arith in
-    (omega (arith, own), subst (λ n. AreNumbered n es) (sym one) (numbers-in (suc k) m commits es h.1))
-
-count-in : (k m : ℕ) (commits : List CommitMark) (stored : List StoredFile) → NodesFrom k m (map (kept_row commits) stored) → m ≡ k + length stored
-count-in k m commits [] h = let same : k ≡ m = h in omega (arith, same)
-count-in k m commits (e ∷ es) h = let rest = count-in (suc k) m commits es h.1 in omega (arith, rest)
-
-nodes-held : (history : List Command) (commits : List CommitMark) (stored : List StoredFile) → entries_of history ≡ map (kept_row commits) stored → NodesFrom 0 (numbers_of history).nodes (map (kept_row commits) stored)
-nodes-held history commits stored rows = subst (NodesFrom 0 (numbers_of history).nodes) rows (history-nodes 0 no_numbers nothing_held history refl)
-
--- the stored files that a history holds have the numbers of its nodes
-pub held-numbered : (history : List Command) (commits : List CommitMark) (stored : List StoredFile) → entries_of history ≡ map (kept_row commits) stored → AreNumbered 0 stored
-held-numbered history commits stored rows = numbers-in 0 (numbers_of history).nodes commits stored (nodes-held history commits stored rows)
-
-pub held-count : (history : List Command) (commits : List CommitMark) (stored : List StoredFile) → entries_of history ≡ map (kept_row commits) stored → length stored ≡ (numbers_of history).nodes
-held-count history commits stored rows = let all = count-in 0 (numbers_of history).nodes commits stored (nodes-held history commits stored rows) in omega (arith, all)
+use Rattle.cov_engine.proofs.Committed.{new-files-all, new-files-count, line-files-after, file-empty}
 
 abbrev head_of : List (Option Refusal) → Option Refusal
 head_of [] = None
@@ -92,16 +76,10 @@ or-second : (a b : Bool) → (a || b) ≡ false → b ≡ false
 or-second false b h = h
 or-second true b h = absurd (cc)
 
--- an accepted commit stays within the limits
-module _ (history : List Command) (base : ℕ) (choice : List Bool) (ambition : Formula ℕ) (es : List Edit) (accepted : verdict history (commands.Commit base choice ambition es) ≡ None) where
-  abbrev all_tests : List (Option Refusal)
-  all_tests = when_full history ∷ refusals_of history (commands.Commit base choice ambition es)
-
+-- a commit that isn't refused for its sizes stays within the limits
+module _ (history : List Command) (es : List Edit) (others : List (Option Refusal)) (sized : first_of (size_refusals history es ++ others) ≡ None) where
   abbrev sizes : List (Option Refusal)
-  sizes = tail_of (tail_of (tail_of all_tests))
-
-  sized : first_of sizes ≡ None
-  sized = none-later (tail_of (tail_of all_tests)) (none-later (tail_of all_tests) (none-later all_tests accepted))
+  sizes = size_refusals history es ++ others
 
   pub edits-few : length es ≤ LIMITS.edits
   edits-few = not-below LIMITS.edits (length es) (none-when (nat_lt LIMITS.edits (length es)) refusals.TooManyEdits (none-first sizes sized))
@@ -123,62 +101,34 @@ module _ (history : List Command) (base : ℕ) (choice : List Bool) (ambition : 
       (none-when (nat_lt LIMITS.commit_bytes (text_bytes es) || nat_lt LIMITS.bytes (byte_count history + text_bytes es)) refusals.TooManyBytes
       (none-first (tail_of (tail_of (tail_of sizes))) (none-later (tail_of (tail_of sizes)) (none-later (tail_of sizes) (none-later sizes sized))))))
 
-  pub edits-near : AreNear (numbers_of history).nodes es
-  edits-near =
-      let few = nodes-few in
-      named-near (numbers_of (take base history)).nodes (numbers_of history).nodes 0 es (base-nodes base history) (omega (arith, few))
-      (edits-named history base choice es (edits-accepted history base choice ambition es accepted))
+-- the nodes that its edits name have small numbers
+pub edits-near : (history : List Command) (base : ℕ) (choice : List Bool) (es : List Edit) → node_count history + nodes_made es ≤ LIMITS.nodes
+    → first_refused (numbers_of (take base history)) (replay choice (take base history)) es ≡ None → AreNear (numbers_of history).nodes es
+edits-near history base choice es few accepted =
+    named-near (numbers_of (take base history)).nodes (numbers_of history).nodes 0 es (base-nodes base history) (omega (arith, few)) (edits-named history base choice es accepted)
 
-  -- the lines that they name have small numbers
-  pub edits-low : IsGood history (session_of base choice ambition es) → IsLegal history → AreLow (line_count history) es
-  edits-low good legal =
-      all-map (λ e. named_line (line_count history) e ≤ LIMITS.lines) (λ e. named_line (line_count history) e < 2 ^ 32) (λ e low. omega (arith, low)) es
-      (named-low history base choice ambition es good legal LIMITS.lines es [] refl
-      (let few = lines-few in let same = sym (new-files_of_lines-count 0 (line_count history) es) ∙ new-files_of_lines-count 0 0 es in omega (arith, few, same)))
+-- and the lines that they name
+pub edits-low : (history : List Command) (base : ℕ) (choice : List Bool) (ambition : Formula ℕ) (es : List Edit) → line_count history + length (anchors_of 0 es) ≤ LIMITS.lines
+    → IsGood history (session_of base choice ambition es) → IsLegal history → AreLow (line_count history) es
+edits-low history base choice ambition es few good legal =
+    all-map (λ e. named_line (line_count history) e ≤ LIMITS.lines) (λ e. named_line (line_count history) e < 2 ^ 32) (λ e low. omega (arith, low)) es
+    (named-low history base choice ambition es good legal LIMITS.lines es [] refl
+    (let same = sym (new-files_of_lines-count 0 (line_count history) es) ∙ new-files_of_lines-count 0 0 es in omega (arith, few, same)))
 
-take-all : (at : ℕ) (history : List Command) → length history ≤ at → take at history ≡ history
-take-all zero [] h = refl
-take-all (suc at) [] h = refl
-take-all zero (k ∷ history) h = absurd (omega (arith, h))
-take-all (suc at) (k ∷ history) h = ap (λ l. k ∷ l) (take-all at history (omega (arith, h)))
+-- the refusals of an accepted commit for its sizes, with those after them
+pub accepted-sizes : (history : List Command) (base : ℕ) (choice : List Bool) (ambition : Formula ℕ) (es : List Edit) → verdict history (commands.Commit base choice ambition es) ≡ None
+    → (others : List (Option Refusal)) × (first_of (size_refusals history es ++ others) ≡ None)
+accepted-sizes history base choice ambition es accepted = (
+  tail_of (tail_of (tail_of (tail_of (tail_of (tail_of (tail_of tests)))))),
+  none-later (tail_of (tail_of tests)) (none-later (tail_of tests) (none-later tests accepted)),
+)
+  where
+    tests : List (Option Refusal)
+    tests = when_full history ∷ refusals_of history (commands.Commit base choice ambition es)
 
 -- no fewer options are declared later
 pub declared-less : (base : ℕ) (history : List Command) → option_count (take base history) ≤ option_count history
 declared-less base history = subst (λ h. option_count (take base history) ≤ option_count h) (take-append-drop base history) (as-many-options (take base history) (drop base history))
-
-in-reach-more : (history : List Command) (k : Command) (ambition : Formula ℕ) (commits : List CommitMark) (mark : CommitMark) → ◌≡◌ {A = ℕ × Formula ℕ} (mark.position, mark.ambition) (length history + 1, ambition) → reach ambition ≤ option_count history
-    → ((at : ℕ) → AreInReach (option_count (take at history)) at commits) → (at : ℕ) → AreInReach (option_count (take at (history ++ k ∷ []))) at (commits ++ mark ∷ [])
-in-reach-more history k ambition commits mark is low old at commit seen = by commit (nat_lt commit (length commits)) refl seen
-  where
-    more : ℕ
-    more = option_count (take at (history ++ k ∷ []))
-
-    here : (commit : ℕ) → commit ≡ length commits → (change_of (commits ++ mark ∷ []) commit).0 ≤ at → reach (change_of (commits ++ mark ∷ []) commit).1 ≤ more
-    here commit e seen =
-        let change : change_of (commits ++ mark ∷ []) commit ≡ (length history + 1, ambition) =
-        ap (change_of (commits ++ mark ∷ [])) e ∙ change-last commits mark ∙ is in
-        let late : length history + 1 ≤ at = subst (λ (c : ℕ × Formula ℕ). c.0 ≤ at) change seen in
-        let all : take at history ≡ history = take-all at history (omega (arith, late)) in
-        let grows : option_count (take at history) ≤ more = more-options at history (k ∷ []) in
-        let same : option_count (take at history) ≡ option_count history = ap option_count all in
-        subst (λ (c : ℕ × Formula ℕ). reach c.1 ≤ more) (sym change) (omega (arith, low, grows, same))
-
-    behind : (commit : ℕ) → length commits < commit → reach (change_of (commits ++ mark ∷ []) commit).1 ≤ more
-    behind commit h =
-        let grown = length-one commits mark in
-        subst (λ (o : Option CommitMark). reach (change_in o).1 ≤ more) (sym (get-behind (commits ++ mark ∷ []) commit (omega (arith, h, grown)))) (omega arith)
-
-    by : (commit : ℕ) (b : Bool) → nat_lt commit (length commits) ≡ b → (change_of (commits ++ mark ∷ []) commit).0 ≤ at → reach (change_of (commits ++ mark ∷ []) commit).1 ≤ more
-    by commit true e seen =
-        let low : commit < length commits = grind (arith, nat_tests, e) in
-        let same = change-front commits mark commit low in
-        subst (λ (c : ℕ × Formula ℕ). reach c.1 ≤ more) (sym same)
-        (in-reach (option_count (take at history)) more at commits (old at) (more-options at history (k ∷ [])) commit (subst (λ (c : ℕ × Formula ℕ). c.0 ≤ at) same seen))
-    by commit false e seen = last (nat_eq commit (length commits)) refl
-      where
-        last : (b : Bool) → nat_eq commit (length commits) ≡ b → reach (change_of (commits ++ mark ∷ []) commit).1 ≤ more
-        last true f = here commit (grind (arith, nat_tests, f)) seen
-        last false f = behind commit (grind (arith, nat_tests, e, f))
 
 -- stored files that are the same but for their room have the same files
 pub files-contents : (history : List Command) (ts : List Triple) (old now : List StoredFile) → map contents now ≡ map contents old → AllByRecursion (IsFileOf history ts) old → AllByRecursion (IsFileOf history ts) now
@@ -188,6 +138,16 @@ files-contents history ts old now same files =
   where
     HasFile : Contents → Type 0
     HasFile s = AreDated ts (option_count history) (file_dated s.node (kept_of history)) s.lines × (s.newest ≤ length history)
+
+-- stored files of the same nodes are numbered alike
+numbered-by : (k : ℕ) (old new : List StoredFile) → map stored_node new ≡ map stored_node old → AreNumbered k old → AreNumbered k new
+numbered-by k [] [] e h = tt
+numbered-by k [] (f ∷ new) e h = absurd (cc)
+numbered-by k (e ∷ old) [] same h = absurd (cc)
+numbered-by k (e ∷ old) (f ∷ new) same h =
+    let own : f.node ≡ e.node = cc in
+    let rest : map stored_node new ≡ map stored_node old = cc in
+    (own ∙ h.0, numbered-by (k + 1) old new rest h.1)
 
 -- stored files before and after a plan are of the same rows
 module _ {X : Type 0} (row : StoredFile → X) (same : (e f : StoredFile) → contents e ≡ contents f → row e ≡ row f)
@@ -236,7 +196,8 @@ any-position q (Some p) h = absurd (cc)
 module _ (history : List Command) (base : ℕ) (choice : List Bool) (ambition : Formula ℕ) (es : List Edit) (legal : IsLegal history)
     (good : IsGood history (session_of base choice ambition es))
     (accepted : verdict history (commands.Commit base choice ambition es) ≡ None)
-    (ts : List Triple) (commits : List CommitMark) (mark : CommitMark) (ss : List EditPlan) (file_of_line : List ℕ) (stored : List StoredFile) (staged : IsStaged history ts ambition es commits mark ss file_of_line stored) where
+    (ts : List Triple) (commits : List CommitMark) (mark : CommitMark) (ss : List EditPlan) (plan : Option (List Entry)) (file_of_line : List ℕ) (entries : Dated) (stored : List StoredFile)
+    (staged : IsStaged history ts ambition es commits mark ss plan file_of_line entries stored) where
   abbrev n : ℕ
   n = (numbers_of history).nodes
 
@@ -249,37 +210,22 @@ module _ (history : List Command) (base : ℕ) (choice : List Bool) (ambition : 
   abbrev all_commits : List CommitMark
   all_commits = commits ++ mark ∷ []
 
-  made-is : ◌≡◌ {A = ℕ × Formula ℕ} (mark.position, mark.ambition) (length history + 1, ambition)
-  made-is = λ i. (staged.at i, staged.within i)
-
-  last-change : change_of all_commits (length commits) ≡ (length history + 1, ambition)
-  last-change = change-last commits mark ∙ made-is
-
-  rows : entries_of (history ++ commit ∷ []) ≡ map (kept_row all_commits) stored
-  rows =
-      commit-rows history base choice ambition es
-      ∙ rows-behind (length history + 1) ambition (numbers_of history) (numbers_after (numbers_of history) es).addresses n (line_count history) (length commits) all_commits (entries_of history) es last-change
-      ∙ ap (λ ks. ks ++ map (kept_contents all_commits) (new_files n (length commits) n es))
-      (staged.held.rows ∙ sym (old-rows commits mark staged.old_stored staged.held.made_by_commits) ∙ sym (rows-of-contents all_commits staged.old_stored))
-      ∙ sym (map-append (kept_contents all_commits) (map contents staged.old_stored) (new_files n (length commits) n es))
-      ∙ ap (map (kept_contents all_commits)) (sym staged.rows)
-      ∙ rows-of-contents all_commits stored
+  -- what is stored with the commit is of the nodes before it and of those that it makes
+  stored-files : map contents stored ≡ map contents staged.old_stored ++ new_files (length staged.old_stored) es
+  stored-files = staged.files ∙ ap (λ k. map contents staged.old_stored ++ new_files k es) (sym staged.held.counted)
 
   pub staged-numbered : AreNumbered 0 stored
-  staged-numbered = held-numbered (history ++ commit ∷ []) all_commits stored rows
-
-  old-numbered : AreNumbered 0 staged.old_stored
-  old-numbered = held-numbered history commits staged.old_stored staged.held.rows
+  staged-numbered = staged-numbers staged.old_stored stored es stored-files staged.held.numbered
 
   abbrev IsKeptFile : Contents → Type 0
   IsKeptFile s = AreDated ts (option_count history) (file_dated s.node (kept_of history)) s.lines × (s.newest ≤ q)
 
   kept-files : AllByRecursion IsKeptFile (map contents stored)
   kept-files =
-      subst (AllByRecursion IsKeptFile) (sym staged.rows)
-      (all-append IsKeptFile (map contents staged.old_stored) (new_files n (length commits) n es)
+      subst (AllByRecursion IsKeptFile) (sym staged.files)
+      (all-append IsKeptFile (map contents staged.old_stored) (new_files n es)
       (all-mapped (IsFileOf history ts) IsKeptFile contents (λ e h. (h.lines, let low = h.newest in omega (arith, low))) staged.old_stored staged.held.files)
-      (new-files-all IsKeptFile n (length commits) n es (λ node parent kind name h.
+      (new-files-all IsKeptFile n es (λ node h.
       (subst (λ ks. AreDated ts (option_count history) (map dated ks) []) (sym (file-empty n node (kept_of history) h (legal-files history legal))) tt, omega arith))))
 
   above-zero : (k : ℕ) (xs : List StoredFile) → AreNumbered k xs → AllByRecursion (λ (e : StoredFile). 0 < e.node) xs
@@ -306,7 +252,7 @@ module _ (history : List Command) (base : ℕ) (choice : List Bool) (ambition : 
   all-carried : CanCarryOutAll q ss stored × ((after : List StoredFile) → AreAllCarriedOut q ss stored after → AreHereNow es [] after)
   all-carried =
       carried history base choice ambition es good legal ts mark.node staged.stands es [] (line_count history) stored ss refl (omega arith)
-      (planned-right history base choice ambition es good legal ts mark.node staged.stands staged.old_stored old-numbered (held-count history commits staged.old_stored staged.held.rows) staged.held.files (line_count history) es ss staged.planned)
+      (planned-right history base choice ambition es good legal ts mark.node staged.stands staged.old_stored staged.held.numbered staged.held.counted staged.held.files (line_count history) es ss staged.planned)
       start
 
   pub staged-plans : CanCarryOutAll q ss stored
@@ -318,28 +264,42 @@ module _ (history : List Command) (base : ℕ) (choice : List Bool) (ambition : 
       let all = declared-less base history in
       omega (arith, own, all)
 
-  contents-made : AllByRecursion (λ (s : Contents). s.commit < length commits + 1) (map contents stored)
-  contents-made =
-      subst (AllByRecursion (λ (s : Contents). s.commit < length commits + 1)) (sym staged.rows)
-      (all-append (λ (s : Contents). s.commit < length commits + 1) (map contents staged.old_stored) (new_files n (length commits) n es)
-      (all-mapped (λ (e : StoredFile). e.commit < length commits) (λ (s : Contents). s.commit < length commits + 1) contents (λ e h. omega (arith, h)) staged.old_stored staged.held.made_by_commits)
-      (new-files-all (λ (s : Contents). s.commit < length commits + 1) n (length commits) n es (λ node parent kind name h. omega arith)))
-
   lines-now : (held_amid history ambition es es).lines ≡ kept_of (history ++ commit ∷ [])
   lines-now = lines-edits (length history + 1) ambition (held_by history) (numbered_amid history es es) ∙ sym (commit-lines history base choice ambition es)
 
   options-now : option_count (history ++ commit ∷ []) ≡ option_count history
   options-now = ap length (options-append history (commit ∷ []) ∙ append-nil (options_of history))
 
+  nodes-now : (numbers_of (history ++ commit ∷ [])).nodes ≡ n + nodes_made es
+  nodes-now = ap (λ (ms : Numbers). ms.nodes) (numbers_from-append no_numbers history (commit ∷ []))
+
+  pub row-later : entries.from ≤ q
+  row-later = let from = staged.held.of_entries.from in omega (arith, from)
+
   -- after the commit, the stored files with its lines are what is held
-  pub held-committed : (after : List StoredFile) → AreInstalled q ss stored after → IsHeldBy (history ++ commit ∷ []) ts all_commits file_of_line after
-  held-committed after installed =
+  pub held-committed : (later : Dated) (after : List StoredFile) → IsSet q plan entries later → AreInstalled q ss stored after → IsHeldBy (history ++ commit ∷ []) ts all_commits file_of_line later after
+  held-committed later after set installed =
+      let same : map stored_node after ≡ map stored_node stored =
+      installed-rows stored_node (λ e f same. ap (λ (s : Contents). s.node) same) (λ e ls newest f same. ap (λ (s : Contents). s.node) same) q ss stored after installed in
       let one = length-one commits mark in
       let longer = length-one history commit in
       let count : length commits + 1 ≡ length all_commits = sym one in
       record {
-        rows = rows ∙ sym (installed-rows (kept_row all_commits)
-            (λ e f same. ap (kept_contents all_commits) same) (λ e ls newest f same. ap (kept_contents all_commits) same) q ss stored after installed);
+        of_entries = entries-committed history base choice ambition es ts mark.node staged.stands.value entries plan staged.held.of_entries staged.changes later set;
+        made = set.nodes ∙ staged.nodes ∙ sym same;
+        numbered = numbered-by 0 stored after same staged-numbered;
+        counted =
+            let by_node = length-map after stored_node in
+            let by_old = length-map stored stored_node in
+            let lengths = ap length same in
+            let all = ap length stored-files in
+            let both = length-append (map contents staged.old_stored) (new_files (length staged.old_stored) es) in
+            let old = length-map staged.old_stored contents in
+            let new = length-map stored contents in
+            let fresh = new-files-count (length staged.old_stored) es in
+            let before = staged.held.counted in
+            let now = nodes-now in
+            omega (arith, by_node, by_old, lengths, all, both, old, new, fresh, before, now);
         files = files-contents (history ++ commit ∷ []) ts installed.0 after installed.2
             (all-map (λ e. IsHere history base choice ambition es good legal ts mark.node staged.stands e.node es [] e.file) (IsFileOf (history ++ commit ∷ []) ts)
             (λ e h. record {
@@ -347,17 +307,10 @@ module _ (history : List Command) (base : ℕ) (choice : List Bool) (ambition : 
                   (subst (λ c. AreDated ts c (file_dated e.node (held_amid history ambition es es).lines) e.file.lines) (sym options-now) h.are_dated);
               newest = let low = h.newest in omega (arith, low, longer);
             }) installed.0 (all-carried.1 installed.0 installed.1));
-        in_reach = in-reach-more history commit ambition commits mark made-is base-reach staged.held.in_reach;
         lines = ap length staged.file_of_line_is ∙ line-files-after history base choice ambition es staged.old_file_of_line n staged.held.lines;
         in_files = subst (AreFilesOfLines (kept_of (history ++ commit ∷ [])) 0) (sym staged.file_of_line_is)
             (subst (λ ks. AreFilesOfLines ks 0 (staged.old_file_of_line ++ new_file_of_line n es)) lines-now
             (line-files-along history base choice ambition es good legal es [] staged.old_file_of_line refl (let old = staged.held.lines in omega (arith, old)) staged.held.in_files));
-        made_by_commits = subst (λ k. AllByRecursion (λ e. e.commit < k) after) count
-            (all-unmapped (λ (k : ℕ). k < length commits + 1) (λ (e : StoredFile). e.commit) after
-            (subst (AllByRecursion (λ k. k < length commits + 1))
-            (sym (installed-rows (λ e. e.commit) (λ e f same. ap (λ (s : Contents). s.commit) same) (λ e ls newest f same. ap (λ (s : Contents). s.commit) same) q ss stored after installed))
-            (all-mapped (λ (e : StoredFile). e.commit < length commits + 1) (λ k. k < length commits + 1) (λ (e : StoredFile). e.commit) (λ e h. h) stored
-            (all-unmapped (λ (s : Contents). s.commit < length commits + 1) contents stored contents-made))));
         few = let old = staged.held.few in omega (arith, old, longer, one);
         marks = subst (λ c. AreMarks ts c 0 (history ++ commit ∷ []) all_commits) (sym options-now)
             (marks-committed ts (option_count history) (length history + 1) 0 base history choice ambition es mark commits (omega arith)

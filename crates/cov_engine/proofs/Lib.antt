@@ -3,6 +3,7 @@ pub mod CallerLemmas
 pub mod Committed
 pub mod Dating
 pub mod Deciding
+pub mod Judging
 pub mod FileLines
 pub mod FileOfLine
 pub mod Fresh
@@ -17,6 +18,7 @@ pub mod Nodes
 pub mod Planned
 pub mod Readied
 pub mod Rooms
+pub mod RowPlans
 pub mod Ruling
 pub mod Showing
 pub mod Started

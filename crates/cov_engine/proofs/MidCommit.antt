@@ -5,7 +5,6 @@ use Rattle.std.proofs.lemmas.Bool.{and_from, or_left, or_right}
 use Rattle.std.proofs.lemmas.Bool.Decides.{nat_tests}
 use Rattle.cov_base.specs.Addresses.{after_first, after_anchor, after_anchor_by}
 use Rattle.cov_base.proofs.CallerLemmas.{all-map}
-use Rattle.cov_base.specs.declared.number.Kind.{Kind}
 use Rattle.cov_base.specs.declared.number.NodeRef.{NodeRef}
 use Rattle.cov_base.specs.declared.number.LineRef.{LineRef}
 use Rattle.cov_dd.specs.declared.triple.Triple.{Triple}
@@ -27,6 +26,7 @@ use Rattle.cov_history.specs.FileOfLine.{new_file_of_line, AreFilesOfLines}
 use Rattle.cov_engine.specs.Staging.{Contents, named_line, inserts_into, deletes_from, touches}
 use Rattle.cov_history.specs.Files.{DatedLine, dated_number, dated, file_dated, file_order, Takes}
 use Rattle.cov_history.specs.Insertions.{Insertion, table_of, lines_amid, held_amid, numbered_amid}
+use Rattle.cov_history.specs.RowChanges.{changes_rows}
 use Rattle.cov_history.specs.Kept.{Kept, seen_at, kept_number, kept_of, held_by, file_kept, is_kept_anchor}
 use Rattle.cov_engine.specs.Nodes.{AreDated}
 use Rattle.cov_history.specs.Sessions.{IsGood, session_of}
@@ -36,7 +36,7 @@ use Rattle.cov_engine.specs.declared.stored_file.StoredFile.{StoredFile}
 use Rattle.cov_engine.specs.declared.edit_plan.EditPlan.{EditPlan}
 use Rattle.cov_engine.specs.declared.edit_plan.EditPlan.TheVariants as plans
 use Rattle.cov_history.proofs.CallerLemmas.{files_of_lines-stay, file_of_line-more, lines-edits, delete-dated, delete-elsewhere, delete-order, anchor-below, anchors-append, anchors-stay, anchor-known, insert-elsewhere, is_table-of, amid-within, stands-amid, any-mapped, insert-dated, order-takes, accepted-anchored, accepted-there, all-mapped}
-use Rattle.cov_engine.proofs.Committed.{numbers-dated, new-same}
+use Rattle.cov_engine.proofs.Committed.{numbers-dated, rows-same, no-anchor}
 use Rattle.cov_engine.proofs.Dating.{IsGone, gone, dated-numbers, insert-lines, delete-lines, all-after}
 use Rattle.cov_engine.proofs.StoredFiles.{all-pairs}
 use Rattle.cov_engine.proofs.States.{length-one}
@@ -108,12 +108,11 @@ module _ (history : List Command) (base : ℕ) (choice : List Bool) (ambition : 
   abbrev new_dated : ℕ → List ℕ → DatedLine
   new_dated number text = record { line = number; text = text; changes = (q, ambition) ∷ [] }
 
-  -- a made row leaves them
-  new-lines : (begun : List Edit) (e : Edit) (kind : Kind) (parent : NodeRef) (name : List ℕ) → e ≡ edits.New kind parent name → lines_at (begun ++ e ∷ []) ≡ lines_at begun
-  new-lines begun e kind parent name is =
-      ap (λ x. lines_at (begun ++ x ∷ [])) is
-      ∙ lines-edits q ambition (held_by history) (numbered_amid history es (begun ++ edits.New kind parent name ∷ []))
-      ∙ new-same q ambition (numbers_of history) _ n m (kept_of history) begun kind parent name
+  -- an edit that changes rows leaves them
+  rows-leave : (begun : List Edit) (e : Edit) → changes_rows e ≡ true → lines_at (begun ++ e ∷ []) ≡ lines_at begun
+  rows-leave begun e is =
+      lines-edits q ambition (held_by history) (numbered_amid history es (begun ++ e ∷ []))
+      ∙ rows-same q ambition (numbers_of history) _ n m (kept_of history) begun e is
       ∙ sym (lines-edits q ambition (held_by history) (numbered_amid history es begun))
 
   begun-few : (begun later : List Edit) → begun ++ later ≡ es → lines_amid history begun ≤ lines_amid history es
@@ -214,12 +213,18 @@ module _ (history : List Command) (base : ℕ) (choice : List Bool) (ambition : 
         (rest : List EditPlan) × (ss ≡ plans.Insert (node_number n file) (line_number m after) (made + 1) text a ∷ rest) × AreRight ks (made + 1) later rest
     AreRight ks made (edits.Delete file line ∷ later) ss =
         (vis : ℕ) × (rest : List EditPlan) × (ss ≡ plans.Delete (node_number n file) (line_number m line) vis ∷ rest) × IsRight ks (node_number n file) (line_number m line) vis × AreRight ks made later rest
+    AreRight ks made (edits.Rename node name ∷ later) ss = AreRight ks made later ss
+    AreRight ks made (edits.Move node parent ∷ later) ss = AreRight ks made later ss
+    AreRight ks made (edits.Remove node ∷ later) ss = AreRight ks made later ss
 
     right-on : (ks ks' : List (Kept Line)) → ((file line vis : ℕ) → IsRight ks file line vis → IsRight ks' file line vis) → (made : ℕ) (later : List Edit) (ss : List EditPlan) → AreRight ks made later ss → AreRight ks' made later ss
     right-on ks ks' f made [] ss h = h
     right-on ks ks' f made (edits.New kind parent name ∷ later) ss h = right-on ks ks' f made later ss h
     right-on ks ks' f made (edits.Insert file after text ∷ later) ss h = (h.0, h.1, right-on ks ks' f (made + 1) later h.0 h.2)
     right-on ks ks' f made (edits.Delete file line ∷ later) ss h = (h.0, h.1, h.2, f (node_number n file) (line_number m line) h.0 h.3, right-on ks ks' f made later h.1 h.4)
+    right-on ks ks' f made (edits.Rename node name ∷ later) ss h = right-on ks ks' f made later ss h
+    right-on ks ks' f made (edits.Move node parent ∷ later) ss h = right-on ks ks' f made later ss h
+    right-on ks ks' f made (edits.Remove node ∷ later) ss h = right-on ks ks' f made later ss h
 
     new-gone : (number line vis : ℕ) (text : List ℕ) → m < number → (m < line → Stands ts vis 0 count (λ c. false)) → IsGone ts count ambition q line vis (new_dated number text)
     new-gone number line vis text above fresh is =
@@ -425,6 +430,40 @@ module _ (history : List Command) (base : ℕ) (choice : List Bool) (ambition : 
     abbrev pub AreHere : List Edit → List Edit → List StoredFile → Type 0
     AreHere begun left stored = AllByRecursion (λ e. IsHere e.node begun left e.file) stored
 
+    -- an edit that changes rows does nothing to files
+    same-dated : (e : Edit) (begun : List Edit) → changes_rows e ≡ true → (x : StoredFile) → AreDated ts count (file_dated x.node (lines_at begun)) x.file.lines → AreDated ts count (file_dated x.node (lines_at (begun ++ e ∷ []))) x.file.lines
+    same-dated e begun is x h = subst (λ ks. AreDated ts count (file_dated x.node ks) x.file.lines) (sym (rows-leave begun e is)) h
+
+    row-here : (e : Edit) (begun later : List Edit) → changes_rows e ≡ true → (x : StoredFile) → IsHere x.node begun (e ∷ later) x.file → IsHere x.node (begun ++ e ∷ []) later x.file
+    row-here (edits.New kind parent name) begun later is x h = record { above = h.above; are_dated = same-dated (edits.New kind parent name) begun is x h.are_dated; newest = h.newest; inserts = h.inserts; changes = h.changes; position = h.position }
+    row-here (edits.Insert file after text) begun later is x h = absurd (cc)
+    row-here (edits.Delete file line) begun later is x h = absurd (cc)
+    row-here (edits.Rename node name) begun later is x h = record { above = h.above; are_dated = same-dated (edits.Rename node name) begun is x h.are_dated; newest = h.newest; inserts = h.inserts; changes = h.changes; position = h.position }
+    row-here (edits.Move node parent) begun later is x h = record { above = h.above; are_dated = same-dated (edits.Move node parent) begun is x h.are_dated; newest = h.newest; inserts = h.inserts; changes = h.changes; position = h.position }
+    row-here (edits.Remove node) begun later is x h = record { above = h.above; are_dated = same-dated (edits.Remove node) begun is x h.are_dated; newest = h.newest; inserts = h.inserts; changes = h.changes; position = h.position }
+
+    right-behind : (e : Edit) (ks : List (Kept Line)) (made : ℕ) (later : List Edit) (ss : List EditPlan) → changes_rows e ≡ true → AreRight ks made (e ∷ later) ss → AreRight ks made later ss
+    right-behind (edits.New kind parent name) ks made later ss is h = h
+    right-behind (edits.Insert file after text) ks made later ss is h = absurd (cc)
+    right-behind (edits.Delete file line) ks made later ss is h = absurd (cc)
+    right-behind (edits.Rename node name) ks made later ss is h = h
+    right-behind (edits.Move node parent) ks made later ss is h = h
+    right-behind (edits.Remove node) ks made later ss is h = h
+
+    abbrev AreCarried : List EditPlan → List StoredFile → Type 0
+    AreCarried ss stored = CanCarryOutAll q ss stored × ((after : List StoredFile) → AreAllCarriedOut q ss stored after → AreHere es [] after)
+
+    row-carried : (e : Edit) (begun later : List Edit) → changes_rows e ≡ true → (made : ℕ) (stored : List StoredFile) (ss : List EditPlan) → begun ++ e ∷ later ≡ es → made ≡ lines_amid history begun
+        → AreRight (lines_at begun) made (e ∷ later) ss → AreHere begun (e ∷ later) stored
+        → ((made : ℕ) (stored : List StoredFile) (ss : List EditPlan) → (begun ++ e ∷ []) ++ later ≡ es → made ≡ lines_amid history (begun ++ e ∷ []) → AreRight (lines_at (begun ++ e ∷ [])) made later ss
+        → AreHere (begun ++ e ∷ []) later stored → AreCarried ss stored)
+        → AreCarried ss stored
+    row-carried e begun later is made stored ss all counted right here rest =
+        rest made stored ss (append_assoc begun (e ∷ []) later ∙ all)
+        (counted ∙ ap (λ l. m + length l) (sym (none_more m begun e (no-anchor m e is))))
+        (subst (λ ks. AreRight ks made later ss) (sym (rows-leave begun e is)) (right-behind e (lines_at begun) made later ss is right))
+        (all-map (λ x. IsHere x.node begun (e ∷ later) x.file) (λ x. IsHere x.node (begun ++ e ∷ []) later x.file) (row-here e begun later is) stored here)
+
     -- the plans of the edits can be carried out in the stored files, and are then
     pub carried : (later begun : List Edit) (made : ℕ) (stored : List StoredFile) (ss : List EditPlan) → begun ++ later ≡ es → made ≡ lines_amid history begun → AreRight (lines_at begun) made later ss
         → AreHere begun later stored → CanCarryOutAll q ss stored × ((after : List StoredFile) → AreAllCarriedOut q ss stored after → AreHere es [] after)
@@ -432,20 +471,13 @@ module _ (history : List Command) (base : ℕ) (choice : List Bool) (ambition : 
         subst (λ ss. CanCarryOutAll q ss stored × ((after : List StoredFile) → AreAllCarriedOut q ss stored after → AreHere es [] after)) (sym right)
         (tt, λ after same. subst (λ b. AreHere b [] after) (sym (append-nil begun) ∙ all) (subst (AreHere begun []) (sym same) here))
     carried (edits.New kind parent name ∷ later) begun made stored ss all counted right here =
-        let e = edits.New kind parent name in
-        let same : lines_at (begun ++ e ∷ []) ≡ lines_at begun = new-lines begun e kind parent name refl in
-        carried later (begun ++ e ∷ []) made stored ss (append_assoc begun (e ∷ []) later ∙ all)
-        (counted ∙ ap (λ l. m + length l) (sym (none_more m begun e refl)))
-        (subst (λ ks. AreRight ks made later ss) (sym same) right)
-        (all-map (λ x. IsHere x.node begun (e ∷ later) x.file) (λ x. IsHere x.node (begun ++ e ∷ []) later x.file)
-        (λ x h. record {
-          above = h.above;
-          are_dated = subst (λ ks. AreDated ts count (file_dated x.node ks) x.file.lines) (sym same) h.are_dated;
-          newest = h.newest;
-          inserts = h.inserts;
-          changes = h.changes;
-          position = h.position;
-        }) stored here)
+        row-carried (edits.New kind parent name) begun later refl made stored ss all counted right here (carried later (begun ++ edits.New kind parent name ∷ []))
+    carried (edits.Rename node name ∷ later) begun made stored ss all counted right here =
+        row-carried (edits.Rename node name) begun later refl made stored ss all counted right here (carried later (begun ++ edits.Rename node name ∷ []))
+    carried (edits.Move node parent ∷ later) begun made stored ss all counted right here =
+        row-carried (edits.Move node parent) begun later refl made stored ss all counted right here (carried later (begun ++ edits.Move node parent ∷ []))
+    carried (edits.Remove node ∷ later) begun made stored ss all counted right here =
+        row-carried (edits.Remove node) begun later refl made stored ss all counted right here (carried later (begun ++ edits.Remove node ∷ []))
     carried (edits.Insert file after text ∷ later) begun made stored ss all counted right here =
         let e = edits.Insert file after text in
         let plan : EditPlan = plans.Insert (node_number n file) (line_number m after) (lines_amid history begun + 1) text a in
@@ -478,8 +510,10 @@ module _ (history : List Command) (base : ℕ) (choice : List Bool) (ambition : 
   -- the lines that edits name are made before them
   pub named-low : (most : ℕ) (later begun : List Edit) → begun ++ later ≡ es → lines_amid history es ≤ most → AllByRecursion (λ e. named_line m e ≤ most) later
   named-low most [] begun all few = tt
-  named-low most (edits.New kind parent name ∷ later) begun all few =
-      (omega arith, named-low most later (begun ++ edits.New kind parent name ∷ []) (append_assoc begun (edits.New kind parent name ∷ []) later ∙ all) few)
+  named-low most (edits.New kind parent name ∷ later) begun all few = (omega arith, named-low most later (begun ++ edits.New kind parent name ∷ []) (append_assoc begun (edits.New kind parent name ∷ []) later ∙ all) few)
+  named-low most (edits.Rename node name ∷ later) begun all few = (omega arith, named-low most later (begun ++ edits.Rename node name ∷ []) (append_assoc begun (edits.Rename node name ∷ []) later ∙ all) few)
+  named-low most (edits.Move node parent ∷ later) begun all few = (omega arith, named-low most later (begun ++ edits.Move node parent ∷ []) (append_assoc begun (edits.Move node parent ∷ []) later ∙ all) few)
+  named-low most (edits.Remove node ∷ later) begun all few = (omega arith, named-low most later (begun ++ edits.Remove node ∷ []) (append_assoc begun (edits.Remove node ∷ []) later ∙ all) few)
   named-low most (edits.Insert file after text ∷ later) begun all few =
       let i : Insertion = record { begun = begun; file = file; after = after; text = text; later = later } in
       let known = anchor-known history ambition i (anchored begun later file after text all) in
@@ -492,6 +526,9 @@ module _ (history : List Command) (base : ℕ) (choice : List Bool) (ambition : 
       let below = begun-few begun (edits.Delete file line ∷ later) all in
       (omega (arith, known, below, few), named-low most later (begun ++ edits.Delete file line ∷ []) (append_assoc begun (edits.Delete file line ∷ []) later ∙ all) few)
 
+  row-files : (e : Edit) (begun : List Edit) → changes_rows e ≡ true → (file_of_line : List ℕ) → AreFilesOfLines (lines_at begun) 0 file_of_line → AreFilesOfLines (lines_at (begun ++ e ∷ [])) 0 file_of_line
+  row-files e begun is file_of_line h = subst (λ ks. AreFilesOfLines ks 0 file_of_line) (sym (rows-leave begun e is)) h
+
   -- the files of lines are noted when all edits are done
   pub line-files-along : (later begun : List Edit) (file_of_line : List ℕ) → begun ++ later ≡ es → length file_of_line ≡ lines_amid history begun → AreFilesOfLines (lines_at begun) 0 file_of_line
       → AreFilesOfLines (lines_at es) 0 (file_of_line ++ new_file_of_line n later)
@@ -499,8 +536,16 @@ module _ (history : List Command) (base : ℕ) (choice : List Bool) (ambition : 
       subst (λ b. AreFilesOfLines (lines_at b) 0 (file_of_line ++ [])) (sym (append-nil begun) ∙ all) (subst (AreFilesOfLines (lines_at begun) 0) (sym (append-nil file_of_line)) at_its_file)
   line-files-along (edits.New kind parent name ∷ later) begun file_of_line all counted at_its_file =
       let e = edits.New kind parent name in
-      line-files-along later (begun ++ e ∷ []) file_of_line (append_assoc begun (e ∷ []) later ∙ all) (counted ∙ ap (λ l. m + length l) (sym (none_more m begun e refl)))
-      (subst (λ ks. AreFilesOfLines ks 0 file_of_line) (sym (new-lines begun e kind parent name refl)) at_its_file)
+      line-files-along later (begun ++ e ∷ []) file_of_line (append_assoc begun (e ∷ []) later ∙ all) (counted ∙ ap (λ l. m + length l) (sym (none_more m begun e refl))) (row-files e begun refl file_of_line at_its_file)
+  line-files-along (edits.Rename node name ∷ later) begun file_of_line all counted at_its_file =
+      let e = edits.Rename node name in
+      line-files-along later (begun ++ e ∷ []) file_of_line (append_assoc begun (e ∷ []) later ∙ all) (counted ∙ ap (λ l. m + length l) (sym (none_more m begun e refl))) (row-files e begun refl file_of_line at_its_file)
+  line-files-along (edits.Move node parent ∷ later) begun file_of_line all counted at_its_file =
+      let e = edits.Move node parent in
+      line-files-along later (begun ++ e ∷ []) file_of_line (append_assoc begun (e ∷ []) later ∙ all) (counted ∙ ap (λ l. m + length l) (sym (none_more m begun e refl))) (row-files e begun refl file_of_line at_its_file)
+  line-files-along (edits.Remove node ∷ later) begun file_of_line all counted at_its_file =
+      let e = edits.Remove node in
+      line-files-along later (begun ++ e ∷ []) file_of_line (append_assoc begun (e ∷ []) later ∙ all) (counted ∙ ap (λ l. m + length l) (sym (none_more m begun e refl))) (row-files e begun refl file_of_line at_its_file)
   line-files-along (edits.Delete file line ∷ later) begun file_of_line all counted at_its_file =
       let e = edits.Delete file line in
       line-files-along later (begun ++ e ∷ []) file_of_line (append_assoc begun (e ∷ []) later ∙ all) (counted ∙ ap (λ l. m + length l) (sym (none_more m begun e refl)))

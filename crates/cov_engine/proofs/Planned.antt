@@ -1,5 +1,5 @@
 -- The nodes of lines before a commit, and the plans of its edits.
-use Rattle.std.proofs.Common.{◌≡◌, ℕ, zero, suc, ◌+◌, ◌<◌, ◌≤◌, max, Bool, true, false, cond, ◌&&◌, not, nat_eq, List, [], ◌∷◌, ◌++◌, length, get_or, Some, unwrap_or, option_map, append-nil, append_assoc, refl, sym, ap, subst, ◌∙◌, arith}
+use Rattle.std.proofs.Common.{◌≡◌, ℕ, zero, suc, ◌+◌, ◌<◌, ◌≤◌, max, Bool, true, false, cond, ◌&&◌, not, nat_eq, List, [], ◌∷◌, ◌++◌, length, length-append, get_or, Some, unwrap_or, option_map, append-nil, append_assoc, refl, sym, ap, subst, ◌∙◌, arith}
 use Rattle.std.specs.List.{AllByRecursion, find}
 use Rattle.std.proofs.lemmas.Bool.Decides.{nat_tests}
 use Rattle.cov_dd.specs.declared.triple.Triple.{Triple}
@@ -20,7 +20,7 @@ use Rattle.cov_engine.specs.declared.stored_file.StoredFile.{StoredFile}
 use Rattle.cov_engine.specs.declared.edit_plan.EditPlan.{EditPlan}
 use Rattle.cov_engine.specs.declared.edit_plan.EditPlan.TheVariants as plans
 use Rattle.cov_engine.proofs.StoredFiles.{IsOutside, Below, Above}
-use Rattle.cov_edit.proofs.CallerLemmas.{rest_of, rest-is}
+use Rattle.cov_edit.proofs.CallerLemmas.{anchors-append, rest_of, rest-is}
 
 differs-outside : (k file : ℕ) (e : StoredFile) (es : List StoredFile) → e.node ≡ k + 1 → IsOutside k (suc (length es)) file → nat_eq e.node file ≡ false
 differs-outside k file e es is (Below h) = grind (arith, nat_tests, is, h)
@@ -115,9 +115,7 @@ module _ (p : ℕ) (stored : List StoredFile) (n m ambition : ℕ) where
   )
 
 anchors-first : (e : Edit) (es : List Edit) → length (anchors_of 0 (e ∷ es)) ≡ length (anchors_of 0 (e ∷ [])) + length (anchors_of 0 es)
-anchors-first (edits.New kind parent name) es = omega arith
-anchors-first (edits.Insert file after text) es = omega arith
-anchors-first (edits.Delete file line) es = omega arith
+anchors-first e es = ap length (anchors-append 0 (e ∷ []) es) ∙ length-append (anchors_of 0 (e ∷ [])) (anchors_of 0 es)
 
 module _ (made next : ℕ) (edit d : Edit) (more : next ≡ made + length (anchors_of 0 (edit ∷ []))) where
   pub few-rest : (most : ℕ) (ahead : List Edit) → edit ≡ get_or ahead 0 d → 1 ≤ length ahead → made + length (anchors_of 0 ahead) < most → next + length (anchors_of 0 (rest_of ahead)) < most

@@ -1,12 +1,12 @@
 -- What is ready for a command, staged, installed or given up.
-use Rattle.std.proofs.Common.{◌≡◌, ℕ, ◌+◌, ◌-◌, ◌<◌, ◌≤◌, ◌^◌, Bool, true, false, nat_le, List, [], Option, ◌∷◌, ◌++◌, length, map, take, Some, None, Result, Ok, Err, OnErr, append-nil, refl, sym, ap, subst, ◌∙◌, arith}
+use Rattle.std.proofs.Common.{◌≡◌, ℕ, ◌+◌, ◌-◌, ◌<◌, ◌≤◌, ◌^◌, Bool, true, false, nat_le, List, [], Option, ◌∷◌, ◌++◌, length, map, take, Some, None, Result, Ok, Err, OnErr, IfOk, append-nil, refl, sym, ap, subst, ◌∙◌, arith}
 use Rattle.std.specs.List.{AllByRecursion}
 use Rattle.std.proofs.lemmas.List.{take-map, length-map, take-append-le, take_all}
 use Rattle.std.proofs.lemmas.Bool.Decides.{nat_tests}
 use Rattle.cov_base.proofs.CallerLemmas.{length-with_lines, all-map}
 use Rattle.cov_dd.specs.declared.triple.Triple.{Triple}
 use Rattle.cov_base.specs.declared.limits.TheConstants.{LIMITS}
-use Rattle.cov_expr.specs.Formula.{Formula, value, reach}
+use Rattle.cov_expr.specs.Formula.{Formula, reach}
 use Rattle.cov_expr.specs.Validity.{is_valid}
 use Rattle.cov_edit.specs.declared.edit.Edit.{Edit}
 use Rattle.cov_edit.specs.declared.command.Command.{Command}
@@ -15,9 +15,9 @@ use Rattle.cov_edit.specs.Fits.{fits_command}
 use Rattle.cov_edit.specs.History.{options_of, option_count, text_bytes, command_bytes}
 use Rattle.cov_edit.specs.Numbering.{Numbers, nodes_made, anchors_of, no_numbers, numbers_after, numbers_of, line_count}
 use Rattle.cov_edit.proofs.CallerLemmas.{numbers_from-append}
-use Rattle.cov_rules.specs.Installing.{Standing, reach_of}
+use Rattle.cov_rules.specs.Installing.{RulesValue, Standing, expressions, reach_of}
 use Rattle.cov_view.specs.Refusals.{when, first_of}
-use Rattle.cov_view.proofs.CallerLemmas.{first-one, none-when}
+use Rattle.cov_view.proofs.CallerLemmas.{none-when}
 use Rattle.cov_engine.specs.declared.counts.Counts.{Counts}
 use Rattle.cov_engine.specs.declared.stored_file.StoredFile.{StoredFile}
 use Rattle.cov_engine.specs.declared.store.CommitMark.{CommitMark}
@@ -29,61 +29,74 @@ use Rattle.cov_history.specs.Kept.{kept_of}
 use Rattle.cov_history.specs.Files.{file_dated}
 use Rattle.cov_engine.specs.Nodes.{HasNodesIn}
 use Rattle.cov_engine.proofs.Dating.{dated-nodes}
-use Rattle.cov_engine.specs.Holdings.{IsFileOf, IsHeldBy}
+use Rattle.cov_tree.specs.declared.entry.Entry.{Entry}
+use Rattle.cov_tree.specs.Changes.{Makes}
+use Rattle.cov_tree.specs.Dated.{Dated, HasRoom as HasRowRoom, nodes_in, nodes_with, without_room}
+use Rattle.cov_engine.specs.RowPlans.{edit_changes, made_by, IsSet}
+use Rattle.cov_engine.specs.Holdings.{stored_node, IsFileOf, IsHeldBy}
 use Rattle.cov_history.specs.Sessions.{IsGood, MayCome, session_of}
 use Rattle.cov_engine.specs.States.{AreCountsOf, IsStateOf}
 use Rattle.cov_engine.specs.Marks.{AreMarks}
 use Rattle.cov_engine.specs.Overtakers.{IsOvertaker}
 use Rattle.cov_history.specs.Overtaking.{overtaken}
 use Rattle.cov_history.specs.Verdict.{IsLegal, as_overtaken, verdict, refusals_of, size_refusals, has_no_edits}
-use Rattle.cov_edit.specs.Touched.{touched}
 use Rattle.cov_history.specs.FileOfLine.{new_file_of_line}
 use Rattle.cov_engine.specs.Staging.{Contents, contents, sizes_of, sizes_refusal, new_files, AreNumbered, AreNear, AreLow, HasRoom}
-use Rattle.cov_engine.specs.Staged.{IsStaged}
+use Rattle.cov_engine.specs.Staged.{IsCommitPlan, IsStaged}
+use Rattle.cov_edit.specs.History.{is_valid_in}
+use Rattle.cov_dd.specs.Diagrams.{Extends}
+use Rattle.cov_dd.proofs.CallerLemmas.{stands_later, stands_weaker}
+use Rattle.cov_tree.proofs.CallerLemmas.{plans_grow}
 use Rattle.cov_engine.specs.Carrying.{ArePlanned, CanCarryOutAll, AreInstalled}
 use Rattle.cov_dd.specs.Diagrams.{value_in, Stands}
-use Rattle.cov_engine.specs.Ready.{IsNext, IsInBounds, AreCountsWith, IsCommitReady, edits_in}
-use Rattle.cov_history.proofs.CallerLemmas.{all-mapped, good-passes, new-files_of_lines-count}
-use Rattle.cov_engine.proofs.FileLines.{all-unmapped}
+use Rattle.cov_engine.specs.Ready.{IsNext, IsInBounds, AreCountsWith, IsCommitReady, IsStagedReady, IsReady, edits_in}
+use Rattle.cov_history.proofs.CallerLemmas.{edits-accepted, good-passes, new-files_of_lines-count}
+use Rattle.cov_history.specs.BadChoices.{unsound_refusal}
+use Rattle.cov_engine.specs.declared.ready.Ready.{Ready}
+use Rattle.cov_engine.specs.declared.ready.Ready.TheVariants as ready
 use Rattle.cov_engine.proofs.States.{legal-one, length-one, sum-one, options-append, below}
-use Rattle.cov_engine.proofs.Committed.{kept_contents, rows-of-contents}
+use Rattle.cov_engine.proofs.Committed.{map-append, new-files-nodes}
+use Rattle.cov_engine.proofs.Rooms.{same-numbers}
+use Rattle.cov_engine.proofs.RowPlans.{entries-room, makes-room}
 use Rattle.cov_engine.proofs.Ruling.{rules-same}
-use Rattle.cov_engine.proofs.Installed.{declared-less, held-count, lines-few, nodes-few, edits-few, bytes-few, edits-near, edits-low, staged-numbered, staged-plans, held-committed, files-contents}
+use Rattle.cov_engine.proofs.Installed.{declared-less, lines-few, nodes-few, edits-few, bytes-few, edits-near, edits-low, accepted-sizes, staged-numbered, staged-plans, row-later, held-committed, files-contents}
 
--- a refusal before the last, or the last
-last-alone : {F : Type 0} (os : List (Option F)) (o : Option F) → first_of (os ++ o ∷ []) ≡ first_of (first_of os ∷ o ∷ [])
-last-alone [] o = refl
-last-alone (None ∷ os) o = last-alone os o
-last-alone (Some f ∷ os) o = refl
+-- the refusal by sizes that are counted is that by the history's
+sized-as : (history : List Command) (counts : Counts) (es : List Edit) → AreCountsOf history counts → sizes_refusal counts es ≡ first_of (size_refusals history es ++ when (has_no_edits es) refusals.Empty ∷ [])
+sized-as history counts es are = rw (are.lines, are.nodes, are.bytes) refl
 
--- the verdict on the commit of a good session is that of its sizes, or else of what overtakes it
+-- refusals before others, or the others
+others-behind : {F : Type 0} (os ps : List (Option F)) → first_of (os ++ ps) ≡ first_of (first_of os ∷ ps)
+others-behind [] ps = refl
+others-behind (None ∷ os) ps = others-behind os ps
+others-behind (Some f ∷ os) ps = refl
+
+-- the verdict on the commit of a good session is that of its sizes, or else of what overtakes it, or else of a variant left unsound
 good-verdict : (history : List Command) (counts : Counts) (base : ℕ) (choice : List Bool) (ambition : Formula ℕ) (es : List Edit)
     → AreCountsOf history counts → IsGood history (session_of base choice ambition es) → length history < LIMITS.commands
-    → first_of (sizes_refusal counts es ∷ as_overtaken (overtaken history base ambition es) ∷ []) ≡ verdict history (commands.Commit base choice ambition es)
+    → first_of (sizes_refusal counts es ∷ as_overtaken (overtaken history base ambition es) ∷ unsound_refusal history ambition (commands.Commit base choice ambition es) ∷ [])
+    ≡ verdict history (commands.Commit base choice ambition es)
 good-verdict history counts base choice ambition es are good h =
-    ap (λ o. first_of (o ∷ last ∷ [])) sized
-    ∙ sym (last-alone (size_refusals history es ++ when (has_no_edits es) refusals.Empty ∷ []) last)
-    ∙ ap (λ b. first_of (when b refusals.Full ∷ (size_refusals history es ++ when (has_no_edits es) refusals.Empty ∷ last ∷ []))) (sym not-full)
+    ap (λ o. first_of (o ∷ lasts)) (sized-as history counts es are)
+    ∙ sym (others-behind (size_refusals history es ++ when (has_no_edits es) refusals.Empty ∷ []) lasts)
+    ∙ ap (λ b. first_of (when b refusals.Full ∷ (size_refusals history es ++ when (has_no_edits es) refusals.Empty ∷ lasts))) (sym not-full)
     ∙ sym (good-passes history (session_of base choice ambition es) good)
   where
-    last : Option Refusal
-    last = as_overtaken (overtaken history base ambition es)
-
-    sized : sizes_refusal counts es ≡ first_of (size_refusals history es ++ when (has_no_edits es) refusals.Empty ∷ [])
-    sized = rw (are.lines, are.nodes, are.bytes) refl
+    lasts : List (Option Refusal)
+    lasts = as_overtaken (overtaken history base ambition es) ∷ unsound_refusal history ambition (commands.Commit base choice ambition es) ∷ []
 
     not-full : nat_le LIMITS.commands (length history) ≡ false
     not-full = grind (arith, nat_tests, h)
 
 -- a commit that isn't refused by its sizes, with another that overtakes it, or none
-refused-late : (o : Option Refusal) (p found : Option ℕ) (r : Option Refusal) → o ≡ None → found ≡ p → as_overtaken found ≡ r → first_of (o ∷ as_overtaken p ∷ []) ≡ r
-refused-late o p found r e f g = ap (λ q. first_of (q ∷ as_overtaken p ∷ [])) e ∙ ap (λ q. first_of (as_overtaken q ∷ [])) (sym f) ∙ first-one (as_overtaken found) ∙ g
+refused-late : (o : Option Refusal) (p found : Option ℕ) (later : List (Option Refusal)) → o ≡ None → found ≡ p → first_of (o ∷ as_overtaken p ∷ later) ≡ first_of (as_overtaken found ∷ later)
+refused-late o p found later e f = ap (λ q. first_of (q ∷ as_overtaken p ∷ later)) e ∙ ap (λ q. first_of (as_overtaken q ∷ later)) (sym f)
 
 -- what is found among the commits is what overtakes in the history
-overtaken-found : (history : List Command) (names : List (List ℕ)) (ts : List Triple) (standing : Standing) (counts : Counts) (commits some : List CommitMark) (file_of_line : List ℕ) (stored : List StoredFile) (valid base : ℕ)
-    (ambition : Formula ℕ) (es : List Edit) (found : Option ℕ) → IsStateOf history names ts standing counts → IsHeldBy history ts commits file_of_line stored → reach ambition ≤ option_count history
+overtaken-found : (history : List Command) (names : List (List ℕ)) (ts : List Triple) (standing : Standing) (counts : Counts) (commits some : List CommitMark) (file_of_line : List ℕ) (entries : Dated) (stored : List StoredFile) (valid base : ℕ)
+    (ambition : Formula ℕ) (es : List Edit) (found : Option ℕ) → IsStateOf history names ts standing counts → IsHeldBy history ts commits file_of_line entries stored → reach ambition ≤ option_count history
     → valid ≡ standing.conjunction → some ≡ commits → IsOvertaker ts valid some base ambition es found → found ≡ overtaken history base ambition es
-overtaken-found history names ts standing counts commits some file_of_line stored valid base ambition es found state held low is same first =
+overtaken-found history names ts standing counts commits some file_of_line entries stored valid base ambition es found state held low is same first =
     first history state.rules.below.few (subst (λ fs. reach_of fs ≤ option_count history) state.rules.constraints state.rules.below.constraints) low
     (subst (AreMarks ts (option_count history) 0 history) (sym same) held.marks)
     (λ c. ap (λ a. value_in ts a c) is ∙ state.rules.holds.conjunction.value c ∙ ap (λ fs. is_valid fs c) state.rules.constraints)
@@ -96,72 +109,95 @@ module _ (history : List Command) (k : Command) (base : ℕ) (choice : List Bool
   pub reach-declared : reach ambition ≤ option_count history
   reach-declared = let own = good.in_reach in let all = declared-less base history in omega (arith, own, all)
 
-  -- an accepted commit is within the limits
-  pub in-bounds : IsLegal history → verdict history k ≡ None → IsInBounds history es
-  in-bounds legal passes = record {
-    near = edits-near history base choice ambition es accepted;
-    low = edits-low history base choice ambition es accepted good legal;
-    edits = edits-few history base choice ambition es accepted;
-    lines = lines-few history base choice ambition es accepted;
-    nodes = nodes-few history base choice ambition es accepted;
-    bytes = bytes-few history base choice ambition es accepted;
-  }
-    where
-      accepted : verdict history (commands.Commit base choice ambition es) ≡ None
-      accepted = ap (verdict history) (sym is) ∙ passes
+  -- a commit that isn't refused for its sizes is within the limits
+  pub in-bounds : (counts : Counts) → AreCountsOf history counts → IsLegal history → sizes_refusal counts es ≡ None → IsInBounds history es
+  in-bounds counts are legal passes =
+      let others : List (Option Refusal) = when (has_no_edits es) refusals.Empty ∷ [] in
+      let sized : first_of (size_refusals history es ++ others) ≡ None = sym (sized-as history counts es are) ∙ passes in
+      record {
+        near = edits-near history base choice es (nodes-few history es others sized) good.accepted;
+        low = edits-low history base choice ambition es (lines-few history es others sized) good legal;
+        edits = edits-few history es others sized;
+        lines = lines-few history es others sized;
+        nodes = nodes-few history es others sized;
+        bytes = bytes-few history es others sized;
+      }
 
   module _ (counts : Counts) (are : AreCountsOf history counts) (few : length history < LIMITS.commands) where
-    sized-or-late : verdict history k ≡ first_of (sizes_refusal counts es ∷ as_overtaken (overtaken history base ambition es) ∷ [])
+    abbrev unsound : Option Refusal
+    unsound = unsound_refusal history ambition (commands.Commit base choice ambition es)
+
+    sized-or-late : verdict history k ≡ first_of (sizes_refusal counts es ∷ as_overtaken (overtaken history base ambition es) ∷ unsound ∷ [])
     sized-or-late = ap (verdict history) is ∙ sym (good-verdict history counts base choice ambition es are good few)
 
     -- the verdict on a commit that its sizes refuse
     pub sized-verdict : (r : Refusal) → sizes_refusal counts es ≡ Some r → verdict history k ≡ Some r
-    sized-verdict r sized = sized-or-late ∙ ap (λ o. first_of (o ∷ as_overtaken (overtaken history base ambition es) ∷ [])) sized
+    sized-verdict r sized = sized-or-late ∙ ap (λ o. first_of (o ∷ as_overtaken (overtaken history base ambition es) ∷ unsound ∷ [])) sized
 
-    -- the verdict on another is that of what is found to overtake it
-    pub late-verdict : (names : List (List ℕ)) (ts : List Triple) (standing : Standing) (commits some : List CommitMark) (file_of_line : List ℕ) (stored : List StoredFile) (valid : ℕ) (found : Option ℕ) (r : Option Refusal)
-        → IsStateOf history names ts standing counts → IsHeldBy history ts commits file_of_line stored → valid ≡ standing.conjunction → some ≡ commits → sizes_refusal counts es ≡ None
-        → IsOvertaker ts valid some base ambition es found → as_overtaken found ≡ r → verdict history k ≡ r
-    late-verdict names ts standing commits some file_of_line stored valid found r state held conjunction same sized first told =
+    -- the verdict on another is that of what is found to overtake it, or else of a variant left unsound
+    pub late-verdict : (names : List (List ℕ)) (ts : List Triple) (standing : Standing) (commits some : List CommitMark) (file_of_line : List ℕ) (entries : Dated) (stored : List StoredFile) (valid : ℕ) (found : Option ℕ)
+        → IsStateOf history names ts standing counts → IsHeldBy history ts commits file_of_line entries stored → valid ≡ standing.conjunction → some ≡ commits → sizes_refusal counts es ≡ None
+        → IsOvertaker ts valid some base ambition es found → verdict history k ≡ first_of (as_overtaken found ∷ unsound ∷ [])
+    late-verdict names ts standing commits some file_of_line entries stored valid found state held conjunction same sized first =
         sized-or-late
-        ∙ refused-late (sizes_refusal counts es) (overtaken history base ambition es) found r sized
-        (overtaken-found history names ts standing counts commits some file_of_line stored valid base ambition es found state held reach-declared conjunction same first) told
+        ∙ refused-late (sizes_refusal counts es) (overtaken history base ambition es) found (unsound ∷ []) sized
+        (overtaken-found history names ts standing counts commits some file_of_line entries stored valid base ambition es found state held reach-declared conjunction same first)
 
--- stored files that are the same but for their room hold the same
-pub held-contents : (history : List Command) (ts : List Triple) (commits : List CommitMark) (file_of_line : List ℕ) (old now : List StoredFile) → map contents now ≡ map contents old
-    → IsHeldBy history ts commits file_of_line old → IsHeldBy history ts commits file_of_line now
-held-contents history ts commits file_of_line old now same held = record {
-  rows = held.rows ∙ sym (rows-of-contents commits old) ∙ ap (map (kept_contents commits)) (sym same) ∙ rows-of-contents commits now;
-  files = files-contents history ts old now same held.files;
-  in_reach = held.in_reach;
-  lines = held.lines;
-  in_files = held.in_files;
-  made_by_commits = all-unmapped (λ (s : Contents). s.commit < length commits) contents now
-      (subst (AllByRecursion (λ (s : Contents). s.commit < length commits)) (sym same)
-      (all-mapped (λ (e : StoredFile). e.commit < length commits) (λ (s : Contents). s.commit < length commits) contents (λ e h. h) old held.made_by_commits));
-  few = held.few;
-  marks = held.marks;
-}
+  -- what is staged for a commit is what its command wants
+  module _ (os : ℕ) (ts : List Triple) (rules : RulesValue) (spare : ℕ) (commits : List CommitMark) (file_of_line : List ℕ) (entries : Dated) (stored : List StoredFile) where
+    as-staged : (r : Ready) → IsStagedReady history ts ambition es spare commits file_of_line entries stored r → IsReady history k os ts rules spare commits file_of_line entries stored r
+    as-staged (ready.Option name) h = absurd h
+    as-staged (ready.Rule rule plan) h = absurd h
+    as-staged (ready.Commit mark counts plans rows) h =
+        subst (λ c. IsCommitReady history ts c spare commits file_of_line entries stored mark counts plans.items rows) (sym is) (good, h.0, h.1, h.2)
+
+    pub all-staged : (r : Result Ready Refusal) → IfOk r (IsStagedReady history ts ambition es spare commits file_of_line entries stored) → IfOk r (IsReady history k os ts rules spare commits file_of_line entries stored)
+    all-staged (Ok r) h = as-staged r h
+    all-staged (Err e) h = tt
+
+contents-nodes : (xs : List StoredFile) → map (λ (s : Contents). s.node) (map contents xs) ≡ map stored_node xs
+contents-nodes [] = refl
+contents-nodes (x ∷ xs) = ap (λ ns. x.node ∷ ns) (contents-nodes xs)
+
+-- what is the same but for rooms holds the same
+pub held-contents : (history : List Command) (ts : List Triple) (commits : List CommitMark) (file_of_line : List ℕ) (before after : Dated) (old now : List StoredFile) → without_room after ≡ without_room before → map contents now ≡ map contents old
+    → IsHeldBy history ts commits file_of_line before old → IsHeldBy history ts commits file_of_line after now
+held-contents history ts commits file_of_line before after old now rows same held =
+    let nodes : map stored_node now ≡ map stored_node old = same-nodes old now same in
+    record {
+      of_entries = entries-room history ts before after rows held.of_entries;
+      made = ap (λ (d : Dated). nodes_in d) rows ∙ held.made ∙ sym nodes;
+      numbered = same-numbers old now same held.numbered;
+      counted = let a = ap length nodes in let b = length-map now stored_node in let c = length-map old stored_node in let before = held.counted in omega (arith, a, b, c, before);
+      files = files-contents history ts old now same held.files;
+      lines = held.lines;
+      in_files = held.in_files;
+      few = held.few;
+      marks = held.marks;
+    }
+  where
+    same-nodes : (xs ys : List StoredFile) → map contents ys ≡ map contents xs → map stored_node ys ≡ map stored_node xs
+    same-nodes xs ys e = sym (contents-nodes ys) ∙ ap (map (λ (s : Contents). s.node)) e ∙ contents-nodes xs
 
 take-front : {X : Type 0} (n : ℕ) (xs ys : List X) → n ≡ length xs → take n (xs ++ ys) ≡ xs
 take-front n xs ys e = take-append-le n xs ys (omega (arith, e)) ∙ take_all n xs (omega (arith, e))
 
 -- what is staged is cut off again
-pub given-up : (history : List Command) (ts : List Triple) (ambition : Formula ℕ) (es : List Edit) (counts : Counts) (commits : List CommitMark) (mark : CommitMark) (ss : List EditPlan) (file_of_line : List ℕ) (stored : List StoredFile)
-    (commits' : List CommitMark) (file_of_line' : List ℕ) (stored' : List StoredFile) → AreCountsOf history counts → IsStaged history ts ambition es commits mark ss file_of_line stored
-    → commits' ≡ commits → file_of_line' ≡ take counts.lines file_of_line → map contents stored' ≡ map contents (take (counts.nodes - 1) stored) → IsHeldBy history ts commits' file_of_line' stored'
-given-up history ts ambition es counts commits mark ss file_of_line stored commits' file_of_line' stored' are staged ce he ee =
+pub given-up : (history : List Command) (ts : List Triple) (ambition : Formula ℕ) (es : List Edit) (counts : Counts) (commits : List CommitMark) (mark : CommitMark) (ss : List EditPlan) (plan : Option (List Entry)) (file_of_line : List ℕ) (entries : Dated) (stored : List StoredFile)
+    (commits' : List CommitMark) (file_of_line' : List ℕ) (entries' : Dated) (stored' : List StoredFile) → AreCountsOf history counts → IsStaged history ts ambition es commits mark ss plan file_of_line entries stored
+    → commits' ≡ commits → file_of_line' ≡ take counts.lines file_of_line → entries' ≡ entries → map contents stored' ≡ map contents (take (counts.nodes - 1) stored) → IsHeldBy history ts commits' file_of_line' entries' stored'
+given-up history ts ambition es counts commits mark ss plan file_of_line entries stored commits' file_of_line' entries' stored' are staged ce he xe ee =
     let nodes = are.nodes in
     let lines = are.lines in
-    let held_nodes = held-count history commits staged.old_stored staged.held.rows in
+    let held_nodes = staged.held.counted in
     let held_lines = staged.held.lines in
     let count = length-map staged.old_stored contents in
-    subst (λ cs. IsHeldBy history ts cs file_of_line' stored') (sym ce)
-    (subst (λ xs. IsHeldBy history ts commits xs stored')
+    subst (λ cs. IsHeldBy history ts cs file_of_line' entries' stored') (sym ce)
+    (subst (λ xs. IsHeldBy history ts commits xs entries' stored')
     (sym (he ∙ ap (take counts.lines) staged.file_of_line_is ∙ take-front counts.lines staged.old_file_of_line (new_file_of_line (numbers_of history).nodes es) (omega (arith, lines, held_lines))))
-    (held-contents history ts commits staged.old_file_of_line staged.old_stored stored'
-    (ee ∙ sym (take-map contents (counts.nodes - 1) stored) ∙ ap (take (counts.nodes - 1)) staged.rows
-    ∙ take-front (counts.nodes - 1) (map contents staged.old_stored) (new_files (numbers_of history).nodes (length commits) (numbers_of history).nodes es) (omega (arith, nodes, held_nodes, count)))
+    (held-contents history ts commits staged.old_file_of_line entries entries' staged.old_stored stored' (ap without_room xe)
+    (ee ∙ sym (take-map contents (counts.nodes - 1) stored) ∙ ap (take (counts.nodes - 1)) staged.files
+    ∙ take-front (counts.nodes - 1) (map contents staged.old_stored) (new_files (numbers_of history).nodes es) (omega (arith, nodes, held_nodes, count)))
     staged.held))
 
 module _ (history : List Command) (base : ℕ) (choice : List Bool) (ambition : Formula ℕ) (es : List Edit) where
@@ -213,10 +249,10 @@ first-nodes : (history : List Command) (counts : Counts) → AreCountsOf history
 first-nodes history counts are = let nodes = are.nodes in omega (arith, nodes)
 
 -- a command for which a commit is ready
-module _ (history : List Command) (names : List (List ℕ)) (ts : List Triple) (standing : Standing) (old new : Counts) (ks : ℕ) (commits : List CommitMark) (mark : CommitMark) (ss : List EditPlan) (file_of_line : List ℕ) (stored : List StoredFile)
+module _ (history : List Command) (names : List (List ℕ)) (ts : List Triple) (standing : Standing) (old new : Counts) (ks : ℕ) (commits : List CommitMark) (mark : CommitMark) (ss : List EditPlan) (plan : Option (List Entry)) (file_of_line : List ℕ) (entries : Dated) (stored : List StoredFile)
     (state : IsStateOf history names ts standing old) where
   abbrev IsThat : Command → Type 0
-  IsThat command = IsCommitReady history ts command ks commits file_of_line stored mark new ss
+  IsThat command = IsCommitReady history ts command ks commits file_of_line entries stored mark new ss plan
 
   pub ready-numbered : (command : Command) (spare : ℕ) → IsNext history command spare → IsThat command → AreNumbered 0 stored
   ready-numbered (commands.Option name) spare next r = absurd r
@@ -224,7 +260,7 @@ module _ (history : List Command) (names : List (List ℕ)) (ts : List Triple) (
   ready-numbered (commands.Prefer expr) spare next r = absurd r
   ready-numbered (commands.Default option on) spare next r = absurd r
   ready-numbered (commands.Commit base choice ambition es) spare next r =
-      staged-numbered history base choice ambition es state.legal r.0 next.accepted ts commits mark ss file_of_line stored r.1
+      staged-numbered history base choice ambition es state.legal r.0 next.accepted ts commits mark ss plan file_of_line entries stored r.1
 
   pub ready-plans : (command : Command) (spare : ℕ) → IsNext history command spare → IsThat command → CanCarryOutAll mark.position ss stored
   ready-plans (commands.Option name) spare next r = absurd r
@@ -233,7 +269,7 @@ module _ (history : List Command) (names : List (List ℕ)) (ts : List Triple) (
   ready-plans (commands.Default option on) spare next r = absurd r
   ready-plans (commands.Commit base choice ambition es) spare next r =
       subst (λ q. CanCarryOutAll q ss stored) (sym r.1.at)
-      (staged-plans history base choice ambition es state.legal r.0 next.accepted ts commits mark ss file_of_line stored r.1)
+      (staged-plans history base choice ambition es state.legal r.0 next.accepted ts commits mark ss plan file_of_line entries stored r.1)
 
   pub ready-state : (command : Command) (spare : ℕ) → IsNext history command spare → IsThat command → IsStateOf (history ++ command ∷ []) names ts standing new
   ready-state (commands.Option name) spare next r = absurd r
@@ -242,26 +278,38 @@ module _ (history : List Command) (names : List (List ℕ)) (ts : List Triple) (
   ready-state (commands.Default option on) spare next r = absurd r
   ready-state (commands.Commit base choice ambition es) spare next r = state-with history base choice ambition es names ts standing old new next.fits next.accepted r.2 state
 
-  pub ready-held : (command : Command) (spare : ℕ) (commits' : List CommitMark) (file_of_line' : List ℕ) (stored' : List StoredFile) → IsNext history command spare → IsThat command
-      → commits' ≡ commits ++ mark ∷ [] → file_of_line' ≡ file_of_line → AreInstalled mark.position ss stored stored' → IsHeldBy (history ++ command ∷ []) ts commits' file_of_line' stored'
-  ready-held (commands.Option name) spare commits' file_of_line' stored' next r ce he installed = absurd r
-  ready-held (commands.Constraint expr) spare commits' file_of_line' stored' next r ce he installed = absurd r
-  ready-held (commands.Prefer expr) spare commits' file_of_line' stored' next r ce he installed = absurd r
-  ready-held (commands.Default option on) spare commits' file_of_line' stored' next r ce he installed = absurd r
-  ready-held (commands.Commit base choice ambition es) spare commits' file_of_line' stored' next r ce he installed =
-      subst (λ cs. IsHeldBy (history ++ commands.Commit base choice ambition es ∷ []) ts cs file_of_line' stored') (sym ce)
-      (subst (λ xs. IsHeldBy (history ++ commands.Commit base choice ambition es ∷ []) ts (commits ++ mark ∷ []) xs stored') (sym he)
-      (held-committed history base choice ambition es state.legal r.0 next.accepted ts commits mark ss file_of_line stored r.1 stored'
-      (subst (λ q. AreInstalled q ss stored stored') r.1.at installed)))
+  pub ready-rows : (command : Command) (spare : ℕ) → IsNext history command spare → IsThat command → (entries.from ≤ mark.position) × HasRowRoom plan entries
+  ready-rows (commands.Option name) spare next r = absurd r
+  ready-rows (commands.Constraint expr) spare next r = absurd r
+  ready-rows (commands.Prefer expr) spare next r = absurd r
+  ready-rows (commands.Default option on) spare next r = absurd r
+  ready-rows (commands.Commit base choice ambition es) spare next r = (
+    subst (λ q. entries.from ≤ q) (sym r.1.at) (row-later history base choice ambition es state.legal r.0 next.accepted ts commits mark ss plan file_of_line entries stored r.1),
+    r.1.row_room,
+  )
+
+  pub ready-held : (command : Command) (spare : ℕ) (commits' : List CommitMark) (file_of_line' : List ℕ) (entries' : Dated) (stored' : List StoredFile) → IsNext history command spare → IsThat command
+      → commits' ≡ commits ++ mark ∷ [] → file_of_line' ≡ file_of_line → IsSet mark.position plan entries entries' → AreInstalled mark.position ss stored stored'
+      → IsHeldBy (history ++ command ∷ []) ts commits' file_of_line' entries' stored'
+  ready-held (commands.Option name) spare commits' file_of_line' entries' stored' next r ce he set installed = absurd r
+  ready-held (commands.Constraint expr) spare commits' file_of_line' entries' stored' next r ce he set installed = absurd r
+  ready-held (commands.Prefer expr) spare commits' file_of_line' entries' stored' next r ce he set installed = absurd r
+  ready-held (commands.Default option on) spare commits' file_of_line' entries' stored' next r ce he set installed = absurd r
+  ready-held (commands.Commit base choice ambition es) spare commits' file_of_line' entries' stored' next r ce he set installed =
+      subst (λ cs. IsHeldBy (history ++ commands.Commit base choice ambition es ∷ []) ts cs file_of_line' entries' stored') (sym ce)
+      (subst (λ xs. IsHeldBy (history ++ commands.Commit base choice ambition es ∷ []) ts (commits ++ mark ∷ []) xs entries' stored') (sym he)
+      (held-committed history base choice ambition es state.legal r.0 next.accepted ts commits mark ss plan file_of_line entries stored r.1 entries' stored'
+      (subst (λ q. IsSet q plan entries entries') r.1.at set) (subst (λ q. AreInstalled q ss stored stored') r.1.at installed)))
 
   -- given up, it leaves what is held
-  pub ready-given-up : (command : Command) (commits' : List CommitMark) (file_of_line' : List ℕ) (stored' : List StoredFile) → IsThat command
-      → commits' ≡ commits → file_of_line' ≡ take old.lines file_of_line → map contents stored' ≡ map contents (take (old.nodes - 1) stored) → IsHeldBy history ts commits' file_of_line' stored'
-  ready-given-up (commands.Option name) commits' file_of_line' stored' r ce he ee = absurd r
-  ready-given-up (commands.Constraint expr) commits' file_of_line' stored' r ce he ee = absurd r
-  ready-given-up (commands.Prefer expr) commits' file_of_line' stored' r ce he ee = absurd r
-  ready-given-up (commands.Default option on) commits' file_of_line' stored' r ce he ee = absurd r
-  ready-given-up (commands.Commit base choice ambition es) commits' file_of_line' stored' r ce he ee = given-up history ts ambition es old commits mark ss file_of_line stored commits' file_of_line' stored' state.counted r.1 ce he ee
+  pub ready-given-up : (command : Command) (commits' : List CommitMark) (file_of_line' : List ℕ) (entries' : Dated) (stored' : List StoredFile) → IsThat command
+      → commits' ≡ commits → file_of_line' ≡ take old.lines file_of_line → entries' ≡ entries → map contents stored' ≡ map contents (take (old.nodes - 1) stored) → IsHeldBy history ts commits' file_of_line' entries' stored'
+  ready-given-up (commands.Option name) commits' file_of_line' entries' stored' r ce he xe ee = absurd r
+  ready-given-up (commands.Constraint expr) commits' file_of_line' entries' stored' r ce he xe ee = absurd r
+  ready-given-up (commands.Prefer expr) commits' file_of_line' entries' stored' r ce he xe ee = absurd r
+  ready-given-up (commands.Default option on) commits' file_of_line' entries' stored' r ce he xe ee = absurd r
+  ready-given-up (commands.Commit base choice ambition es) commits' file_of_line' entries' stored' r ce he xe ee =
+      given-up history ts ambition es old commits mark ss plan file_of_line entries stored commits' file_of_line' entries' stored' state.counted r.1 ce he xe ee
 
 -- the edits of an accepted command name near nodes
 pub next-near : (history : List Command) (command : Command) (counts : Counts) (edits : List Edit) → AreCountsOf history counts → verdict history command ≡ None → edits ≡ edits_in command → AreNear (counts.nodes - 1) edits
@@ -273,23 +321,64 @@ next-near history command counts edits are accepted e = subst (AreNear (counts.n
     by (commands.Prefer expr) accepted = tt
     by (commands.Default option on) accepted = tt
     by (commands.Commit base choice ambition es) accepted =
-        subst (λ n. AreNear n es) (sym (first-nodes history counts are)) (edits-near history base choice ambition es accepted)
+        let sized = accepted-sizes history base choice ambition es accepted in
+        subst (λ n. AreNear n es) (sym (first-nodes history counts are))
+        (edits-near history base choice es (nodes-few history es sized.0 sized.1) (edits-accepted history base choice ambition es accepted))
+
+-- edits that are within its limits name near nodes, and make few
+module _ (history : List Command) (counts : Counts) (es some : List Edit) (before : ℕ) (are : AreCountsOf history counts) (is : before ≡ counts.nodes - 1) where
+  nodes-before : before ≡ (numbers_of history).nodes
+  nodes-before = is ∙ first-nodes history counts are
+
+  pub first-near : IsInBounds history es → some ≡ es → AreNear before some
+  first-near within e = subst (AreNear before) (sym e) (subst (λ n. AreNear n es) (sym nodes-before) within.near)
+
+  pub first-few : IsInBounds history es → some ≡ es → before + nodes_made some < 2 ^ 32
+  first-few within e = let nodes = are.nodes in let few = within.nodes in let same = ap nodes_made e in omega (arith, nodes, few, same, is)
+
+-- what a plan makes of a commit's edits, and the nodes that it then has
+pub made-changes : (history : List Command) (counts : Counts) (ts : List Triple) (entries : Dated) (es some : List Edit) (before node at : ℕ) (plan : Option (List Entry)) → AreCountsOf history counts → before ≡ counts.nodes - 1 → at ≡ node → some ≡ es
+    → Makes ts entries plan (edit_changes before before at some) → Makes ts entries plan (edit_changes (numbers_of history).nodes (numbers_of history).nodes node es)
+made-changes history counts ts entries es some before node at plan are is own same makes =
+    subst (λ a. Makes ts entries plan (edit_changes (numbers_of history).nodes (numbers_of history).nodes a es)) own
+    (subst (λ xs. Makes ts entries plan (edit_changes (numbers_of history).nodes (numbers_of history).nodes at xs)) same
+    (subst (λ n. Makes ts entries plan (edit_changes n n at some)) (nodes-before history counts es some before are is) makes))
+
+pub made-nodes : (history : List Command) (counts : Counts) (entries : Dated) (es some : List Edit) (before : ℕ) (first plan : Option (List Entry)) → AreCountsOf history counts → before ≡ counts.nodes - 1 → some ≡ es
+    → nodes_with first entries ≡ nodes_in entries → nodes_with plan entries ≡ made_by before some (nodes_with first entries) → nodes_with plan entries ≡ made_by (numbers_of history).nodes es (nodes_in entries)
+made-nodes history counts entries es some before first plan are is same begun listed =
+    listed
+    ∙ ap (made_by before some) begun
+    ∙ ap (λ n. made_by n some (nodes_in entries)) (nodes-before history counts es some before are is)
+    ∙ ap (λ xs. made_by (numbers_of history).nodes xs (nodes_in entries)) same
+
+-- the node of the constraints is one of each table that goes on, and names only declared options
+pub conjunction-stands : {history : List Command} {names : List (List ℕ)} {ts : List Triple} {standing : Standing} {counts : Counts} (new : List Triple) → IsStateOf history names ts standing counts → Extends ts new
+    → Stands new standing.conjunction 0 (option_count history) (is_valid (expressions standing.constraints))
+conjunction-stands {history} {names} {ts} {standing} new state grown =
+    stands_weaker 0 (option_count history) (is_valid (expressions standing.constraints)) (omega arith) state.rules.below.constraints (λ c. refl) (stands_later grown state.rules.holds.conjunction)
+
+-- the node of the constraints is true on exactly the valid choices, in each table that goes on
+pub conjunction-later : {history : List Command} {names : List (List ℕ)} {ts : List Triple} {standing : Standing} {counts : Counts} (new : List Triple) → IsStateOf history names ts standing counts → Extends ts new
+    → (c : List Bool) → value_in new standing.conjunction c ≡ is_valid_in history c
+conjunction-later new state grown c =
+    grown.value _ state.rules.holds.conjunction.within c ∙ state.rules.holds.conjunction.value c ∙ ap (λ fs. is_valid fs c) state.rules.constraints
 
 -- a history with edits that are within its limits
-module _ (history : List Command) (ambition : Formula ℕ) (es : List Edit) (counts : Counts) (ts : List Triple) (commits : List CommitMark) (file_of_line : List ℕ) (stored : List StoredFile)
-    (are : AreCountsOf history counts) (held : IsHeldBy history ts commits file_of_line stored) (within : IsInBounds history es) where
+module _ (history : List Command) (es : List Edit) (counts : Counts) (ts : List Triple) (commits : List CommitMark) (file_of_line : List ℕ) (entries : Dated) (stored : List StoredFile)
+    (are : AreCountsOf history counts) (held : IsHeldBy history ts commits file_of_line entries stored) (within : IsInBounds history es) where
   pub held-nodes : counts.nodes ≡ length stored + 1
   held-nodes =
-      let count = held-count history commits stored held.rows in
+      let count = held.counted in
       let nodes = are.nodes in
       omega (arith, count, nodes)
 
   pub held-near : (some : List Edit) → some ≡ es → AreNear (length stored) some
-  held-near some e = subst (AreNear (length stored)) (sym e) (subst (λ n. AreNear n es) (sym (held-count history commits stored held.rows)) within.near)
+  held-near some e = subst (AreNear (length stored)) (sym e) (subst (λ n. AreNear n es) (sym held.counted) within.near)
 
   pub held-few : (some : List Edit) → some ≡ es → length stored + nodes_made some < 2 ^ 32 - 1
   held-few some e =
-      let count = held-count history commits stored held.rows in
+      let count = held.counted in
       let nodes = within.nodes in
       let same = ap nodes_made e in
       omega (arith, count, nodes, same)
@@ -301,34 +390,42 @@ module _ (history : List Command) (ambition : Formula ℕ) (es : List Edit) (cou
   held-low some e = subst (AreLow counts.lines) (sym e) (subst (λ m. AreLow m es) (sym are.lines) within.low)
 
   -- what is staged of them is ready
-  pub is-ready : (spare : ℕ) (mark : CommitMark) (new : Counts) (node : ℕ) (plans : List EditPlan) (commits' : List CommitMark) (file_of_line' : List ℕ) (stored' : List StoredFile) (some : List Edit) → some ≡ es
-      → mark.position ≡ length history + 1 → mark.ambition ≡ ambition → mark.node ≡ node → mark.touched ≡ touched es
+  pub is-ready : (ambition : Formula ℕ) (spare : ℕ) (mark : CommitMark) (new : Counts) (before : List Triple) (plans : List EditPlan) (plan : Option (List Entry)) (commits' : List CommitMark) (file_of_line' : List ℕ) (entries' : Dated) (stored' : List StoredFile) (some : List Edit) → some ≡ es
+      → IsCommitPlan history before entries ambition es mark plan → Extends before ts
       → new ≡ record { lines = counts.lines + length (anchors_of 0 es); nodes = counts.nodes + nodes_made es; bytes = counts.bytes + text_bytes es }
-      → Stands ts node 0 (option_count history) (value ambition) → ArePlanned mark.position stored (counts.nodes - 1) counts.lines node ts counts.lines some plans
-      → commits' ≡ commits → file_of_line' ≡ file_of_line ++ new_file_of_line (length stored) some
-      → map contents stored' ≡ map contents stored ++ new_files (length stored) (length commits) (length stored) some → AllByRecursion (HasRoom (length stored) counts.lines some) stored' → 0 < spare
-      → IsStaged history ts ambition es commits' mark plans file_of_line' stored' × AreCountsWith history es new × (0 < spare)
-  is-ready spare mark new node plans commits' file_of_line' stored' some e at amb own touching ne stands planned ce he ee room free =
-      let count = held-count history commits stored held.rows in
+      → ArePlanned mark.position stored (counts.nodes - 1) counts.lines mark.node ts counts.lines some plans
+      → commits' ≡ commits → without_room entries' ≡ without_room entries → file_of_line' ≡ file_of_line ++ new_file_of_line (length stored) some
+      → map contents stored' ≡ map contents stored ++ new_files (length stored) some → AllByRecursion (HasRoom (length stored) counts.lines some) stored' → HasRowRoom plan entries' → 0 < spare
+      → IsStaged history ts ambition es commits' mark plans plan file_of_line' entries' stored' × AreCountsWith history es new × (0 < spare)
+  is-ready ambition spare mark new before plans plan commits' file_of_line' entries' stored' some e planned_before grown ne planned ce xe he ee room row_room free =
+      let count = held.counted in
       let nodes : counts.nodes - 1 ≡ (numbers_of history).nodes = first-nodes history counts are in (
         record {
           old_file_of_line = file_of_line;
           old_stored = stored;
-          held = subst (λ cs. IsHeldBy history ts cs file_of_line stored) (sym ce) held;
-          at = at;
-          within = amb;
-          touches = touching;
+          held = subst (λ cs. IsHeldBy history ts cs file_of_line entries' stored) (sym ce) (held-contents history ts commits file_of_line entries entries' stored stored xe refl held);
+          at = planned_before.at;
+          touches = planned_before.touches;
           file_of_line_is = he ∙ ap (λ k. file_of_line ++ new_file_of_line k some) count ∙ ap (λ x. file_of_line ++ new_file_of_line (numbers_of history).nodes x) e;
-          rows = ee ∙ ap (λ n. map contents stored ++ new_files n (length commits) n some) count
-              ∙ ap (λ k. map contents stored ++ new_files (numbers_of history).nodes k (numbers_of history).nodes some) (ap length (sym ce))
-              ∙ ap (λ x. map contents stored ++ new_files (numbers_of history).nodes (length commits') (numbers_of history).nodes x) e;
+          files = ee ∙ ap (λ n. map contents stored ++ new_files n some) count ∙ ap (λ x. map contents stored ++ new_files (numbers_of history).nodes x) e;
           room = subst (λ x. AllByRecursion (HasRoom (numbers_of history).nodes (line_count history) x) stored') e
               (subst (λ m. AllByRecursion (HasRoom (numbers_of history).nodes m some) stored') are.lines (subst (λ n. AllByRecursion (HasRoom n counts.lines some) stored') count room));
-          stands = subst (λ a. Stands ts a 0 (option_count history) (value ambition)) (sym own) stands;
-          planned = subst (λ a. ArePlanned (length history + 1) stored (numbers_of history).nodes (line_count history) a ts (line_count history) es plans) (sym own) (subst (λ x. ArePlanned (length history + 1) stored (numbers_of history).nodes (line_count history) node ts (line_count history) x plans) e
-              (subst (λ m. ArePlanned (length history + 1) stored (numbers_of history).nodes m node ts m some plans) are.lines
-              (subst (λ n. ArePlanned (length history + 1) stored n counts.lines node ts counts.lines some plans) nodes
-              (subst (λ q. ArePlanned q stored (counts.nodes - 1) counts.lines node ts counts.lines some plans) at planned))));
+          changes = makes-room ts entries entries' plan _ xe (plans_grow before ts entries plan _ grown planned_before.changes);
+          nodes = ap (λ (d : Dated). nodes_with plan d) xe
+              ∙ planned_before.nodes
+              ∙ new-files-nodes (numbers_of history).nodes es (nodes_in entries)
+              ∙ ap (λ ns. ns ++ map (λ (s : Contents). s.node) (new_files (numbers_of history).nodes es)) (held.made ∙ sym (contents-nodes stored))
+              ∙ ap (λ x. map (λ (s : Contents). s.node) (map contents stored) ++ map (λ (s : Contents). s.node) (new_files (numbers_of history).nodes x)) (sym e)
+              ∙ ap (λ n. map (λ (s : Contents). s.node) (map contents stored) ++ map (λ (s : Contents). s.node) (new_files n some)) (sym count)
+              ∙ sym (map-append (λ (s : Contents). s.node) (map contents stored) (new_files (length stored) some))
+              ∙ ap (map (λ (s : Contents). s.node)) (sym ee)
+              ∙ contents-nodes stored';
+          row_room = row_room;
+          stands = stands_later grown planned_before.stands;
+          planned = subst (λ x. ArePlanned (length history + 1) stored (numbers_of history).nodes (line_count history) mark.node ts (line_count history) x plans) e
+              (subst (λ m. ArePlanned (length history + 1) stored (numbers_of history).nodes m mark.node ts m some plans) are.lines
+              (subst (λ n. ArePlanned (length history + 1) stored n counts.lines mark.node ts counts.lines some plans) nodes
+              (subst (λ q. ArePlanned q stored (counts.nodes - 1) counts.lines mark.node ts counts.lines some plans) planned_before.at planned)));
         },
         record {
           lines = ap (λ (k : Counts). k.lines) ne ∙ ap (λ n. n + length (anchors_of 0 es)) are.lines;
@@ -338,10 +435,11 @@ module _ (history : List Command) (ambition : Formula ℕ) (es : List Edit) (cou
         free,
       )
 
-pub held-again : (history : List Command) (ts : List Triple) (commits commits' : List CommitMark) (file_of_line file_of_line' : List ℕ) (stored stored' : List StoredFile) → IsHeldBy history ts commits file_of_line stored
-    → commits' ≡ commits → file_of_line' ≡ file_of_line → map contents stored' ≡ map contents stored → IsHeldBy history ts commits' file_of_line' stored'
-held-again history ts commits commits' file_of_line file_of_line' stored stored' held ce he ee =
-    subst (λ cs. IsHeldBy history ts cs file_of_line' stored') (sym ce) (subst (λ xs. IsHeldBy history ts commits xs stored') (sym he) (held-contents history ts commits file_of_line stored stored' ee held))
+pub held-again : (history : List Command) (ts : List Triple) (commits commits' : List CommitMark) (file_of_line file_of_line' : List ℕ) (entries entries' : Dated) (stored stored' : List StoredFile) → IsHeldBy history ts commits file_of_line entries stored
+    → commits' ≡ commits → file_of_line' ≡ file_of_line → without_room entries' ≡ without_room entries → map contents stored' ≡ map contents stored → IsHeldBy history ts commits' file_of_line' entries' stored'
+held-again history ts commits commits' file_of_line file_of_line' entries entries' stored stored' held ce he xe ee =
+    subst (λ cs. IsHeldBy history ts cs file_of_line' entries' stored') (sym ce)
+    (subst (λ xs. IsHeldBy history ts commits xs entries' stored') (sym he) (held-contents history ts commits file_of_line entries entries' stored stored' xe ee held))
 
 -- the nodes of what is held are of the table
 pub held-within : (history : List Command) (ts : List Triple) (q : ℕ) (stored : List StoredFile) → length history ≤ q → AllByRecursion (IsFileOf history ts) stored → AllByRecursion (HasNodesIn ts q) stored

@@ -7,13 +7,13 @@ use Rattle.std.proofs.lemmas.Bool.Decides.{nat_tests}
 use Rattle.std.proofs.lemmas.List.Folds.{list_any-append}
 use Rattle.cov_base.proofs.CallerLemmas.{all-map}
 use Rattle.cov_edit.proofs.CallerLemmas.{rest_of, opened}
-use Rattle.cov_base.specs.declared.number.Kind.{Kind}
 use Rattle.cov_base.specs.declared.number.NodeRef.{NodeRef}
 use Rattle.cov_base.specs.declared.number.LineRef.{LineRef}
 use Rattle.cov_base.specs.declared.limits.TheConstants.{LIMITS}
 use Rattle.cov_edit.specs.declared.edit.Edit.{Edit}
 use Rattle.cov_edit.specs.declared.edit.Edit.TheVariants as edits
 use Rattle.cov_edit.specs.Numbering.{node_number, line_number}
+use Rattle.cov_history.specs.RowChanges.{changes_rows}
 use Rattle.cov_file.specs.Dated.{line_numbers_of}
 use Rattle.cov_file.specs.Rooms.{IsMade}
 use Rattle.cov_order.specs.Orders.{has_line}
@@ -31,6 +31,9 @@ inserts-few n node (edits.Insert file after text ∷ es) = by (nat_eq (node_numb
     by : (b : Bool) → inserts_into n node es ≤ length es → cond b (suc (inserts_into n node es)) (inserts_into n node es) ≤ suc (length es)
     by true ih = omega (arith, ih)
     by false ih = omega (arith, ih)
+inserts-few n node (edits.Rename which name ∷ es) = let ih = inserts-few n node es in omega (arith, ih)
+inserts-few n node (edits.Move which parent ∷ es) = let ih = inserts-few n node es in omega (arith, ih)
+inserts-few n node (edits.Remove which ∷ es) = let ih = inserts-few n node es in omega (arith, ih)
 
 flip : (a b : ℕ) (t : Bool) → nat_eq a b ≡ t → nat_eq b a ≡ t
 flip a b true h = grind (arith, nat_tests, h)
@@ -154,20 +157,26 @@ module _ (n m : ℕ) (es ahead : List Edit) where
       by true e = delete-here file line old new (h.here e) ready
       by false e = subst (IsReadyBut n m es ahead) (sym (h.elsewhere e)) (delete-elsewhere file line old (flip old.node (node_number n file) false e) ready)
 
-  new-row : (kind : Kind) (parent : NodeRef) (name : List ℕ) (e : StoredFile) → IsReadyBut n m es (edits.New kind parent name ∷ ahead) e → IsReadyBut n m es ahead e
-  new-row kind parent name e ready = record {
-    inserts = ready.inserts;
-    counted = ready.counted;
-    listed = ready.listed;
-    changes = ready.changes;
-    position = ready.position;
-  }
+  -- an edit that changes rows expects nothing
+  row-edit : (edit : Edit) → changes_rows edit ≡ true → (e : StoredFile) → IsReadyBut n m es (edit ∷ ahead) e → IsReadyBut n m es ahead e
+  row-edit (edits.New kind parent name) is e ready = record { inserts = ready.inserts; counted = ready.counted; listed = ready.listed; changes = ready.changes; position = ready.position }
+  row-edit (edits.Insert file after text) is e ready = absurd (cc)
+  row-edit (edits.Delete file line) is e ready = absurd (cc)
+  row-edit (edits.Rename node name) is e ready = record { inserts = ready.inserts; counted = ready.counted; listed = ready.listed; changes = ready.changes; position = ready.position }
+  row-edit (edits.Move node parent) is e ready = record { inserts = ready.inserts; counted = ready.counted; listed = ready.listed; changes = ready.changes; position = ready.position }
+  row-edit (edits.Remove node) is e ready = record { inserts = ready.inserts; counted = ready.counted; listed = ready.listed; changes = ready.changes; position = ready.position }
+
+  nothing-expected : (edit : Edit) (old new : List StoredFile) → changes_rows edit ≡ true → new ≡ old → AllByRecursion (IsReadyBut n m es (edit ∷ ahead)) old → AllByRecursion (IsReadyBut n m es ahead) new
+  nothing-expected edit old new is same ready =
+      subst (AllByRecursion (IsReadyBut n m es ahead)) (sym same) (all-map (IsReadyBut n m es (edit ∷ ahead)) (IsReadyBut n m es ahead) (row-edit edit is) old ready)
 
   -- once what an edit does is expected, there is room but for the edits after it
   pub expected : (edit : Edit) (old new : List StoredFile) → Expects n m edit old new → length es ≤ LIMITS.edits
       → AllByRecursion (IsReadyBut n m es (edit ∷ ahead)) old → AllByRecursion (IsReadyBut n m es ahead) new
-  expected (edits.New kind parent name) old new same few ready =
-      subst (AllByRecursion (IsReadyBut n m es ahead)) (sym same) (all-map (IsReadyBut n m es (edits.New kind parent name ∷ ahead)) (IsReadyBut n m es ahead) (new-row kind parent name) old ready)
+  expected (edits.New kind parent name) old new same few ready = nothing-expected (edits.New kind parent name) old new refl same ready
+  expected (edits.Rename node name) old new same few ready = nothing-expected (edits.Rename node name) old new refl same ready
+  expected (edits.Move node parent) old new same few ready = nothing-expected (edits.Move node parent) old new refl same ready
+  expected (edits.Remove node) old new same few ready = nothing-expected (edits.Remove node) old new refl same ready
   expected (edits.Insert file after text) old new pairs few ready =
       all-pairs (IsChangedIn (node_number n file) IsExpectingInsert) (IsReadyBut n m es (edits.Insert file after text ∷ ahead)) (IsReadyBut n m es ahead) (insert-one file after text few) old new pairs ready
   expected (edits.Delete file line) old new pairs few ready =
@@ -200,18 +209,25 @@ map-take n es fs h = sym (take-map contents n es) ∙ ap (take n) h ∙ take-map
 pub front-contents : (old staged now : List StoredFile) → take (length old) staged ≡ old → map contents now ≡ map contents staged → map contents (take (length old) now) ≡ map contents old
 front-contents old staged now front same = map-take (length old) now staged same ∙ ap (map contents) front
 
-numbers-append : (k n commit made : ℕ) (es : List Edit) → made ≡ k → AreNumbers k (new_files n commit made es)
-numbers-append k n commit made [] e = tt
-numbers-append k n commit made (edits.New kind parent name ∷ es) e = (omega (arith, e), numbers-append (k + 1) n commit (made + 1) es (omega (arith, e)))
-numbers-append k n commit made (edits.Insert file after text ∷ es) e = numbers-append k n commit made es e
-numbers-append k n commit made (edits.Delete file line ∷ es) e = numbers-append k n commit made es e
+numbers-append : (k made : ℕ) (es : List Edit) → made ≡ k → AreNumbers k (new_files made es)
+numbers-append k made [] e = tt
+numbers-append k made (edits.New kind parent name ∷ es) e = (omega (arith, e), numbers-append (k + 1) (made + 1) es (omega (arith, e)))
+numbers-append k made (edits.Insert file after text ∷ es) e = numbers-append k made es e
+numbers-append k made (edits.Delete file line ∷ es) e = numbers-append k made es e
+numbers-append k made (edits.Rename node name ∷ es) e = numbers-append k made es e
+numbers-append k made (edits.Move node parent ∷ es) e = numbers-append k made es e
+numbers-append k made (edits.Remove node ∷ es) e = numbers-append k made es e
 
 numbers-both : (k end : ℕ) (ss ts : List Contents) → end ≡ k + length ss → AreNumbers k ss → AreNumbers end ts → AreNumbers k (ss ++ ts)
 numbers-both k end [] ts e h g = let same : end ≡ k = omega (arith, e) in subst (λ n. AreNumbers n ts) same g
 numbers-both k end (s ∷ ss) ts e h g = (h.0, numbers-both (k + 1) end ss ts (omega (arith, e)) h.1 g)
 
 -- the stored files that are staged go on with the numbers
-pub staged-numbers : (n commit : ℕ) (old now : List StoredFile) (es : List Edit) → map contents now ≡ map contents old ++ new_files n commit (length old) es → AreNumbered 0 old → AreNumbered 0 now
-staged-numbers n commit old now es e h =
+pub staged-numbers : (old now : List StoredFile) (es : List Edit) → map contents now ≡ map contents old ++ new_files (length old) es → AreNumbered 0 old → AreNumbered 0 now
+staged-numbers old now es e h =
     from-numbers 0 now (subst (AreNumbers 0) (sym e)
-    (numbers-both 0 (length old) (map contents old) (new_files n commit (length old) es) (let all = length-map old contents in omega (arith, all)) (to-numbers 0 old h) (numbers-append (length old) n commit (length old) es refl)))
+    (numbers-both 0 (length old) (map contents old) (new_files (length old) es) (let all = length-map old contents in omega (arith, all)) (to-numbers 0 old h) (numbers-append (length old) (length old) es refl)))
+
+-- stored files that are the same but for their rooms are of the same nodes
+pub same-numbers : (old now : List StoredFile) → map contents now ≡ map contents old → AreNumbered 0 old → AreNumbered 0 now
+same-numbers old now e h = from-numbers 0 now (subst (AreNumbers 0) (sym e) (to-numbers 0 old h))

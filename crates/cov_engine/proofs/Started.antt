@@ -137,3 +137,6 @@ module _ (history : List Command) (base : ℕ) (choice : List Bool) (ambition : 
   planned-right made (edits.Insert file after text ∷ later) ss h = (h.0, h.1, planned-right (made + 1) later h.0 h.2)
   planned-right made (edits.Delete file line ∷ later) ss h =
       (h.0, h.1, h.2, taken-right (node_number n file) (line_number (line_count history) line) h.0 h.3, planned-right made later h.1 h.4)
+  planned-right made (edits.Rename node name ∷ later) ss h = planned-right made later ss h
+  planned-right made (edits.Move node parent ∷ later) ss h = planned-right made later ss h
+  planned-right made (edits.Remove node ∷ later) ss h = planned-right made later ss h

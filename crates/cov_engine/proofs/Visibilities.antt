@@ -25,6 +25,7 @@ use Rattle.cov_engine.specs.Nodes.{IsDated, AreDated}
 use Rattle.cov_history.specs.Verdict.{IsLegal}
 use Rattle.cov_engine.specs.Visibility.{has_line_number, IsVisibilityOf, is_no_line, as_row, item_of, stored_file_of}
 use Rattle.cov_history.proofs.CallerLemmas.{any-seen, replay-seen, seen-cons, holding-stands}
+use Rattle.cov_tree.specs.Dated.{Dated}
 use Rattle.cov_engine.proofs.FileOfLine.{equal, stored-held, none-stored, line-stored, no-line-file}
 
 -- the first item that passes a test
@@ -190,10 +191,10 @@ pub record TellsVisibility (history : List Command) (ts : List Triple) (line : �
   pub none : is_none answer ≡ is_no_line history line
   pub stands : IfSome answer (IsVisibilityOf history ts line)
 
-module _ (history : List Command) (ts : List Triple) (commits : List CommitMark) (file_of_line : List ℕ) (stored : List StoredFile) (legal : IsLegal history) (held : IsHeldBy history ts commits file_of_line stored) where
+module _ (history : List Command) (ts : List Triple) (commits : List CommitMark) (file_of_line : List ℕ) (entries : Dated) (stored : List StoredFile) (legal : IsLegal history) (held : IsHeldBy history ts commits file_of_line entries stored) where
   -- where the line's file has no stored file
   pub no-answer : (line : ℕ) → stored_file_of stored (item_of file_of_line line) ≡ None → is_no_line history line ≡ true
-  no-answer line h = by (no-line-file history ts commits file_of_line stored legal held line h)
+  no-answer line h = by (no-line-file history ts commits file_of_line entries stored legal held line h)
     where
       by : (line ≡ 0) ⊎ (line_count history < line) → is_no_line history line ≡ true
       by (inl e) = let zero_is : nat_eq line 0 ≡ true = grind (arith, nat_tests, e) in ap (λ b. b || nat_lt (line_count history) line) zero_is
@@ -206,7 +207,7 @@ module _ (history : List Command) (ts : List Triple) (commits : List CommitMark)
   pub answer : (line : ℕ) (e : StoredFile) (result : Option ℕ) → stored_file_of stored (item_of file_of_line line) ≡ Some e → ((p : ℕ) → e.file.newest ≤ p → result ≡ vis_of line p e.file.lines)
       → TellsVisibility history ts line result
   answer line e result h latest =
-      let its = line-stored history ts commits file_of_line stored legal held line e h in
+      let its = line-stored history ts commits file_of_line entries stored legal held line e h in
       let node = node-stands history ts line e its.2 its.3 in
       let is : result ≡ Some node.node = latest (length history) its.3.newest ∙ node.is in
       let above : 0 < line = its.0 in
@@ -225,9 +226,9 @@ module _ (history : List Command) (ts : List Triple) (commits : List CommitMark)
   -- all lines of a file are those kept
   pub all-kept : (file : ℕ) (e : StoredFile) → item_of stored file ≡ Some e → all_rows e.file.lines ≡ map as_row (file_dated file (kept_of history))
   all-kept file e h =
-      let own = stored-held history ts commits file_of_line stored legal held file e h in
+      let own = stored-held history ts commits file_of_line entries stored legal held file e h in
       same-rows (option_count history) (file_dated e.node (kept_of history)) e.file.lines own.1.lines
       ∙ ap (λ f. map as_row (file_dated f (kept_of history))) own.0
 
   pub none-kept : (file : ℕ) → item_of stored file ≡ None → [] ≡ map as_row (file_dated file (kept_of history))
-  none-kept file h = sym (ap (λ ks. map as_row (map dated ks)) (none-stored history ts commits file_of_line stored legal held file h))
+  none-kept file h = sym (ap (λ ks. map as_row (map dated ks)) (none-stored history ts commits file_of_line entries stored legal held file h))

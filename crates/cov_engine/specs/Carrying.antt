@@ -43,7 +43,7 @@ CanCarryOut at (plans.Delete file line vis) e = CanDelete at line e
 
 -- a stored file with other lines, the newest change of which is at a position
 abbrev pub with_other_lines : StoredFile → List FileLine → ℕ → Contents
-with_other_lines e ls newest = record { node = e.node; kind = e.kind; parent = e.parent; name = e.name; commit = e.commit; lines = ls; newest = newest }
+with_other_lines e ls newest = record { node = e.node; lines = ls; newest = newest }
 
 -- a file has taken a line after an anchor
 pub record IsInserted (at anchor line : ℕ) (text : List ℕ) (vis : ℕ) (old new : StoredFile) : Type 0 where
@@ -117,6 +117,9 @@ abbrev pub Expects : ℕ → ℕ → Edit → List StoredFile → List StoredFil
 Expects n m (edits.New kind parent name) old new = new ≡ old
 Expects n m (edits.Insert file after text) old new = ExpectsInsert (node_number n file) old new
 Expects n m (edits.Delete file line) old new = ExpectsDelete (node_number n file) (line_number m line) old new
+Expects n m (edits.Rename node name) old new = new ≡ old
+Expects n m (edits.Move node parent) old new = new ≡ old
+Expects n m (edits.Remove node) old new = new ≡ old
 
 module _ (p : ℕ) (stored : List StoredFile) (n m ambition : ℕ) where
   -- the plans of edits, n nodes and m lines having been made before the commit and so many lines before these edits: an
@@ -130,6 +133,9 @@ module _ (p : ℕ) (stored : List StoredFile) (n m ambition : ℕ) where
   ArePlanned ts made (edits.Delete file line ∷ es) ss =
       (vis : ℕ) × (rest : List EditPlan) × (ss ≡ plans.Delete (node_number n file) (line_number m line) vis ∷ rest)
       × IsTaken ts p stored ambition (node_number n file) (line_number m line) vis × ArePlanned ts made es rest
+  ArePlanned ts made (edits.Rename node name ∷ es) ss = ArePlanned ts made es ss
+  ArePlanned ts made (edits.Move node parent ∷ es) ss = ArePlanned ts made es ss
+  ArePlanned ts made (edits.Remove node ∷ es) ss = ArePlanned ts made es ss
 
   -- an edit's plans are put behind others, and are its plans in every table that is longer
   abbrev pub IsPlannedBehind : List Triple → ℕ → Edit → List EditPlan → List EditPlan → Type 0

@@ -1,10 +1,12 @@
 pub mod Staging
 pub mod Staged
+pub mod Evidence
 pub mod Holdings
 pub mod Marks
 pub mod Nodes
 pub mod Overtakers
 pub mod Ready
+pub mod RowPlans
 pub mod Ruling
 pub mod Showing
 pub mod States

@@ -1,5 +1,5 @@
 -- What is ready for a command.
-use Rattle.std.specs.Prelude.{◌≡◌, ℕ, ◌+◌, ◌<◌, ◌≤◌, true, List, [], length, Some, None}
+use Rattle.std.specs.Prelude.{◌≡◌, ℕ, ◌+◌, ◌<◌, ◌≤◌, true, List, [], length, Option, Some, None}
 use Rattle.cov_dd.specs.declared.triple.Triple.{Triple}
 use Rattle.cov_expr.specs.Formula.{Formula}
 use Rattle.cov_edit.specs.declared.edit.Edit.{Edit}
@@ -9,6 +9,8 @@ use Rattle.cov_edit.specs.Fits.{fits_command}
 use Rattle.cov_edit.specs.History.{text_bytes, byte_count}
 use Rattle.cov_edit.specs.Limits.{limits_of}
 use Rattle.cov_edit.specs.Numbering.{nodes_made, anchors_of, numbers_of, line_count, node_count}
+use Rattle.cov_tree.specs.declared.entry.Entry.{Entry}
+use Rattle.cov_tree.specs.Dated.{Dated}
 use Rattle.cov_rules.specs.Installing.{RulesValue, IsPlan}
 use Rattle.cov_engine.specs.Staging.{AreNear, AreLow}
 use Rattle.cov_engine.specs.Staged.{IsStaged}
@@ -45,26 +47,26 @@ pub record AreCountsWith (history : List Command) (es : List Edit) (counts : Cou
   pub bytes : counts.bytes ≡ byte_count history + text_bytes es
 
 -- what is staged for edits and an ambition is ready, and there is room for their commit
-abbrev pub IsStagedReady : List Command → List Triple → Formula ℕ → List Edit → ℕ → List CommitMark → List ℕ → List StoredFile → Ready → Type 0
-IsStagedReady history ts ambition es spare commits file_of_line stored (ready.Option name) = ⊥
-IsStagedReady history ts ambition es spare commits file_of_line stored (ready.Rule rule plan) = ⊥
-IsStagedReady history ts ambition es spare commits file_of_line stored (ready.Commit mark counts plans) =
-    IsStaged history ts ambition es commits mark plans.items file_of_line stored × AreCountsWith history es counts × (0 < spare)
+abbrev pub IsStagedReady : List Command → List Triple → Formula ℕ → List Edit → ℕ → List CommitMark → List ℕ → Dated → List StoredFile → Ready → Type 0
+IsStagedReady history ts ambition es spare commits file_of_line entries stored (ready.Option name) = ⊥
+IsStagedReady history ts ambition es spare commits file_of_line entries stored (ready.Rule rule plan) = ⊥
+IsStagedReady history ts ambition es spare commits file_of_line entries stored (ready.Commit mark counts plans rows) =
+    IsStaged history ts ambition es commits mark plans.items rows file_of_line entries stored × AreCountsWith history es counts × (0 < spare)
 
 -- a commit is staged, and there is room for it
-abbrev pub IsCommitReady : List Command → List Triple → Command → ℕ → List CommitMark → List ℕ → List StoredFile → CommitMark → Counts → List EditPlan → Type 0
-IsCommitReady history ts (commands.Commit base choice ambition es) spare commits file_of_line stored mark counts plans =
-    MayCome history (commands.Commit base choice ambition es) × IsStaged history ts ambition es commits mark plans file_of_line stored × AreCountsWith history es counts × (0 < spare)
-IsCommitReady history ts command spare commits file_of_line stored mark counts plans = ⊥
+abbrev pub IsCommitReady : List Command → List Triple → Command → ℕ → List CommitMark → List ℕ → Dated → List StoredFile → CommitMark → Counts → List EditPlan → Option (List Entry) → Type 0
+IsCommitReady history ts (commands.Commit base choice ambition es) spare commits file_of_line entries stored mark counts plans rows =
+    MayCome history (commands.Commit base choice ambition es) × IsStaged history ts ambition es commits mark plans rows file_of_line entries stored × AreCountsWith history es counts × (0 < spare)
+IsCommitReady history ts command spare commits file_of_line entries stored mark counts plans rows = ⊥
 
 -- what a command wants is ready: a name and room for it, a rule with its plan, or what a commit stages
-abbrev pub IsReady : List Command → Command → ℕ → List Triple → RulesValue → ℕ → List CommitMark → List ℕ → List StoredFile → Ready → Type 0
-IsReady history command options_spare ts rules commits_spare commits file_of_line stored (ready.Option name) =
-    (command ≡ commands.Option name) × (0 < options_spare) × IsHeldBy history ts commits file_of_line stored
-IsReady history command options_spare ts rules commits_spare commits file_of_line stored (ready.Rule rule plan) =
-    (rule_in command ≡ Some rule) × IsPlan ts rules rule plan × IsHeldBy history ts commits file_of_line stored
-IsReady history command options_spare ts rules commits_spare commits file_of_line stored (ready.Commit mark counts plans) =
-    IsCommitReady history ts command commits_spare commits file_of_line stored mark counts plans.items
+abbrev pub IsReady : List Command → Command → ℕ → List Triple → RulesValue → ℕ → List CommitMark → List ℕ → Dated → List StoredFile → Ready → Type 0
+IsReady history command options_spare ts rules commits_spare commits file_of_line entries stored (ready.Option name) =
+    (command ≡ commands.Option name) × (0 < options_spare) × IsHeldBy history ts commits file_of_line entries stored
+IsReady history command options_spare ts rules commits_spare commits file_of_line entries stored (ready.Rule rule plan) =
+    (rule_in command ≡ Some rule) × IsPlan ts rules rule plan × IsHeldBy history ts commits file_of_line entries stored
+IsReady history command options_spare ts rules commits_spare commits file_of_line entries stored (ready.Commit mark counts plans rows) =
+    IsCommitReady history ts command commits_spare commits file_of_line entries stored mark counts plans.items rows
 
 -- the edits of a commit
 abbrev pub edits_in : Command → List Edit

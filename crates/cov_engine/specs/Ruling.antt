@@ -53,4 +53,4 @@ IsRefusalOf s rule r = (count : ℕ) → AreOptions count s rule → RefusedBy r
 abbrev pub IsRuleReady : Command → List Triple → RulesValue → Ready → Type 0
 IsRuleReady command ts standing (ready.Option name) = ⊥
 IsRuleReady command ts standing (ready.Rule rule plan) = (rule_in command ≡ Some rule) × IsPlan ts standing rule plan
-IsRuleReady command ts standing (ready.Commit mark counts plans) = ⊥
+IsRuleReady command ts standing (ready.Commit mark counts plans rows) = ⊥

@@ -1,7 +1,6 @@
 -- What a commit adds to what is kept.
 use Rattle.std.specs.Prelude.{◌≡◌, ℕ, suc, ◌+◌, ◌-◌, ◌^◌, ◌<◌, ◌≤◌, Bool, true, false, ◌&&◌, ◌||◌, nat_eq, nat_lt, nat_le, List, [], ◌∷◌, length, Option, Some, None, if◌then◌else◌, ◌++◌}
 use Rattle.std.specs.List.{AllByRecursion}
-use Rattle.cov_base.specs.declared.number.Kind.{Kind}
 use Rattle.cov_base.specs.declared.number.NodeRef.{NodeRef}
 use Rattle.cov_base.specs.declared.limits.TheConstants.{LIMITS}
 use Rattle.cov_file.specs.Dated.{DatedLine as FileLine, line_numbers_of}
@@ -29,39 +28,47 @@ sizes_refusal counts es = first_of (refusals_by_size LIMITS counts.lines counts.
 -- a stored file but for the room of its file
 pub record Contents : Type 0 where
   pub node : ℕ
-  pub kind : Kind
-  pub parent : ℕ
-  pub name : List ℕ
-  pub commit : ℕ
   pub lines : List FileLine
   pub newest : ℕ
 
 abbrev pub contents : StoredFile → Contents
-contents e = record { node = e.node; kind = e.kind; parent = e.parent; name = e.name; commit = e.commit; lines = e.file.lines; newest = e.file.newest }
+contents e = record { node = e.node; lines = e.file.lines; newest = e.file.newest }
 
--- the rows that a commit's edits make, n nodes having been made before the commit and so many before these edits
-abbrev pub new_files : ℕ → ℕ → ℕ → List Edit → List Contents
-new_files n commit made [] = []
-new_files n commit made (edits.New kind parent name ∷ es) =
-    record { node = made + 1; kind = kind; parent = node_number n parent; name = name; commit = commit; lines = []; newest = 0 } ∷ new_files n commit (made + 1) es
-new_files n commit made (edits.Insert file after text ∷ es) = new_files n commit made es
-new_files n commit made (edits.Delete file line ∷ es) = new_files n commit made es
+-- what is stored of the nodes that a commit's edits make, so many having been made before these edits
+abbrev pub new_files : ℕ → List Edit → List Contents
+new_files made [] = []
+new_files made (edits.New kind parent name ∷ es) = record { node = made + 1; lines = []; newest = 0 } ∷ new_files (made + 1) es
+new_files made (edits.Insert file after text ∷ es) = new_files made es
+new_files made (edits.Delete file line ∷ es) = new_files made es
+new_files made (edits.Rename node name ∷ es) = new_files made es
+new_files made (edits.Move node parent ∷ es) = new_files made es
+new_files made (edits.Remove node ∷ es) = new_files made es
 
--- the node in which an edit makes or takes something
-abbrev pub place_of : Edit → NodeRef
-place_of (edits.New kind parent name) = parent
-place_of (edits.Insert file after text) = file
-place_of (edits.Delete file line) = file
+-- the number of a node that a reference names is below 2^32, n nodes having been made before
+abbrev pub IsNearRef : ℕ → NodeRef → Type 0
+IsNearRef n node = node_number n node < 2 ^ 32
 
--- the nodes in which edits make or take something have numbers below 2^32, n nodes having been made before
+-- so are those of the nodes that an edit names
+abbrev pub IsNear : ℕ → Edit → Type 0
+IsNear n (edits.New kind parent name) = IsNearRef n parent
+IsNear n (edits.Insert file after text) = IsNearRef n file
+IsNear n (edits.Delete file line) = IsNearRef n file
+IsNear n (edits.Rename node name) = IsNearRef n node
+IsNear n (edits.Move node parent) = IsNearRef n node × IsNearRef n parent
+IsNear n (edits.Remove node) = IsNearRef n node
+
+-- so are those of the nodes that edits name
 abbrev pub AreNear : ℕ → List Edit → Type 0
-AreNear n es = AllByRecursion (λ e. node_number n (place_of e) < 2 ^ 32) es
+AreNear n es = AllByRecursion (IsNear n) es
 
 -- the number of the line that an edit names, 0 if it names none, m lines having been made before
 abbrev pub named_line : ℕ → Edit → ℕ
 named_line m (edits.New kind parent name) = 0
 named_line m (edits.Insert file after text) = line_number m after
 named_line m (edits.Delete file line) = line_number m line
+named_line m (edits.Rename node name) = 0
+named_line m (edits.Move node parent) = 0
+named_line m (edits.Remove node) = 0
 
 -- the lines that edits name have numbers below 2^32, m lines having been made before
 abbrev pub AreLow : ℕ → List Edit → Type 0
@@ -73,6 +80,9 @@ inserts_into n file [] = 0
 inserts_into n file (edits.New kind parent name ∷ es) = inserts_into n file es
 inserts_into n file (edits.Insert f after text ∷ es) = if nat_eq (node_number n f) file then suc (inserts_into n file es) else inserts_into n file es
 inserts_into n file (edits.Delete f line ∷ es) = inserts_into n file es
+inserts_into n file (edits.Rename node name ∷ es) = inserts_into n file es
+inserts_into n file (edits.Move node parent ∷ es) = inserts_into n file es
+inserts_into n file (edits.Remove node ∷ es) = inserts_into n file es
 
 -- whether edits delete a line of a file, n nodes and m lines having been made before
 abbrev pub deletes_from : ℕ → ℕ → ℕ → ℕ → List Edit → Bool
@@ -80,6 +90,9 @@ deletes_from n m file which [] = false
 deletes_from n m file which (edits.New kind parent name ∷ es) = deletes_from n m file which es
 deletes_from n m file which (edits.Insert f after text ∷ es) = deletes_from n m file which es
 deletes_from n m file which (edits.Delete f line ∷ es) = (nat_eq (node_number n f) file && nat_eq (line_number m line) which) || deletes_from n m file which es
+deletes_from n m file which (edits.Rename node name ∷ es) = deletes_from n m file which es
+deletes_from n m file which (edits.Move node parent ∷ es) = deletes_from n m file which es
+deletes_from n m file which (edits.Remove node ∷ es) = deletes_from n m file which es
 
 -- whether edits insert into a file or delete from it, n nodes having been made before
 abbrev pub touches : ℕ → ℕ → List Edit → Bool
@@ -87,6 +100,9 @@ touches n file [] = false
 touches n file (edits.New kind parent name ∷ es) = touches n file es
 touches n file (edits.Insert f after text ∷ es) = nat_eq (node_number n f) file || touches n file es
 touches n file (edits.Delete f line ∷ es) = nat_eq (node_number n f) file || touches n file es
+touches n file (edits.Rename node name ∷ es) = touches n file es
+touches n file (edits.Move node parent ∷ es) = touches n file es
+touches n file (edits.Remove node ∷ es) = touches n file es
 
 -- a stored file has room for what edits do to its file, at any position
 pub record HasRoom (n m : ℕ) (es : List Edit) (e : StoredFile) : Type 0 where

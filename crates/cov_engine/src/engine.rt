@@ -17,8 +17,9 @@ ghost use Rattle.cov_history.specs.Verdict.{IsLegal, verdict, RefusedBy};
 ghost use Rattle.cov_engine.specs.Visibility.{IsVisibilityOf, is_no_line, as_row};
 
 use crate::installing::add_ready;
+use crate::number::item_of;
 use crate::state::{EngineState, make_ready};
-use crate::store::{Store, file_of, show, stored_file_of};
+use crate::store::{Store, file_of, show};
 use crate::{Counts, Prepared, Receipt, Refusal};
 use cov_base::{Choice, LineNo, Memory, NodeNo, Position};
 use cov_dd::{Node, Table};
@@ -26,6 +27,7 @@ use cov_edit::{Command, Commands};
 use cov_expr::{Options, Partial};
 use cov_file::FileRows;
 use cov_rules::{CompleteFault, Invalid, Rules};
+use cov_tree::Entries;
 use cov_view::View;
 use std::alloc::Global;
 use std::marker::Model;
@@ -49,7 +51,7 @@ impl Model for Engine {
 
     ghost view = { λ e. record { history = e.state.commands.commands; table = e.state.table } };
 
-    ghost invariant = { λ e. IsStateOf e.state.commands.commands e.state.options.names e.state.table e.state.rules.standing e.state.counts × IsHeldBy e.state.commands.commands e.state.table e.state.store.commits.items e.state.store.file_of_line.items e.state.store.files.items };
+    ghost invariant = { λ e. IsStateOf e.state.commands.commands e.state.options.names e.state.table e.state.rules.standing e.state.counts × IsHeldBy e.state.commands.commands e.state.table e.state.store.commits.items e.state.store.file_of_line.items e.state.store.entries e.state.store.files.items };
 }
 
 impl Engine {
@@ -71,6 +73,7 @@ impl Engine {
                 store: Store {
                     commits: Vec::new(alloc),
                     file_of_line: Vec::new(alloc),
+                    entries: Entries::new(alloc)?,
                     files: Vec::new(alloc),
                 },
             },
@@ -137,7 +140,7 @@ impl Engine {
     pub fn file_lines(&self, file: NodeNo) -> Result<FileRows, Memory>
         ensures { IfOk result (λ rows. rows ≡ map as_row (file_dated file (kept_of self.now.history))) }
     {
-        match stored_file_of(&self.state.store.files, file) {
+        match item_of(&self.state.store.files, file.number() as usize) {
             Some(stored) => stored.file.all(),
             None => Ok(FileRows::new(*self.state.store.files.allocator())),
         }
@@ -226,7 +229,7 @@ impl Engine {
 
     pub(crate) fn of_state(state: EngineState) -> Engine
         requires state { IsStateOf state.commands.commands state.options.names state.table state.rules.standing state.counts }
-        requires held { IsHeldBy state.commands.commands state.table state.store.commits.items state.store.file_of_line.items state.store.files.items }
+        requires held { IsHeldBy state.commands.commands state.table state.store.commits.items state.store.file_of_line.items state.store.entries state.store.files.items }
         ensures { result ≡ record { history = state.commands.commands; table = state.table } }
     {
         Engine { state }

@@ -14,6 +14,7 @@ use crate::store::CommitMark;
 use cov_base::{OptionName, Position};
 use cov_edit::{Command, Edit};
 use cov_rules::{Rule, RulePlan};
+use cov_tree::EntryPlan;
 use std::collections::VecDeque;
 
 /// Adds all of a command that is ready but the command itself, and answers the number on its receipt.
@@ -21,11 +22,11 @@ pub(crate) fn add_ready(state: &mut EngineState, command: &Command, ready: Ready
     requires state { IsStateOf state.old.commands.commands state.old.options.names state.old.table state.old.rules.standing state.old.counts }
     requires next { IsNext state.old.commands.commands command.now state.old.commands.spare }
     requires ready { IsReady state.old.commands.commands command.now state.old.options.spare state.old.table state.old.rules
-        (vec_capacity state.old.store.commits - vec_len state.old.store.commits) state.old.store.commits.items state.old.store.file_of_line.items state.old.store.files.items ready }
+        (vec_capacity state.old.store.commits - vec_len state.old.store.commits) state.old.store.commits.items state.old.store.file_of_line.items state.old.store.entries state.old.store.files.items ready }
     ensures commands { state.new.commands ≡ state.old.commands }
     ensures table { state.new.table ≡ state.old.table }
     ensures state { IsStateOf (state.old.commands.commands ++ command.now ∷ []) state.new.options.names state.new.table state.new.rules.standing state.new.counts }
-    ensures held { IsHeldBy (state.old.commands.commands ++ command.now ∷ []) state.new.table state.new.store.commits.items state.new.store.file_of_line.items state.new.store.files.items }
+    ensures held { IsHeldBy (state.old.commands.commands ++ command.now ∷ []) state.new.table state.new.store.commits.items state.new.store.file_of_line.items state.new.store.entries state.new.store.files.items }
     ensures number { result ≡ receipt_number state.old.commands.commands command.now }
 {
     match ready {
@@ -35,7 +36,8 @@ pub(crate) fn add_ready(state: &mut EngineState, command: &Command, ready: Ready
             mark,
             counts,
             plans,
-        } => add_commit(state, command, mark, counts, plans),
+            rows,
+        } => add_commit(state, command, mark, counts, plans, rows),
     }
 }
 
@@ -43,11 +45,11 @@ fn add_option(state: &mut EngineState, command: &Command, name: OptionName) -> u
     requires state { IsStateOf state.old.commands.commands state.old.options.names state.old.table state.old.rules.standing state.old.counts }
     requires next { IsNext state.old.commands.commands command.now state.old.commands.spare }
     requires ready { IsReady state.old.commands.commands command.now state.old.options.spare state.old.table state.old.rules
-        (vec_capacity state.old.store.commits - vec_len state.old.store.commits) state.old.store.commits.items state.old.store.file_of_line.items state.old.store.files.items (ready.Option name) }
+        (vec_capacity state.old.store.commits - vec_len state.old.store.commits) state.old.store.commits.items state.old.store.file_of_line.items state.old.store.entries state.old.store.files.items (ready.Option name) }
     ensures commands { state.new.commands ≡ state.old.commands }
     ensures table { state.new.table ≡ state.old.table }
     ensures state { IsStateOf (state.old.commands.commands ++ command.now ∷ []) state.new.options.names state.new.table state.new.rules.standing state.new.counts }
-    ensures held { IsHeldBy (state.old.commands.commands ++ command.now ∷ []) state.new.table state.new.store.commits.items state.new.store.file_of_line.items state.new.store.files.items }
+    ensures held { IsHeldBy (state.old.commands.commands ++ command.now ∷ []) state.new.table state.new.store.commits.items state.new.store.file_of_line.items state.new.store.entries state.new.store.files.items }
     ensures number { result ≡ receipt_number state.old.commands.commands command.now }
 {
     u32::from(state.options.declare(name).number())
@@ -57,11 +59,11 @@ fn add_rule(state: &mut EngineState, command: &Command, rule: Rule, plan: RulePl
     requires state { IsStateOf state.old.commands.commands state.old.options.names state.old.table state.old.rules.standing state.old.counts }
     requires next { IsNext state.old.commands.commands command.now state.old.commands.spare }
     requires ready { IsReady state.old.commands.commands command.now state.old.options.spare state.old.table state.old.rules
-        (vec_capacity state.old.store.commits - vec_len state.old.store.commits) state.old.store.commits.items state.old.store.file_of_line.items state.old.store.files.items (ready.Rule rule plan) }
+        (vec_capacity state.old.store.commits - vec_len state.old.store.commits) state.old.store.commits.items state.old.store.file_of_line.items state.old.store.entries state.old.store.files.items (ready.Rule rule plan) }
     ensures commands { state.new.commands ≡ state.old.commands }
     ensures table { state.new.table ≡ state.old.table }
     ensures state { IsStateOf (state.old.commands.commands ++ command.now ∷ []) state.new.options.names state.new.table state.new.rules.standing state.new.counts }
-    ensures held { IsHeldBy (state.old.commands.commands ++ command.now ∷ []) state.new.table state.new.store.commits.items state.new.store.file_of_line.items state.new.store.files.items }
+    ensures held { IsHeldBy (state.old.commands.commands ++ command.now ∷ []) state.new.table state.new.store.commits.items state.new.store.file_of_line.items state.new.store.entries state.new.store.files.items }
     ensures number { result ≡ receipt_number state.old.commands.commands command.now }
 {
     let at = Position::new(state.commands.len() as u32 + 1);
@@ -74,15 +76,16 @@ fn add_commit(
     mark: CommitMark,
     counts: Counts,
     plans: VecDeque<EditPlan>,
+    rows: EntryPlan,
 ) -> u32
     requires state { IsStateOf state.old.commands.commands state.old.options.names state.old.table state.old.rules.standing state.old.counts }
     requires next { IsNext state.old.commands.commands command.now state.old.commands.spare }
     requires ready { IsReady state.old.commands.commands command.now state.old.options.spare state.old.table state.old.rules
-        (vec_capacity state.old.store.commits - vec_len state.old.store.commits) state.old.store.commits.items state.old.store.file_of_line.items state.old.store.files.items (ready.Commit mark counts plans) }
+        (vec_capacity state.old.store.commits - vec_len state.old.store.commits) state.old.store.commits.items state.old.store.file_of_line.items state.old.store.entries state.old.store.files.items (ready.Commit mark counts plans rows) }
     ensures commands { state.new.commands ≡ state.old.commands }
     ensures table { state.new.table ≡ state.old.table }
     ensures state { IsStateOf (state.old.commands.commands ++ command.now ∷ []) state.new.options.names state.new.table state.new.rules.standing state.new.counts }
-    ensures held { IsHeldBy (state.old.commands.commands ++ command.now ∷ []) state.new.table state.new.store.commits.items state.new.store.file_of_line.items state.new.store.files.items }
+    ensures held { IsHeldBy (state.old.commands.commands ++ command.now ∷ []) state.new.table state.new.store.commits.items state.new.store.file_of_line.items state.new.store.entries state.new.store.files.items }
     ensures number { result ≡ receipt_number state.old.commands.commands command.now }
 {
     install(
@@ -90,6 +93,7 @@ fn add_commit(
         state.counts.nodes - 1,
         edits_in(command),
         plans,
+        rows,
         mark,
     );
     state.counts = counts;
@@ -101,11 +105,11 @@ pub(crate) fn give_up(state: &mut EngineState, command: &Command, ready: &Ready)
     requires state { IsStateOf state.old.commands.commands state.old.options.names state.old.table state.old.rules.standing state.old.counts }
     requires next { IsNext state.old.commands.commands command.now state.old.commands.spare }
     requires ready { IsReady state.old.commands.commands command.now state.old.options.spare state.old.table state.old.rules
-        (vec_capacity state.old.store.commits - vec_len state.old.store.commits) state.old.store.commits.items state.old.store.file_of_line.items state.old.store.files.items ready.now }
+        (vec_capacity state.old.store.commits - vec_len state.old.store.commits) state.old.store.commits.items state.old.store.file_of_line.items state.old.store.entries state.old.store.files.items ready.now }
     ensures commands { state.new.commands ≡ state.old.commands }
     ensures table { state.new.table ≡ state.old.table }
     ensures state { IsStateOf state.new.commands.commands state.new.options.names state.new.table state.new.rules.standing state.new.counts }
-    ensures held { IsHeldBy state.new.commands.commands state.new.table state.new.store.commits.items state.new.store.file_of_line.items state.new.store.files.items }
+    ensures held { IsHeldBy state.new.commands.commands state.new.table state.new.store.commits.items state.new.store.file_of_line.items state.new.store.entries state.new.store.files.items }
 {
     match ready {
         Ready::Option { .. } | Ready::Rule { .. } => (),

@@ -1,11 +1,17 @@
-//! A law of what an engine does to its history. The function does nothing; what it ensures is the law.
+//! Laws of what an engine does to its history. Each function does nothing; what it ensures is the law.
 ghost use Rattle.cov_edit.specs.Laws.{NothingOutsideAmbition};
-
-use cov_edit::laws;
+ghost use Rattle.cov_history.specs.Laws.{LegalIsSound};
 
 /// Outside its ambition a commit changes nothing.
 pub fn nothing_outside_ambition()
     ensures { NothingOutsideAmbition }
 {
-    laws::nothing_outside_ambition();
+    cov_edit::laws::nothing_outside_ambition();
+}
+
+/// Each valid variant of a legal history is sound.
+pub fn legal_is_sound()
+    ensures { LegalIsSound }
+{
+    cov_history::laws::legal_is_sound();
 }

@@ -4,6 +4,7 @@
 mod counts;
 mod edit_plan;
 mod engine;
+mod evidence;
 mod installing;
 pub mod laws;
 mod number;
@@ -11,6 +12,7 @@ mod overtaking;
 mod planning;
 mod prepared;
 mod ready;
+mod row_planning;
 mod rule;
 mod sizes;
 mod staging;

@@ -1,6 +1,8 @@
-// Nodes and lines by their numbers.
+// Nodes, lines and what is kept of them, by their numbers.
 ghost use Rattle.std.specs.Prelude.{◌≡◌, ◌<◌, ◌^◌};
+ghost use Rattle.std.specs.Option.{option_copied};
 ghost use Rattle.cov_edit.specs.Numbering.{node_number, line_number};
+ghost use Rattle.cov_engine.specs.Visibility.{item_of};
 
 use cov_base::{LineNo, LineRef, NodeNo, NodeRef};
 
@@ -23,5 +25,15 @@ pub(crate) fn line_number(before: u32, line: &LineRef) -> LineNo
     match line {
         LineRef::Old(number) => *number,
         LineRef::New(index) => LineNo::new(before + 1 + *index),
+    }
+}
+
+/// The item with a number, from 1.
+pub(crate) fn item_of<X>(items: &[X], number: usize) -> Option<&X>
+    ensures { option_copied result ≡ item_of items.now number }
+{
+    match number {
+        0 => None,
+        number => items.get(number - 1),
     }
 }

@@ -7,6 +7,7 @@ ghost use Rattle.cov_edit.specs.Touched.{AreRising};
 ghost use Rattle.cov_engine.specs.Overtakers.{Overtakes, Decides, IsFirstOf, AreApart, IsOvertaker, is_beyond, IsAfter};
 ghost use Rattle.cov_engine.specs.Visibility.{item_of};
 
+use crate::number::item_of;
 use crate::store::CommitMark;
 use cov_base::{Memory, NodeNo, Position, Steps, Uncounted};
 use cov_dd::{Node, Table};
@@ -56,20 +57,9 @@ fn ends_after(commits: &[CommitMark], count: usize, base: Position) -> bool
     ensures ends { result ≡ is_beyond base (item_of commits.now count) }
     ensures above { result ≡ true → 0 < count }
 {
-    match last_of(commits, count) {
+    match item_of(commits, count) {
         Some(mark) => mark.position > base,
         None => false,
-    }
-}
-
-// The last of the first so many commits.
-fn last_of(commits: &[CommitMark], count: usize) -> Option<&CommitMark>
-    ensures last { option_copied result ≡ item_of commits.now count }
-    ensures above { is_some result ≡ true → 0 < count }
-{
-    match count {
-        0 => None,
-        number => commits.get(number - 1),
     }
 }
 

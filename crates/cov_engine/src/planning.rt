@@ -73,7 +73,9 @@ fn plan_edit(
     ensures planned { OnOk result (IsPlannedBehind site.now.at files.now site.now.nodes site.now.lines site.now.ambition table.new made edit.now plans.old.items plans.new.items) }
 {
     match edit {
-        Edit::New { .. } => Ok(made),
+        Edit::New { .. } | Edit::Rename { .. } | Edit::Move { .. } | Edit::Remove { .. } => {
+            Ok(made)
+        }
         Edit::Insert { file, after, text } => {
             let line = made + 1;
             plans.push_back(EditPlan::Insert {

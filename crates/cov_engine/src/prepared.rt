@@ -39,7 +39,7 @@ impl Model for Prepared {
     ghost invariant = { λ p. IsStateOf p.state.commands.commands p.state.options.names p.state.table p.state.rules.standing p.state.counts
         × IsNext p.state.commands.commands p.command p.state.commands.spare
         × IsReady p.state.commands.commands p.command p.state.options.spare p.state.table p.state.rules
-        (vec_capacity p.state.store.commits - vec_len p.state.store.commits) p.state.store.commits.items p.state.store.file_of_line.items p.state.store.files.items p.ready };
+        (vec_capacity p.state.store.commits - vec_len p.state.store.commits) p.state.store.commits.items p.state.store.file_of_line.items p.state.store.entries p.state.store.files.items p.ready };
 }
 
 /// What a command made: the position after it, and the option's number, the rule's within its kind, or 0 for a commit.
@@ -54,7 +54,7 @@ impl Prepared {
         requires state { IsStateOf state.commands.commands state.options.names state.table state.rules.standing state.counts }
         requires next { IsNext state.commands.commands command state.commands.spare }
         requires ready { IsReady state.commands.commands command state.options.spare state.table state.rules
-            (vec_capacity state.store.commits - vec_len state.store.commits) state.store.commits.items state.store.file_of_line.items state.store.files.items ready }
+            (vec_capacity state.store.commits - vec_len state.store.commits) state.store.commits.items state.store.file_of_line.items state.store.entries state.store.files.items ready }
         ensures { result ≡ record { history = state.commands.commands; command = command; table = state.table } }
     {
         Prepared {

@@ -4,6 +4,7 @@ ghost use Rattle.std.specs.List.{AllByRecursion};
 ghost use Rattle.cov_base.specs.declared.limits.TheConstants.{LIMITS};
 ghost use Rattle.cov_edit.specs.Numbering.{nodes_made};
 ghost use Rattle.cov_history.specs.FileOfLine.{new_file_of_line};
+ghost use Rattle.cov_tree.specs.Dated.{HasRoom as HasRowRoom, without_room};
 ghost use Rattle.cov_engine.specs.Staging.{contents, new_files, AreNumbered, AreNear, AreLow, HasRoom};
 
 use crate::Counts;
@@ -13,6 +14,7 @@ use crate::store::{CommitMark, Store};
 use cov_base::{Memory, OptionName};
 use cov_edit::Edit;
 use cov_rules::{Rule, RulePlan};
+use cov_tree::EntryPlan;
 use std::collections::VecDeque;
 
 /// What is ready for a command that is accepted.
@@ -27,16 +29,23 @@ pub(crate) enum Ready {
         rule: Rule,
         plan: RulePlan,
     },
-    /// The position and ambition of the commit, the counts with it, and its plans. Its rows are staged.
+    /// The position and ambition of the commit, the counts with it, and the plans of its edits and of its rows. What it makes is
+    /// staged.
     Commit {
         mark: CommitMark,
         counts: Counts,
         plans: VecDeque<EditPlan>,
+        rows: EntryPlan,
     },
 }
 
 /// Stages what a commit's edits make; on `Err` nothing of it is there.
-pub(crate) fn stage_commit(store: &mut Store, counts: Counts, edits: &[Edit]) -> Result<(), Memory>
+pub(crate) fn stage_commit(
+    store: &mut Store,
+    rows: &EntryPlan,
+    counts: Counts,
+    edits: &[Edit],
+) -> Result<(), Memory>
     requires lines { counts.lines ≡ length store.old.file_of_line.items }
     requires nodes { counts.nodes ≡ length store.old.files.items + 1 }
     requires numbered { AreNumbered 0 store.old.files.items }
@@ -44,17 +53,17 @@ pub(crate) fn stage_commit(store: &mut Store, counts: Counts, edits: &[Edit]) ->
     requires low { AreLow counts.lines edits.now }
     requires few_edits { length edits.now ≤ LIMITS.edits }
     requires few_nodes { length store.old.files.items + nodes_made edits.now < 2 ^ 32 - 1 }
-    requires few_commits { length store.old.commits.items < 2 ^ 32 }
     ensures commits { store.new.commits.items ≡ store.old.commits.items }
+    ensures entries { without_room store.new.entries ≡ without_room store.old.entries }
     ensures file_of_line { OnOk result (store.new.file_of_line.items ≡ store.old.file_of_line.items ++ new_file_of_line (length store.old.files.items) edits.now) }
-    ensures rows { OnOk result (map contents store.new.files.items ≡ map contents store.old.files.items ++
-        new_files (length store.old.files.items) (length store.old.commits.items) (length store.old.files.items) edits.now) }
+    ensures files { OnOk result (map contents store.new.files.items ≡ map contents store.old.files.items ++ new_files (length store.old.files.items) edits.now) }
     ensures room { OnOk result (AllByRecursion (HasRoom (length store.old.files.items) counts.lines edits.now) store.new.files.items) }
+    ensures row_room { OnOk result (HasRowRoom rows.now store.new.entries) }
     ensures commit_room { OnOk result (0 < vec_capacity store.new.commits - vec_len store.new.commits) }
     ensures same_file_of_line { OnErr result (store.new.file_of_line.items ≡ store.old.file_of_line.items) }
-    ensures same_rows { OnErr result (map contents store.new.files.items ≡ map contents store.old.files.items) }
+    ensures same_files { OnErr result (map contents store.new.files.items ≡ map contents store.old.files.items) }
 {
-    match stage(store, counts.lines, edits) {
+    match stage(store, rows, counts.lines, edits) {
         Ok(()) => Ok(()),
         Err(Memory) => {
             unstage(store, counts.nodes - 1, counts.lines, edits);

@@ -59,7 +59,8 @@ fn with_edit(sizes: Sizes, edit: &Edit) -> Sizes
             nodes: sizes.nodes,
             bytes: sizes.bytes + text.len() as u64,
         },
-        Edit::Delete { .. } => sizes,
+        Edit::Delete { .. } | Edit::Rename { .. } | Edit::Move { .. } | Edit::Remove { .. } =>
+            sizes,
     }
 }
 

@@ -1,7 +1,10 @@
 // What an engine keeps.
-ghost use Rattle.std.specs.Prelude.{◌≡◌, ◌<◌, ◌≤◌, ◌-◌, length, None, IfOk, IfErr, OnOk, OnErr, vec_len, vec_capacity};
-ghost use Rattle.cov_dd.specs.Diagrams.{Extends};
-ghost use Rattle.cov_expr.specs.Formula.{reach};
+ghost use Rattle.std.specs.Prelude.{◌≡◌, ◌<◌, ◌≤◌, ◌+◌, ◌-◌, ℕ, List, Bool, length, None, IfOk, IfErr, OnOk, OnErr, vec_len, vec_capacity};
+ghost use Rattle.cov_dd.specs.Diagrams.{diagram_size, Extends};
+ghost use Rattle.cov_edit.specs.declared.command.Command.TheVariants.{Commit};
+ghost use Rattle.cov_expr.specs.Formula.{Formula, reach};
+ghost use Rattle.cov_history.specs.BadChoices.{unsound_refusal};
+ghost use Rattle.cov_engine.specs.Staged.{IsCommitPlan};
 ghost use Rattle.cov_edit.specs.History.{option_count};
 ghost use Rattle.cov_engine.specs.Holdings.{IsHeldBy};
 ghost use Rattle.cov_history.specs.Sessions.{MayCome};
@@ -10,9 +13,11 @@ ghost use Rattle.cov_engine.specs.Ready.{IsReady, IsInBounds, IsStagedReady};
 ghost use Rattle.cov_history.specs.Verdict.{verdict, RefusedBy};
 ghost use Rattle.cov_engine.specs.declared.ready.Ready.TheVariants as ready;
 
+use crate::evidence::refusal_left;
 use crate::overtaking::overtaken;
 use crate::planning::{Site, plan_edits};
 use crate::ready::{Ready, stage_commit};
+use crate::row_planning::plan_rows;
 use crate::rule::rule_ready;
 use crate::sizes::{measure, with_sizes};
 use crate::store::{CommitMark, Store};
@@ -22,6 +27,7 @@ use cov_dd::Table;
 use cov_edit::{Command, Commands, Edits, touched};
 use cov_expr::{Expr, Options};
 use cov_rules::Rules;
+use cov_tree::EntryPlan;
 use cov_vis::compile;
 use std::collections::VecDeque;
 
@@ -39,7 +45,7 @@ pub(crate) struct EngineState {
 /// Makes everything ready for a command, unless the history refuses it.
 pub(crate) fn make_ready(state: &mut EngineState, command: &Command) -> Result<Ready, Refusal>
     requires state { IsStateOf state.old.commands.commands state.old.options.names state.old.table state.old.rules.standing state.old.counts }
-    requires held { IsHeldBy state.old.commands.commands state.old.table state.old.store.commits.items state.old.store.file_of_line.items state.old.store.files.items }
+    requires held { IsHeldBy state.old.commands.commands state.old.table state.old.store.commits.items state.old.store.file_of_line.items state.old.store.entries state.old.store.files.items }
     requires may_come { MayCome state.old.commands.commands command.now }
     ensures history { state.new.commands.commands ≡ state.old.commands.commands }
     ensures extends { Extends state.old.table state.new.table }
@@ -47,9 +53,9 @@ pub(crate) fn make_ready(state: &mut EngineState, command: &Command) -> Result<R
     ensures room { OnOk result (0 < state.new.commands.spare) }
     ensures accepted { OnOk result (verdict state.old.commands.commands command.now ≡ None) }
     ensures ready { IfOk result (IsReady state.new.commands.commands command.now state.new.options.spare state.new.table state.new.rules
-        (vec_capacity state.new.store.commits - vec_len state.new.store.commits) state.new.store.commits.items state.new.store.file_of_line.items state.new.store.files.items) }
+        (vec_capacity state.new.store.commits - vec_len state.new.store.commits) state.new.store.commits.items state.new.store.file_of_line.items state.new.store.entries state.new.store.files.items) }
     ensures refused { IfErr result (λ refusal. RefusedBy refusal (verdict state.old.commands.commands command.now)) }
-    ensures held { OnErr result (IsHeldBy state.new.commands.commands state.new.table state.new.store.commits.items state.new.store.file_of_line.items state.new.store.files.items) }
+    ensures held { OnErr result (IsHeldBy state.new.commands.commands state.new.table state.new.store.commits.items state.new.store.file_of_line.items state.new.store.entries state.new.store.files.items) }
 {
     if state.commands.len() >= LIMITS.commands {
         return Err(Refusal::Full);
@@ -63,7 +69,7 @@ pub(crate) fn make_ready(state: &mut EngineState, command: &Command) -> Result<R
 // Makes ready what a command adds, where there is room for one more.
 fn ready_for(state: &mut EngineState, command: &Command) -> Result<Ready, Refusal>
     requires state { IsStateOf state.old.commands.commands state.old.options.names state.old.table state.old.rules.standing state.old.counts }
-    requires held { IsHeldBy state.old.commands.commands state.old.table state.old.store.commits.items state.old.store.file_of_line.items state.old.store.files.items }
+    requires held { IsHeldBy state.old.commands.commands state.old.table state.old.store.commits.items state.old.store.file_of_line.items state.old.store.entries state.old.store.files.items }
     requires may_come { MayCome state.old.commands.commands command.now }
     requires few { length state.old.commands.commands < LIMITS.commands }
     ensures commands { state.new.commands ≡ state.old.commands }
@@ -71,9 +77,9 @@ fn ready_for(state: &mut EngineState, command: &Command) -> Result<Ready, Refusa
     ensures state { IsStateOf state.new.commands.commands state.new.options.names state.new.table state.new.rules.standing state.new.counts }
     ensures accepted { OnOk result (verdict state.old.commands.commands command.now ≡ None) }
     ensures ready { IfOk result (IsReady state.new.commands.commands command.now state.new.options.spare state.new.table state.new.rules
-        (vec_capacity state.new.store.commits - vec_len state.new.store.commits) state.new.store.commits.items state.new.store.file_of_line.items state.new.store.files.items) }
+        (vec_capacity state.new.store.commits - vec_len state.new.store.commits) state.new.store.commits.items state.new.store.file_of_line.items state.new.store.entries state.new.store.files.items) }
     ensures refused { IfErr result (λ refusal. RefusedBy refusal (verdict state.old.commands.commands command.now)) }
-    ensures held { OnErr result (IsHeldBy state.new.commands.commands state.new.table state.new.store.commits.items state.new.store.file_of_line.items state.new.store.files.items) }
+    ensures held { OnErr result (IsHeldBy state.new.commands.commands state.new.table state.new.store.commits.items state.new.store.file_of_line.items state.new.store.entries state.new.store.files.items) }
 {
     let alloc = *state.store.commits.allocator();
     match command {
@@ -94,10 +100,7 @@ fn ready_for(state: &mut EngineState, command: &Command) -> Result<Ready, Refusa
                 edits,
             ) {
                 Ok(Some(position)) => Err(Refusal::Overtaken { position }),
-                Ok(None) => match commit_ready(state, ambition, edits) {
-                    Ok(ready) => Ok(ready),
-                    Err(Memory) => Err(Refusal::Memory),
-                },
+                Ok(None) => commit_ready(state, ambition, edits),
                 Err(Memory) => Err(Refusal::Memory),
             },
         },
@@ -144,34 +147,110 @@ fn name_refusal(options: &Options, name: &[u8]) -> Option<Refusal>
     }
 }
 
-// Stages a commit, and plans its edits.
-fn commit_ready(state: &mut EngineState, ambition: &Expr, edits: &Edits) -> Result<Ready, Memory>
+// Stages a commit, unless it would leave a variant unsound.
+fn commit_ready(state: &mut EngineState, ambition: &Expr, edits: &Edits) -> Result<Ready, Refusal>
     requires state { IsStateOf state.old.commands.commands state.old.options.names state.old.table state.old.rules.standing state.old.counts }
-    requires held { IsHeldBy state.old.commands.commands state.old.table state.old.store.commits.items state.old.store.file_of_line.items state.old.store.files.items }
+    requires held { IsHeldBy state.old.commands.commands state.old.table state.old.store.commits.items state.old.store.file_of_line.items state.old.store.entries state.old.store.files.items }
     requires reach { reach ambition.now ≤ option_count state.old.commands.commands }
     requires fits { IsInBounds state.old.commands.commands edits.now }
     ensures commands { state.new.commands ≡ state.old.commands }
     ensures extends { Extends state.old.table state.new.table }
     ensures state { IsStateOf state.new.commands.commands state.new.options.names state.new.table state.new.rules.standing state.new.counts }
     ensures ready { IfOk result (IsStagedReady state.new.commands.commands state.new.table ambition.now edits.now (vec_capacity state.new.store.commits - vec_len state.new.store.commits)
-        state.new.store.commits.items state.new.store.file_of_line.items state.new.store.files.items) }
-    ensures held { OnErr result (IsHeldBy state.new.commands.commands state.new.table state.new.store.commits.items state.new.store.file_of_line.items state.new.store.files.items) }
+        state.new.store.commits.items state.new.store.file_of_line.items state.new.store.entries state.new.store.files.items) }
+    ensures held { OnErr result (IsHeldBy state.new.commands.commands state.new.table state.new.store.commits.items state.new.store.file_of_line.items state.new.store.entries state.new.store.files.items) }
+    ensures sound { OnOk result ((base : ℕ) (choice : List Bool) → unsound_refusal state.old.commands.commands ambition.now (Commit base choice ambition.now edits.now) ≡ None) }
+    ensures refused { IfErr result (λ refusal. (base : ℕ) (choice : List Bool) → RefusedBy refusal (unsound_refusal state.old.commands.commands ambition.now (Commit base choice ambition.now edits.now))) }
+{
+    let (mark, rows) = commit_planned(state, ambition, edits)?;
+    Ok(commit_staged(state, mark, rows, edits)?)
+}
+
+// Plans the changes of rows of a commit, unless it would leave a variant unsound.
+fn commit_planned(
+    state: &mut EngineState,
+    ambition: &Expr,
+    edits: &Edits,
+) -> Result<(CommitMark, EntryPlan), Refusal>
+    requires state { IsStateOf state.old.commands.commands state.old.options.names state.old.table state.old.rules.standing state.old.counts }
+    requires held { IsHeldBy state.old.commands.commands state.old.table state.old.store.commits.items state.old.store.file_of_line.items state.old.store.entries state.old.store.files.items }
+    requires reach { reach ambition.now ≤ option_count state.old.commands.commands }
+    requires fits { IsInBounds state.old.commands.commands edits.now }
+    ensures commands { state.new.commands ≡ state.old.commands }
+    ensures extends { Extends state.old.table state.new.table }
+    ensures state { IsStateOf state.new.commands.commands state.new.options.names state.new.table state.new.rules.standing state.new.counts }
+    ensures held { IsHeldBy state.new.commands.commands state.new.table state.new.store.commits.items state.new.store.file_of_line.items state.new.store.entries state.new.store.files.items }
+    ensures planned { IfOk result (λ planned. IsCommitPlan state.new.commands.commands state.new.table state.new.store.entries ambition.now edits.now planned.0 planned.1) }
+    ensures sound { OnOk result ((base : ℕ) (choice : List Bool) → unsound_refusal state.old.commands.commands ambition.now (Commit base choice ambition.now edits.now) ≡ None) }
+    ensures refused { IfErr result (λ refusal. (base : ℕ) (choice : List Bool) → RefusedBy refusal (unsound_refusal state.old.commands.commands ambition.now (Commit base choice ambition.now edits.now))) }
 {
     let alloc = *state.store.commits.allocator();
     let nodes = touched(edits)?;
     let mark = CommitMark {
         position: Position::new(state.commands.len() as u32 + 1),
-        ambition: ambition.copy(alloc)?,
         node: compile(&mut state.table, ambition)?,
         touched: nodes,
     };
-    let counts = with_sizes(state.counts, measure(edits.as_slice()));
-    let site = Site {
+    let site = site_of(state.counts, &mark);
+    let mut rows = EntryPlan::new(alloc);
+    plan_rows(
+        &mut state.table,
+        &state.store.entries,
+        &mut rows,
+        &site,
+        edits.as_slice(),
+    )?;
+    match refusal_left(
+        alloc,
+        &mut state.table,
+        &state.store.entries,
+        &rows,
+        state.rules.conjunction(),
+        mark.node,
+        state.options.count(),
+        edits.as_slice(),
+    )? {
+        Some(refusal) => Err(refusal),
+        None => Ok((mark, rows)),
+    }
+}
+
+// Where a commit's edits are planned.
+fn site_of(counts: Counts, mark: &CommitMark) -> Site
+    requires { 1 ≤ counts.nodes }
+    ensures { result ≡ record { at = mark.now.position; nodes = counts.nodes - 1; lines = counts.lines; ambition = mark.now.node } }
+{
+    Site {
         at: mark.position,
-        nodes: state.counts.nodes - 1,
-        lines: state.counts.lines,
+        nodes: counts.nodes - 1,
+        lines: counts.lines,
         ambition: mark.node,
-    };
+    }
+}
+
+// Plans what a commit does to the lines of files, and stages it.
+fn commit_staged(
+    state: &mut EngineState,
+    mark: CommitMark,
+    rows: EntryPlan,
+    edits: &Edits,
+) -> Result<Ready, Memory>
+    requires state { IsStateOf state.old.commands.commands state.old.options.names state.old.table state.old.rules.standing state.old.counts }
+    requires held { IsHeldBy state.old.commands.commands state.old.table state.old.store.commits.items state.old.store.file_of_line.items state.old.store.entries state.old.store.files.items }
+    requires fits { IsInBounds state.old.commands.commands edits.now }
+    requires position { mark.position ≡ length state.old.commands.commands + 1 }
+    requires node { mark.node < diagram_size state.old.table }
+    ensures commands { state.new.commands ≡ state.old.commands }
+    ensures extends { Extends state.old.table state.new.table }
+    ensures state { IsStateOf state.new.commands.commands state.new.options.names state.new.table state.new.rules.standing state.new.counts }
+    ensures ready { IfOk result (λ ready. (ambition : Formula ℕ) → IsCommitPlan state.old.commands.commands state.old.table state.old.store.entries ambition edits.now mark rows →
+        IsStagedReady state.new.commands.commands state.new.table ambition edits.now (vec_capacity state.new.store.commits - vec_len state.new.store.commits)
+        state.new.store.commits.items state.new.store.file_of_line.items state.new.store.entries state.new.store.files.items ready) }
+    ensures held { OnErr result (IsHeldBy state.new.commands.commands state.new.table state.new.store.commits.items state.new.store.file_of_line.items state.new.store.entries state.new.store.files.items) }
+{
+    let alloc = *state.store.commits.allocator();
+    let counts = with_sizes(state.counts, measure(edits.as_slice()));
+    let site = site_of(state.counts, &mark);
     let mut plans = VecDeque::new(alloc);
     plan_edits(
         &mut state.table,
@@ -180,10 +259,11 @@ fn commit_ready(state: &mut EngineState, ambition: &Expr, edits: &Edits) -> Resu
         &site,
         edits.as_slice(),
     )?;
-    stage_commit(&mut state.store, state.counts, edits.as_slice())?;
+    stage_commit(&mut state.store, &rows, state.counts, edits.as_slice())?;
     Ok(Ready::Commit {
         mark,
         counts,
         plans,
+        rows,
     })
 }

@@ -7,7 +7,7 @@ ghost use Rattle.cov_file.specs.Rooms.{IsMade};
 ghost use Rattle.cov_engine.specs.Staging.{contents, index_of, AreNumbered};
 ghost use Rattle.cov_engine.specs.Carrying.{CanInsert, CanDelete, IsInserted, IsChanged};
 
-use cov_base::{Kind, LineNo, LineNos, Memory, Name, NodeNo, Position, Text};
+use cov_base::{LineNo, LineNos, Memory, NodeNo, Position, Text};
 use cov_dd::Node;
 use cov_file::FileLines;
 use std::alloc::Global;
@@ -31,15 +31,10 @@ impl Coming {
     }
 }
 
-/// The row of a file or directory, the number from 0 of the commit that made it, and the lines ever inserted into it. `coming`
-/// is nothing but while a commit is staged.
+/// The lines ever inserted into a node. `coming` is nothing but while a commit is staged.
 #[derive(Drop)]
 pub(crate) struct StoredFile {
     pub(crate) node: NodeNo,
-    pub(crate) kind: Kind,
-    pub(crate) parent: NodeNo,
-    pub(crate) name: Name,
-    pub(crate) commit: u32,
     pub(crate) file: FileLines,
     pub(crate) coming: Coming,
 }

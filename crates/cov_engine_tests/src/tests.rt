@@ -1,3 +1,4 @@
 mod declaring;
 mod lines;
 mod steps;
+mod trees;

@@ -11,4 +11,4 @@ returns-clause-state c =
 
 pub returns-clause-held : goal.returns-clause-held
 returns-clause-held c =
-    held-declared c.args.state.now.commands.commands _ c.args.command.now _ _ _ _ c.requires.ready.2 (ap (λ k. has_commit (k ∷ [])) c.requires.ready.0) refl
+    held-declared c.args.state.now.commands.commands _ c.args.command.now _ _ _ _ _ c.requires.ready.2 (ap (λ k. has_commit (k ∷ [])) c.requires.ready.0) refl

@@ -11,4 +11,4 @@ returns-clause-state c =
 
 pub returns-clause-held : goal.returns-clause-held
 returns-clause-held c =
-    held-declared c.args.state.now.commands.commands _ c.args.command.now _ _ _ _ c.requires.ready.2 (rule-alone c.args.command.now c.args.rule c.requires.ready.0) refl
+    held-declared c.args.state.now.commands.commands _ c.args.command.now _ _ _ _ _ c.requires.ready.2 (rule-alone c.args.command.now c.args.rule c.requires.ready.0) refl

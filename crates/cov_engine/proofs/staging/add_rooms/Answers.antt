@@ -1,6 +1,5 @@
 use Rattle.std.proofs.Common.{◌<◌, ◌^◌, ◌∙◌}
-use Rattle.cov_edit.specs.Numbering.{node_number}
-use Rattle.cov_engine.specs.Staging.{place_of, named_line}
+use Rattle.cov_engine.specs.Staging.{IsNear, named_line}
 use Rattle.cov_engine.proofs.StoredFiles.{numbered-contents}
 use Rattle.cov_edit.proofs.CallerLemmas.{all-rest}
 use Rattle.cov_engine.proofs.Rooms.{ready-rest, ready-end}
@@ -10,7 +9,7 @@ pub loop-ahead-preserved : goal.loop-ahead-preserved
 loop-ahead-preserved c = record {
   same = c.in_ok-add_room_for.ensures.same ∙ c.loop-ahead.invariant.same;
   numbered = numbered-contents 0 c.loop-ahead.files c.add_room_for.new.files c.in_ok-add_room_for.ensures.same c.loop-ahead.invariant.numbered;
-  near = all-rest (λ e. node_number c.args.nodes (place_of e) < 2 ^ 32) c.loop-ahead.ahead.now c.loop-ahead.invariant.near;
+  near = all-rest (IsNear c.args.nodes) c.loop-ahead.ahead.now c.loop-ahead.invariant.near;
   low = all-rest (λ e. named_line c.args.lines e < 2 ^ 32) c.loop-ahead.ahead.now c.loop-ahead.invariant.low;
   ready =
       ready-rest c.args.nodes c.args.lines c.args.edits.now c.loop-ahead.ahead.now c.edit-item.result c.edit-item.result c.loop-ahead.files c.add_room_for.new.files c.edit-item.is

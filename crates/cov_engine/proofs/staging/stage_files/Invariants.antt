@@ -1,15 +1,14 @@
 use Rattle.std.proofs.Common.{◌≡◌, ◌+◌, ◌<◌, ◌-◌, ◌^◌, ◌++◌, length, map, take}
 use Rattle.cov_edit.specs.Numbering.{nodes_made}
-use Rattle.cov_engine.specs.Staging.{contents, new_files, AreNear}
+use Rattle.cov_engine.specs.Staging.{contents, new_files}
 use Rattle.cov_engine.proofs.staging.stage_files.Given as goal
 
 abbrev pub invariant-loop-ahead : goal.invariant-loop-ahead
 invariant-loop-ahead l = record {
   all :
-      map contents l.files.items ++ new_files l.before l.commit (length l.files.items) l.ahead
-      ≡ map contents l.initial.files.items ++ new_files l.before l.commit (length l.initial.files.items) l.edits;
+      map contents l.files.items ++ new_files (length l.files.items) l.ahead
+      ≡ map contents l.initial.files.items ++ new_files (length l.initial.files.items) l.edits;
   front : take (length l.initial.files.items) l.files.items ≡ l.initial.files.items;
-  near : AreNear l.before l.ahead;
   few : length l.files.items + nodes_made l.ahead < 2 ^ 32 - 1;
 }
 

@@ -1,14 +1,21 @@
-use Rattle.std.proofs.Common.{◌<◌, refl, sym, ap, subst, ◌∙◌}
+use Rattle.std.specs.Prelude.{IfOk, vec_capacity, vec_len}
+use Rattle.cov_edit.specs.Recorded.{Recorded}
+use Rattle.cov_engine.specs.Ready.{IsReady, IsStagedReady}
+use Rattle.std.proofs.Common.{◌≡◌, ◌<◌, ◌-◌, [], ◌∷◌, refl, sym, ap, subst, ◌∙◌}
 use Rattle.std.specs.List.{AllByRecursion}
 use Rattle.std.proofs.lemmas.Result.{IfErr-weaker, on_ok_weaker}
 use Rattle.cov_dd.proofs.CallerLemmas.{extends_trans}
 use Rattle.cov_dd.specs.Diagrams.{diagram_size, diagram_size}
 use Rattle.cov_edit.specs.History.{option_count}
 use Rattle.cov_edit.specs.Touched.{AreRising}
-use Rattle.cov_history.specs.Verdict.{verdict, as_overtaken}
+use Rattle.cov_edit.specs.declared.command.Command.TheVariants as commands
+use Rattle.cov_view.specs.Refusals.{first_of}
+use Rattle.cov_view.proofs.CallerLemmas.{first-one}
+use Rattle.cov_history.specs.BadChoices.{unsound_refusal}
+use Rattle.cov_history.specs.Verdict.{verdict, as_overtaken, RefusedBy}
 use Rattle.cov_engine.proofs.Holdings.{held-grown}
 use Rattle.cov_engine.proofs.Marking.{marks-within, marks-rising}
-use Rattle.cov_engine.proofs.Readied.{on-any, reach-declared, in-bounds, sized-verdict, late-verdict}
+use Rattle.cov_engine.proofs.Readied.{on-any, reach-declared, in-bounds, sized-verdict, late-verdict, all-staged}
 use Rattle.cov_engine.proofs.Ruling.{RuleOf, rule-of, all-ready, refused-by, rule-accepted, rule-refused}
 use Rattle.cov_engine.proofs.States.{state-grown}
 use Rattle.cov_engine.proofs.state.ready_for.Goals as goal
@@ -32,7 +39,7 @@ commit_ready-requires-clause-state c =
 
 pub commit_ready-requires-clause-held : goal.commit_ready-requires-clause-held
 commit_ready-requires-clause-held c =
-    (held-grown c.args.state.now.commands.commands c.args.state.now.table c.overtaken.new.table c.args.state.now.store.commits.items c.args.state.now.store.file_of_line.items c.args.state.now.store.files.items
+    (held-grown c.args.state.now.commands.commands c.args.state.now.table c.overtaken.new.table c.args.state.now.store.commits.items c.args.state.now.store.file_of_line.items c.args.state.now.store.entries c.args.state.now.store.files.items
     c.requires.held c.overtaken.ensures.extends)
 
 pub commit_ready-requires-clause-reach : goal.commit_ready-requires-clause-reach
@@ -40,11 +47,8 @@ commit_ready-requires-clause-reach c = reach-declared c.args.state.now.commands.
 
 pub commit_ready-requires-clause-fits : goal.commit_ready-requires-clause-fits
 commit_ready-requires-clause-fits c =
-    in-bounds c.args.state.now.commands.commands c.args.command.now c.in-Commit.base c.in-Commit.choice c.in-Commit.ambition c.in-Commit.edits c.in-Commit.is c.requires.may_come c.requires.state.legal
-    (late-verdict c.args.state.now.commands.commands c.args.command.now c.in-Commit.base c.in-Commit.choice c.in-Commit.ambition c.in-Commit.edits c.in-Commit.is c.requires.may_come
-    c.args.state.now.counts c.requires.state.counted c.requires.few c.args.state.now.options.names c.args.state.now.table c.args.state.now.rules.standing c.args.state.now.store.commits.items c.deref.result.now
-    c.args.state.now.store.file_of_line.items c.args.state.now.store.files.items c.conjunction.result c.in-Ok-None.field-0 _ c.requires.state c.requires.held c.conjunction.ensures c.deref.ensures.value
-    (sym c.refusal.ensures ∙ c.in-None.is) c.in-Ok-None.ensures.first (ap as_overtaken c.in-Ok-None.field-0-is))
+    in-bounds c.args.state.now.commands.commands c.args.command.now c.in-Commit.base c.in-Commit.choice c.in-Commit.ambition c.in-Commit.edits c.in-Commit.is c.requires.may_come c.args.state.now.counts c.requires.state.counted c.requires.state.legal
+    (sym c.refusal.ensures ∙ c.in-None.is)
 
 pub returns-in-Some-clause-refused : goal.returns-in-Some-clause-refused
 returns-in-Some-clause-refused c =
@@ -61,26 +65,40 @@ pub returns-in-Ok-Some-clause-refused : goal.returns-in-Ok-Some-clause-refused
 returns-in-Ok-Some-clause-refused c =
     late-verdict c.args.state.now.commands.commands c.args.command.now c.in-Commit.base c.in-Commit.choice c.in-Commit.ambition c.in-Commit.edits c.in-Commit.is c.requires.may_come
     c.args.state.now.counts c.requires.state.counted c.requires.few c.args.state.now.options.names c.args.state.now.table c.args.state.now.rules.standing c.args.state.now.store.commits.items c.deref.result.now
-    c.args.state.now.store.file_of_line.items c.args.state.now.store.files.items c.conjunction.result c.in-Ok-Some.field-0 _ c.requires.state c.requires.held c.conjunction.ensures c.deref.ensures.value
-    (sym c.refusal.ensures ∙ c.in-None.is) c.in-Ok-Some.ensures.first (ap as_overtaken c.in-Ok-Some.field-0-is)
+    c.args.state.now.store.file_of_line.items c.args.state.now.store.entries c.args.state.now.store.files.items c.conjunction.result c.in-Ok-Some.field-0 c.requires.state c.requires.held c.conjunction.ensures c.deref.ensures.value
+    (sym c.refusal.ensures ∙ c.in-None.is) c.in-Ok-Some.ensures.first
+    ∙ ap (λ found. first_of (as_overtaken found ∷ unsound_refusal c.args.state.now.commands.commands c.in-Commit.ambition (commands.Commit c.in-Commit.base c.in-Commit.choice c.in-Commit.ambition c.in-Commit.edits) ∷ [])) c.in-Ok-Some.field-0-is
 
 pub returns-in-Ok-Some-clause-held : goal.returns-in-Ok-Some-clause-held
 returns-in-Ok-Some-clause-held c =
-    (held-grown c.args.state.now.commands.commands c.args.state.now.table c.overtaken.new.table c.args.state.now.store.commits.items c.args.state.now.store.file_of_line.items c.args.state.now.store.files.items
+    (held-grown c.args.state.now.commands.commands c.args.state.now.table c.overtaken.new.table c.args.state.now.store.commits.items c.args.state.now.store.file_of_line.items c.args.state.now.store.entries c.args.state.now.store.files.items
     c.requires.held c.overtaken.ensures.extends)
 
-pub returns-in-Ok-clause-extends : goal.returns-in-Ok-clause-extends
-returns-in-Ok-clause-extends c = extends_trans c.args.state.now.table c.overtaken.new.table c.commit_ready.new.state.table c.overtaken.ensures.extends c.commit_ready.ensures.extends
-
-pub returns-in-Ok-clause-accepted : goal.returns-in-Ok-clause-accepted
-returns-in-Ok-clause-accepted c =
+judged : (c : goal.After-commit_ready) → verdict c.args.state.now.commands.commands c.args.command.now
+    ≡ unsound_refusal c.args.state.now.commands.commands c.in-Commit.ambition (commands.Commit c.in-Commit.base c.in-Commit.choice c.in-Commit.ambition c.in-Commit.edits)
+judged c =
     late-verdict c.args.state.now.commands.commands c.args.command.now c.in-Commit.base c.in-Commit.choice c.in-Commit.ambition c.in-Commit.edits c.in-Commit.is c.requires.may_come
     c.args.state.now.counts c.requires.state.counted c.requires.few c.args.state.now.options.names c.args.state.now.table c.args.state.now.rules.standing c.args.state.now.store.commits.items c.deref.result.now
-    c.args.state.now.store.file_of_line.items c.args.state.now.store.files.items c.conjunction.result c.in-Ok-None.field-0 _ c.requires.state c.requires.held c.conjunction.ensures c.deref.ensures.value
-    (sym c.refusal.ensures ∙ c.in-None.is) c.in-Ok-None.ensures.first (ap as_overtaken c.in-Ok-None.field-0-is)
+    c.args.state.now.store.file_of_line.items c.args.state.now.store.entries c.args.state.now.store.files.items c.conjunction.result c.in-Ok-None.field-0 c.requires.state c.requires.held c.conjunction.ensures c.deref.ensures.value
+    (sym c.refusal.ensures ∙ c.in-None.is) c.in-Ok-None.ensures.first
+    ∙ ap (λ found. first_of (as_overtaken found ∷ unsound_refusal c.args.state.now.commands.commands c.in-Commit.ambition (commands.Commit c.in-Commit.base c.in-Commit.choice c.in-Commit.ambition c.in-Commit.edits) ∷ [])) c.in-Ok-None.field-0-is
+    ∙ first-one _
 
-pub returns-in-Err-commit_ready-clause-extends : goal.returns-in-Err-commit_ready-clause-extends
-returns-in-Err-commit_ready-clause-extends c = extends_trans c.args.state.now.table c.overtaken.new.table c.commit_ready.new.state.table c.overtaken.ensures.extends c.commit_ready.ensures.extends
+pub returns-in-Ok-None-clause-extends : goal.returns-in-Ok-None-clause-extends
+returns-in-Ok-None-clause-extends c = extends_trans c.args.state.now.table c.overtaken.new.table c.commit_ready.new.state.table c.overtaken.ensures.extends c.commit_ready.ensures.extends
+
+pub returns-in-Ok-None-clause-accepted : goal.returns-in-Ok-None-clause-accepted
+returns-in-Ok-None-clause-accepted c = on_ok_weaker c.commit_ready.result (λ sound. judged c ∙ sound c.in-Commit.base c.in-Commit.choice) c.commit_ready.ensures.sound
+
+pub returns-in-Ok-None-clause-ready : goal.returns-in-Ok-None-clause-ready
+returns-in-Ok-None-clause-ready c =
+    subst (λ (ks : Recorded). IfOk c.commit_ready.result (IsReady ks.commands c.args.command.now c.commit_ready.new.state.options.spare c.commit_ready.new.state.table c.commit_ready.new.state.rules (vec_capacity c.commit_ready.new.state.store.commits - vec_len c.commit_ready.new.state.store.commits) c.commit_ready.new.state.store.commits.items c.commit_ready.new.state.store.file_of_line.items c.commit_ready.new.state.store.entries c.commit_ready.new.state.store.files.items)) (sym c.commit_ready.ensures.commands)
+    (all-staged c.args.state.now.commands.commands c.args.command.now c.in-Commit.base c.in-Commit.choice c.in-Commit.ambition c.in-Commit.edits c.in-Commit.is c.requires.may_come c.commit_ready.new.state.options.spare c.commit_ready.new.state.table c.commit_ready.new.state.rules (vec_capacity c.commit_ready.new.state.store.commits - vec_len c.commit_ready.new.state.store.commits) c.commit_ready.new.state.store.commits.items c.commit_ready.new.state.store.file_of_line.items c.commit_ready.new.state.store.entries c.commit_ready.new.state.store.files.items c.commit_ready.result
+    (subst (λ (ks : Recorded). IfOk c.commit_ready.result (IsStagedReady ks.commands c.commit_ready.new.state.table c.in-Commit.ambition c.in-Commit.edits (vec_capacity c.commit_ready.new.state.store.commits - vec_len c.commit_ready.new.state.store.commits) c.commit_ready.new.state.store.commits.items c.commit_ready.new.state.store.file_of_line.items c.commit_ready.new.state.store.entries c.commit_ready.new.state.store.files.items)) c.commit_ready.ensures.commands c.commit_ready.ensures.ready))
+
+pub returns-in-Ok-None-clause-refused : goal.returns-in-Ok-None-clause-refused
+returns-in-Ok-None-clause-refused c =
+    IfErr-weaker c.commit_ready.result _ _ (λ r refused. subst (RefusedBy r) (sym (judged c)) (refused c.in-Commit.base c.in-Commit.choice)) c.commit_ready.ensures.refused
 
 pub returns-in-Err-clause-state : goal.returns-in-Err-clause-state
 returns-in-Err-clause-state c =
@@ -89,7 +107,7 @@ returns-in-Err-clause-state c =
 
 pub returns-in-Err-clause-held : goal.returns-in-Err-clause-held
 returns-in-Err-clause-held c =
-    (held-grown c.args.state.now.commands.commands c.args.state.now.table c.overtaken.new.table c.args.state.now.store.commits.items c.args.state.now.store.file_of_line.items c.args.state.now.store.files.items
+    (held-grown c.args.state.now.commands.commands c.args.state.now.table c.overtaken.new.table c.args.state.now.store.commits.items c.args.state.now.store.file_of_line.items c.args.state.now.store.entries c.args.state.now.store.files.items
     c.requires.held c.overtaken.ensures.extends)
 
 pub returns-in_default : goal.returns-in_default
@@ -99,14 +117,14 @@ returns-in_default c =
     let ts = c.args.state.now.table in
     let standing = c.args.state.now.rules.standing in
     let of : RuleOf k = rule-of k c.in_default.not-Option c.in_default.not-Commit in
-    let grown = held-grown history ts c.rule_ready.new.table c.args.state.now.store.commits.items c.args.state.now.store.file_of_line.items c.args.state.now.store.files.items c.requires.held c.rule_ready.ensures.extends in
+    let grown = held-grown history ts c.rule_ready.new.table c.args.state.now.store.commits.items c.args.state.now.store.file_of_line.items c.args.state.now.store.entries c.args.state.now.store.files.items c.requires.held c.rule_ready.ensures.extends in
     record {
       commands = refl;
       extends = c.rule_ready.ensures.extends;
       state = state-grown history c.args.state.now.options.names ts c.rule_ready.new.table standing c.rule_ready.new.rules.standing c.args.state.now.counts
           c.requires.state c.rule_ready.ensures.extends c.rule_ready.ensures.same;
       accepted = on_ok_weaker c.rule_ready.result (λ accepted. rule-accepted history ts standing c.requires.state.rules c.requires.few k of.rule of.is c.requires.may_come (accepted of.rule of.is)) c.rule_ready.ensures.accepted;
-      ready = all-ready history k c.args.state.now.options.spare c.rule_ready.new.table c.rule_ready.new.rules _ c.args.state.now.store.commits.items c.args.state.now.store.file_of_line.items c.args.state.now.store.files.items
+      ready = all-ready history k c.args.state.now.options.spare c.rule_ready.new.table c.rule_ready.new.rules _ c.args.state.now.store.commits.items c.args.state.now.store.file_of_line.items c.args.state.now.store.entries c.args.state.now.store.files.items
           grown c.rule_ready.result c.rule_ready.ensures.ready;
       refused = IfErr-weaker c.rule_ready.result _ _ (λ r refused. rule-refused history ts standing c.requires.state.rules c.requires.few k of.rule of.is c.requires.may_come r (refused of.rule of.is)) c.rule_ready.ensures.refused;
       held = on-any c.rule_ready.result _ grown;

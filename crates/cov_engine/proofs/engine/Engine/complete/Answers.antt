@@ -12,7 +12,7 @@ invariant_of-self c = (
   state-grown c.self.inside.state.commands.commands c.self.inside.state.options.names c.self.inside.state.table c.complete.new.table
       c.self.inside.state.rules.standing c.self.inside.state.rules.standing c.self.inside.state.counts c.self.invariant.0 c.complete.ensures.extends refl,
   held-grown c.self.inside.state.commands.commands c.self.inside.state.table c.complete.new.table c.self.inside.state.store.commits.items
-      c.self.inside.state.store.file_of_line.items c.self.inside.state.store.files.items c.self.invariant.1 c.complete.ensures.extends,
+      c.self.inside.state.store.file_of_line.items c.self.inside.state.store.entries c.self.inside.state.store.files.items c.self.invariant.1 c.complete.ensures.extends,
 )
 
 pub returns-clause-answer : goal.returns-clause-answer

@@ -11,14 +11,14 @@ use Rattle.cov_engine.proofs.engine.Engine.file_lines.Goals as goal
 pub returns-in-Some : goal.returns-in-Some
 returns-in-Some c =
     let state = c.self.inside.state in
-    let own = all-kept state.commands.commands state.table state.store.commits.items state.store.file_of_line.items state.store.files.items c.self.invariant.0.legal c.self.invariant.1
-    c.args.file c.in-Some.stored.now (sym (c.stored_file_of.ensures ∙ ap (λ es. item_of es c.args.file) c.deref.ensures.value) ∙ ap option_copied c.in-Some.is) in
+    let own = all-kept state.commands.commands state.table state.store.commits.items state.store.file_of_line.items state.store.entries state.store.files.items c.self.invariant.0.legal c.self.invariant.1
+    c.args.file c.in-Some.stored.now (sym (c.item_of.ensures ∙ (λ j. item_of (c.deref.ensures.value j) (c.number.ensures j))) ∙ ap option_copied c.in-Some.is) in
     IfOk-weaker c.all.result _ _ (λ rows e. e ∙ own ∙ ap (λ (v : EngineValue). map as_row (file_dated c.args.file (kept_of v.history))) c.self.view_is) c.all.ensures
 
 pub returns-in-None : goal.returns-in-None
 returns-in-None c =
     let state = c.self.inside.state in
     c.new.ensures
-    ∙ none-kept state.commands.commands state.table state.store.commits.items state.store.file_of_line.items state.store.files.items c.self.invariant.0.legal c.self.invariant.1
-    c.args.file (sym (c.stored_file_of.ensures ∙ ap (λ es. item_of es c.args.file) c.deref.ensures.value) ∙ ap option_copied c.in-None.is)
+    ∙ none-kept state.commands.commands state.table state.store.commits.items state.store.file_of_line.items state.store.entries state.store.files.items c.self.invariant.0.legal c.self.invariant.1
+    c.args.file (sym (c.item_of.ensures ∙ (λ j. item_of (c.deref.ensures.value j) (c.number.ensures j))) ∙ ap option_copied c.in-None.is)
     ∙ ap (λ (v : EngineValue). map as_row (file_dated c.args.file (kept_of v.history))) c.self.view_is

@@ -1,0 +1,25 @@
+use Rattle.std.proofs.Common.{[], map, sym, ap, subst, ◌∙◌}
+use Rattle.std.specs.List.{fold}
+use Rattle.cov_view.specs.Seen.{Seen}
+use Rattle.cov_view.specs.Soundness.{AreOld, old_row}
+use Rattle.cov_engine.specs.Showing.{with_node, AreFresh}
+use Rattle.cov_engine.proofs.Fresh.{once-fresh}
+use Rattle.cov_engine.proofs.Holdings.{no_files, rows-old, rows-told}
+use Rattle.cov_engine.proofs.store.view_of_rows.Goals as goal
+
+pub add_nodes-requires : goal.add_nodes-requires
+add_nodes-requires c = record {
+  fresh = subst (λ (v : Seen). AreFresh c.args.table.now c.args.choice c.new-2.result [] v.rows c.args.rows.now) (sym c.in_ok-view.ensures)
+      (once-fresh c.args.table.now c.args.choice c.new-2.result [] c.args.rows.now c.requires);
+}
+
+pub returns-clause-old : goal.returns-clause-old
+returns-clause-old c =
+    subst AreOld
+    (sym (c.in_ok-add_nodes.ensures.rows ∙ ap (λ (v : Seen). fold (with_node c.args.table.now c.args.choice c.new-2.result no_files) v.rows c.args.rows.now) c.in_ok-view.ensures))
+    (rows-old c.args.table.now c.args.choice c.new-2.result [] c.args.rows.now tt)
+
+pub returns-clause-rows : goal.returns-clause-rows
+returns-clause-rows c =
+    ap (map old_row) (c.in_ok-add_nodes.ensures.rows ∙ ap (λ (v : Seen). fold (with_node c.args.table.now c.args.choice c.new-2.result no_files) v.rows c.args.rows.now) c.in_ok-view.ensures)
+    ∙ rows-told c.args.table.now c.args.choice c.new-2.result c.args.rows.now
