@@ -1,9 +1,8 @@
 -- One edit more in a session.
 use Rattle.std.proofs.Common.{◌≡◌, ◌∙◌, refl, sym, ap, subst, ℕ, ◌+◌, ◌<◌, ◌≤◌, true, false, nat_lt, List, [], ◌∷◌, ◌++◌, length, length-append, take, Option, Some, None, arith}
 use Rattle.std.proofs.lemmas.Bool.Decides.{nat_tests}
-use Rattle.std.specs.List.{fold}
+use Rattle.std.specs.List.{fold, cons_option}
 use Rattle.cov_base.specs.Addresses.{address_in, with_lines, IsTable}
-use Rattle.cov_base.specs.Rows.{Created}
 use Rattle.cov_base.proofs.CallerLemmas.{length-with_lines, address_in-with_lines}
 use Rattle.cov_base.specs.declared.limits.TheConstants.{LIMITS}
 use Rattle.cov_edit.specs.declared.edit.Edit.{Edit}
@@ -11,10 +10,10 @@ use Rattle.cov_edit.specs.declared.edit.Edit.TheVariants as edits
 use Rattle.cov_edit.specs.declared.command.Command.{Command}
 use Rattle.cov_edit.specs.declared.command.Command.TheVariants as commands
 use Rattle.cov_edit.specs.History.{text_bytes}
-use Rattle.cov_edit.specs.Numbering.{Numbers, NumberedEdit, OnRows, Inserted, Deleted, no_numbers, node_number, line_number, nodes_made, anchors_of, numbers_after, numbered_from, numbered}
+use Rattle.cov_edit.specs.Numbering.{Numbers, Inserted, Deleted, node_count_after, line_count_after, anchor_of, numbered_edit, no_numbers, node_number, line_number, nodes_made, anchors_of, numbers_after, numbered_from, numbered}
 use Rattle.cov_edit.specs.Variant.{Variant, edited}
 use Rattle.cov_edit.specs.Replay.{replay}
-use Rattle.cov_edit.proofs.CallerLemmas.{anchors-append, nodes-append, with_lines-append, numbered-append, bytes-append, fold-append, numbers_from-append}
+use Rattle.cov_edit.proofs.CallerLemmas.{line_count_after-is, anchors-append, nodes-append, with_lines-append, numbered-append, bytes-append, fold-append, numbers_from-append}
 use Rattle.cov_expr.specs.Formula.{False}
 use Rattle.cov_view.specs.Refusals.{refusal, refused_at, refused_from, first_refused}
 use Rattle.cov_view.specs.Seen.{Seen}
@@ -30,20 +29,26 @@ use Rattle.cov_session.specs.Open.{SessionValue, IsOpen, numbers_at_base, table_
 use Rattle.cov_session.specs.declared.fault.SessionFault.{SessionFault}
 use Rattle.cov_session.specs.declared.fault.SessionFault.TheVariants as faults
 use Rattle.cov_view.proofs.CallerLemmas.{first-not_when, first-when, first-one, fault-by}
-use Rattle.cov_session.proofs.Made.{DeletesWithin, deletes-within, replay-within}
+use Rattle.cov_session.proofs.Made.{DeleteWithin, DeletesWithin, deletes-within, replay-within}
 
--- they are the same by another table in which their lines have the same addresses
+-- an edit is the same by another table in which its lines have the same addresses
+edit-same : (ns : Numbers) (t u : List (List ℕ)) (node line m most : ℕ) (e : Edit) (ms : List ℕ) → ((x : ℕ) → x ≤ most → address_in u x ≡ address_in t x) → line + length (cons_option (anchor_of m e) ms) ≤ most
+    → DeleteWithin (length ns.addresses) most e → numbered_edit ns u node line e ≡ numbered_edit ns t node line e
+edit-same ns t u node line m most (edits.New kind parent name) ms same h made = refl
+edit-same ns t u node line m most (edits.Insert file after text) ms same h made = ap (λ a. Inserted (node_number ns.nodes file) a text) (same (line + 1) (omega (arith, h)))
+edit-same ns t u node line m most (edits.Delete file which) ms same h made = ap (λ a. Deleted (node_number ns.nodes file) a) (same (line_number (length ns.addresses) which) made)
+edit-same ns t u node line m most (edits.Rename which name) ms same h made = refl
+edit-same ns t u node line m most (edits.Move which parent) ms same h made = refl
+edit-same ns t u node line m most (edits.Remove which) ms same h made = refl
+
+-- so are edits
 numbered-same : (ns : Numbers) (t u : List (List ℕ)) (node line m most : ℕ) (es : List Edit) → ((x : ℕ) → x ≤ most → address_in u x ≡ address_in t x)
     → line + length (anchors_of m es) ≤ most → DeletesWithin (length ns.addresses) most es → numbered_from ns u node line es ≡ numbered_from ns t node line es
 numbered-same ns t u node line m most [] same h made = refl
-numbered-same ns t u node line m most (edits.New kind parent name ∷ es) same h made =
-    ap (λ ds. OnRows (Created (node + 1) kind (node_number ns.nodes parent) name) ∷ ds) (numbered-same ns t u (node + 1) line m most es same h made)
-numbered-same ns t u node line m most (edits.Insert file after text ∷ es) same h made =
-    ap (λ a. Inserted (node_number ns.nodes file) a text ∷ numbered_from ns u node (line + 1) es) (same (line + 1) (omega (arith, h)))
-    ∙ ap (λ ds. Inserted (node_number ns.nodes file) (address_in t (line + 1)) text ∷ ds) (numbered-same ns t u node (line + 1) m most es same (omega (arith, h)) made)
-numbered-same ns t u node line m most (edits.Delete file which ∷ es) same h made =
-    ap (λ a. Deleted (node_number ns.nodes file) a ∷ numbered_from ns u node line es) (same (line_number (length ns.addresses) which) made.0)
-    ∙ ap (λ ds. Deleted (node_number ns.nodes file) (address_in t (line_number (length ns.addresses) which)) ∷ ds) (numbered-same ns t u node line m most es same h made.1)
+numbered-same ns t u node line m most (e ∷ es) same h made =
+    let counted = line_count_after-is line m e (anchors_of m es) in
+    ap (λ d. d ∷ numbered_from ns u (node_count_after node e) (line_count_after line e) es) (edit-same ns t u node line m most e (anchors_of m es) same h made.0)
+    ∙ ap (λ ds. numbered_edit ns t node line e ∷ ds) (numbered-same ns t u (node_count_after node e) (line_count_after line e) m most es same (omega (arith, h, counted)) made.1)
 
 module _ (ns : Numbers) (es : List Edit) (e : Edit) where
   abbrev n : ℕ
@@ -59,6 +64,9 @@ module _ (ns : Numbers) (es : List Edit) (e : Edit) where
   one-anchor t (edits.New kind parent name) = refl
   one-anchor t (edits.Insert file after text) = refl
   one-anchor t (edits.Delete file line) = refl
+  one-anchor t (edits.Rename node name) = refl
+  one-anchor t (edits.Move node parent) = refl
+  one-anchor t (edits.Remove node) = refl
 
   longer-split : longer ≡ with_lines table (anchors_of n (e ∷ []))
   longer-split = ap (with_lines ns.addresses) (anchors-append n es (e ∷ [])) ∙ with_lines-append ns.addresses (anchors_of n es) (anchors_of n (e ∷ []))
@@ -86,9 +94,7 @@ skip-accepted k o later h = ap (λ x. refused_at k x later) h
 
 one-refused : (ns : Numbers) (v : Variant) (k : ℕ) (t : List (List ℕ)) (node line : ℕ) (e : Edit)
     → refused_from ns v k (e ∷ []) (numbered_from ns t node line (e ∷ [])) ≡ refused_at k (refusal ns v e) None
-one-refused ns v k t node line (edits.New kind parent name) = refl
-one-refused ns v k t node line (edits.Insert file after text) = refl
-one-refused ns v k t node line (edits.Delete file which) = refl
+one-refused ns v k t node line e = refl
 
 -- after accepted edits, the first refused is the last, if it is refused
 pub refused-append : (ns : Numbers) (v : Variant) (k : ℕ) (t u : List (List ℕ)) (node line a b : ℕ) (es : List Edit) (e : Edit)
@@ -96,18 +102,9 @@ pub refused-append : (ns : Numbers) (v : Variant) (k : ℕ) (t u : List (List �
     → (i : ℕ) × (refused_from ns v k (es ++ e ∷ []) (numbered_from ns t node line es ++ numbered_from ns u a b (e ∷ []))
     ≡ refused_at i (refusal ns (fold edited v (numbered_from ns t node line es)) e) None)
 refused-append ns v k t u node line a b [] e h = (k, one-refused ns v k u a b e)
-refused-append ns v k t u node line a b (edits.New kind parent name ∷ es) e h =
-    let d : NumberedEdit = OnRows (Created (node + 1) kind (node_number ns.nodes parent) name) in
-    let ih = refused-append ns (edited v d) (k + 1) t u (node + 1) line a b es e (rest-accepted k (refusal ns v (edits.New kind parent name)) _ h) in
-    (ih.0, skip-accepted k (refusal ns v (edits.New kind parent name)) _ (edit-accepted k (refusal ns v (edits.New kind parent name)) _ h) ∙ ih.1)
-refused-append ns v k t u node line a b (edits.Insert file after text ∷ es) e h =
-    let d : NumberedEdit = Inserted (node_number ns.nodes file) (address_in t (line + 1)) text in
-    let ih = refused-append ns (edited v d) (k + 1) t u node (line + 1) a b es e (rest-accepted k (refusal ns v (edits.Insert file after text)) _ h) in
-    (ih.0, skip-accepted k (refusal ns v (edits.Insert file after text)) _ (edit-accepted k (refusal ns v (edits.Insert file after text)) _ h) ∙ ih.1)
-refused-append ns v k t u node line a b (edits.Delete file which ∷ es) e h =
-    let d : NumberedEdit = Deleted (node_number ns.nodes file) (address_in t (line_number (length ns.addresses) which)) in
-    let ih = refused-append ns (edited v d) (k + 1) t u node line a b es e (rest-accepted k (refusal ns v (edits.Delete file which)) _ h) in
-    (ih.0, skip-accepted k (refusal ns v (edits.Delete file which)) _ (edit-accepted k (refusal ns v (edits.Delete file which)) _ h) ∙ ih.1)
+refused-append ns v k t u node line a b (f ∷ es) e h =
+    let ih = refused-append ns (edited v (numbered_edit ns t node line f)) (k + 1) t u (node_count_after node f) (line_count_after line f) a b es e (rest-accepted k (refusal ns v f) _ h) in
+    (ih.0, skip-accepted k (refusal ns v f) _ (edit-accepted k (refusal ns v f) _ h) ∙ ih.1)
 
 -- the table of a session is one
 pub is-table : (history : List Command) (s : Session) → HoldingStands → IsTable (table_of history s)

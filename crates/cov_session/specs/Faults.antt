@@ -12,6 +12,9 @@ by_edit edit_faults.NoSuchNode = faults.Edit edit_faults.NoSuchNode
 by_edit edit_faults.NotFile = faults.Edit edit_faults.NotFile
 by_edit edit_faults.NotDirectory = faults.Edit edit_faults.NotDirectory
 by_edit edit_faults.NameTaken = faults.Edit edit_faults.NameTaken
+by_edit edit_faults.NotEmpty = faults.Edit edit_faults.NotEmpty
+by_edit edit_faults.IntoItself = faults.Edit edit_faults.IntoItself
+by_edit edit_faults.IsRoot = faults.Edit edit_faults.IsRoot
 by_edit edit_faults.NoSuchLine = faults.Edit edit_faults.NoSuchLine
 by_edit edit_faults.Memory = faults.Memory
 

@@ -44,6 +44,9 @@ impl From<EditFault> for SessionFault {
             | EditFault::NotFile
             | EditFault::NotDirectory
             | EditFault::NameTaken
+            | EditFault::NotEmpty
+            | EditFault::IntoItself
+            | EditFault::IsRoot
             | EditFault::NoSuchLine => SessionFault::Edit { fault },
         }
     }

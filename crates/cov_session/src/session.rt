@@ -161,7 +161,7 @@ impl OpenSession {
         ensures same { OnErr result (self.new ≡ self.old) }
     {
         let bytes = self.room_for(1, bytes_of(&edit))?;
-        self.act(edit, bytes)
+        self.add_edit(edit, bytes)
     }
 
     // The bytes of text with so many edits and bytes more, unless a commit doesn't hold so many.
@@ -184,7 +184,7 @@ impl OpenSession {
     }
 
     // Takes an edit that the limits allow. It is pushed first, so that nothing can fail once the view has it.
-    fn act(&mut self, edit: Edit, bytes: usize) -> Result<(), SessionFault>
+    fn add_edit(&mut self, edit: Edit, bytes: usize) -> Result<(), SessionFault>
         requires text { has_line_text edit ≡ true }
         requires room { length self.old.session.edits < LIMITS.edits }
         requires light { bytes ≤ LIMITS.commit_bytes }
@@ -231,11 +231,11 @@ impl OpenSession {
         if is_head(&line) {
             return Err(SessionFault::from(head_fault(&self.view, file)));
         }
-        self.exchange(&file, &line, text, bytes)
+        self.add_replacement(&file, &line, text, bytes)
     }
 
     // Inserts after a line and deletes it, as the limits allow.
-    fn exchange(
+    fn add_replacement(
         &mut self,
         file: &NodeRef,
         line: &LineRef,
@@ -292,7 +292,11 @@ fn bytes_of(edit: &Edit) -> usize
     ensures most { has_line_text edit.now ≡ true → result ≤ MOST_TEXT_BYTES }
 {
     match edit {
-        Edit::New { .. } | Edit::Delete { .. } => 0,
+        Edit::New { .. }
+        | Edit::Delete { .. }
+        | Edit::Rename { .. }
+        | Edit::Move { .. }
+        | Edit::Remove { .. } => 0,
         Edit::Insert { text, .. } => text.len(),
     }
 }

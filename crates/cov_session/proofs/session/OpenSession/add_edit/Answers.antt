@@ -7,7 +7,7 @@ use Rattle.cov_session.specs.Open.{SessionValue, IsOpen}
 use Rattle.cov_session.specs.contracts.session.OpenSession.{the_view}
 use Rattle.cov_session.proofs.Adding.{Accepts, Refuses, Applies, accepted-by, refused-by, open-after}
 use Rattle.cov_session.proofs.Counting.{nodes-fit, lines-fit, one-light, counted-after, last-is}
-use Rattle.cov_session.proofs.session.OpenSession.act.Goals as goal
+use Rattle.cov_session.proofs.session.OpenSession.add_edit.Goals as goal
 
 pub apply-requires-clause-nodes : goal.apply-requires-clause-nodes
 apply-requires-clause-nodes c =

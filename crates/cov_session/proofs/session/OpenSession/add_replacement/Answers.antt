@@ -11,7 +11,7 @@ use Rattle.cov_session.proofs.Adding.{Accepts, Refuses, Applies}
 use Rattle.cov_session.proofs.Counting.{nodes-fit, lines-fit, one-light, counted-after}
 use Rattle.cov_session.proofs.Deleting.{deletes-after, inserted, delete-fits}
 use Rattle.cov_session.proofs.Replacing.{both-accepted, both-open, both-refused}
-use Rattle.cov_session.proofs.session.OpenSession.exchange.Goals as goal
+use Rattle.cov_session.proofs.session.OpenSession.add_replacement.Goals as goal
 
 pub apply-requires-clause-nodes : goal.apply-requires-clause-nodes
 apply-requires-clause-nodes c =
