@@ -22,14 +22,9 @@ more =
 first_wrong : (keyword : Keyword) (kind : Kind) (later : List Kind) (ahead : List ℕ) (within : ℕ) → kinds_behind keyword ≡ kind ∷ later → IsWrong kind (field_ahead kind ahead) within
     → IsMistaken (word_for keyword ++ 32 ∷ ahead) (length (word_for keyword) + 1 + within)
 first_wrong keyword kind later ahead within wanted wrong = inr (inl (record {
-  keyword = keyword;
-  before = [];
   kind = kind;
-  wanted = (later, wanted);
-  front = word_for keyword;
-  right = ([], sym (append-nil (word_for keyword)), refl);
   ahead = ahead;
-  all = refl;
+  comes = record { keyword = keyword; before = []; wanted = (later, wanted); front = word_for keyword; right = ([], sym (append-nil (word_for keyword)), refl); all = refl };
   within = within;
   wrong = wrong;
   place = refl;
@@ -55,14 +50,16 @@ third =
     let name : IsRight Name (codes "s") = record { ends = refl; spaceless = refl; of_kind = refl } in
     let choice : IsRight Choice (codes "-") = record { ends = refl; spaceless = refl; of_kind = refl } in
     inr (inl (record {
-      keyword = keywords.Open;
-      before = Name ∷ Choice ∷ [];
       kind = For;
-      wanted = (Expression ∷ [], refl);
-      front = codes "open s -";
-      right = (codes " s -", refl, (codes "s", codes " -", refl, name, (codes "-", [], refl, choice, refl)));
       ahead = codes "fro $";
-      all = refl;
+      comes = record {
+        keyword = keywords.Open;
+        before = Name ∷ Choice ∷ [];
+        wanted = (Expression ∷ [], refl);
+        front = codes "open s -";
+        right = (codes " s -", refl, (codes "s", codes " -", refl, name, (codes "-", [], refl, choice, refl)));
+        all = refl;
+      };
       within = 0;
       wrong = (refl, refl);
       place = refl;
@@ -76,14 +73,16 @@ long_text =
     let path : IsRight Path (codes "/") = record { ends = refl; spaceless = refl; of_kind = refl } in
     let number : IsRight EditLine (codes "0") = record { ends = refl; spaceless = refl; of_kind = refl } in
     inr (inl (record {
-      keyword = keywords.Insert;
-      before = Name ∷ Path ∷ EditLine ∷ [];
       kind = Text;
-      wanted = ([], refl);
-      front = codes "insert s / 0";
-      right = (codes " s / 0", refl, (codes "s", codes " / 0", refl, name, (codes "/", codes " 0", refl, path, (codes "0", [], refl, number, refl))));
       ahead = replicate 4097 120;
-      all = refl;
+      comes = record {
+        keyword = keywords.Insert;
+        before = Name ∷ Path ∷ EditLine ∷ [];
+        wanted = ([], refl);
+        front = codes "insert s / 0";
+        right = (codes " s / 0", refl, (codes "s", codes " / 0", refl, name, (codes "/", codes " 0", refl, path, (codes "0", [], refl, number, refl))));
+        all = refl;
+      };
       within = 0;
       wrong = (refl, refl);
       place = refl;
@@ -99,12 +98,7 @@ unknown = inl (record { speaks = not_silent 32 (codes "option a") refl; unknown 
 -- 256 tokens are an expression, 257 are too many
 too_long : IsTooLong (codes "prefer " ++ replicate 256 33 ++ codes "a")
 too_long = record {
-  keyword = keywords.Prefer;
-  before = [];
-  wanted = ([], refl);
-  front = codes "prefer";
-  right = ([], refl, refl);
   ahead = replicate 256 33 ++ codes "a";
-  all = refl;
+  comes = record { keyword = keywords.Prefer; before = []; wanted = ([], refl); front = codes "prefer"; right = ([], refl, refl); all = refl };
   long = omega arith;
 }

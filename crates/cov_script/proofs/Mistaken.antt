@@ -12,7 +12,7 @@ use Rattle.cov_script.specs.Fields.{go_on, field, taken, place, behind, at_end, 
 use Rattle.cov_script.specs.Forms.{IsSilent, HasForm}
 use Rattle.cov_script.specs.Kinds.{Kind, Expression, Text, is_of, ends_at_space, field_ahead, word_for, kinds_behind}
 use Rattle.cov_script.specs.Lines.{form_of, spoken, if_keyword, keyword_of}
-use Rattle.cov_script.specs.Mistakes.{IsRight, AreRight, IsFront, IsWrong, HasMore, IsMistaken, IsTooLong}
+use Rattle.cov_script.specs.Mistakes.{IsRight, AreRight, IsFront, IsWrong, ComesTo, HasMore, IsMistaken, IsTooLong}
 use Rattle.cov_script.specs.declared.keyword.Keyword.{Keyword}
 use Rattle.cov_script.specs.declared.line.Line.{Line}
 use Rattle.cov_script.specs.declared.line.Line.TheVariants as lines
@@ -75,20 +75,18 @@ module _ (grammar : ReadsByGrammar) (keyword : Keyword) (line : List ℕ) where
         place = place;
       })))
 
+  abbrev comes_to : (before : List Kind) (kind : Kind) (kinds : List Kind) (front ahead : List ℕ) → IsAt before (kind ∷ kinds) front (32 ∷ ahead) → ComesTo line kind ahead
+  comes_to before kind kinds front ahead h = record { keyword = keyword; before = before; wanted = (kinds, h.wanted); front = front; right = h.right; all = h.all }
+
   is_wrong : (before : List Kind) (kind : Kind) (kinds : List Kind) (front ahead : List ℕ) (within at : ℕ) → IsAt before (kind ∷ kinds) front (32 ∷ ahead) → IsWrong kind (field_ahead kind ahead) within → at ≡ length line - length ahead + within → IsMistaken line at
   is_wrong before kind kinds front ahead within at h wrong place =
       inr (inl (record {
-        keyword = keyword;
-        before = before;
         kind = kind;
-        wanted = (kinds, h.wanted);
-        front = front;
-        right = h.right;
         ahead = ahead;
-        all = h.all;
+        comes = comes_to before kind kinds front ahead h;
         within = within;
         wrong = wrong;
-        place = omega (arith, place, place_behind line front (32 ∷ ahead) h.all);
+        place = (let here : at ≡ length front + 1 + within = omega (arith, place, place_behind line front (32 ∷ ahead) h.all) in here);
       }))
 
   -- behind the last field
@@ -145,16 +143,7 @@ module _ (grammar : ReadsByGrammar) (keyword : Keyword) (line : List ℕ) where
   parsed-tells before kinds front ahead h (Err (faults.Syntax within)) read =
       is_wrong before Expression kinds front ahead within (length line - length ahead + within) h ((grammar ahead (Err (faults.Syntax within))).0 read) refl
   parsed-tells before kinds front ahead h (Err faults.TooLong) read =
-      record {
-        keyword = keyword;
-        before = before;
-        wanted = (kinds, h.wanted);
-        front = front;
-        right = h.right;
-        ahead = ahead;
-        all = h.all;
-        long = (grammar ahead (Err faults.TooLong)).0 read;
-      }
+      record { ahead = ahead; comes = comes_to before Expression kinds front ahead h; long = (grammar ahead (Err faults.TooLong)).0 read }
   parsed-tells before kinds front ahead h (Err faults.Memory) read = absurd (never_memory ahead read)
 
   text-tells : (before kinds : List Kind) (front ahead : List ℕ) → IsAt before (Text ∷ kinds) front (32 ∷ ahead) → (b : Bool) → is_line_text ahead ≡ b → Tells line (told (if b then Ok ahead else Err (Syntax (length line - length ahead))))

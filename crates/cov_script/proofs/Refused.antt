@@ -10,7 +10,7 @@ use Rattle.cov_script.specs.Fields.{go_on, field, expression_at, first_field, be
 use Rattle.cov_script.specs.Forms.{IsField, IsSilent}
 use Rattle.cov_script.specs.Kinds.{Kind, Expression, Text, is_of, ends_at_space, field_ahead, word_for, kinds_behind}
 use Rattle.cov_script.specs.Lines.{form_of, spoken, if_keyword, keyword_of}
-use Rattle.cov_script.specs.Mistakes.{IsRight, AreRight, IsFront, IsWrong, HasUnknownKeyword, HasWrongField, LacksField, HasMore, IsMistaken, IsTooLong}
+use Rattle.cov_script.specs.Mistakes.{IsRight, AreRight, IsFront, IsWrong, ComesTo, HasUnknownKeyword, HasWrongField, LacksField, HasMore, IsMistaken, IsTooLong}
 use Rattle.cov_script.specs.declared.keyword.Keyword.{Keyword}
 use Rattle.cov_script.specs.declared.line.Line.TheVariants as lines
 use Rattle.cov_script.specs.declared.line.LineSyntax.TheVariants.{Syntax, TooLong}
@@ -52,6 +52,10 @@ front_read keyword before kinds front tail line wanted (fields, spelt, are) all 
     ∙ ap (λ ks. checked ks (length line, fields ++ tail)) wanted
     ∙ are_right_read before kinds fields tail (length line) are none
 
+-- so up to a field that is wanted
+come_read : (line : List ℕ) (kind : Kind) (ahead : List ℕ) (h : ComesTo line kind ahead) → told (form_of line) ≡ checked (kind ∷ h.wanted.0) (length line, 32 ∷ ahead)
+come_read line kind ahead h = front_read h.keyword h.before (kind ∷ h.wanted.0) h.front (32 ∷ ahead) line h.wanted.1 h.right h.all refl
+
 -- the place behind a front and a space
 place_behind : (line front ahead : List ℕ) (within : ℕ) → line ≡ front ++ 32 ∷ ahead → length line - length ahead + within ≡ length front + 1 + within
 place_behind line front ahead within all =
@@ -82,15 +86,15 @@ module _ (grammar : ReadsByGrammar) where
 
   wrong_refused : (line : List ℕ) (at : ℕ) → HasWrongField line at → told (form_of line) ≡ Err (Syntax at)
   wrong_refused line at h =
-      front_read h.keyword h.before (h.kind ∷ h.wanted.0) h.front (32 ∷ h.ahead) line h.wanted.1 h.right h.all refl
-      ∙ wrong_read h.kind h.wanted.0 h.ahead (length line) h.within h.wrong
-      ∙ ap (λ n. Err (Syntax n)) (place_behind line h.front h.ahead h.within h.all ∙ sym h.place)
+      come_read line h.kind h.ahead h.comes
+      ∙ wrong_read h.kind h.comes.wanted.0 h.ahead (length line) h.within h.wrong
+      ∙ ap (λ n. Err (Syntax n)) (place_behind line h.comes.front h.ahead h.within h.comes.all ∙ sym h.place)
 
   -- a line that is too long is refused as that
   pub too_long_refused : (line : List ℕ) → IsTooLong line → form_of line ≡ Err TooLong
   too_long_refused line h =
       told-err (form_of line) TooLong
-      (front_read h.keyword h.before (Expression ∷ h.wanted.0) h.front (32 ∷ h.ahead) line h.wanted.1 h.right h.all refl
+      (come_read line Expression h.ahead h.comes
       ∙ ap (λ r. told (expression_at (length line - length h.ahead) r)) ((grammar h.ahead (Err faults.TooLong)).1 h.long))
 
 missing_field : (kind : Kind) (kinds : List Kind) (size : ℕ) → ends_at_space kind ≡ true → checked (kind ∷ kinds) (size, []) ≡ Err (Syntax size)

@@ -3,8 +3,9 @@ use Rattle.std.proofs.Common.{◌≡◌, ℕ, true, false, List, [], ◌∷◌, 
 use Rattle.std.specs.Prelude.{codes}
 use Rattle.std.specs.Fmt.{digits}
 use Rattle.std.specs.List.{concat}
+use Rattle.cov_base.specs.declared.number.Kind.TheVariants.{Dir, File}
 use Rattle.cov_base.specs.declared.number.LineRef.TheVariants.{Old, New}
-use Rattle.cov_script.specs.Replies.{option_reply, constraint_reply, prefer_reply, default_reply, complete_reply, open_reply, plain_reply, new_line_reply, count_reply, commit_reply, shown_line, cat_line, refused_reply}
+use Rattle.cov_script.specs.Replies.{option_reply, constraint_reply, prefer_reply, default_reply, complete_reply, open_reply, plain_reply, new_line_reply, count_reply, commit_reply, shown_line, cat_line, list_line, refused_reply}
 use Rattle.cov_script.specs.declared.code.Code.TheVariants as refusals
 
 abbrev names : List (List ℕ)
@@ -27,11 +28,23 @@ of_files : (count_reply 2 ++ concat (shown_line (Old 5) (codes "one  two") ∷ s
 unfolding digits
 of_files = refl
 
+-- a directory with a file and a directory
+of_directories : count_reply 2 ++ concat (list_line File (codes "Makefile") ∷ list_line Dir (codes "src") ∷ [])
+    ≡ codes "ok 2\nf Makefile\nd src\n"
+unfolding digits
+of_directories = refl
+
+-- variants that are no trees, the lower node of a clash first; a choice of no option is a dash
+refused_with_choices : map (refused_reply names) (refusals.Clash 1 12 (true ∷ false ∷ []) ∷ refusals.Orphan 7 (false ∷ false ∷ []) ∷ refusals.Loop 256 (true ∷ true ∷ []) ∷ refusals.Clash 1 2 [] ∷ [])
+    ≡ codes "refused clash 1 12 in fast=on,safe=off\n" ∷ codes "refused orphan 7 in fast=off,safe=off\n" ∷ codes "refused loop 256 in fast=on,safe=on\n" ∷ codes "refused clash 1 2 in -\n" ∷ []
+unfolding digits
+refused_with_choices = refl
+
 refused_with_more : map (refused_reply names) (refusals.Syntax 17 ∷ refusals.UnknownOption (codes "on") ∷ refusals.Repeated 1 ∷ refusals.Invalid 2 ∷ refusals.Incomplete 0 ∷ refusals.BadRecord 16383 ∷ [])
     ≡ codes "refused syntax 17\n" ∷ codes "refused unknown-option on\n" ∷ codes "refused repeated safe\n" ∷ codes "refused invalid 2\n" ∷ codes "refused incomplete fast\n" ∷ codes "refused bad-record 16383\n" ∷ []
 unfolding digits
 refused_with_more = refl
 
-refused_alone : map (refused_reply names) (refusals.TooLong ∷ refusals.Long ∷ refusals.BadName ∷ refusals.NoVariantLeft ∷ refusals.OutsideAmbition ∷ refusals.BadBase ∷ refusals.BadOption ∷ refusals.NotBuilt ∷ [])
-    ≡ codes "refused too-long\n" ∷ codes "refused long\n" ∷ codes "refused bad-name\n" ∷ codes "refused no-variant-left\n" ∷ codes "refused outside-ambition\n" ∷ codes "refused bad-base\n" ∷ codes "refused bad-option\n" ∷ codes "refused not-built\n" ∷ []
+refused_alone : map (refused_reply names) (refusals.TooLong ∷ refusals.Long ∷ refusals.BadName ∷ refusals.NoVariantLeft ∷ refusals.OutsideAmbition ∷ refusals.NotEmpty ∷ refusals.IntoItself ∷ refusals.IsRoot ∷ refusals.BadBase ∷ refusals.BadOption ∷ refusals.NotBuilt ∷ [])
+    ≡ codes "refused too-long\n" ∷ codes "refused long\n" ∷ codes "refused bad-name\n" ∷ codes "refused no-variant-left\n" ∷ codes "refused outside-ambition\n" ∷ codes "refused not-empty\n" ∷ codes "refused into-itself\n" ∷ codes "refused is-root\n" ∷ codes "refused bad-base\n" ∷ codes "refused bad-option\n" ∷ codes "refused not-built\n" ∷ []
 refused_alone = refl

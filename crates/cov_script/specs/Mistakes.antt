@@ -42,19 +42,23 @@ pub record HasUnknownKeyword (line : List ℕ) (at : ℕ) : Type 0 where
   pub unknown : (keyword : Keyword) → word_for keyword ≡ first_field line → ⊥
   pub place : at ≡ 0
 
--- a field that isn't of its kind, the first such: the line is mistaken within it
-pub record HasWrongField (line : List ℕ) (at : ℕ) : Type 0 where
+-- all fields of a line up to a space are right, and what is ahead of it begins with a field of which a kind is wanted
+pub record ComesTo (line : List ℕ) (kind : Kind) (ahead : List ℕ) : Type 0 where
   pub keyword : Keyword
   pub before : List Kind
-  pub kind : Kind
   pub wanted : Wants keyword before kind
   pub front : List ℕ
   pub right : IsFront keyword before front
-  pub ahead : List ℕ
   pub all : line ≡ front ++ 32 ∷ ahead
+
+-- a field that isn't of its kind, the first such: the line is mistaken within it
+pub record HasWrongField (line : List ℕ) (at : ℕ) : Type 0 where
+  pub kind : Kind
+  pub ahead : List ℕ
+  pub comes : ComesTo line kind ahead
   pub within : ℕ
   pub wrong : IsWrong kind (field_ahead kind ahead) within
-  pub place : at ≡ length front + 1 + within
+  pub place : at ≡ length comes.front + 1 + within
 
 -- a line that ends before a field that its keyword wants: it is mistaken at its length; a text may be missing
 pub record LacksField (line : List ℕ) (at : ℕ) : Type 0 where
@@ -81,13 +85,8 @@ IsMistaken line at = HasUnknownKeyword line at ⊎ (HasWrongField line at ⊎ (L
 
 -- a line whose expression, the first field that isn't of its kind, has too many tokens
 pub record IsTooLong (line : List ℕ) : Type 0 where
-  pub keyword : Keyword
-  pub before : List Kind
-  pub wanted : Wants keyword before Expression
-  pub front : List ℕ
-  pub right : IsFront keyword before front
   pub ahead : List ℕ
-  pub all : line ≡ front ++ 32 ∷ ahead
+  pub comes : ComesTo line Expression ahead
   pub long : IsParsed (length ahead) (tokens_of ahead) (Err faults.TooLong)
 
 -- reading refuses a line with a place exactly where it is mistaken there

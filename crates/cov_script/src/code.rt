@@ -1,17 +1,19 @@
 // Why a line is refused.
-ghost use Rattle.std.specs.Prelude.{◌≡◌, ◌++◌, IfOk, OnOk, codes, length};
+ghost use Rattle.std.specs.Prelude.{◌≡◌, ◌≤◌, ◌++◌, IfOk, OnOk, codes, length};
 ghost use Rattle.std.specs.Fmt.{decimal};
-ghost use Rattle.cov_script.specs.Replies.{code_detail, code_text, code_word, IsCodeOf};
+ghost use Rattle.cov_script.specs.Replies.{code_detail, code_text, code_word, place_text, IsCodeOf};
 
-use cov_base::{Memory, OptionId, Position, Text};
-use cov_expr::Options;
+use cov_base::{Choice, Memory, NodeNo, OptionId, Position, Text};
+use cov_expr::{Options, print_choice};
 use std::alloc::Global;
 
 /// The rule by which a line is refused.
 #[derive(Debug, Drop)]
 pub enum Code {
     /// The line has no form; its first mistake is at this byte, or behind the last.
-    Syntax { at: u32 },
+    Syntax {
+        at: u32,
+    },
     /// An expression has more than `MOST_TOKENS` tokens.
     TooLong,
     /// The line has more than `MOST_SCRIPT_LINE_BYTES` bytes.
@@ -23,15 +25,23 @@ pub enum Code {
     /// There are as many as there may be.
     Full,
     /// No option has that name.
-    UnknownOption { name: Text },
+    UnknownOption {
+        name: Text,
+    },
     /// A choice binds the option twice.
-    Repeated { option: OptionId },
+    Repeated {
+        option: OptionId,
+    },
     /// No choice meets the constraints.
     NoVariantLeft,
     /// The constraint with this number, from 1, is the first that can't hold.
-    Invalid { rule: u32 },
+    Invalid {
+        rule: u32,
+    },
     /// The option is the first that the rules leave open.
-    Incomplete { option: OptionId },
+    Incomplete {
+        option: OptionId,
+    },
     /// No session of that name is open.
     NoSession,
     /// The ambition of a session isn't true on its choice.
@@ -41,6 +51,12 @@ pub enum Code {
     NotDirectory,
     /// Its directory has that name already.
     NameTaken,
+    /// A directory that is to be removed has a node.
+    NotEmpty,
+    /// A node would be moved to itself or below itself.
+    IntoItself,
+    /// The root keeps its place, and has no name.
+    IsRoot,
     NoSuchLine,
     /// A session has more than `LIMITS.edits` edits.
     TooManyEdits,
@@ -55,9 +71,29 @@ pub enum Code {
     /// An option isn't declared.
     BadOption,
     /// The edit with this number, from 0, is the first that its variant refuses.
-    BadRecord { edit: u32 },
+    BadRecord {
+        edit: u32,
+    },
     /// The commit with this position touched a common node and shares a valid choice.
-    Overtaken { position: Position },
+    Overtaken {
+        position: Position,
+    },
+    /// In the variant of the choice the two nodes have one directory and one name.
+    Clash {
+        low: NodeNo,
+        high: NodeNo,
+        choice: Choice,
+    },
+    /// In the variant of the choice the directory of the node is missing.
+    Orphan {
+        node: NodeNo,
+        choice: Choice,
+    },
+    /// In the variant of the choice the node lies below itself.
+    Loop {
+        node: NodeNo,
+        choice: Choice,
+    },
     /// The line has a form that isn't served.
     NotBuilt,
 }
@@ -94,6 +130,9 @@ fn word_of(code: &Code) -> &'static [u8]
         Code::NotFile => b"not-file",
         Code::NotDirectory => b"not-directory",
         Code::NameTaken => b"name-taken",
+        Code::NotEmpty => b"not-empty",
+        Code::IntoItself => b"into-itself",
+        Code::IsRoot => b"is-root",
         Code::NoSuchLine => b"no-such-line",
         Code::TooManyEdits => b"too-many-edits",
         Code::TooManyBytes => b"too-many-bytes",
@@ -104,11 +143,14 @@ fn word_of(code: &Code) -> &'static [u8]
         Code::BadOption => b"bad-option",
         Code::BadRecord { .. } => b"bad-record",
         Code::Overtaken { .. } => b"overtaken",
+        Code::Clash { .. } => b"clash",
+        Code::Orphan { .. } => b"orphan",
+        Code::Loop { .. } => b"loop",
         Code::NotBuilt => b"not-built",
     }
 }
 
-// Appends what a refusal says behind its first word: a number or a name.
+// Appends what a refusal says behind its first word: a number, a name, or nodes and a choice.
 fn append_detail(
     alloc: Global,
     text: &mut Text,
@@ -128,8 +170,50 @@ fn append_detail(
             text,
             options.name(*option),
         ),
+        Code::Clash { low, high, choice } => append_clash(
+            alloc,
+            text,
+            options,
+            (*low, *high),
+            *choice,
+        ),
+        Code::Orphan { node, choice } | Code::Loop { node, choice } => append_place(
+            alloc, text, options, *node, *choice,
+        ),
         _ => Ok(()),
     }
+}
+
+// Appends two nodes, the lower first, and the choice in whose variant they clash.
+fn append_clash(
+    alloc: Global,
+    text: &mut Text,
+    options: &Options,
+    nodes: (NodeNo, NodeNo),
+    choice: Choice,
+) -> Result<(), Memory>
+    requires { length choice ≤ length options.now.names }
+    ensures { OnOk result (text.new ≡ text.old ++ codes " " ++ decimal nodes.0 ++ place_text options.now.names nodes.1 choice) }
+{
+    append_number(alloc, text, nodes.0.number())?;
+    append_place(alloc, text, options, nodes.1, choice)
+}
+
+// Appends a node and the choice in whose variant it is.
+fn append_place(
+    alloc: Global,
+    text: &mut Text,
+    options: &Options,
+    node: NodeNo,
+    choice: Choice,
+) -> Result<(), Memory>
+    requires { length choice ≤ length options.now.names }
+    ensures { OnOk result (text.new ≡ text.old ++ place_text options.now.names node choice) }
+{
+    append_number(alloc, text, node.number())?;
+    append_word(text, b"in")?;
+    let choice = print_choice(alloc, options, choice)?;
+    append_word(text, choice.as_slice())
 }
 
 // Appends a number behind a space.

@@ -1,5 +1,5 @@
 // The kinds of fields, and how a field is read.
-ghost use Rattle.std.specs.Prelude.{◌≡◌, ◌&&◌, ℕ, List, Option, nat_eq, nat_le, not, length, codes, IfOk};
+ghost use Rattle.std.specs.Prelude.{◌≡◌, ◌&&◌, ℕ, List, Option, nat_eq, nat_le, not, length, codes, Ok, IfOk, IsErrOf, MatchOption};
 ghost use Rattle.std.specs.List.{list_any};
 ghost use Rattle.cov_base.specs.Answers.{IsOrMemory};
 ghost use Rattle.cov_base.specs.Spelling.{path_of, is_line_text};
@@ -10,8 +10,8 @@ ghost use Rattle.cov_script.specs.Fields.{Rest, field, expression, text, token_o
 use crate::number::read_number;
 use crate::unread::Unread;
 use crate::{LineField, LineSyntax};
-use cov_base::{BadName, MOST_TEXT_BYTES, Memory, MemoryOr, Name, Path, Text};
-use cov_expr::{ChoiceSyntax, ExprFault, RawChoice, RawExpr, parse, switch_in};
+use cov_base::{MOST_TEXT_BYTES, Memory, MemoryOr, Name, Path, Text};
+use cov_expr::{ExprFault, RawChoice, RawExpr, parse, switch_in};
 use std::alloc::Global;
 use std::marker::Model;
 
@@ -39,6 +39,17 @@ pub(crate) fn read_field<'a, T: Field>(alloc: Global, unread: Unread<'a>) -> Got
     }
 }
 
+// What is read, None where it is refused.
+fn unless_refused<T: Drop, E: Drop>(read: Result<T, MemoryOr<E>>) -> Result<Option<T>, Memory>
+    ensures { IfOk result (λ found. MatchOption found ((e : E) × IsErrOf read (MemoryOr.Refused e)) (λ value. read ≡ Ok value)) }
+{
+    match read {
+        Ok(value) => Ok(Some(value)),
+        Err(MemoryOr::Refused(_)) => Ok(None),
+        Err(MemoryOr::Memory) => Err(Memory),
+    }
+}
+
 /// One byte or more.
 impl Field for Text {
     ghost kind = { token_of };
@@ -55,11 +66,7 @@ impl Field for Name {
     ghost kind = { name_of };
 
     fn spelt(alloc: Global, bytes: &[u8]) -> Result<Option<Name>, Memory> {
-        match Name::read(alloc, bytes) {
-            Ok(name) => Ok(Some(name)),
-            Err(MemoryOr::Refused(BadName)) => Ok(None),
-            Err(MemoryOr::Memory) => Err(Memory),
-        }
+        unless_refused(Name::read(alloc, bytes))
     }
 }
 
@@ -67,11 +74,7 @@ impl Field for Path {
     ghost kind = { path_of };
 
     fn spelt(alloc: Global, bytes: &[u8]) -> Result<Option<Path>, Memory> {
-        match Path::read(alloc, bytes) {
-            Ok(path) => Ok(Some(path)),
-            Err(MemoryOr::Refused(BadName)) => Ok(None),
-            Err(MemoryOr::Memory) => Err(Memory),
-        }
+        unless_refused(Path::read(alloc, bytes))
     }
 }
 
@@ -102,11 +105,7 @@ impl Field for RawChoice {
     ghost kind = { bindings_of };
 
     fn spelt(alloc: Global, bytes: &[u8]) -> Result<Option<RawChoice>, Memory> {
-        match RawChoice::parse(alloc, bytes) {
-            Ok(choice) => Ok(Some(choice)),
-            Err(MemoryOr::Refused(ChoiceSyntax)) => Ok(None),
-            Err(MemoryOr::Memory) => Err(Memory),
-        }
+        unless_refused(RawChoice::parse(alloc, bytes))
     }
 }
 

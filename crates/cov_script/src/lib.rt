@@ -17,7 +17,7 @@ pub use laws::{lines_read_as_spelt, mistakes_are_placed};
 pub use line::{Line, LineField, LineSyntax};
 pub use read::read_line;
 pub use reply::{
-    cat_line, reply_commit, reply_complete, reply_constraint, reply_count, reply_default,
-    reply_new_line, reply_open, reply_option, reply_plain, reply_prefer, reply_refused, show_line,
-    whole,
+    cat_line, list_line, reply_commit, reply_complete, reply_constraint, reply_count,
+    reply_default, reply_new_line, reply_open, reply_option, reply_plain, reply_prefer,
+    reply_refused, show_line, whole,
 };

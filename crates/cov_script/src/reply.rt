@@ -1,10 +1,10 @@
 // The texts of replies. Each function but `whole` gives one line with its end.
 ghost use Rattle.std.specs.Prelude.{◌≡◌, ◌<◌, ◌≤◌, ◌++◌, [], IfOk, OnOk, codes, get_or, length};
 ghost use Rattle.std.specs.List.{concat};
-ghost use Rattle.cov_script.specs.Replies.{option_reply, constraint_reply, prefer_reply, default_reply, complete_reply, open_reply, plain_reply, new_line_reply, count_reply, commit_reply, shown_line, cat_line, refused_reply, numbered, IsCodeOf};
+ghost use Rattle.cov_script.specs.Replies.{option_reply, constraint_reply, prefer_reply, default_reply, complete_reply, open_reply, plain_reply, new_line_reply, count_reply, commit_reply, shown_line, cat_line, kind_letter, list_line, refused_reply, numbered, IsCodeOf};
 
 use crate::code::{Code, code_text};
-use cov_base::{Choice, LineNo, LineRef, Memory, OptionId, Position, Text, Texts};
+use cov_base::{Choice, Kind, LineNo, LineRef, Memory, Name, OptionId, Position, Text, Texts};
 use cov_expr::{Options, print_choice};
 use std::alloc::Global;
 
@@ -42,7 +42,7 @@ pub fn reply_complete(alloc: Global, options: &Options, choice: Choice) -> Resul
     ensures { IfOk result (λ text. text ≡ complete_reply options.now.names choice) }
 {
     let choice = print_choice(alloc, options, choice)?;
-    spaced(alloc, b"ok", &choice)
+    spaced(alloc, b"ok", choice.as_slice())
 }
 
 /// The reply to a session that is opened, with its base and its choice.
@@ -58,7 +58,7 @@ pub fn reply_open(
     let base = base.number();
     let choice = print_choice(alloc, options, choice)?;
     let head = format!(in alloc; "ok open {base}")?;
-    spaced(alloc, head.as_bytes(), &choice)
+    spaced(alloc, head.as_bytes(), choice.as_slice())
 }
 
 /// The reply that says no more than that a line is accepted.
@@ -100,7 +100,7 @@ pub fn show_line(alloc: Global, line: LineRef, text: &Text) -> Result<Text, Memo
         }
         LineRef::New(index) => format!(in alloc; "+{index}")?,
     };
-    spaced(alloc, head.as_bytes(), text)
+    spaced(alloc, head.as_bytes(), text.as_slice())
 }
 
 /// A line of a file under a choice.
@@ -109,7 +109,24 @@ pub fn cat_line(alloc: Global, line: LineNo, text: &Text) -> Result<Text, Memory
 {
     let number = line.number();
     let head = format!(in alloc; "{number}")?;
-    spaced(alloc, head.as_bytes(), text)
+    spaced(alloc, head.as_bytes(), text.as_slice())
+}
+
+/// A node of a directory.
+pub fn list_line(alloc: Global, kind: Kind, name: &Name) -> Result<Text, Memory>
+    ensures { IfOk result (λ shown. shown ≡ list_line kind name.now) }
+{
+    spaced(alloc, letter_of(kind), name.as_slice())
+}
+
+// The letter of a kind of node.
+fn letter_of(kind: Kind) -> &'static [u8]
+    ensures { result.now ≡ kind_letter kind }
+{
+    match kind {
+        Kind::Dir => b"d",
+        Kind::File => b"f",
+    }
 }
 
 /// The reply to a line that is refused.
@@ -118,7 +135,7 @@ pub fn reply_refused(alloc: Global, options: &Options, code: &Code) -> Result<Te
     ensures { IfOk result (λ text. text ≡ refused_reply options.now.names code.now) }
 {
     let words = code_text(alloc, options, code)?;
-    spaced(alloc, b"refused", &words)
+    spaced(alloc, b"refused", words.as_slice())
 }
 
 /// A reply of several lines: the first line and the others in order, in work that is linear in them all.
@@ -150,13 +167,13 @@ fn numbered(alloc: Global, words: &str, number: u64) -> Result<Text, Memory>
     Ok(Text::from(format!(in alloc; "{words}{number}\n")?))
 }
 
-// A line of two texts with a space between them.
-fn spaced(alloc: Global, first: &[u8], second: &Text) -> Result<Text, Memory>
+// A line of two words with a space between them.
+fn spaced(alloc: Global, first: &[u8], second: &[u8]) -> Result<Text, Memory>
     ensures { IfOk result (λ line. line ≡ first.now ++ (codes " " ++ (second.now ++ codes "\n"))) }
 {
     let mut line = Text::from_slice(alloc, first)?;
     line.append(b" ")?;
-    line.append(second.as_slice())?;
+    line.append(second)?;
     line.append(b"\n")?;
     Ok(line)
 }

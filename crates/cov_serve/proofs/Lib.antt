@@ -3,8 +3,8 @@ pub mod Declared
 pub mod Examples
 pub mod Growing
 pub mod Opened
-pub mod Ordered
 pub mod References
+pub mod RefusalCodes
 pub mod Spoken
 pub mod ToldFiles
 pub mod ToldLines

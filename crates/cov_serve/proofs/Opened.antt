@@ -50,12 +50,8 @@ module _ (st : State) (name : List ℕ) (bindings : List (List ℕ × Bool)) (am
   begun-stops new faults.OutsideAmbition same h d = record { is = refused-as faults.OutsideAmbition h; same = same; told = tt }
   begun-stops new faults.TooManyEdits same h d = record { is = refused-as faults.TooManyEdits h; same = same; told = tt }
   begun-stops new faults.TooManyBytes same h d = record { is = refused-as faults.TooManyBytes h; same = same; told = tt }
-  begun-stops new (faults.Edit edit_faults.NoSuchNode) same h d = record { is = refused-as (faults.Edit edit_faults.NoSuchNode) h; same = same; told = tt }
-  begun-stops new (faults.Edit edit_faults.NotFile) same h d = record { is = refused-as (faults.Edit edit_faults.NotFile) h; same = same; told = tt }
-  begun-stops new (faults.Edit edit_faults.NotDirectory) same h d = record { is = refused-as (faults.Edit edit_faults.NotDirectory) h; same = same; told = tt }
-  begun-stops new (faults.Edit edit_faults.NameTaken) same h d = record { is = refused-as (faults.Edit edit_faults.NameTaken) h; same = same; told = tt }
-  begun-stops new (faults.Edit edit_faults.NoSuchLine) same h d = record { is = refused-as (faults.Edit edit_faults.NoSuchLine) h; same = same; told = tt }
   begun-stops new (faults.Edit edit_faults.Memory) same h d = tt
+  begun-stops new (faults.Edit fault) same h d = record { is = refused-as (faults.Edit fault) h; same = same; told = tt }
 
 -- no session is none by its name
 pub none-named : (session : Option SessionValue) → is_some session ≡ false → option_map as_named session ≡ None

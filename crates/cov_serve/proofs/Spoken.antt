@@ -1,17 +1,20 @@
 -- What lines say, and the nodes that they name.
-use Rattle.std.proofs.Common.{◌≡◌, ℕ, Bool, ◌&&◌, ◌||◌, true, false, cond, List, [], ◌∷◌, length, Option, Some, option_map, Ok, Err, sym, ap, subst, ◌∙◌, arith, nat_eq, refl, None}
+use Rattle.std.proofs.Common.{◌≡◌, ℕ, ◌<◌, Bool, ◌&&◌, ◌||◌, true, false, cond, List, [], ◌∷◌, ◌++◌, length, Option, Some, option_map, Ok, sym, ap, subst, ◌∙◌, arith, nat_eq, refl, None}
 use Rattle.std.proofs.lemmas.Bool.{and_from, or_right}
 use Rattle.std.proofs.lemmas.Bool.Decides.{nat_tests}
-use Rattle.std.specs.Prelude.{ok_or, if◌then◌else◌}
+use Rattle.std.specs.Prelude.{ok_or}
 use Rattle.std.specs.List.{find, list_any}
 use Rattle.std.specs.Str.{bytes_eq}
 use Rattle.cov_base.specs.Rows.{Row, is_present}
+use Rattle.cov_base.specs.declared.number.Kind.{Kind}
 use Rattle.cov_base.specs.declared.number.NodeRef.{NodeRef}
 use Rattle.cov_base.specs.declared.number.NodeRef.TheVariants as nodes
 use Rattle.cov_edit.specs.declared.command.Command.{Command}
 use Rattle.cov_edit.specs.Numbering.{node_number}
 use Rattle.cov_history.specs.Sessions.{seen}
 use Rattle.cov_view.specs.Paths.{from_number, path_node}
+use Rattle.cov_base.specs.Spelling.{path_of}
+use Rattle.cov_script.specs.Fields.{below_root, new_path_of}
 use Rattle.cov_script.specs.Forms.{ReadsAsSpelt}
 use Rattle.cov_script.specs.Lines.{form_of}
 use Rattle.cov_script.specs.declared.line.Line.{Line}
@@ -20,40 +23,50 @@ use Rattle.cov_view.specs.References.{is_known_node, is_made_node}
 use Rattle.cov_view.specs.Seen.{Seen}
 use Rattle.cov_view.specs.Views.{Shows}
 use Rattle.cov_serve.proofs.References.{made_node-again}
-use Rattle.cov_serve.specs.Seeing.{IsNamed, IsFileAt}
+use Rattle.cov_serve.specs.Seeing.{IsNamed, IsNodeAt}
 use Rattle.cov_serve.specs.States.{State, named}
-use Rattle.cov_script.specs.declared.code.Code.TheVariants.{NotBuilt, NoSession, NoSuchPath}
+use Rattle.cov_script.specs.declared.code.Code.TheVariants.{NoSession, NoSuchPath}
 use Rattle.cov_serve.specs.Finding.{◌>>=◌}
-use Rattle.cov_serve.specs.Step.{file_at}
+use Rattle.cov_serve.specs.Editing.{directory_of, last_name}
+use Rattle.cov_serve.specs.Step.{made, made_in, node_at}
 use Rattle.cov_session.specs.Open.{SessionValue, NamedSession, IsOpen, as_named, numbers_at_base, table_of}
-use Rattle.cov_serve.specs.Texts.{HasText}
+use Rattle.cov_serve.specs.Texts.{HasParts}
 
--- the text of a line that is read can be a line's of a file
-pub has-text : ReadsAsSpelt → (bytes : List ℕ) (line : Line) → form_of bytes ≡ Ok line → HasText line
-has-text law bytes lines.Nothing h = tt
-has-text law bytes (lines.Option t) h = tt
-has-text law bytes (lines.Constraint e) h = tt
-has-text law bytes (lines.Prefer e) h = tt
-has-text law bytes (lines.Default t on) h = tt
-has-text law bytes (lines.Complete c) h = tt
-has-text law bytes (lines.OpenSession n c e) h = tt
-has-text law bytes (lines.MakeDir n p) h = tt
-has-text law bytes (lines.MakeFile n p) h = tt
-has-text law bytes (lines.Rename n p to) h = tt
-has-text law bytes (lines.Move n p target) h = tt
-has-text law bytes (lines.Remove n p) h = tt
-has-text law bytes (lines.Insert n p l t) h = ((law bytes (lines.Insert n p l t)).1 h).third.short
-has-text law bytes (lines.Delete n p l) h = tt
-has-text law bytes (lines.Replace n p l t) h = ((law bytes (lines.Replace n p l t)).1 h).third.short
-has-text law bytes (lines.Show n p) h = tt
-has-text law bytes (lines.List n p) h = tt
-has-text law bytes (lines.Refresh n) h = tt
-has-text law bytes (lines.Commit n) h = tt
-has-text law bytes (lines.Discard n) h = tt
-has-text law bytes (lines.Cat c p) h = tt
-has-text law bytes (lines.Checkout t c) h = tt
-has-text law bytes (lines.Alt c t p) h = tt
-has-text law bytes (lines.Presence n) h = tt
+below-root : (o : Option (List (List ℕ))) (path : List (List ℕ)) → below_root o ≡ Some path → 0 < length path
+below-root None path h = absurd (cc)
+below-root (Some []) path h = absurd (cc)
+below-root (Some (name ∷ names)) path h = subst (λ p. 0 < length p) (let same : name ∷ names ≡ path = cc in same) (omega arith)
+
+-- the path of a new node has a name
+has-name : (bytes : List ℕ) (path : List (List ℕ)) → new_path_of bytes ≡ Some path → 0 < length path
+has-name bytes path h = below-root (path_of bytes) path h
+
+-- a line that is read has its parts as they are served
+pub has-parts : ReadsAsSpelt → (bytes : List ℕ) (line : Line) → form_of bytes ≡ Ok line → HasParts line
+has-parts law bytes lines.Nothing h = tt
+has-parts law bytes (lines.Option t) h = tt
+has-parts law bytes (lines.Constraint e) h = tt
+has-parts law bytes (lines.Prefer e) h = tt
+has-parts law bytes (lines.Default t on) h = tt
+has-parts law bytes (lines.Complete c) h = tt
+has-parts law bytes (lines.OpenSession n c e) h = tt
+has-parts law bytes (lines.MakeDir n p) h = let form = (law bytes (lines.MakeDir n p)).1 h in has-name form.b p form.second.of_kind
+has-parts law bytes (lines.MakeFile n p) h = let form = (law bytes (lines.MakeFile n p)).1 h in has-name form.b p form.second.of_kind
+has-parts law bytes (lines.Rename n p to) h = tt
+has-parts law bytes (lines.Move n p target) h = tt
+has-parts law bytes (lines.Remove n p) h = tt
+has-parts law bytes (lines.Insert n p l t) h = ((law bytes (lines.Insert n p l t)).1 h).third.short
+has-parts law bytes (lines.Delete n p l) h = tt
+has-parts law bytes (lines.Replace n p l t) h = ((law bytes (lines.Replace n p l t)).1 h).third.short
+has-parts law bytes (lines.Show n p) h = tt
+has-parts law bytes (lines.List n p) h = tt
+has-parts law bytes (lines.Refresh n) h = tt
+has-parts law bytes (lines.Commit n) h = tt
+has-parts law bytes (lines.Discard n) h = tt
+has-parts law bytes (lines.Cat c p) h = tt
+has-parts law bytes (lines.Checkout t c) h = tt
+has-parts law bytes (lines.Alt c t p) h = tt
+has-parts law bytes (lines.Presence n) h = tt
 
 made-known : (n made : ℕ) (node : NodeRef) → is_made_node n made node ≡ true → is_known_node n node ≡ true
 made-known n made (nodes.Old x) h = h
@@ -90,28 +103,46 @@ pub shows-seen : (history : List Command) (s : SessionValue) (view : Seen) → v
 shows-seen history s view is opens =
     subst (λ v. Shows (numbers_at_base history s.session) (table_of history s.session) v (seen s.session history)) (sym is) opens.shows
 
-found-at : (st : State) (s : NamedSession) (name : List ℕ) (path : List (List ℕ)) (node : ℕ) → length path ≡ 1 → named st.session name ≡ Some s
-    → path_node (seen s.session st.history).rows 0 path ≡ Some node → file_at st name path ≡ Ok (s, node)
-unfolding file_at
-found-at st s name path node one has leads =
-    ap (λ n. (if nat_eq n 1 then Ok path else Err NotBuilt) >>= (λ one. ok_or (named st.session name) NoSession >>= (λ (s : NamedSession). ok_or (path_node (seen s.session st.history).rows 0 one) NoSuchPath >>= (λ (node : ℕ). Ok (s, node))))) one
-    ∙ ap (λ o. ok_or o NoSession >>= (λ (s : NamedSession). ok_or (path_node (seen s.session st.history).rows 0 path) NoSuchPath >>= (λ (node : ℕ). Ok (s, node)))) has
+found-at : (st : State) (s : NamedSession) (name : List ℕ) (path : List (List ℕ)) (node : ℕ) → named st.session name ≡ Some s
+    → path_node (seen s.session st.history).rows 0 path ≡ Some node → node_at st name path ≡ Ok (s, node)
+unfolding node_at
+found-at st s name path node has leads =
+    ap (λ o. ok_or o NoSession >>= (λ (s : NamedSession). ok_or (path_node (seen s.session st.history).rows 0 path) NoSuchPath >>= (λ (node : ℕ). Ok (s, node)))) has
     ∙ ap (λ o. ok_or o NoSuchPath >>= (λ (node : ℕ). Ok (s, node))) leads
 
--- the session of a name sees a node at a path of one name
-pub node-found : (st : State) (s : SessionValue) (file : NodeRef) (name : List ℕ) (path : List (List ℕ)) → IsNamed st name s → length path ≡ 1
-    → Some (node_number (numbers_at_base st.history s.session).nodes file) ≡ path_node (seen s.session st.history).rows 0 path
-    → is_made_node (numbers_at_base st.history s.session).nodes s.view.nodes_made file ≡ true → IsFileAt st name path s file
-node-found st s file name path is_named one leads made =
+-- the session of a name sees a node at a path
+pub node-found : (st : State) (s : SessionValue) (ref : NodeRef) (name : List ℕ) (path : List (List ℕ)) → IsNamed st name s
+    → Some (node_number (numbers_at_base st.history s.session).nodes ref) ≡ path_node (seen s.session st.history).rows 0 path
+    → is_made_node (numbers_at_base st.history s.session).nodes s.view.nodes_made ref ≡ true → IsNodeAt st name path s ref
+node-found st s ref name path is_named leads made =
     let n : ℕ = (numbers_at_base st.history s.session).nodes in
     let rows : List Row = (seen s.session st.history).rows in
     record {
       named_so = is_named;
-      node = node_number n file;
+      node = node_number n ref;
       is_seen = record {
-        reference = made_node-again n s.view.nodes_made file made;
+        reference = made_node-again n s.view.nodes_made ref made;
         number = refl;
-        there = and_from (is_known_node n file) (is_present rows (node_number n file)) (made-known n s.view.nodes_made file made) (path-present rows 0 path (node_number n file) refl leads);
+        there = and_from (is_known_node n ref) (is_present rows (node_number n ref)) (made-known n s.view.nodes_made ref made) (path-present rows 0 path (node_number n ref) refl leads);
       };
-      found = found-at st (as_named s) name path (node_number n file) one is_named.has (sym leads);
+      found = found-at st (as_named s) name path (node_number n ref) is_named.has (sym leads);
     }
+
+-- what is at names is at the path of these
+pub at-path : {st : State} {name : List ℕ} {names path : List (List ℕ)} {s : SessionValue} {ref : NodeRef} → names ≡ path → IsNodeAt st name names s ref → IsNodeAt st name path s ref
+at-path {st} {name} {names} {path} {s} {ref} same there = subst (λ p. IsNodeAt st name p s ref) same there
+
+directory-is : (directory : List (List ℕ)) (own : List ℕ) → directory_of (directory ++ own ∷ []) ≡ directory
+directory-is [] own = refl
+directory-is (name ∷ []) own = refl
+directory-is (name ∷ next ∷ names) own = ap (λ ns. name ∷ ns) (directory-is (next ∷ names) own)
+
+last-is : (directory : List (List ℕ)) (own : List ℕ) → last_name (directory ++ own ∷ []) ≡ own
+last-is [] own = refl
+last-is (name ∷ []) own = refl
+last-is (name ∷ next ∷ names) own = last-is (next ∷ names) own
+
+-- what is made at a path is made in its directory, with its last name
+pub made-at : (st : State) (kind : Kind) (name : List ℕ) (path directory : List (List ℕ)) (own : List ℕ) → path ≡ directory ++ own ∷ [] → made st kind name path ≡ made_in st kind name directory own
+made-at st kind name path directory own is =
+    ap (made st kind name) is ∙ (λ j. made_in st kind name (directory-is directory own j) (last-is directory own j))

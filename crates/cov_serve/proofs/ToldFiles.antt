@@ -1,5 +1,5 @@
 -- Files that are told, and sessions that end.
-use Rattle.std.proofs.Common.{◌≡◌, ℕ, Bool, true, false, ◌&&◌, List, map, length, take, Ok, Err, sym, ap, subst, ◌∙◌, refl}
+use Rattle.std.proofs.Common.{◌≡◌, ℕ, Bool, true, false, ◌&&◌, not, List, map, length, take, Ok, Err, sym, ap, subst, ◌∙◌, refl}
 use Rattle.std.proofs.lemmas.Bool.{and_parts}
 use Rattle.std.specs.Prelude.{IsErrOf, Option, Some, None, is_some, ok_or, if◌then◌else◌}
 use Rattle.std.specs.List.{AllByRecursion}
@@ -13,20 +13,28 @@ use Rattle.cov_view.specs.Views.{by_number}
 use Rattle.cov_view.specs.declared.line.ViewLine.{ViewLine}
 use Rattle.cov_history.specs.Sessions.{Session, seen}
 use Rattle.cov_view.specs.Refusals.{shows_node}
+use Rattle.cov_view.specs.Listing.{IsListingOf, listed}
+use Rattle.cov_view.specs.declared.listing.DirRow.{DirRow}
+use Rattle.cov_view.specs.declared.fault.ListFault.{ListFault}
+use Rattle.cov_view.specs.declared.fault.ListFault.TheVariants as lists
 use Rattle.cov_view.specs.declared.fault.ReadFaultOfView.{ReadFaultOfView}
 use Rattle.cov_view.specs.declared.fault.ReadFaultOfView.TheVariants as reads
-use Rattle.cov_script.specs.declared.code.Code.TheVariants.{NotFile, NoSuchPath}
+use Rattle.cov_script.specs.declared.code.Code.TheVariants.{NotDirectory, NotFile, NoSuchPath}
 use Rattle.cov_serve.specs.Acting.{Stops}
 use Rattle.cov_serve.specs.Finding.{◌>>=◌}
-use Rattle.cov_serve.specs.Seeing.{IsSeen, IsFileAt}
-use Rattle.cov_serve.specs.Step.{file_told, shown, shown_in, told_in}
-use Rattle.cov_serve.specs.Stops.{read_stop}
+use Rattle.cov_serve.specs.Seeing.{IsSeen, IsNodeAt}
+use Rattle.cov_serve.specs.Step.{file_told, listed_at, listed_in, shown, shown_in, told_in}
+use Rattle.cov_serve.specs.Stops.{list_stop, read_stop}
 use Rattle.cov_session.specs.Open.{SessionValue, NamedSession}
 use Rattle.cov_serve.specs.Listing.{told_line}
 use Rattle.cov_serve.specs.declared.reply.LineNames.TheVariants.{ByNumber, ByReference}
-use Rattle.cov_serve.specs.Replies.{file_reply, lines_reply, seen_reply}
+use Rattle.cov_serve.specs.Replies.{directory_reply, file_reply, lines_reply, seen_reply}
 use Rattle.cov_serve.specs.States.{State}
 use Rattle.cov_serve.proofs.ToldLines.{by-number, by-reference}
+
+not-true : (b : Bool) → not b ≡ true → b ≡ false
+not-true true h = absurd (cc)
+not-true false h = refl
 
 module _ (st : State) (s : Session) (node : ℕ) (file : NodeRef) (is_seen : IsSeen st s node file) where
   abbrev numbers : Numbers
@@ -46,7 +54,7 @@ module _ (st : State) (s : Session) (node : ℕ) (file : NodeRef) (is_seen : IsS
   pub dir-seen : (has : Bool) → (has && is_dir there.rows (node_number numbers.nodes file)) ≡ true → is_dir there.rows node ≡ true
   dir-seen has dir = subst (λ n. is_dir there.rows n ≡ true) is_seen.number (and_parts has (is_dir there.rows (node_number numbers.nodes file)) dir).1
 
-module _ {st : State} {name : List ℕ} {path : List (List ℕ)} {s : SessionValue} {file : NodeRef} (found : IsFileAt st name path s file) where
+module _ {st : State} {name : List ℕ} {path : List (List ℕ)} {s : SessionValue} {file : NodeRef} (found : IsNodeAt st name path s file) where
   at_node : shown st name path ≡ shown_in st s.session found.node
   unfolding shown
   at_node = ap (λ f. f >>= (λ (at : NamedSession × ℕ). shown_in st at.0.session at.1)) found.found
@@ -75,6 +83,42 @@ module _ {st : State} {name : List ℕ} {path : List (List ℕ)} {s : SessionVal
     told = tt;
   }
   read-stops reads.Memory absent dir = tt
+
+module _ {st : State} {name : List ℕ} {path : List (List ℕ)} {s : SessionValue} {dir : NodeRef} (found : IsNodeAt st name path s dir) where
+  abbrev ns : Numbers
+  ns = numbers_of (take s.session.base st.history)
+
+  abbrev v : Variant
+  v = seen s.session st.history
+
+  at_dir : listed_at st name path ≡ listed_in st s.session found.node
+  unfolding listed_at
+  at_dir = ap (λ f. f >>= (λ (at : NamedSession × ℕ). listed_in st at.0.session at.1)) found.found
+
+  -- a directory is listed
+  pub listed-nodes : (rows : List DirRow) (text : List ℕ) → IsListingOf ns v dir rows → text ≡ directory_reply rows → listed_at st name path ≡ Ok (st, text)
+  listed-nodes rows text listing is =
+      at_dir
+      ∙ ap (λ b. if b then Ok (st, directory_reply (listed v.rows found.node)) else Err NotDirectory) (subst (λ n. is_dir v.rows n ≡ true) found.is_seen.number listing.is_directory)
+      ∙ ap (λ t. Ok (st, t)) (sym (is ∙ ap directory_reply (listing.rows ∙ ap (listed v.rows) found.is_seen.number)))
+
+  -- a file has no listing
+  file-seen : (has : Bool) → (has && not (is_dir v.rows (node_number ns.nodes dir))) ≡ true → is_dir v.rows found.node ≡ false
+  file-seen has file = subst (λ n. is_dir v.rows n ≡ false) found.is_seen.number (not-true (is_dir v.rows (node_number ns.nodes dir)) (and_parts has (not (is_dir v.rows (node_number ns.nodes dir))) file).1)
+
+  -- what can't be listed is refused
+  pub list-stops : (fault : ListFault)
+      → (IsErrOf {T = List DirRow} (Err fault) lists.NoSuchNode → shows_node ns v dir ≡ false)
+      → (IsErrOf {T = List DirRow} (Err fault) lists.NotDirectory → (shows_node ns v dir && not (is_dir v.rows (node_number ns.nodes dir))) ≡ true)
+      → Stops (listed_at st name path) st st (list_stop fault)
+  list-stops lists.NoSuchNode absent file = absurd (let none = absent refl in let there = found.is_seen.there in cc)
+  list-stops lists.NotDirectory absent file = record {
+    is = at_dir
+        ∙ ap (λ b. if b then Ok (st, directory_reply (listed v.rows found.node)) else Err NotDirectory) (file-seen (shows_node ns v dir) (file refl));
+    same = refl;
+    told = tt;
+  }
+  list-stops lists.Memory absent file = tt
 
 pub none-there : {X : Type 0} (found : Option X) → found ≡ None → is_some found ≡ true → ⊥
 none-there None e h = absurd (cc)

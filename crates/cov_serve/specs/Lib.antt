@@ -2,10 +2,8 @@ pub mod Acting
 pub mod Codes
 pub mod Editing
 pub mod Finding
-pub mod Keeping
 pub mod Laws
 pub mod Listing
-pub mod Naming
 pub mod Program
 pub mod Replies
 pub mod Seeing

@@ -7,7 +7,7 @@ use Rattle.cov_history.specs.Sessions.{Session, seen}
 use Rattle.cov_session.specs.Open.{SessionValue, IsOpen, as_named}
 use Rattle.cov_serve.specs.Editing.{ref_in}
 use Rattle.cov_serve.specs.States.{State, named}
-use Rattle.cov_serve.specs.Step.{file_at}
+use Rattle.cov_serve.specs.Step.{node_at}
 
 -- a session is the one that is open, and has the name
 pub record IsNamed (st : State) (name : List ℕ) (s : SessionValue) : Type 0 where
@@ -16,14 +16,14 @@ pub record IsNamed (st : State) (name : List ℕ) (s : SessionValue) : Type 0 wh
   pub is_open : IsOpen st.history s
 
 -- a node that a session sees, by its number and by reference
-pub record IsSeen (st : State) (s : Session) (node : ℕ) (file : NodeRef) : Type 0 where
-  pub reference : ref_in st.history s node ≡ file
-  pub number : node_number (numbers_of (take s.base st.history)).nodes file ≡ node
-  pub there : shows_node (numbers_of (take s.base st.history)) (seen s st.history) file ≡ true
+pub record IsSeen (st : State) (s : Session) (node : ℕ) (ref : NodeRef) : Type 0 where
+  pub reference : ref_in st.history s node ≡ ref
+  pub number : node_number (numbers_of (take s.base st.history)).nodes ref ≡ node
+  pub there : shows_node (numbers_of (take s.base st.history)) (seen s st.history) ref ≡ true
 
--- a node is the one that the session of a name sees at a path of one name
-pub record IsFileAt (st : State) (name : List ℕ) (path : List (List ℕ)) (s : SessionValue) (file : NodeRef) : Type 0 where
+-- a node is the one that the session of a name sees at a path
+pub record IsNodeAt (st : State) (name : List ℕ) (path : List (List ℕ)) (s : SessionValue) (ref : NodeRef) : Type 0 where
   pub named_so : IsNamed st name s
   pub node : ℕ
-  pub is_seen : IsSeen st s.session node file
-  pub found : file_at st name path ≡ Ok (as_named s, node)
+  pub is_seen : IsSeen st s.session node ref
+  pub found : node_at st name path ≡ Ok (as_named s, node)

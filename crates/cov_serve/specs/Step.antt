@@ -1,9 +1,10 @@
 -- The model of the program: what one line of a script does.
-use Rattle.std.specs.Prelude.{ℕ, ◌+◌, Bool, true, false, nat_eq, nat_lt, List, [], ◌∷◌, length, map, take, is_some, ok_or, Some, None, option_map, Ok, Err, if◌then◌else◌}
+use Rattle.std.specs.Prelude.{ℕ, ◌+◌, Bool, true, false, nat_lt, List, [], ◌∷◌, length, map, take, is_some, ok_or, Some, None, option_map, Ok, Err, if◌then◌else◌}
 use Rattle.cov_base.specs.Lines.{lines_of as script_lines}
 use Rattle.cov_base.specs.Spelling.{is_option_name}
+use Rattle.cov_base.specs.declared.number.Kind.{Kind}
 use Rattle.cov_base.specs.declared.number.Kind.TheVariants as kinds
-use Rattle.cov_base.specs.declared.number.NodeRef.TheVariants as nodes
+use Rattle.cov_base.specs.declared.number.NodeRef.{NodeRef}
 use Rattle.cov_base.specs.declared.limits.TheConstants.{MOST_SCRIPT_LINE_BYTES}
 use Rattle.cov_expr.specs.Formula.{Formula}
 use Rattle.cov_script.specs.Lines.{form_of}
@@ -12,7 +13,7 @@ use Rattle.cov_script.specs.declared.line.Line.TheVariants as lines
 use Rattle.cov_script.specs.declared.line.LineField.{LineField}
 use Rattle.cov_script.specs.Replies.{refused_reply, option_reply, constraint_reply, prefer_reply, default_reply, complete_reply, open_reply, plain_reply, new_line_reply, commit_reply}
 use Rattle.cov_script.specs.declared.code.Code.{Code}
-use Rattle.cov_script.specs.declared.code.Code.TheVariants.{Long, BadName, NotBuilt, NoSession, NoSuchPath, NotFile}
+use Rattle.cov_script.specs.declared.code.Code.TheVariants.{Long, BadName, NotBuilt, NoSession, NoSuchPath, NotFile, NotDirectory}
 use Rattle.cov_edit.specs.declared.edit.Edit.{Edit}
 use Rattle.cov_edit.specs.declared.edit.Edit.TheVariants as edits
 use Rattle.cov_edit.specs.declared.command.Command.{Command}
@@ -21,6 +22,7 @@ use Rattle.cov_edit.specs.History.{options_of, option_count, constraints_of, pre
 use Rattle.cov_edit.specs.Numbering.{line_count}
 use Rattle.cov_edit.specs.Replay.{replay}
 use Rattle.cov_edit.specs.Variant.{Variant, lines_of}
+use Rattle.cov_view.specs.Listing.{listed}
 use Rattle.cov_view.specs.Paths.{path_node}
 use Rattle.cov_view.specs.Refusals.{is_dir}
 use Rattle.cov_view.specs.Views.{by_number}
@@ -31,10 +33,10 @@ use Rattle.cov_session.specs.Open.{NamedSession}
 use Rattle.cov_session.specs.Opening.{opened}
 use Rattle.cov_loop.specs.Outcome.{Outcome, answers}
 use Rattle.cov_serve.specs.Codes.{syntax_code, refusal_code, session_code}
-use Rattle.cov_serve.specs.Editing.{ref_in, line_ref, own_lines}
+use Rattle.cov_serve.specs.Editing.{directory_of, last_name, ref_in, line_ref, own_lines}
 use Rattle.cov_serve.specs.Finding.{Found, by_code, unless, ◌>>=◌, found_option, found_expression, found_partial, found_choice}
-use Rattle.cov_serve.specs.Replies.{file_reply, seen_reply}
-use Rattle.cov_serve.specs.States.{State, at_start, with_command, with_session, named, is_used}
+use Rattle.cov_serve.specs.Replies.{directory_reply, file_reply, seen_reply}
+use Rattle.cov_serve.specs.States.{State, at_start, with_command, with_session, named}
 
 -- what a line does: the state after it with its reply, or the code by which it is refused
 abbrev pub Act : Type 0
@@ -50,22 +52,16 @@ added st s es =
     unless (option_map session_code (addition_fault st.history s.session es))
     (with_session st (Some (record { name = s.name; session = with_edits s.session es })))
 
--- a path of one name; longer ones aren't served
-abbrev pub in_root : List (List ℕ) → Found (List (List ℕ))
-in_root path = if nat_eq (length path) 1 then Ok path else Err NotBuilt
-
--- the name of a path of one name; longer ones aren't served
-abbrev pub only_name : List (List ℕ) → Found (List ℕ)
-only_name (name ∷ []) = Ok name
-only_name path = Err NotBuilt
-
--- the session of a name and the node that it sees at a path of one name
-unfoldable pub file_at : State → List ℕ → List (List ℕ) → Found (NamedSession × ℕ)
-file_at st name path = do
-  one ← in_root path
+-- the session of a name and the node that it sees at a path
+unfoldable pub node_at : State → List ℕ → List (List ℕ) → Found (NamedSession × ℕ)
+node_at st name path = do
   s ← ok_or (named st.session name) NoSession
-  node ← ok_or (path_node (seen s.session st.history).rows 0 one) NoSuchPath
+  node ← ok_or (path_node (seen s.session st.history).rows 0 path) NoSuchPath
   Ok (s, node)
+
+-- the reference to a node that a session sees
+abbrev pub ref_at : State → NamedSession × ℕ → NodeRef
+ref_at st at = ref_in st.history at.0.session at.1
 
 -- an option is declared
 unfoldable pub declared : State → List ℕ → Act
@@ -110,35 +106,58 @@ begun st name bindings ambition = do
   session ← by_code session_code (opened st.history partial within)
   Ok (with_session st (Some (record { name = free; session = session })), open_reply session.base (options_of st.history) session.choice)
 
--- a file is made in the root; a name that was used isn't served
-unfoldable pub made : State → List ℕ → List (List ℕ) → Act
-made st name path = do
-  file ← only_name path
-  fresh ← (if is_used st file then Err NotBuilt else Ok file)
-  s ← ok_or (named st.session name) NoSession
-  next ← added st s (edits.New kinds.File (nodes.Old 0) fresh ∷ [])
+-- a node of a kind is made in the directory at a path, with a name
+unfoldable pub made_in : State → Kind → List ℕ → List (List ℕ) → List ℕ → Act
+made_in st kind name path own = do
+  dir ← node_at st name path
+  next ← added st dir.0 (edits.New kind (ref_at st dir) own ∷ [])
+  Ok (next, plain_reply)
+
+-- a node of a kind is made at a path: in its directory, with its last name
+abbrev pub made : State → Kind → List ℕ → List (List ℕ) → Act
+made st kind name path = made_in st kind name (directory_of path) (last_name path)
+
+-- a node that a session sees has another name within its directory
+unfoldable pub renamed : State → List ℕ → List (List ℕ) → List ℕ → Act
+renamed st name path to = do
+  node ← node_at st name path
+  next ← added st node.0 (edits.Rename (ref_at st node) to ∷ [])
+  Ok (next, plain_reply)
+
+-- a node that a session sees is in another directory, under its own name
+unfoldable pub moved : State → List ℕ → List (List ℕ) → List (List ℕ) → Act
+moved st name path target = do
+  node ← node_at st name path
+  dir ← node_at st name target
+  next ← added st node.0 (edits.Move (ref_at st node) (ref_at st dir) ∷ [])
+  Ok (next, plain_reply)
+
+-- a node that a session sees is removed
+unfoldable pub removed : State → List ℕ → List (List ℕ) → Act
+removed st name path = do
+  node ← node_at st name path
+  next ← added st node.0 (edits.Remove (ref_at st node) ∷ [])
   Ok (next, plain_reply)
 
 -- a line is inserted into a file that a session sees
 unfoldable pub inserted : State → List ℕ → List (List ℕ) → LineField → List ℕ → Act
 inserted st name path line text = do
-  file ← file_at st name path
-  next ← added st file.0 (edits.Insert (ref_in st.history file.0.session file.1) (line_ref line) text ∷ [])
+  file ← node_at st name path
+  next ← added st file.0 (edits.Insert (ref_at st file) (line_ref line) text ∷ [])
   Ok (next, new_line_reply (own_lines file.0.session))
 
 -- a line of a file that a session sees is deleted
 unfoldable pub deleted : State → List ℕ → List (List ℕ) → LineField → Act
 deleted st name path line = do
-  file ← file_at st name path
-  next ← added st file.0 (edits.Delete (ref_in st.history file.0.session file.1) (line_ref line) ∷ [])
+  file ← node_at st name path
+  next ← added st file.0 (edits.Delete (ref_at st file) (line_ref line) ∷ [])
   Ok (next, plain_reply)
 
 -- a line of a file that a session sees is replaced: another is inserted directly after it, and it is deleted
 unfoldable pub replaced : State → List ℕ → List (List ℕ) → LineField → List ℕ → Act
 replaced st name path line text = do
-  file ← file_at st name path
-  next ← added st file.0
-      (edits.Insert (ref_in st.history file.0.session file.1) (line_ref line) text ∷ edits.Delete (ref_in st.history file.0.session file.1) (line_ref line) ∷ [])
+  file ← node_at st name path
+  next ← added st file.0 (edits.Insert (ref_at st file) (line_ref line) text ∷ edits.Delete (ref_at st file) (line_ref line) ∷ [])
   Ok (next, new_line_reply (own_lines file.0.session))
 
 -- the lines of a node are told as a session sees them, if it is a file
@@ -150,8 +169,20 @@ shown_in st s node =
 -- the lines of a file are told as a session sees them
 unfoldable pub shown : State → List ℕ → List (List ℕ) → Act
 shown st name path = do
-  file ← file_at st name path
+  file ← node_at st name path
   shown_in st file.0.session file.1
+
+-- what is in a node is told as a session sees it, if it is a directory
+abbrev pub listed_in : State → Session → ℕ → Act
+listed_in st s node =
+    if is_dir (seen s st.history).rows node then Ok (st, directory_reply (listed (seen s st.history).rows node))
+    else Err NotDirectory
+
+-- what is in a directory is told as a session sees it
+unfoldable pub listed_at : State → List ℕ → List (List ℕ) → Act
+listed_at st name path = do
+  dir ← node_at st name path
+  listed_in st dir.0.session dir.1
 
 -- a state in which the session has ended
 abbrev pub ended : Found State → Found State
@@ -183,11 +214,35 @@ file_told st v path = do
 -- the lines of a file are told in the variant of the choice to which the rules complete bindings
 unfoldable pub told : State → List (List ℕ × Bool) → List (List ℕ) → Act
 told st bindings path = do
-  one ← in_root path
   c ← found_choice st.history bindings
-  file_told st (replay c st.history) one
+  file_told st (replay c st.history) path
 
--- what a line of a form does; other forms aren't served
+-- what a line does that edits lines in a session; no other form is served
+unfoldable pub served_text : State → Line → Act
+served_text st (lines.Insert name path line text) = inserted st name path line text
+served_text st (lines.Delete name path line) = deleted st name path line
+served_text st (lines.Replace name path line text) = replaced st name path line text
+served_text st _ = Err NotBuilt
+
+-- what a line does that edits nodes or lines in a session
+unfoldable pub served_edit : State → Line → Act
+served_edit st (lines.MakeDir name path) = made st kinds.Dir name path
+served_edit st (lines.MakeFile name path) = made st kinds.File name path
+served_edit st (lines.Rename name path to) = renamed st name path to
+served_edit st (lines.Move name path target) = moved st name path target
+served_edit st (lines.Remove name path) = removed st name path
+served_edit st line = served_text st line
+
+-- what a line does that opens, tells or ends a session, or edits it
+unfoldable pub served_session : State → Line → Act
+served_session st (lines.OpenSession name bindings ambition) = begun st name bindings ambition
+served_session st (lines.Show name path) = shown st name path
+served_session st (lines.List name path) = listed_at st name path
+served_session st (lines.Commit name) = committed st name
+served_session st (lines.Discard name) = dropped st name
+served_session st line = served_edit st line
+
+-- what a line of a form does
 unfoldable pub served : State → Line → Act
 served st lines.Nothing = Ok (st, [])
 served st (lines.Option token) = declared st token
@@ -195,16 +250,8 @@ served st (lines.Constraint expr) = constrained st expr
 served st (lines.Prefer expr) = preferred st expr
 served st (lines.Default token on) = defaulted st token on
 served st (lines.Complete bindings) = completed st bindings
-served st (lines.OpenSession name bindings ambition) = begun st name bindings ambition
-served st (lines.MakeFile name path) = made st name path
-served st (lines.Insert name path line text) = inserted st name path line text
-served st (lines.Delete name path line) = deleted st name path line
-served st (lines.Replace name path line text) = replaced st name path line text
-served st (lines.Show name path) = shown st name path
-served st (lines.Commit name) = committed st name
-served st (lines.Discard name) = dropped st name
 served st (lines.Cat bindings path) = told st bindings path
-served st _ = Err NotBuilt
+served st line = served_session st line
 
 -- what a line does
 unfoldable pub acted : State → List ℕ → Act

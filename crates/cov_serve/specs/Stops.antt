@@ -11,6 +11,8 @@ use Rattle.cov_script.specs.declared.line.LineSyntax.{LineSyntax}
 use Rattle.cov_script.specs.declared.line.LineSyntax.TheVariants as places
 use Rattle.cov_view.specs.declared.fault.EditFault.{EditFault}
 use Rattle.cov_view.specs.declared.fault.EditFault.TheVariants as faults
+use Rattle.cov_view.specs.declared.fault.ListFault.{ListFault}
+use Rattle.cov_view.specs.declared.fault.ListFault.TheVariants as lists
 use Rattle.cov_view.specs.declared.fault.ReadFaultOfView.{ReadFaultOfView}
 use Rattle.cov_view.specs.declared.fault.ReadFaultOfView.TheVariants as reads
 use Rattle.cov_history.specs.declared.refusal.Refusal.{Refusal}
@@ -54,6 +56,12 @@ abbrev pub read_stop : ReadFaultOfView → Stop
 read_stop reads.Memory = stops.Memory
 read_stop reads.NoSuchNode = stops.Refused codes.NoSuchPath
 read_stop reads.NotFile = stops.Refused codes.NotFile
+
+-- a directory that can't be listed
+abbrev pub list_stop : ListFault → Stop
+list_stop lists.Memory = stops.Memory
+list_stop lists.NoSuchNode = stops.Refused codes.NoSuchPath
+list_stop lists.NotDirectory = stops.Refused codes.NotDirectory
 
 -- an edit that a session refuses
 abbrev pub edit_stop : EditFault → Stop

@@ -1,8 +1,6 @@
 // How the session that is open is edited, committed and given up.
-ghost use Rattle.std.specs.Prelude.{◌≡◌, ◌+◌, length, option_map, true, false, is_some, if◌then◌else◌, None, Some, Ok, Err, ok_or, IfOk, IfErr, [], ◌∷◌};
-ghost use Rattle.cov_base.specs.declared.number.Kind.TheVariants.{File};
-ghost use Rattle.cov_base.specs.declared.number.NodeRef.TheVariants.{Old};
-ghost use Rattle.cov_script.specs.declared.code.Code.TheVariants.{NoSession, NotBuilt};
+ghost use Rattle.std.specs.Prelude.{◌≡◌, ◌<◌, ◌+◌, length, option_map, true, is_some, if◌then◌else◌, None, Some, ok_or, IfOk, IfErr, [], ◌∷◌};
+ghost use Rattle.cov_script.specs.declared.code.Code.TheVariants.{NoSession};
 ghost use Rattle.cov_base.specs.Spelling.{is_line_text};
 ghost use Rattle.cov_edit.specs.EditFits.{has_line_text};
 ghost use Rattle.cov_edit.specs.declared.edit.Edit.TheVariants as edits;
@@ -10,14 +8,13 @@ ghost use Rattle.cov_history.specs.Sessions.{commit_of};
 ghost use Rattle.cov_session.specs.Open.{NamedSession};
 ghost use Rattle.cov_serve.specs.Acting.{Acts, Changes, Stops};
 ghost use Rattle.cov_serve.specs.Editing.{line_ref};
-ghost use Rattle.cov_serve.specs.Seeing.{IsFileAt, IsNamed};
-ghost use Rattle.cov_serve.specs.States.{is_used, named, names_made, with_session};
-ghost use Rattle.cov_serve.specs.Step.{added, appended, committed, deleted, dropped, ended, file_at, inserted, made, only_name, replaced};
-ghost use Rattle.cov_serve.specs.declared.stop.Stop.TheVariants.{Refused};
+ghost use Rattle.cov_serve.specs.Seeing.{IsNodeAt, IsNamed};
+ghost use Rattle.cov_serve.specs.States.{named, with_session};
+ghost use Rattle.cov_serve.specs.Step.{added, appended, committed, deleted, dropped, ended, inserted, made, made_in, moved, node_at, removed, renamed, replaced};
 
 use crate::server::{Server, close_session};
 use crate::stop::Stop;
-use cov_base::{Kind, LineNo, LineRef, Name, NodeNo, NodeRef, Path, Text};
+use cov_base::{Kind, LineNo, LineRef, Name, NodeRef, Path, Text};
 use cov_edit::{Command, Edit};
 use cov_engine::Receipt;
 use cov_script::{Code, LineField, reply_commit, reply_new_line, reply_plain};
@@ -48,62 +45,91 @@ impl Server {
         }
     }
 
-    /// The session of a name, and the file that it sees at a path of the root.
-    #[tactic(auto, unfolding(crate::specs::Step::file_at))]
-    pub(crate) fn file_at(&self, name: &Name, path: &Path) -> Result<(&OpenSession, NodeRef), Stop>
-        ensures found { IfOk result (λ found. IsFileAt self.now name.now path.now found.0.now found.1) }
-        ensures stopped { IfErr result (Stops (file_at self.now name.now path.now) self.now self.now) }
+    /// The session of a name, and the node that it sees where names lead from the root.
+    #[tactic(auto, unfolding(crate::specs::Step::node_at))]
+    pub(crate) fn node_at(
+        &self,
+        name: &Name,
+        path: &[Name],
+    ) -> Result<(&OpenSession, NodeRef), Stop>
+        ensures found { IfOk result (λ found. IsNodeAt self.now name.now path.now found.0.now found.1) }
+        ensures stopped { IfErr result (Stops (node_at self.now name.now path.now) self.now self.now) }
     {
-        if path.len() != 1 {
-            return Err(Stop::Refused(Code::NotBuilt));
-        }
         let session = self.session(name)?;
-        match session.view().resolve(path) {
-            Some(file) => Ok((session, file)),
+        match session.view().follow(path) {
+            Some(node) => Ok((session, node)),
             None => Err(Stop::Refused(Code::NoSuchPath)),
         }
     }
 
-    /// Makes a file in the root.
-    #[tactic(auto, unfolding(crate::specs::Step::made))]
-    pub(crate) fn make_file(&mut self, name: &Name, path: &Path) -> Result<Text, Stop>
-        ensures { Acts (made self.old name.now path.now) self.old self.new result }
+    /// Makes a directory or file at a path.
+    pub(crate) fn make_node(&mut self, kind: Kind, name: &Name, path: &Path) -> Result<Text, Stop>
+        requires { 0 < length path.now }
+        ensures { Acts (made self.old kind name.now path.now) self.old self.new result }
     {
-        let file = only_name(path)?;
-        if self.names.has(file.as_slice()) {
-            return Err(Stop::Refused(Code::NotBuilt));
-        }
-        self.session(name)?;
+        let Some((own, directory)) = path.as_slice().split_last() else {
+            unreachable!()
+        };
+        self.make_in(kind, name, directory, own)
+    }
+
+    #[tactic(auto, unfolding(crate::specs::Step::made_in))]
+    fn make_in(
+        &mut self,
+        kind: Kind,
+        name: &Name,
+        directory: &[Name],
+        own: &Name,
+    ) -> Result<Text, Stop>
+        ensures { Acts (made_in self.old kind name.now directory.now own.now) self.old self.new result }
+    {
+        let (_, parent) = self.node_at(name, directory)?;
         let reply = reply_plain(self.alloc)?;
-        self.make_named(file)?;
+        let name = own.copy()?;
+        self.edit(Edit::New { kind, parent, name })?;
         Ok(reply)
     }
 
-    // Adds the edit that makes a file of a name that wasn't used.
-    fn make_named(&mut self, file: &Name) -> Result<(), Stop>
-        requires fresh { is_used self.old file.now ≡ false }
-        requires open { is_some self.old.session ≡ true }
-        ensures { (s : NamedSession) → self.old.session ≡ Some s → Changes (added self.old s (edits.New File (Old 0) file.now ∷ [])) self.old self.new result }
+    /// Gives a node that the session sees another name in its directory.
+    #[tactic(auto, unfolding(crate::specs::Step::renamed))]
+    pub(crate) fn rename(&mut self, name: &Name, path: &Path, to: Name) -> Result<Text, Stop>
+        ensures { Acts (renamed self.old name.now path.now to) self.old self.new result }
     {
-        let Some(session) = &mut self.session else {
-            unreachable!()
-        };
-        let edit = Edit::New {
-            kind: Kind::File,
-            parent: NodeRef::Old(NodeNo::new(0)),
-            name: file.copy()?,
-        };
-        self.names.add(self.alloc, file.as_slice())?;
-        match session.edit(edit) {
-            Ok(()) => Ok(()),
-            Err(fault) => {
-                self.names.pop();
-                Err(Stop::from(fault))
-            }
-        }
+        let (_, node) = self.node_at(name, path.as_slice())?;
+        let reply = reply_plain(self.alloc)?;
+        self.edit(Edit::Rename { node, name: to })?;
+        Ok(reply)
     }
 
-    /// Inserts a line into a file that the session sees in the root.
+    /// Moves a node that the session sees into a directory that it sees.
+    #[tactic(auto, unfolding(crate::specs::Step::moved))]
+    pub(crate) fn move_node(
+        &mut self,
+        name: &Name,
+        path: &Path,
+        target: &Path,
+    ) -> Result<Text, Stop>
+        ensures { Acts (moved self.old name.now path.now target.now) self.old self.new result }
+    {
+        let (_, node) = self.node_at(name, path.as_slice())?;
+        let (_, parent) = self.node_at(name, target.as_slice())?;
+        let reply = reply_plain(self.alloc)?;
+        self.edit(Edit::Move { node, parent })?;
+        Ok(reply)
+    }
+
+    /// Removes a node that the session sees.
+    #[tactic(auto, unfolding(crate::specs::Step::removed))]
+    pub(crate) fn remove(&mut self, name: &Name, path: &Path) -> Result<Text, Stop>
+        ensures { Acts (removed self.old name.now path.now) self.old self.new result }
+    {
+        let (_, node) = self.node_at(name, path.as_slice())?;
+        let reply = reply_plain(self.alloc)?;
+        self.edit(Edit::Remove { node })?;
+        Ok(reply)
+    }
+
+    /// Inserts a line into a file that the session sees.
     #[tactic(auto, unfolding(crate::specs::Step::inserted))]
     pub(crate) fn insert(
         &mut self,
@@ -115,26 +141,26 @@ impl Server {
         requires { is_line_text text ≡ true }
         ensures { Acts (inserted self.old name.now path.now line text) self.old self.new result }
     {
-        let (session, file) = self.file_at(name, path)?;
+        let (session, file) = self.node_at(name, path.as_slice())?;
         let reply = reply_new_line(self.alloc, session.view().lines_made())?;
         let after = line_ref(line);
         self.edit(Edit::Insert { file, after, text })?;
         Ok(reply)
     }
 
-    /// Deletes a line of a file that the session sees in the root.
+    /// Deletes a line of a file that the session sees.
     #[tactic(auto, unfolding(crate::specs::Step::deleted))]
     pub(crate) fn delete(&mut self, name: &Name, path: &Path, line: LineField) -> Result<Text, Stop>
         ensures { Acts (deleted self.old name.now path.now line) self.old self.new result }
     {
-        let (_, file) = self.file_at(name, path)?;
+        let (_, file) = self.node_at(name, path.as_slice())?;
         let reply = reply_plain(self.alloc)?;
         let line = line_ref(line);
         self.edit(Edit::Delete { file, line })?;
         Ok(reply)
     }
 
-    /// Replaces a line of a file that the session sees in the root.
+    /// Replaces a line of a file that the session sees.
     #[tactic(auto, unfolding(crate::specs::Step::replaced))]
     pub(crate) fn replace(
         &mut self,
@@ -146,16 +172,15 @@ impl Server {
         requires { is_line_text text ≡ true }
         ensures { Acts (replaced self.old name.now path.now line text) self.old self.new result }
     {
-        let (session, file) = self.file_at(name, path)?;
+        let (session, file) = self.node_at(name, path.as_slice())?;
         let reply = reply_new_line(self.alloc, session.view().lines_made())?;
         self.exchange(file, line_ref(line), text)?;
         Ok(reply)
     }
 
-    // Adds an edit that makes no node to the session that is open.
+    // Adds an edit to the session that is open.
     fn edit(&mut self, edit: Edit) -> Result<(), Stop>
         requires text { has_line_text edit ≡ true }
-        requires nameless { names_made (edit ∷ []) ≡ [] }
         requires open { is_some self.old.session ≡ true }
         ensures { (s : NamedSession) → self.old.session ≡ Some s → Changes (added self.old s (edit ∷ [])) self.old self.new result }
     {
@@ -197,7 +222,6 @@ impl Server {
         ensures position { IfOk result (λ receipt. receipt.position ≡ length self.old.history + 1) }
     {
         let receipt = self.engine.append(command)?;
-        self.names.settle();
         close_session(self.session.take());
         Ok(receipt)
     }
@@ -217,22 +241,7 @@ impl Server {
     fn end(&mut self)
         ensures { self.new ≡ with_session self.old None }
     {
-        self.names.free();
         close_session(self.session.take());
-    }
-}
-
-// The name of a path of one name; longer ones aren't served.
-fn only_name(path: &Path) -> Result<&Name, Stop>
-    ensures found { IfOk result (λ name. only_name path.now ≡ Ok name.now) }
-    ensures unserved { IfErr result (λ stop. (stop ≡ Refused NotBuilt) × (only_name path.now ≡ Err NotBuilt)) }
-{
-    if path.len() != 1 {
-        return Err(Stop::Refused(Code::NotBuilt));
-    }
-    match path.get(0) {
-        Some(name) => Ok(name),
-        None => Err(Stop::Refused(Code::NotBuilt)),
     }
 }
 

@@ -5,7 +5,6 @@ mod declaring;
 mod editing;
 mod finding;
 mod line;
-mod names;
 mod opening;
 mod program;
 mod reply;

@@ -1,11 +1,11 @@
 // The texts of replies that aren't one line of a form alone.
 ghost use Rattle.std.specs.Prelude.{◌≡◌, IfOk};
 ghost use Rattle.cov_serve.specs.Listing.{number_within, told_line};
-ghost use Rattle.cov_serve.specs.Replies.{lines_reply};
+ghost use Rattle.cov_serve.specs.Replies.{directory_reply, lines_reply};
 
 use cov_base::{LineNo, LineRef, Memory, Text, Texts};
-use cov_script::{cat_line, reply_count, show_line, whole};
-use cov_view::{ViewLine, ViewLines};
+use cov_script::{cat_line, list_line, reply_count, show_line, whole};
+use cov_view::{DirRows, ViewLine, ViewLines};
 use std::alloc::Global;
 
 /// How lines are named where they are told.
@@ -26,6 +26,20 @@ pub fn lines_reply(alloc: Global, names: LineNames, lines: &ViewLines) -> Result
     let mut index = 0;
     'lines: while let Some(line) = lines.get(index) {
         rows.push(tell_line(alloc, names, line)?)?;
+        index += 1;
+    }
+    whole(&first, &rows)
+}
+
+/// The reply that tells what is in a directory.
+pub fn directory_reply(alloc: Global, nodes: &DirRows) -> Result<Text, Memory>
+    ensures { IfOk result (λ text. text ≡ directory_reply nodes.now) }
+{
+    let first = reply_count(alloc, nodes.len() as u64)?;
+    let mut rows = Texts::new(alloc);
+    let mut index = 0;
+    'nodes: while let Some(node) = nodes.get(index) {
+        rows.push(list_line(alloc, node.kind, &node.name)?)?;
         index += 1;
     }
     whole(&first, &rows)

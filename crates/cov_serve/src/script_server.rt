@@ -49,4 +49,7 @@ impl LineServer for ScriptServer {
 }
 
 /// Drops a server, in the one place where that is done.
-pub(crate) fn close(_: ScriptServer) {}
+pub(crate) fn close(server: ScriptServer) {
+    let ScriptServer { server } = server;
+    server.close();
+}

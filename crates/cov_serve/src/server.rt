@@ -2,31 +2,28 @@
 ghost use Rattle.std.specs.Prelude.{◌≡◌, IfOk};
 ghost use Rattle.cov_serve.specs.States.{at_start};
 
-use crate::names::Names;
 use cov_base::Memory;
 use cov_engine::Engine;
 use cov_session::OpenSession;
 use std::alloc::Global;
 use std::marker::Model;
 
-/// What the script has made so far: the history, the session that is open, and the names of nodes that were used.
+/// What the script has made so far: the history, and the session that is open.
 #[derive(Drop)]
 pub struct Server {
     pub(crate) alloc: Global,
     pub(crate) engine: Engine,
-    pub(crate) names: Names,
     pub(crate) session: Option<OpenSession>,
 }
 
 impl Model for Server {
-    ghost use Rattle.std.specs.Prelude.{option_map};
+    ghost use Rattle.std.specs.Prelude.{IfSome, option_map};
     ghost use Rattle.std.specs.Coded.{codes, coded_ℕ};
     ghost use Rattle.cov_expr.specs.Formula.{formula_code};
     ghost use Rattle.cov_edit.specs.contracts.command.Command as command_row;
     ghost use Rattle.cov_edit.specs.contracts.edit.Edit as edit_row;
-    ghost use Rattle.cov_session.specs.Open.{as_named};
+    ghost use Rattle.cov_session.specs.Open.{IsOpen, as_named};
     ghost use Rattle.cov_serve.specs.States.{State};
-    ghost use Rattle.cov_serve.specs.Keeping.{Keeps};
 
     ghost Value = { State };
 
@@ -34,7 +31,7 @@ impl Model for Server {
 
     ghost view = { λ s. record { history = s.engine.history; session = option_map as_named s.session } };
 
-    ghost invariant = { λ s. Keeps s.engine.history s.names s.session };
+    ghost invariant = { λ s. IfSome s.session (IsOpen s.engine.history) };
 }
 
 impl Server {
@@ -44,11 +41,24 @@ impl Server {
         Ok(Server {
             alloc,
             engine: Engine::new(alloc)?,
-            names: Names::new(alloc),
             session: None,
         })
     }
+
+    /// Drops a server, in the one place where that is done.
+    pub(crate) fn close(self) {
+        let Server {
+            alloc: _,
+            engine,
+            session,
+        } = self;
+        close_engine(engine);
+        close_session(session);
+    }
 }
+
+// Drops an engine, in the one place where that is done.
+fn close_engine(_: Engine) {}
 
 /// Drops a session, in the one place where that is done.
 pub(crate) fn close_session(_: Option<OpenSession>) {}

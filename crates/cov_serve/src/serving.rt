@@ -5,13 +5,13 @@ ghost use Rattle.cov_loop.specs.Answers.{Gives};
 ghost use Rattle.cov_script.specs.Replies.{IsCodeOf};
 ghost use Rattle.cov_script.specs.declared.code.Code.TheVariants.{NotBuilt};
 ghost use Rattle.cov_serve.specs.Acting.{Acts};
-ghost use Rattle.cov_serve.specs.Step.{acted, refused, served};
-ghost use Rattle.cov_serve.specs.Texts.{HasText};
+ghost use Rattle.cov_serve.specs.Step.{acted, refused, served, served_edit, served_session, served_text};
+ghost use Rattle.cov_serve.specs.Texts.{HasParts};
 ghost use Rattle.cov_serve.specs.declared.stop.Stop.TheVariants.{Refused};
 
 use crate::server::Server;
 use crate::stop::Stop;
-use cov_base::{MOST_SCRIPT_LINE_BYTES, Memory, Text};
+use cov_base::{Kind, MOST_SCRIPT_LINE_BYTES, Memory, Text};
 use cov_loop::{Answer, Reply};
 use cov_script::{Code, Line, lines_read_as_spelt, read_line, reply_refused};
 
@@ -41,7 +41,7 @@ impl Server {
 
     #[tactic(auto, unfolding(crate::specs::Step::served))]
     fn serve(&mut self, line: Line) -> Result<Text, Stop>
-        requires { HasText line }
+        requires { HasParts line }
         ensures { Acts (served self.old line) self.old self.new result }
     {
         match line {
@@ -51,12 +51,54 @@ impl Server {
             Line::Prefer { expr } => self.prefer(&expr),
             Line::Default { token, on } => self.set_default(token, on),
             Line::Complete { choice } => self.complete(&choice),
+            Line::Cat { choice, path } => self.tell(&choice, &path),
+            line => self.serve_session(line),
+        }
+    }
+
+    // Does what a line says that opens, tells or ends a session.
+    #[tactic(auto, unfolding(crate::specs::Step::served_session))]
+    fn serve_session(&mut self, line: Line) -> Result<Text, Stop>
+        requires { HasParts line }
+        ensures { Acts (served_session self.old line) self.old self.new result }
+    {
+        match line {
             Line::OpenSession {
                 name,
                 choice,
                 ambition,
             } => self.open(name, &choice, &ambition),
-            Line::MakeFile { name, path } => self.make_file(&name, &path),
+            Line::Show { name, path } => self.show(&name, &path),
+            Line::List { name, path } => self.list(&name, &path),
+            Line::Commit { name } => self.commit(&name),
+            Line::Discard { name } => self.discard(&name),
+            line => self.serve_edit(line),
+        }
+    }
+
+    // Does what a line says that edits nodes or lines in a session.
+    #[tactic(auto, unfolding(crate::specs::Step::served_edit))]
+    fn serve_edit(&mut self, line: Line) -> Result<Text, Stop>
+        requires { HasParts line }
+        ensures { Acts (served_edit self.old line) self.old self.new result }
+    {
+        match line {
+            Line::MakeDir { name, path } => self.make_node(Kind::Dir, &name, &path),
+            Line::MakeFile { name, path } => self.make_node(Kind::File, &name, &path),
+            Line::Rename { name, path, to } => self.rename(&name, &path, to),
+            Line::Move { name, path, target } => self.move_node(&name, &path, &target),
+            Line::Remove { name, path } => self.remove(&name, &path),
+            line => self.serve_text(line),
+        }
+    }
+
+    // Does what a line says that edits lines in a session; no other form is served.
+    #[tactic(auto, unfolding(crate::specs::Step::served_text))]
+    fn serve_text(&mut self, line: Line) -> Result<Text, Stop>
+        requires { HasParts line }
+        ensures { Acts (served_text self.old line) self.old self.new result }
+    {
+        match line {
             Line::Insert {
                 name,
                 path,
@@ -70,23 +112,7 @@ impl Server {
                 line,
                 text,
             } => self.replace(&name, &path, line, text),
-            Line::Show { name, path } => self.show(&name, &path),
-            Line::Commit { name } => self.commit(&name),
-            Line::Discard { name } => self.discard(&name),
-            Line::Cat { choice, path } => self.tell(&choice, &path),
-            Line::MakeDir { name, path } => refuse_unserved((name, path)),
-            Line::Rename { name, path, to } => refuse_unserved((name, path, to)),
-            Line::Move { name, path, target } => refuse_unserved((name, path, target)),
-            Line::Remove { name, path } => refuse_unserved((name, path)),
-            Line::List { name, path } => refuse_unserved((name, path)),
-            Line::Refresh { name } => refuse_unserved(name),
-            Line::Checkout { tree, choice } => refuse_unserved((tree, choice)),
-            Line::Alt {
-                choice,
-                token,
-                path,
-            } => refuse_unserved((choice, token, path)),
-            Line::Presence { .. } => Err(Stop::Refused(Code::NotBuilt)),
+            unserved => refuse_unserved(unserved),
         }
     }
 }

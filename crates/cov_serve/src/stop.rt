@@ -1,6 +1,6 @@
 // Why a line isn't done.
 ghost use Rattle.std.specs.Prelude.{◌≡◌};
-ghost use Rattle.cov_serve.specs.Stops.{syntax_stop, bad_name_stop, name_stop, bind_stop, complete_stop, read_stop, edit_stop, session_stop, refusal_stop};
+ghost use Rattle.cov_serve.specs.Stops.{syntax_stop, bad_name_stop, name_stop, bind_stop, complete_stop, read_stop, list_stop, edit_stop, session_stop, refusal_stop};
 
 use cov_base::{BadName, Memory, MemoryOr};
 use cov_engine::Refusal;
@@ -8,7 +8,7 @@ use cov_expr::{BindFault, NameFault};
 use cov_rules::CompleteFault;
 use cov_script::{Code, LineSyntax};
 use cov_session::SessionFault;
-use cov_view::{EditFault, ReadFaultOfView};
+use cov_view::{EditFault, ListFault, ReadFaultOfView};
 
 /// Why a line isn't done: a rule refuses it, and then the state is as it was; or memory is wanting, and then the run ends.
 #[derive(Drop)]
@@ -83,6 +83,9 @@ impl From<EditFault> for Stop {
             EditFault::NotFile => Stop::Refused(Code::NotFile),
             EditFault::NotDirectory => Stop::Refused(Code::NotDirectory),
             EditFault::NameTaken => Stop::Refused(Code::NameTaken),
+            EditFault::NotEmpty => Stop::Refused(Code::NotEmpty),
+            EditFault::IntoItself => Stop::Refused(Code::IntoItself),
+            EditFault::IsRoot => Stop::Refused(Code::IsRoot),
             EditFault::NoSuchLine => Stop::Refused(Code::NoSuchLine),
             EditFault::Memory => Stop::Memory,
         }
@@ -128,6 +131,18 @@ impl From<ReadFaultOfView> for Stop {
     }
 }
 
+impl From<ListFault> for Stop {
+    ghost from_gives = { λ fault stop. stop ≡ list_stop fault };
+
+    fn from(fault: ListFault) -> Self {
+        match fault {
+            ListFault::NoSuchNode => Stop::Refused(Code::NoSuchPath),
+            ListFault::NotDirectory => Stop::Refused(Code::NotDirectory),
+            ListFault::Memory => Stop::Memory,
+        }
+    }
+}
+
 impl From<Refusal> for Stop {
     ghost from_gives = { λ refusal stop. stop ≡ refusal_stop refusal };
 
@@ -147,6 +162,11 @@ impl From<Refusal> for Stop {
             Refusal::Empty => Stop::Refused(Code::Empty),
             Refusal::BadRecord { edit } => Stop::Refused(Code::BadRecord { edit }),
             Refusal::Overtaken { position } => Stop::Refused(Code::Overtaken { position }),
+            Refusal::Clash { low, high, choice } => {
+                Stop::Refused(Code::Clash { low, high, choice })
+            }
+            Refusal::Orphan { node, choice } => Stop::Refused(Code::Orphan { node, choice }),
+            Refusal::Loop { node, choice } => Stop::Refused(Code::Loop { node, choice }),
             Refusal::Memory => Stop::Memory,
         }
     }

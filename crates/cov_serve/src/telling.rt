@@ -6,9 +6,9 @@ ghost use Rattle.cov_edit.specs.Replay.{replay};
 ghost use Rattle.cov_edit.specs.Variant.{Variant};
 ghost use Rattle.cov_view.specs.Views.{Shows};
 ghost use Rattle.cov_serve.specs.Acting.{Acts};
-ghost use Rattle.cov_serve.specs.Step.{completed, file_told, shown, told};
+ghost use Rattle.cov_serve.specs.Step.{completed, file_told, listed_at, shown, told};
 
-use crate::reply::{LineNames, lines_reply};
+use crate::reply::{LineNames, directory_reply, lines_reply};
 use crate::server::Server;
 use crate::stop::Stop;
 use cov_base::{Choice, Name, Path, Text};
@@ -26,14 +26,11 @@ impl Server {
         Ok(reply_complete(self.alloc, self.engine.options(), choice)?)
     }
 
-    /// Tells the lines of a file in the root of the variant of a choice.
+    /// Tells the lines of a file of the variant of a choice.
     #[tactic(auto, unfolding(crate::specs::Step::told))]
     pub(crate) fn tell(&mut self, choice: &RawChoice, path: &Path) -> Result<Text, Stop>
         ensures { Acts (told self.old choice.now path.now) self.old self.new result }
     {
-        if path.len() != 1 {
-            return Err(Stop::Refused(Code::NotBuilt));
-        }
         let choice = self.find_choice(choice)?;
         self.tell_at(choice, path)
     }
@@ -63,14 +60,24 @@ impl Server {
         Ok(lines_reply(self.alloc, LineNames::ByNumber, &lines)?)
     }
 
-    /// Tells the lines of a file in the root as the session sees them.
+    /// Tells the lines of a file as the session sees them.
     #[tactic(auto, unfolding(crate::specs::Step::shown))]
     pub(crate) fn show(&self, name: &Name, path: &Path) -> Result<Text, Stop>
         ensures { Acts (shown self.now name.now path.now) self.now self.now result }
     {
-        let (session, file) = self.file_at(name, path)?;
+        let (session, file) = self.node_at(name, path.as_slice())?;
         let lines = session.view().lines(file)?;
         Ok(lines_reply(self.alloc, LineNames::ByReference, &lines)?)
+    }
+
+    /// Tells what is in a directory as the session sees it.
+    #[tactic(auto, unfolding(crate::specs::Step::listed_at))]
+    pub(crate) fn list(&self, name: &Name, path: &Path) -> Result<Text, Stop>
+        ensures { Acts (listed_at self.now name.now path.now) self.now self.now result }
+    {
+        let (session, directory) = self.node_at(name, path.as_slice())?;
+        let nodes = session.view().list(directory)?;
+        Ok(directory_reply(self.alloc, &nodes)?)
     }
 }
 

@@ -3,12 +3,14 @@ ghost use Rattle.std.specs.Prelude.{length};
 ghost use Rattle.cov_script.specs.Replies.{IsCodeOf};
 
 use crate::tests::naming::declare_two;
-use cov_base::{Choice, LineNo, LineRef, Memory, OptionId, Position, Text, Texts};
+use cov_base::{
+    Choice, Kind, LineNo, LineRef, Memory, Name, NodeNo, OptionId, Position, Text, Texts,
+};
 use cov_expr::Options;
 use cov_script::{
-    Code, cat_line, reply_commit, reply_complete, reply_constraint, reply_count, reply_default,
-    reply_new_line, reply_open, reply_option, reply_plain, reply_prefer, reply_refused, show_line,
-    whole,
+    Code, cat_line, list_line, reply_commit, reply_complete, reply_constraint, reply_count,
+    reply_default, reply_new_line, reply_open, reply_option, reply_plain, reply_prefer,
+    reply_refused, show_line, whole,
 };
 use std::alloc::Global;
 use std::test::Fail;
@@ -29,6 +31,14 @@ fn add_lines(alloc: Global, words: &Text, empty: &Text, lines: &mut Texts) -> Re
     lines.push(show_line(alloc, LineRef::Old(LineNo::new(12)), words)?)?;
     lines.push(show_line(alloc, LineRef::New(3), empty)?)?;
     lines.push(cat_line(alloc, LineNo::new(13), empty)?)
+}
+
+// The lines that tell a node.
+fn add_nodes(alloc: Global, lines: &mut Texts) -> Result<(), Fail> {
+    let name = Name::read(alloc, b"Makefile")?;
+    lines.push(list_line(alloc, Kind::Dir, &name)?)?;
+    lines.push(list_line(alloc, Kind::File, &name)?)?;
+    Ok(())
 }
 
 // The accepted replies that tell no choice.
@@ -66,6 +76,24 @@ fn add_choices(alloc: Global, options: &Options, lines: &mut Texts) -> Result<()
     add_code(alloc, options, &incomplete, lines)
 }
 
+// The refusals of a variant that isn't a tree, where there are two options.
+fn add_faults(alloc: Global, options: &Options, lines: &mut Texts) -> Result<(), Memory> {
+    if options.count() != 2 {
+        return Ok(());
+    }
+    let choice = Choice::new(2, 2);
+    let node = NodeNo::new(12);
+    let clash = Code::Clash {
+        low: NodeNo::new(3),
+        high: node,
+        choice,
+    };
+    let none = Choice::new(0, 0);
+    add_code(alloc, options, &clash, lines)?;
+    add_code(alloc, options, &Code::Orphan { node, choice }, lines)?;
+    add_code(alloc, options, &Code::Loop { node, choice: none }, lines)
+}
+
 // The other refused replies that tell a number or a name, and one that tells neither.
 fn add_refused(alloc: Global, options: &Options, lines: &mut Texts) -> Result<(), Memory> {
     add_code(alloc, options, &Code::Syntax { at: 0 }, lines)?;
@@ -75,7 +103,7 @@ fn add_refused(alloc: Global, options: &Options, lines: &mut Texts) -> Result<()
     add_code(alloc, options, &Code::NoVariantLeft, lines)
 }
 
-const REPLIES: &str = "ok 18
+const REPLIES: &str = "ok 23
 ok option 63
 ok constraint 256
 ok prefer 1
@@ -84,10 +112,15 @@ ok
 ok +0
 ok commit 7
 12 one  two
-+3 \n13 \nok a=on,b=off
++3 \n13 \nd Makefile
+f Makefile
+ok a=on,b=off
 ok open 9 a=on,b=off
 refused repeated b
 refused incomplete a
+refused clash 3 12 in a=off,b=on
+refused orphan 12 in a=off,b=on
+refused loop 12 in -
 refused syntax 0
 refused unknown-option for
 refused invalid 2
@@ -98,7 +131,9 @@ refused no-variant-left
 fn joined(alloc: Global, options: &mut Options, lines: &mut Texts) -> Result<Text, Fail> {
     declare_two(alloc, options)?;
     add_accepted(alloc, lines)?;
+    add_nodes(alloc, lines)?;
     add_choices(alloc, options, lines)?;
+    add_faults(alloc, options, lines)?;
     add_refused(alloc, options, lines)?;
     let first = reply_count(alloc, lines.len() as u64)?;
     Ok(whole(&first, lines)?)

@@ -1,7 +1,7 @@
-use Rattle.cov_serve.proofs.Growing.{keeps-appended}
+use Rattle.cov_serve.proofs.Growing.{stays-open}
 use Rattle.cov_serve.proofs.server.Server.append.Goals as goal
 
 pub invariant_of-self-2 : goal.invariant_of-self-2
 invariant_of-self-2 c =
-    keeps-appended c.open_sessions_stay.ensures c.self.inside.engine.history c.append.new.self.history c.args.command c.self.inside.names c.self.inside.session
-    c.in_ok-append.ensures.appended c.requires.declares c.self.invariant
+    stays-open c.open_sessions_stay.ensures c.self.inside.engine.history c.append.new.self.history c.args.command c.self.inside.session
+    c.in_ok-append.ensures.appended c.self.invariant

@@ -1,11 +1,20 @@
-use Rattle.std.proofs.Common.{subst, ◌∷◌, []}
-use Rattle.cov_serve.specs.Keeping.{Keeps}
-use Rattle.cov_serve.proofs.Growing.{keeps-edited}
+use Rattle.std.proofs.Common.{sym, subst, IfSome, [], ◌∷◌}
+use Rattle.cov_session.specs.Open.{IsOpen}
+use Rattle.cov_serve.specs.Acting.{Changes}
+use Rattle.cov_serve.specs.Step.{added}
+use Rattle.cov_serve.proofs.Acted.{stopped}
+use Rattle.cov_serve.proofs.RefusalCodes.{edit-stops}
 use Rattle.cov_serve.proofs.server.Server.edit.Goals as goal
 
-pub invariant_of-self-2 : goal.invariant_of-self-2
-invariant_of-self-2 c =
+pub invariant_of-self : goal.invariant_of-self
+invariant_of-self c =
     let history = c.self.inside.engine.history in
-    let keeps = subst (Keeps history c.self.inside.names) c.in-Some.is c.self.invariant in
-    keeps-edited history c.self.inside.names c.in-Some.session c.edit.new.self (c.args.edit ∷ []) c.requires.nameless c.in_ok-edit.ensures.grown
-    (c.in_ok-edit.ensures.open history keeps.is_open) keeps
+    subst (IsOpen history) (sym c.in_err-edit.ensures.same) (subst (λ s. IfSome s (IsOpen history)) c.in-Some.is c.self.invariant)
+
+pub returns-in_err-edit : goal.returns-in_err-edit
+returns-in_err-edit c = λ s named.
+    let st = c.args.self.now in
+    let es = c.args.edit ∷ [] in
+    stopped (Changes (added st s es) st _) c.from_residual.result _ c.from_residual.ensures.1
+    (edit-stops st c.self.inside.engine.history c.self.inside.session c.in-Some.session c.edit.new.self s es c.in_err-edit.field-0.0
+    c.self.view_is c.in-Some.is c.in_err-edit.ensures.same named c.self.invariant c.in_err-edit.ensures.refused)
