@@ -1,6 +1,8 @@
-"""Runs `covstore run` on a script, and tells its processor time."""
+"""Runs `covstore run` on a script, and tells its processor time or counts its instructions."""
 import os
+import re
 import subprocess
+import sys
 import tempfile
 
 TOP = os.path.dirname(os.path.dirname(os.path.abspath(__file__)))
@@ -8,18 +10,40 @@ COVSTORE = os.path.join(TOP, 'covstore')
 
 
 def build():
-    """Proves and builds the program, if that isn't done."""
+    """The built program: the script's argument, or else the one here, which is proved and built if that isn't done."""
+    if len(sys.argv) > 1:
+        return os.path.abspath(sys.argv[1])
     subprocess.run([COVSTORE, 'run'], stdin=subprocess.DEVNULL, check=True)
+    return os.path.join(TOP, 'crates', 'cov_cli', 'out', 'cov_cli')
 
 
-def served(lines):
+def as_script(lines, source):
+    source.write(''.join(line + '\n' for line in lines).encode())
+    source.seek(0)
+
+
+def served(lines, program=COVSTORE):
     """The processor seconds, the peak of memory in KB and the output of a run on these lines, all accepted."""
     with tempfile.TemporaryFile() as source, tempfile.TemporaryFile() as out:
-        source.write(''.join(line + '\n' for line in lines).encode())
-        source.seek(0)
+        as_script(lines, source)
         files = [(os.POSIX_SPAWN_DUP2, source.fileno(), 0), (os.POSIX_SPAWN_DUP2, out.fileno(), 1)]
-        child = os.posix_spawn(COVSTORE, [COVSTORE, 'run'], os.environ, file_actions=files)
+        child = os.posix_spawn(program, [program, 'run'], os.environ, file_actions=files)
         _, status, usage = os.wait4(child, 0)
         assert status == 0
         out.seek(0)
         return usage.ru_utime + usage.ru_stime, usage.ru_maxrss, out.read()
+
+
+def counted(lines, program, name=None):
+    """The instructions of a run on these lines, all accepted, and those within the function of a name, as Debian's valgrind counts
+    them."""
+    with tempfile.TemporaryFile() as source, tempfile.NamedTemporaryFile() as counts:
+        as_script(lines, source)
+        command = ['valgrind', '--quiet', '--tool=callgrind', '--callgrind-out-file=' + counts.name, program, 'run']
+        subprocess.run(command, stdin=source, stdout=subprocess.DEVNULL, check=True)
+        command = ['callgrind_annotate', '--inclusive=yes', '--threshold=100', counts.name]
+        told = subprocess.run(command, stdout=subprocess.PIPE, check=True, text=True).stdout
+    rows = [(int(count.replace(',', '')), of) for count, of in re.findall(r'^\s*([\d,]+) \([^)]*\)\s+(.*)$', told, re.M)]
+    total = next(count for count, of in rows if of == 'PROGRAM TOTALS')
+    within = [count for count, of in rows if name and re.search(r'\b%s\b' % name, of)]
+    return total, max(within, default=0)

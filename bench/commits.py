@@ -1,0 +1,65 @@
+#!/usr/bin/env python3
+"""Counts and times the line `commit` of a session that inserted one line, in a store of 100 files and in one of 10,000."""
+import statistics
+import subprocess
+import sys
+import time
+
+from timing import build, counted
+
+SIZES, SESSIONS = (100, 10000), 1000
+
+
+def store(files):
+    lines = ['option phone', 'open start phone=off for true']
+    return lines + ['mkfile start /f%d' % i for i in range(files)] + ['commit start']
+
+
+def session(file, last):
+    return ['open s phone=on for phone', 'insert s /f%d 0 a line' % file, last + ' s']
+
+
+def ask(child, line):
+    """The processor seconds that a run takes for a line, which is accepted."""
+    clock = (~child.pid << 3) | 2  # the clock of another process, as clock_getcpuclockid gives it
+    start = time.clock_gettime_ns(clock)
+    child.stdin.write(line.encode() + b'\n')
+    child.stdin.flush()
+    reply = child.stdout.readline()
+    taken = time.clock_gettime_ns(clock) - start
+    assert reply.startswith(b'ok')
+    return taken / 1e9
+
+
+def seconds(program, files):
+    """The median seconds of `commit` and of `drop`, over sessions that end by turns with the one and the other in one run."""
+    taken = {'commit': [], 'drop': []}
+    with subprocess.Popen([program, 'run'], stdin=subprocess.PIPE, stdout=subprocess.PIPE) as child:
+        for line in store(files):
+            ask(child, line)
+        for i in range(SESSIONS):
+            for last in taken:
+                taken[last].append([ask(child, line) for line in session(i % files, last)][-1])
+        child.stdin.close()
+        assert child.wait() == 0
+    return statistics.median(taken['commit']), statistics.median(taken['drop'])
+
+
+def instructions(program, files):
+    """The instructions of a run less those of one that says `drop` in the place of the last `commit`."""
+    commit, drop = (counted(store(files) + session(0, last), program)[0] for last in ('commit', 'drop'))
+    return commit - drop
+
+
+def main():
+    program = build()
+    counts = []
+    for files in SIZES:
+        commit, drop = seconds(program, files)
+        counts.append(instructions(program, files))
+        print('%d files: %d instructions more than drop; commit %.1f us, drop %.1f us' % (files, counts[-1], 1e6 * commit, 1e6 * drop))
+    print('ratio of the instructions %.2f' % (counts[1] / counts[0]))
+
+
+if __name__ == '__main__':
+    sys.exit(main())
