@@ -376,14 +376,23 @@ fn a_clash_on_another_choice_is_refused(rt: HostRuntime) -> Result<(), Fail> {
     checked
 }
 
+// Edits with a directory more in the root.
+fn with_directory(alloc: Global, edits: Edits, name: &[u8]) -> Result<Edits, Fail>
+    ensures { IfOk result (λ all. all ≡ edits ++ dir_in_root name.now ∷ []) }
+{
+    match making(alloc, Kind::Dir, 0, name) {
+        Ok(dir) => also(edits, dir),
+        Err(fail) => Err(fail),
+    }
+}
+
 // The directories a, b and c.
 fn three_directories(alloc: Global) -> Result<Edits, Fail>
     ensures { IfOk result (λ all. all ≡ dir_in_root (codes "a") ∷ dir_in_root (codes "b") ∷ dir_in_root (codes "c") ∷ []) }
 {
-    let a = making(alloc, Kind::Dir, 0, b"a")?;
-    let b = making(alloc, Kind::Dir, 0, b"b")?;
-    let c = making(alloc, Kind::Dir, 0, b"c")?;
-    also(also(one(alloc, a)?, b)?, c)
+    let a = with_directory(alloc, Edits::new(alloc), b"a")?;
+    let a_and_b = with_directory(alloc, a, b"b")?;
+    with_directory(alloc, a_and_b, b"c")
 }
 
 // With p, a is in b, and c isn't there.
