@@ -1,5 +1,6 @@
 mod endings;
 mod limits;
 mod lines;
+mod refusals;
 mod running;
 mod scripts;

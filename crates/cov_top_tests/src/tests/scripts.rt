@@ -169,7 +169,12 @@ fn deletes_are_committed(rt: HostRuntime) -> Result<(), Fail> {
     are_served(&rt, rt.alloc(), SERVED, &DELETED)
 }
 
-const DIRECTORIES: [Case; 5] = [
+const DIRECTORIES: [Case; 6] = [
+    (
+        b"open s - for true\nmkfile s /m\ninsert s /m 0 one\ncommit s\nopen s - for true\ninsert s /m 1 two\nshow s /m\ncommit s\ncat - /m\nopen s - for true\nmkdir s /d\nmkfile s /m\nmkfile s /m/x\nmkfile s /q/x\nrename s / z\nrename s /m d\nmove s /d /d\nmove s /m /m\nmove s /m /\nmkfile s /d/k\nremove s /d\ninsert s /d 0 x\ninsert s /m 9 x\ndelete s /m 0\nreplace s /m 1 uno\nshow s /m\nlist s /\nlist s /m\nmove s /m /d\nrename s /d/k j\nlist s /d\nremove s /d/m\ncommit s\nopen s - for true\ncommit s\n",
+        b"ok open 0 -\nok\nok +0\nok commit 1\nok open 1 -\nok +0\nok 2\n1 one\n+0 two\nok commit 2\nok 2\n1 one\n2 two\nok open 2 -\nok\nrefused name-taken\nrefused not-directory\nrefused no-such-path\nrefused is-root\nrefused name-taken\nrefused into-itself\nrefused not-directory\nrefused name-taken\nok\nrefused not-empty\nrefused not-file\nrefused no-such-line\nrefused no-such-line\nok +0\nok 2\n+0 uno\n2 two\nok 2\nd d\nf m\nrefused not-directory\nok\nok\nok 2\nf j\nf m\nok\nok commit 3\nok open 3 -\nrefused empty\n",
+        Status::SomeRefused,
+    ),
     (
         b"open s - for true\nmkdir s /src\nmkfile s /a\nmkfile s /Makefile\nmkdir s /src/b\nlist s /\nlist s /src\nlist s /src/b\nlist s /a\nlist s /n\nlist t /\nrename s /a z\nmove s /src/b /\nlist s /\n",
         b"ok open 0 -\nok\nok\nok\nok\nok 3\nf Makefile\nf a\nd src\nok 1\nd b\nok 0\nrefused not-directory\nrefused no-such-path\nrefused no-session\nok\nok\nok 4\nf Makefile\nd b\nd src\nf z\n",
