@@ -5,7 +5,7 @@ use Rattle.std.specs.Fmt.{digits}
 use Rattle.std.specs.List.{concat}
 use Rattle.cov_base.specs.declared.number.Kind.TheVariants.{Dir, File}
 use Rattle.cov_base.specs.declared.number.LineRef.TheVariants.{Old, New}
-use Rattle.cov_script.specs.Replies.{option_reply, constraint_reply, prefer_reply, default_reply, complete_reply, open_reply, plain_reply, new_line_reply, count_reply, commit_reply, shown_line, cat_line, list_line, refused_reply}
+use Rattle.cov_script.specs.Replies.{option_reply, constraint_reply, prefer_reply, default_reply, complete_reply, open_reply, refresh_reply, plain_reply, new_line_reply, count_reply, commit_reply, shown_line, cat_line, list_line, refused_reply}
 use Rattle.cov_script.specs.declared.code.Code.TheVariants as refusals
 
 abbrev names : List (List ℕ)
@@ -17,8 +17,8 @@ unfolding digits
 numbered = refl
 
 -- an option that is on and one that is off, and no option at all
-of_choices : (complete_reply names (true ∷ false ∷ []) ∷ complete_reply [] [] ∷ open_reply 3 names (false ∷ true ∷ []) ∷ [])
-    ≡ codes "ok fast=on,safe=off\n" ∷ codes "ok -\n" ∷ codes "ok open 3 fast=off,safe=on\n" ∷ []
+of_choices : (complete_reply names (true ∷ false ∷ []) ∷ complete_reply [] [] ∷ open_reply 3 names (false ∷ true ∷ []) ∷ refresh_reply 12 names (true ∷ true ∷ []) ∷ [])
+    ≡ codes "ok fast=on,safe=off\n" ∷ codes "ok -\n" ∷ codes "ok open 3 fast=off,safe=on\n" ∷ codes "ok refresh 12 fast=on,safe=on\n" ∷ []
 unfolding digits
 of_choices = refl
 
@@ -40,11 +40,11 @@ refused_with_choices : map (refused_reply names) (refusals.Clash 1 12 (true ∷ 
 unfolding digits
 refused_with_choices = refl
 
-refused_with_more : map (refused_reply names) (refusals.Syntax 17 ∷ refusals.UnknownOption (codes "on") ∷ refusals.Repeated 1 ∷ refusals.Invalid 2 ∷ refusals.Incomplete 0 ∷ refusals.BadRecord 16383 ∷ [])
-    ≡ codes "refused syntax 17\n" ∷ codes "refused unknown-option on\n" ∷ codes "refused repeated safe\n" ∷ codes "refused invalid 2\n" ∷ codes "refused incomplete fast\n" ∷ codes "refused bad-record 16383\n" ∷ []
+refused_with_more : map (refused_reply names) (refusals.Syntax 17 ∷ refusals.UnknownOption (codes "on") ∷ refusals.Repeated 1 ∷ refusals.Invalid 2 ∷ refusals.Incomplete 0 ∷ refusals.EditLost 0 ∷ refusals.BadRecord 16383 ∷ [])
+    ≡ codes "refused syntax 17\n" ∷ codes "refused unknown-option on\n" ∷ codes "refused repeated safe\n" ∷ codes "refused invalid 2\n" ∷ codes "refused incomplete fast\n" ∷ codes "refused edit-lost 0\n" ∷ codes "refused bad-record 16383\n" ∷ []
 unfolding digits
 refused_with_more = refl
 
-refused_alone : map (refused_reply names) (refusals.TooLong ∷ refusals.Long ∷ refusals.BadName ∷ refusals.NoVariantLeft ∷ refusals.OutsideAmbition ∷ refusals.NotEmpty ∷ refusals.IntoItself ∷ refusals.IsRoot ∷ refusals.BadBase ∷ refusals.BadOption ∷ refusals.NotBuilt ∷ [])
-    ≡ codes "refused too-long\n" ∷ codes "refused long\n" ∷ codes "refused bad-name\n" ∷ codes "refused no-variant-left\n" ∷ codes "refused outside-ambition\n" ∷ codes "refused not-empty\n" ∷ codes "refused into-itself\n" ∷ codes "refused is-root\n" ∷ codes "refused bad-base\n" ∷ codes "refused bad-option\n" ∷ codes "refused not-built\n" ∷ []
+refused_alone : map (refused_reply names) (refusals.TooLong ∷ refusals.Long ∷ refusals.BadName ∷ refusals.NoVariantLeft ∷ refusals.SessionExists ∷ refusals.NoSession ∷ refusals.TooManySessions ∷ refusals.OutsideAmbition ∷ refusals.NotEmpty ∷ refusals.IntoItself ∷ refusals.IsRoot ∷ refusals.BadBase ∷ refusals.BadOption ∷ refusals.NotBuilt ∷ [])
+    ≡ codes "refused too-long\n" ∷ codes "refused long\n" ∷ codes "refused bad-name\n" ∷ codes "refused no-variant-left\n" ∷ codes "refused session-exists\n" ∷ codes "refused no-session\n" ∷ codes "refused too-many-sessions\n" ∷ codes "refused outside-ambition\n" ∷ codes "refused not-empty\n" ∷ codes "refused into-itself\n" ∷ codes "refused is-root\n" ∷ codes "refused bad-base\n" ∷ codes "refused bad-option\n" ∷ codes "refused not-built\n" ∷ []
 refused_alone = refl

@@ -1,5 +1,5 @@
 -- The forms of lines.
-use Rattle.std.specs.Prelude.{ℕ, Bool, nat_eq, List, [], ◌∷◌, map, length, Option, Some, None, Result, Ok, Err, if◌then◌else◌, codes}
+use Rattle.std.specs.Prelude.{ℕ, Bool, true, false, nat_eq, List, [], ◌∷◌, map, length, Option, Some, None, Result, Ok, Err, if◌then◌else◌, codes}
 use Rattle.std.specs.Str.{bytes_eq}
 use Rattle.cov_base.specs.Spelling.{path_of}
 use Rattle.cov_expr.specs.ChoiceText.{bindings_of, switch_of}
@@ -68,6 +68,18 @@ ambition rest = go_on (field (word_of (codes "for")) rest) (λ a. expression a.1
 -- a name, bindings, and an ambition behind them
 abbrev pub opening : Rest → Result (List ℕ × List (List ℕ × Bool) × Formula (List ℕ)) LineSyntax
 opening rest = go_on (two_fields name_of bindings_of rest) (λ a. go_on (ambition a.1) (λ e. Ok (a.0.0, a.0.1, e)))
+
+-- a keyword whose line makes an edit
+abbrev pub is_edit : Keyword → Bool
+is_edit keywords.MakeDir = true
+is_edit keywords.MakeFile = true
+is_edit keywords.Rename = true
+is_edit keywords.Move = true
+is_edit keywords.Remove = true
+is_edit keywords.Insert = true
+is_edit keywords.Delete = true
+is_edit keywords.Replace = true
+is_edit _ = false
 
 -- what follows each keyword
 abbrev pub line_behind : Keyword → Rest → Result Line LineSyntax

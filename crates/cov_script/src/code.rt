@@ -42,8 +42,12 @@ pub enum Code {
     Incomplete {
         option: OptionId,
     },
+    /// A session of that name is open.
+    SessionExists,
     /// No session of that name is open.
     NoSession,
+    /// As many sessions are open as may be.
+    TooManySessions,
     /// The ambition of a session isn't true on its choice.
     OutsideAmbition,
     NoSuchPath,
@@ -64,6 +68,10 @@ pub enum Code {
     TooManyBytes,
     TooManyLines,
     TooManyNodes,
+    /// The edit with this number, from 0, is the first that can't be made again on the new base.
+    EditLost {
+        index: u32,
+    },
     /// There are no edits to commit.
     Empty,
     /// The base of a commit is beyond the history.
@@ -124,7 +132,9 @@ fn word_of(code: &Code) -> &'static [u8]
         Code::NoVariantLeft => b"no-variant-left",
         Code::Invalid { .. } => b"invalid",
         Code::Incomplete { .. } => b"incomplete",
+        Code::SessionExists => b"session-exists",
         Code::NoSession => b"no-session",
+        Code::TooManySessions => b"too-many-sessions",
         Code::OutsideAmbition => b"outside-ambition",
         Code::NoSuchPath => b"no-such-path",
         Code::NotFile => b"not-file",
@@ -138,6 +148,7 @@ fn word_of(code: &Code) -> &'static [u8]
         Code::TooManyBytes => b"too-many-bytes",
         Code::TooManyLines => b"too-many-lines",
         Code::TooManyNodes => b"too-many-nodes",
+        Code::EditLost { .. } => b"edit-lost",
         Code::Empty => b"empty",
         Code::BadBase => b"bad-base",
         Code::BadOption => b"bad-option",
@@ -163,6 +174,7 @@ fn append_detail(
     match code {
         Code::Syntax { at } => append_number(alloc, text, *at),
         Code::Invalid { rule } => append_number(alloc, text, *rule),
+        Code::EditLost { index } => append_number(alloc, text, *index),
         Code::BadRecord { edit } => append_number(alloc, text, *edit),
         Code::Overtaken { position } => append_number(alloc, text, position.number()),
         Code::UnknownOption { name } => append_word(text, name.as_slice()),

@@ -1,7 +1,8 @@
 // What follows each keyword.
+ghost use Rattle.std.specs.Prelude.{◌≡◌, true};
 ghost use Rattle.cov_base.specs.Answers.{IsOrMemory};
 ghost use Rattle.cov_script.specs.Fields.{is_memory, at_end};
-ghost use Rattle.cov_script.specs.Lines.{two_fields, alone, pair, triple, line_and_text, named_text, ambition, opening, line_behind};
+ghost use Rattle.cov_script.specs.Lines.{two_fields, alone, pair, triple, line_and_text, named_text, ambition, opening, is_edit, line_behind};
 
 use crate::field::{Field, Got, NewPath, read_expression, read_field, read_for, read_text};
 use crate::keyword::Keyword;
@@ -30,6 +31,39 @@ pub(crate) fn read_behind(
             choice,
             ambition,
         }),
+        Keyword::MakeDir
+        | Keyword::MakeFile
+        | Keyword::Rename
+        | Keyword::Move
+        | Keyword::Remove
+        | Keyword::Insert
+        | Keyword::Delete
+        | Keyword::Replace => read_edit(alloc, keyword, unread),
+        Keyword::Show => pair(alloc, unread).map(|(name, path)| Line::Show { name, path }),
+        Keyword::List => pair(alloc, unread).map(|(name, path)| Line::List { name, path }),
+        Keyword::Refresh => alone(alloc, unread).map(|name| Line::Refresh { name }),
+        Keyword::Commit => alone(alloc, unread).map(|name| Line::Commit { name }),
+        Keyword::Drop => alone(alloc, unread).map(|name| Line::Discard { name }),
+        Keyword::Cat => pair(alloc, unread).map(|(choice, path)| Line::Cat { choice, path }),
+        Keyword::Checkout => pair(alloc, unread).map(|(tree, choice)| Line::Checkout {
+            tree,
+            choice,
+        }),
+        Keyword::Alt => triple(alloc, unread).map(|(choice, token, path)| Line::Alt {
+            choice,
+            token,
+            path,
+        }),
+        Keyword::Where => alone(alloc, unread).map(|line| Line::Presence { line }),
+    }
+}
+
+// Reads what follows the keyword of an edit.
+fn read_edit(alloc: Global, keyword: Keyword, unread: Unread) -> Result<Line, LineSyntax>
+    requires { is_edit keyword ≡ true }
+    ensures { IsOrMemory is_memory (line_behind keyword unread.entry) result }
+{
+    match keyword {
         Keyword::MakeDir => pair(alloc, unread).map(|(name, NewPath(path))| Line::MakeDir {
             name,
             path,
@@ -66,22 +100,7 @@ pub(crate) fn read_behind(
             line,
             text,
         }),
-        Keyword::Show => pair(alloc, unread).map(|(name, path)| Line::Show { name, path }),
-        Keyword::List => pair(alloc, unread).map(|(name, path)| Line::List { name, path }),
-        Keyword::Refresh => alone(alloc, unread).map(|name| Line::Refresh { name }),
-        Keyword::Commit => alone(alloc, unread).map(|name| Line::Commit { name }),
-        Keyword::Drop => alone(alloc, unread).map(|name| Line::Discard { name }),
-        Keyword::Cat => pair(alloc, unread).map(|(choice, path)| Line::Cat { choice, path }),
-        Keyword::Checkout => pair(alloc, unread).map(|(tree, choice)| Line::Checkout {
-            tree,
-            choice,
-        }),
-        Keyword::Alt => triple(alloc, unread).map(|(choice, token, path)| Line::Alt {
-            choice,
-            token,
-            path,
-        }),
-        Keyword::Where => alone(alloc, unread).map(|line| Line::Presence { line }),
+        _ => unreachable!(),
     }
 }
 

@@ -19,5 +19,5 @@ pub use read::read_line;
 pub use reply::{
     cat_line, list_line, reply_commit, reply_complete, reply_constraint, reply_count,
     reply_default, reply_new_line, reply_open, reply_option, reply_plain, reply_prefer,
-    reply_refused, show_line, whole,
+    reply_refresh, reply_refused, show_line, whole,
 };

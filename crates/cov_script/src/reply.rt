@@ -1,7 +1,7 @@
 // The texts of replies. Each function but `whole` gives one line with its end.
 ghost use Rattle.std.specs.Prelude.{◌≡◌, ◌<◌, ◌≤◌, ◌++◌, [], IfOk, OnOk, codes, get_or, length};
 ghost use Rattle.std.specs.List.{concat};
-ghost use Rattle.cov_script.specs.Replies.{option_reply, constraint_reply, prefer_reply, default_reply, complete_reply, open_reply, plain_reply, new_line_reply, count_reply, commit_reply, shown_line, cat_line, kind_letter, list_line, refused_reply, numbered, IsCodeOf};
+ghost use Rattle.cov_script.specs.Replies.{option_reply, constraint_reply, prefer_reply, default_reply, complete_reply, open_reply, refresh_reply, plain_reply, new_line_reply, count_reply, commit_reply, shown_line, cat_line, kind_letter, list_line, refused_reply, numbered, based, IsCodeOf};
 
 use crate::code::{Code, code_text};
 use cov_base::{Choice, Kind, LineNo, LineRef, Memory, Name, OptionId, Position, Text, Texts};
@@ -55,10 +55,20 @@ pub fn reply_open(
     requires { length choice ≤ length options.now.names }
     ensures { IfOk result (λ text. text ≡ open_reply base options.now.names choice) }
 {
-    let base = base.number();
-    let choice = print_choice(alloc, options, choice)?;
-    let head = format!(in alloc; "ok open {base}")?;
-    spaced(alloc, head.as_bytes(), choice.as_slice())
+    based(alloc, "ok open ", base, options, choice)
+}
+
+/// The reply to a session that is refreshed, with its new base and the choice that it has there.
+pub fn reply_refresh(
+    alloc: Global,
+    base: Position,
+    options: &Options,
+    choice: Choice,
+) -> Result<Text, Memory>
+    requires { length choice ≤ length options.now.names }
+    ensures { IfOk result (λ text. text ≡ refresh_reply base options.now.names choice) }
+{
+    based(alloc, "ok refresh ", base, options, choice)
 }
 
 /// The reply that says no more than that a line is accepted.
@@ -165,6 +175,23 @@ fn numbered(alloc: Global, words: &str, number: u64) -> Result<Text, Memory>
     ensures { IfOk result (λ text. text ≡ numbered words.now number) }
 {
     Ok(Text::from(format!(in alloc; "{words}{number}\n")?))
+}
+
+// A line of words, and a base and a choice behind them.
+fn based(
+    alloc: Global,
+    words: &str,
+    base: Position,
+    options: &Options,
+    choice: Choice,
+) -> Result<Text, Memory>
+    requires { length choice ≤ length options.now.names }
+    ensures { IfOk result (λ text. text ≡ based words.now base options.now.names choice) }
+{
+    let base = base.number();
+    let choice = print_choice(alloc, options, choice)?;
+    let head = format!(in alloc; "{words}{base}")?;
+    spaced(alloc, head.as_bytes(), choice.as_slice())
 }
 
 // A line of two words with a space between them.

@@ -10,7 +10,7 @@ use cov_expr::Options;
 use cov_script::{
     Code, cat_line, list_line, reply_commit, reply_complete, reply_constraint, reply_count,
     reply_default, reply_new_line, reply_open, reply_option, reply_plain, reply_prefer,
-    reply_refused, show_line, whole,
+    reply_refresh, reply_refused, show_line, whole,
 };
 use std::alloc::Global;
 use std::test::Fail;
@@ -72,6 +72,7 @@ fn add_choices(alloc: Global, options: &Options, lines: &mut Texts) -> Result<()
     };
     lines.push(reply_complete(alloc, options, choice)?)?;
     lines.push(reply_open(alloc, Position::new(9), options, choice)?)?;
+    lines.push(reply_refresh(alloc, Position::new(10), options, choice)?)?;
     add_code(alloc, options, &repeated, lines)?;
     add_code(alloc, options, &incomplete, lines)
 }
@@ -94,16 +95,19 @@ fn add_faults(alloc: Global, options: &Options, lines: &mut Texts) -> Result<(),
     add_code(alloc, options, &Code::Loop { node, choice: none }, lines)
 }
 
-// The other refused replies that tell a number or a name, and one that tells neither.
+// The other refused replies that tell a number or a name, and those that tell neither.
 fn add_refused(alloc: Global, options: &Options, lines: &mut Texts) -> Result<(), Memory> {
     add_code(alloc, options, &Code::Syntax { at: 0 }, lines)?;
     let name = Text::from_slice(alloc, b"for")?;
     add_code(alloc, options, &Code::UnknownOption { name }, lines)?;
     add_code(alloc, options, &Code::Invalid { rule: 2 }, lines)?;
-    add_code(alloc, options, &Code::NoVariantLeft, lines)
+    add_code(alloc, options, &Code::EditLost { index: 16383 }, lines)?;
+    add_code(alloc, options, &Code::NoVariantLeft, lines)?;
+    add_code(alloc, options, &Code::SessionExists, lines)?;
+    add_code(alloc, options, &Code::TooManySessions, lines)
 }
 
-const REPLIES: &str = "ok 23
+const REPLIES: &str = "ok 27
 ok option 63
 ok constraint 256
 ok prefer 1
@@ -116,6 +120,7 @@ ok commit 7
 f Makefile
 ok a=on,b=off
 ok open 9 a=on,b=off
+ok refresh 10 a=on,b=off
 refused repeated b
 refused incomplete a
 refused clash 3 12 in a=off,b=on
@@ -124,7 +129,10 @@ refused loop 12 in -
 refused syntax 0
 refused unknown-option for
 refused invalid 2
+refused edit-lost 16383
 refused no-variant-left
+refused session-exists
+refused too-many-sessions
 ";
 
 // All these replies as one.
