@@ -1,6 +1,6 @@
 -- What is shown, line by line in order, and what is known of one line.
 use Rattle.std.specs.Prelude.{Result, Ok, Err, IfOk, OnOk, filter}
-use Rattle.std.proofs.Common.{◌≡◌, ℕ, zero, suc, ◌+◌, ◌≤◌, Bool, true, false, cond, nat_eq, nat_le, ◌||◌, List, [], ◌∷◌, ◌++◌, map, drop, Option, Some, None, is_some, slice_get, append-nil, append_assoc, refl, sym, ap, ◌∙◌, arith}
+use Rattle.std.proofs.Common.{◌≡◌, ℕ, zero, suc, ◌+◌, ◌≤◌, Bool, true, false, cond, nat_eq, nat_le, ◌||◌, List, [], ◌∷◌, ◌++◌, map, drop, Option, Some, None, is_some, slice_get, append-nil, append_assoc, refl, sym, ap, subst, ◌∙◌, arith}
 use Rattle.std.specs.List.{find}
 use Rattle.std.specs.Option.{option_map}
 use Rattle.std.specs.Map.{keys_of}
@@ -11,6 +11,7 @@ use Rattle.cov_order.specs.Orders.{has_line}
 use Rattle.cov_file.specs.declared.row.FileRow.{FileRow}
 use Rattle.cov_file.specs.Dated.{DatedLine, vis_at, newest_vis, newest_of, vis_of, file_row_of, is_visible, rows_at, all_rows}
 use Rattle.cov_base.specs.Older.{value_at}
+use Rattle.cov_file.specs.Rooms.{Room, Coming, IsMade}
 use Rattle.cov_file.specs.Listing.{Listing, lists_of, vis_in, changes_in, dated_in, dated_lines, row_in, visible_lines}
 use Rattle.cov_file.proofs.Nodes.{node_listed}
 
@@ -116,3 +117,9 @@ module _ (texts : List (ℕ × List ℕ)) (l : Listing) (line : ℕ) (lines : Li
 pub if_ok : {A E : Type 0} (r : Result A E) (P Q : A → Type 0) → ((a : A) → P a → Q a) → IfOk r P → IfOk r Q
 if_ok (Ok a) P Q f h = f a h
 if_ok (Err e) P Q f h = tt
+
+-- room for any changes is room for those that are expected
+pub coming_made : {A E : Type 0} (r : Result A E) (room : Room) (lines : List ℕ) (inserts : ℕ) (coming : Coming) → coming.inserts ≡ inserts → OnOk r ((deletes : List ℕ) → IsMade room lines inserts deletes)
+    → OnOk r (IsMade room lines coming.inserts coming.deletes)
+coming_made (Ok x) room lines inserts coming same h = subst (λ n. IsMade room lines n coming.deletes) (sym same) (h coming.deletes)
+coming_made (Err e) room lines inserts coming same h = tt

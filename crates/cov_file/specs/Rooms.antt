@@ -10,11 +10,17 @@ pub record Room : Type 0 where
   pub changes : List ℕ
   pub position : Option ℕ
 
--- the lines in order, the position of the newest change, and the room that there is
+-- how many lines are expected at one position, and which lines' other visibilities
+pub record Coming : Type 0 where
+  pub inserts : ℕ
+  pub deletes : List ℕ
+
+-- the lines in order, the position of the newest change, the room that there is, and the changes that are expected
 pub record DatedFile : Type 0 where
   pub lines : List DatedLine
   pub newest : ℕ
   pub room : Room
+  pub coming : Coming
 
 -- whether there is room at a position
 abbrev pub is_room_at : ℕ → Room → Bool

@@ -1,5 +1,5 @@
 // The lines of a file.
-ghost use Rattle.std.specs.Prelude.{◌≡◌, ℕ, ◌<◌, ◌≤◌, ◌++◌, ◌∷◌, [], true, false, unwrap_or, slice_get, IfOk, OnOk, if◌then◌else◌};
+ghost use Rattle.std.specs.Prelude.{◌≡◌, ℕ, List, ◌<◌, ◌≤◌, ◌+◌, ◌-◌, ◌^◌, ◌++◌, ◌∷◌, [], true, false, unwrap_or, slice_get, IfOk, OnOk, if◌then◌else◌};
 ghost use Rattle.std.specs.Map.{keys_of};
 ghost use Rattle.cov_base.specs.Addresses.{after_anchor};
 ghost use Rattle.cov_order.specs.Orders.{has_line, is_anchor};
@@ -7,6 +7,7 @@ ghost use Rattle.cov_file.specs.Dated.{line_numbers_of, new_line, with_line, wit
 ghost use Rattle.cov_file.specs.Rooms.{is_room_at, IsMade, IsLeft};
 ghost use Rattle.cov_file.specs.Listing.{row_in, visible_lines, vis_in};
 
+use crate::coming::Coming;
 use crate::lists::NodeLists;
 use crate::{FileRow, FileRows};
 use cov_base::{Choice, LineNo, LineNos, Memory, Position, Text};
@@ -17,12 +18,14 @@ use std::alloc::Global;
 use std::marker::Model;
 
 /// The lines that were ever inserted into a file. Contracts see them in order, each with its text and with the node on whose
-/// choices it is visible from each position of a change on, the newest first; and the room for changes that take no memory.
+/// choices it is visible from each position of a change on, the newest first; the room for changes that take no memory; and the
+/// changes at one position that are expected.
 #[derive(Drop)]
 pub struct FileLines {
     order: Order,
     texts: IndexMap<LineNo, Text>,
     lists: NodeLists,
+    coming: Coming,
 }
 
 impl Model for FileLines {
@@ -33,7 +36,7 @@ impl Model for FileLines {
 
     ghost Value = { DatedFile };
 
-    ghost view = { λ f. record { lines = dated_lines f.texts.entries (lists_of f.lists) f.order.lines; newest = f.lists.from; room = record { inserts = min f.order.spare (min (spare f.texts) f.lists.room); changes = f.order.lines; position = position_of f.lists } } };
+    ghost view = { λ f. record { lines = dated_lines f.texts.entries (lists_of f.lists) f.order.lines; newest = f.lists.from; room = record { inserts = min f.order.spare (min (spare f.texts) f.lists.room); changes = f.order.lines; position = position_of f.lists }; coming = record { inserts = f.coming.inserts; deletes = f.coming.deletes } } };
 
     ghost invariant = { λ f. AreListed f.order.lines f.texts.entries f.lists };
 }
@@ -47,6 +50,7 @@ impl FileLines {
             order: Order::new(alloc),
             texts: IndexMap::new(alloc),
             lists: NodeLists::new(alloc),
+            coming: Coming::none(alloc),
         }
     }
 
@@ -58,8 +62,55 @@ impl FileLines {
         ensures newest { self.new.newest ≡ self.old.newest }
         ensures room { OnOk result (IsMade self.new.room (line_numbers_of self.new.lines) inserts deletes.now) }
     {
-        // A deletion wants no room of its own: the next position's list has a place for each node.
+        // It is named for the contract.
         let _ = deletes;
+        self.make_room(inserts)
+    }
+
+    /// Makes room for one line more than is expected, and for the changes that are.
+    pub fn expect_insert(&mut self) -> Result<(), Memory>
+        ensures lines { self.new.lines ≡ self.old.lines }
+        ensures newest { self.new.newest ≡ self.old.newest }
+        ensures inserts { (count : ℕ) → count ≤ self.old.coming.inserts + 1 → count < 2 ^ 32 - 1 → count ≤ self.new.coming.inserts }
+        ensures deletes { self.new.coming.deletes ≡ self.old.coming.deletes }
+        ensures room { OnOk result (IsMade self.new.room (line_numbers_of self.new.lines) self.new.coming.inserts self.new.coming.deletes) }
+    {
+        if self.coming.inserts < u32::MAX {
+            self.coming.inserts += 1;
+        }
+        self.make_room(self.coming.inserts)
+    }
+
+    /// Makes room for a change of a line besides those that are expected, and for the lines that are.
+    pub fn expect_delete(&mut self, line: LineNo) -> Result<(), Memory>
+        ensures lines { self.new.lines ≡ self.old.lines }
+        ensures newest { self.new.newest ≡ self.old.newest }
+        ensures inserts { self.new.coming.inserts ≡ self.old.coming.inserts }
+        ensures deletes { OnOk result (self.new.coming.deletes ≡ self.old.coming.deletes ++ line ∷ []) }
+        ensures room { OnOk result (IsMade self.new.room (line_numbers_of self.new.lines) self.new.coming.inserts self.new.coming.deletes) }
+    {
+        self.coming.deletes.push(line)?;
+        self.make_room(self.coming.inserts)
+    }
+
+    /// Nothing more is expected. It takes no memory.
+    pub fn settle(&mut self)
+        ensures lines { self.new.lines ≡ self.old.lines }
+        ensures newest { self.new.newest ≡ self.old.newest }
+        ensures inserts { self.new.coming.inserts ≡ 0 }
+        ensures deletes { self.new.coming.deletes ≡ [] }
+    {
+        self.coming = Coming::none(*self.texts.allocator());
+    }
+
+    // Makes room for so many lines more, and for a change of each line. A deletion wants no room of its own: the next position's
+    // list has a place for each node.
+    fn make_room(&mut self, inserts: u32) -> Result<(), Memory>
+        ensures lines { self.new.lines ≡ self.old.lines }
+        ensures newest { self.new.newest ≡ self.old.newest }
+        ensures coming { self.new.coming ≡ self.old.coming }
+        ensures room { OnOk result ((deletes : List ℕ) → IsMade self.new.room (line_numbers_of self.new.lines) inserts deletes) }
+    {
         self.order.reserve(inserts)?;
         self.texts.reserve(inserts as usize)?;
         self.lists.prepare(inserts)

@@ -1,17 +1,9 @@
-use Rattle.std.proofs.Common.{◌≡◌, ◌≤◌, ap, subst, true, cond, None, Some}
-use Rattle.std.proofs.Math.Nat.{le-min}
-use Rattle.cov_order.specs.Orders.{has_line}
-use Rattle.cov_file.specs.Listing.{lists_of}
-use Rattle.cov_file.proofs.Changes.{numbers}
-use Rattle.cov_file.proofs.Shown.{on_ok}
+use Rattle.std.proofs.Common.{ℕ, List}
+use Rattle.std.proofs.lemmas.Result.{on_ok_weaker}
+use Rattle.cov_file.specs.Dated.{line_numbers_of}
+use Rattle.cov_file.specs.Rooms.{IsMade}
 use Rattle.cov_file.proofs.lines.FileLines.prepare.Goals as goal
 
 pub returns-clause-room : goal.returns-clause-room
 returns-clause-room c =
-    on_ok c.prepare.result (c.args.inserts ≤ c.prepare.new.self.room) (c.prepare.new.self.is_open ≡ true) _
-    (λ room is_open. record {
-      inserts = le-min c.in_ok-reserve.ensures.room (le-min c.in_ok-reserve-2.ensures.ok room);
-      changes = λ line named there. subst (λ lines. has_line line lines ≡ true) (numbers c.reserve-2.new.self.entries (lists_of c.prepare.new.self) c.reserve.new.self.lines) there;
-      position = ap (λ b. cond b None (Some c.prepare.new.self.from)) is_open;
-    })
-    c.prepare.ensures.room c.prepare.ensures.open
+    on_ok_weaker c.make_room.result (λ (room : (deletes : List ℕ) → IsMade c.make_room.new.self.room (line_numbers_of c.make_room.new.self.lines) c.args.inserts deletes). room c.args.deletes.now) c.make_room.ensures.room
