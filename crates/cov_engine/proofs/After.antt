@@ -1,7 +1,8 @@
 -- The commits after a base.
-use Rattle.std.proofs.Common.{◌≡◌, ℕ, zero, suc, ◌+◌, ◌<◌, ◌≤◌, true, false, ◌==◌, nat_lt, Option, None, List, [], ◌∷◌, length, take, drop, inr, refl, sym, ap, subst, ◌∙◌, arith}
+use Rattle.std.proofs.Common.{◌≡◌, ℕ, zero, suc, ◌+◌, ◌<◌, ◌≤◌, false, ◌&&◌, cond, nat_lt, Option, Some, None, List, [], ◌∷◌, length, take, drop, inr, refl, sym, ap, subst, ◌∙◌, arith}
 use Rattle.std.specs.List.{AllByRecursion}
 use Rattle.std.proofs.lemmas.Bool.Decides.{nat_tests}
+use Rattle.std.proofs.lemmas.List.{take_all}
 use Rattle.cov_base.proofs.CallerLemmas.{all-map}
 use Rattle.cov_dd.specs.declared.triple.Triple.{Triple}
 use Rattle.cov_expr.specs.Formula.{Formula}
@@ -9,9 +10,10 @@ use Rattle.cov_edit.specs.declared.edit.Edit.{Edit}
 use Rattle.cov_edit.specs.declared.command.Command.{Command}
 use Rattle.cov_edit.specs.declared.command.Command.TheVariants as commands
 use Rattle.cov_edit.specs.History.{option_count}
-use Rattle.cov_history.specs.Overtaking.{overtaken_from}
+use Rattle.cov_edit.specs.Touched.{touched, have_common}
+use Rattle.cov_history.specs.Overtaking.{share_choice, overtaken_from}
 use Rattle.cov_engine.specs.Marks.{AreMarks}
-use Rattle.cov_engine.specs.Overtakers.{IsFirstOf, IsOvertaker, is_beyond, IsAfter}
+use Rattle.cov_engine.specs.Overtakers.{IsFirstOf, IsOvertaker, is_beyond, IsAfter, NoneTouches}
 use Rattle.cov_engine.specs.Visibility.{item_of}
 use Rattle.cov_engine.specs.declared.store.CommitMark.{CommitMark}
 use Rattle.cov_engine.proofs.FileOfLine.{item-suc}
@@ -83,15 +85,9 @@ first-behind ts base within nodes found (suc n) (m ∷ ms) low first =
     let early : m.position ≤ base = low.0 in
     inr ((λ over. let after = over.after in absurd (omega (arith, early, after))), first-behind ts base within nodes found n ms low.1 first)
 
-all-low : (base n : ℕ) (ms : List CommitMark) → AllByRecursion (λ m. m.position ≤ base) (take n ms) → drop n ms ≡ [] → AllByRecursion (λ m. m.position ≤ base) ms
-all-low base zero [] low none = tt
-all-low base zero (m ∷ ms) low none = absurd (cc)
-all-low base (suc n) [] low none = tt
-all-low base (suc n) (m ∷ ms) low none = (low.0, all-low base n ms low.1 none)
-
--- where no commit comes after the base, none overtakes
+-- where no commit after the base touches one of the nodes, none overtakes
 module _ (ts : List Triple) (count : ℕ) (history : List Command) (base : ℕ) (ambition : Formula ℕ) (es : List Edit) where
-  none-after : (p : ℕ) (later : List Command) (ms : List CommitMark) → base ≤ p → AreMarks ts count p later ms → AllByRecursion (λ m. m.position ≤ base) ms → overtaken_from history ambition es p later ≡ None
+  none-after : (p : ℕ) (later : List Command) (ms : List CommitMark) → base ≤ p → AreMarks ts count p later ms → NoneTouches base (touched es) ms → overtaken_from history ambition es p later ≡ None
   none-after p [] ms le are low = refl
   none-after p (commands.Option name ∷ later) ms le are low = none-after (p + 1) later ms (omega (arith, le)) are low
   none-after p (commands.Constraint expr ∷ later) ms le are low = none-after (p + 1) later ms (omega (arith, le)) are low
@@ -99,11 +95,13 @@ module _ (ts : List Triple) (count : ℕ) (history : List Command) (base : ℕ) 
   none-after p (commands.Default option on ∷ later) ms le are low = none-after (p + 1) later ms (omega (arith, le)) are low
   none-after p (commands.Commit old choice other fs ∷ later) [] le are low = absurd are
   none-after p (commands.Commit old choice other fs ∷ later) (m ∷ ms) le are low =
-      let at = are.0.position in
-      let early : m.position ≤ base = low.0 in
-      absurd (omega (arith, at, early, le))
+      let mark = are.0 in
+      let at = mark.position in
+      let apart : have_common (touched fs) (touched es) ≡ false = ap (λ xs. have_common xs (touched es)) (sym mark.touches) ∙ low.0 (omega (arith, at, le)) in
+      ap (λ b. cond (b && share_choice history other ambition) (Some (p + 1)) (overtaken_from history ambition es (p + 1) later)) apart
+      ∙ none-after (p + 1) later ms (omega (arith, le)) are.1 low.1
 
-  none-from : (k p : ℕ) (later : List Command) (ms : List CommitMark) → p + k ≡ base → AreMarks ts count p later ms → AllByRecursion (λ m. m.position ≤ base) ms
+  none-from : (k p : ℕ) (later : List Command) (ms : List CommitMark) → p + k ≡ base → AreMarks ts count p later ms → NoneTouches base (touched es) ms
       → overtaken_from history ambition es base (drop k later) ≡ None
   none-from zero p later ms at are low =
       let here : p ≡ base = omega (arith, at) in
@@ -120,16 +118,19 @@ module _ (ts : List Triple) (count : ℕ) (history : List Command) (base : ℕ) 
   none-from (suc k) p (commands.Commit old choice other fs ∷ later) [] at are low = absurd are
   none-from (suc k) p (commands.Commit old choice other fs ∷ later) (m ∷ ms) at are low = none-from k (p + 1) later ms (omega (arith, at)) are.1 low.1
 
-pub no-item : {X : Type 0} (xs : List X) → (length xs == 0) ≡ true → xs ≡ []
-no-item [] h = refl
-no-item (x ∷ xs) h = let none : length (x ∷ xs) ≡ 0 = grind (arith, nat_tests, h) in absurd (omega (arith, none))
+pub none-overtakes : (ts : List Triple) (valid : ℕ) (commits : List CommitMark) (base : ℕ) (ambition : Formula ℕ) (es : List Edit) (nodes nodes' : List ℕ) → nodes' ≡ nodes → nodes ≡ touched es
+    → NoneTouches base nodes' commits → IsOvertaker ts valid commits base ambition es None
+none-overtakes ts valid commits base ambition es nodes nodes' there are none = λ history most named low marks all.
+    sym (none-from ts (option_count history) history base ambition es base 0 history commits (omega arith) marks (subst (λ ns. NoneTouches base ns commits) (there ∙ are) none))
 
--- so where there is none behind those up to the base
-pub none-overtakes : (ts : List Triple) (valid : ℕ) (commits later : List CommitMark) (base : ℕ) (ambition : Formula ℕ) (es : List Edit) → IsAfter base commits later → later ≡ []
+-- so where the last commit doesn't come after the base
+pub none-beyond : (ts : List Triple) (valid : ℕ) (commits : List CommitMark) (base : ℕ) (ambition : Formula ℕ) (es : List Edit) → is_beyond base (item_of commits (length commits)) ≡ false
     → IsOvertaker ts valid commits base ambition es None
-none-overtakes ts valid commits later base ambition es after none = λ history most named low marks all.
+none-beyond ts valid commits base ambition es end = λ history most named low marks all.
+    let front = front-low base (length commits) commits (marks-ascend ts (option_count history) 0 history commits marks) (omega arith) end in
+    let early = subst (AllByRecursion (λ m. m.position ≤ base)) (take_all (length commits) commits (omega arith)) front in
     sym (none-from ts (option_count history) history base ambition es base 0 history commits (omega arith) marks
-    (all-low base after.count commits (front-low base after.count commits (marks-ascend ts (option_count history) 0 history commits marks) after.few after.end) (sym after.is ∙ none)))
+    (all-map (λ m. m.position ≤ base) (λ m. base < m.position → have_common m.touched (touched es) ≡ false) (λ m low after. absurd (omega (arith, low, after))) commits early))
 
 -- the first of the commits after a base that overtakes is the first of all
 pub later-overtaker : (ts us : List Triple) (valid within : ℕ) (commits later : List CommitMark) (base : ℕ) (ambition : Formula ℕ) (es : List Edit) (nodes : List ℕ) (found : Option ℕ) → IsAfter base commits later

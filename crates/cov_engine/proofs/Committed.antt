@@ -1,5 +1,5 @@
 -- What is kept after a commit: lists, rows and numbers.
-use Rattle.std.proofs.Common.{◌≡◌, ℕ, zero, suc, ◌+◌, ◌<◌, ◌≤◌, Bool, true, false, cond, nat_eq, List, [], ◌∷◌, ◌++◌, length, length-append, map, None, slice_get, append_assoc, append-nil, refl, sym, ap, ◌∙◌, arith}
+use Rattle.std.proofs.Common.{◌≡◌, ℕ, zero, suc, ◌+◌, ◌<◌, ◌≤◌, Bool, true, false, cond, nat_eq, List, [], ◌∷◌, ◌++◌, length, length-append, map, None, slice_get, refl, ap, ◌∙◌, arith}
 use Rattle.std.specs.List.{fold, AllByRecursion}
 use Rattle.std.proofs.lemmas.Bool.Decides.{nat_tests}
 use Rattle.cov_base.specs.Addresses.{line_of, IsLineOf}
@@ -15,10 +15,10 @@ use Rattle.cov_edit.specs.Variant.{Line}
 use Rattle.cov_edit.proofs.CallerLemmas.{numbers_from-append}
 use Rattle.cov_history.specs.Kept.{Kept, kept_address, kept_number, kept_after, kept_of, file_kept}
 use Rattle.cov_history.specs.Files.{dated_number, dated, file_dated}
-use Rattle.cov_engine.specs.RowPlans.{made_by}
+use Rattle.cov_history.specs.FileNodes.{files_made}
 use Rattle.cov_history.specs.FileOfLine.{new_file_of_line}
-use Rattle.cov_engine.specs.Staging.{Contents, new_files}
-use Rattle.cov_history.proofs.CallerLemmas.{all-mapped, holding-stands, new-files_of_lines-count}
+use Rattle.cov_engine.specs.Staging.{Contents, new_contents, new_files}
+use Rattle.cov_history.proofs.CallerLemmas.{all-mapped, holding-stands, made-within, new-files_of_lines-count}
 use Rattle.cov_engine.proofs.Named.{the_file, AreInFiles}
 
 -- lists
@@ -80,34 +80,7 @@ in-range history file =
     (file_kept file (kept_of history)) (all-filter (λ k. IsLineOf t (length t) (kept_address k)) (λ k. nat_eq k.item.file file) (kept_of history) stands.1.numbered_lines)
 
 pub new-files-all : (P : Contents → Type 0) (made : ℕ) (es : List Edit) → ((node : ℕ) → made < node → P (record { node = node; lines = []; newest = 0 })) → AllByRecursion P (new_files made es)
-new-files-all P made [] f = tt
-new-files-all P made (edits.New kind parent name ∷ es) f = (f (made + 1) (omega arith), new-files-all P (made + 1) es (λ node h. f node (omega (arith, h))))
-new-files-all P made (edits.Insert file after text ∷ es) f = new-files-all P made es f
-new-files-all P made (edits.Delete file line ∷ es) f = new-files-all P made es f
-new-files-all P made (edits.Rename node name ∷ es) f = new-files-all P made es f
-new-files-all P made (edits.Move node parent ∷ es) f = new-files-all P made es f
-new-files-all P made (edits.Remove node ∷ es) f = new-files-all P made es f
-
--- edits make as many files as nodes
-pub new-files-count : (made : ℕ) (es : List Edit) → length (new_files made es) ≡ nodes_made es
-new-files-count made [] = refl
-new-files-count made (edits.New kind parent name ∷ es) = let rest = new-files-count (made + 1) es in omega (arith, rest)
-new-files-count made (edits.Insert file after text ∷ es) = new-files-count made es
-new-files-count made (edits.Delete file line ∷ es) = new-files-count made es
-new-files-count made (edits.Rename node name ∷ es) = new-files-count made es
-new-files-count made (edits.Move node parent ∷ es) = new-files-count made es
-new-files-count made (edits.Remove node ∷ es) = new-files-count made es
-
--- they are of the nodes that come behind those before
-pub new-files-nodes : (made : ℕ) (es : List Edit) (before : List ℕ) → made_by made es before ≡ before ++ map (λ (s : Contents). s.node) (new_files made es)
-new-files-nodes made [] before = sym (append-nil before)
-new-files-nodes made (edits.New kind parent name ∷ es) before =
-    new-files-nodes (made + 1) es (before ++ (made + 1) ∷ []) ∙ append_assoc before ((made + 1) ∷ []) (map (λ (s : Contents). s.node) (new_files (made + 1) es))
-new-files-nodes made (edits.Insert file after text ∷ es) before = new-files-nodes made es before
-new-files-nodes made (edits.Delete file line ∷ es) before = new-files-nodes made es before
-new-files-nodes made (edits.Rename node name ∷ es) before = new-files-nodes made es before
-new-files-nodes made (edits.Move node parent ∷ es) before = new-files-nodes made es before
-new-files-nodes made (edits.Remove node ∷ es) before = new-files-nodes made es before
+new-files-all P made es f = all-mapped (λ node. (made < node) × (node ≤ made + nodes_made es)) P new_contents (λ node h. f node h.0) (files_made made es) (made-within made es)
 
 pub line-files-after : (history : List Command) (base : ℕ) (choice : List Bool) (ambition : Formula ℕ) (es : List Edit) (file_of_line : List ℕ) (n : ℕ) → length file_of_line ≡ length (numbers_of history).addresses
     → length (file_of_line ++ new_file_of_line n es) ≡ length (numbers_of (history ++ commands.Commit base choice ambition es ∷ [])).addresses

@@ -20,17 +20,17 @@ use Rattle.cov_file.specs.declared.row.FileRow.{FileRow}
 use Rattle.cov_file.specs.Dated.{DatedLine as FileLine, file_row_of, is_visible, rows_at}
 use Rattle.cov_view.specs.declared.line.ViewLine.{ViewLine}
 use Rattle.cov_view.specs.declared.row.ViewRow.{ViewRow}
-use Rattle.cov_view.specs.References.{same_node, is_made_line}
+use Rattle.cov_view.specs.References.{is_dir_kind, same_node, is_made_line}
 use Rattle.cov_view.specs.Seen.{has_row, kind_in, at_row, with_lines_by}
 use Rattle.cov_view.specs.Views.{ShowsLines, line_by_number, by_number}
 use Rattle.cov_view.proofs.CallerLemmas.{not_there}
 use Rattle.cov_base.specs.Rows.{Row}
-use Rattle.cov_engine.specs.declared.stored_file.StoredFile.{StoredFile}
+use Rattle.cov_engine.specs.declared.file_part.FilePart.{FilePart}
 use Rattle.cov_history.specs.Kept.{kept_of}
 use Rattle.cov_history.specs.Files.{DatedLine, ShownLine, as_shown, dated_as_shown, dated_shown, is_dated_seen, file_dated}
 use Rattle.cov_engine.specs.Nodes.{AreDated}
 use Rattle.cov_engine.specs.Showing.{bare_row, with_row, with_lines, with_node, AreFresh}
-use Rattle.cov_engine.specs.Visibility.{item_of}
+use Rattle.cov_engine.specs.Parts.{part_of}
 use Rattle.cov_engine.specs.Holdings.{IsFileOf}
 use Rattle.cov_history.proofs.CallerLemmas.{all-mapped, file-shows}
 
@@ -113,7 +113,7 @@ module _ (c : List Bool) (at : ℕ) (numbers : Numbers) (history : List Command)
   abbrev pub Shown : ViewRow → Type 0
   Shown r = ShowsLines numbers (replay c (take at history)) r × AllByRecursion (λ l. is_made_line (length numbers.addresses) 0 l.line ≡ true) r.lines
 
-module _ (ts : List Triple) (c : List Bool) (at : ℕ) (stored : List StoredFile) (numbers : Numbers) (history : List Command) (low : AllByRecursion (λ l. line_of l.address ≤ length numbers.addresses) (replay c (take at history)).lines) where
+module _ (ts : List Triple) (c : List Bool) (at : ℕ) (stored : List FilePart) (numbers : Numbers) (history : List Command) (low : AllByRecursion (λ l. line_of l.address ≤ length numbers.addresses) (replay c (take at history)).lines) where
   abbrev IsShown : ViewRow → Type 0
   IsShown = Shown c at numbers history low
 
@@ -125,23 +125,24 @@ module _ (ts : List Triple) (c : List Bool) (at : ℕ) (stored : List StoredFile
       ∙ sym (dated-rows ts c at (option_count history) (file_dated file (kept_of history)) ls are)
       ∙ sym (by-row numbers (rows_at ts c at ls))
 
-  -- something is stored of a node, with the lines of its file
+  -- the lines of a file are stored
   abbrev pub IsStored : ℕ → Type 0
-  IsStored node = (e : StoredFile) × (item_of stored node ≡ Some e) × (e.node ≡ node) × IsFileOf history ts e
+  IsStored node = (e : FilePart) × (part_of stored node ≡ Some e) × (e.node ≡ node) × IsFileOf history ts e
 
-  kinds-lines : (k : Kind) (node parent : ℕ) (name : List ℕ) (rows : List ViewRow) → kind_in rows (nodes.Old node) ≡ None → AllByRecursion IsShown rows → IsStored node
-      → AllByRecursion IsShown (with_lines ts c at k node (item_of stored node) (rows ++ bare_row (record { node = node; kind = k; parent = parent; name = name }) ∷ []))
-  kinds-lines kinds.File node parent name rows fresh shown file =
+  kinds-lines : (k : Kind) (node parent : ℕ) (name : List ℕ) (rows : List ViewRow) → kind_in rows (nodes.Old node) ≡ None → AllByRecursion IsShown rows → (is_dir_kind k ≡ false → IsStored node)
+      → AllByRecursion IsShown (with_lines ts c at k node (part_of stored node) (rows ++ bare_row (record { node = node; kind = k; parent = parent; name = name }) ∷ []))
+  kinds-lines kinds.File node parent name rows fresh shown stands =
+      let file = stands refl in
       let r : ViewRow = bare_row (record { node = node; kind = kinds.File; parent = parent; name = name }) in
-      let own : List FileRow = rows_at ts c at file.0.file.lines in
+      let own : List FileRow = rows_at ts c at file.0.lines.lines in
       let same : nat_eq node node ≡ true = grind (arith, nat_tests) in
-      let lines : AreDated ts (option_count history) (file_dated node (kept_of history)) file.0.file.lines =
-      subst (λ n. AreDated ts (option_count history) (file_dated n (kept_of history)) file.0.file.lines) file.2 file.3.lines in
+      let lines : AreDated ts (option_count history) (file_dated node (kept_of history)) file.0.lines.lines =
+      subst (λ n. AreDated ts (option_count history) (file_dated n (kept_of history)) file.0.lines.lines) file.2 file.3.lines in
       subst (λ o. AllByRecursion IsShown (with_lines ts c at kinds.File node o (rows ++ r ∷ []))) (sym file.1)
       (subst (AllByRecursion IsShown) (sym (file-last node rows r own (not_there rows (nodes.Old node) fresh).1 same))
       (all-one IsShown rows (with_lines_by (λ l. l ++ map view_line own) r) shown (
-        (λ f. file-lines node file.0.file.lines lines),
-        lines-made numbers (replay c (take at history)) node (map view_line own) low (file-lines node file.0.file.lines lines),
+        (λ f. file-lines node file.0.lines.lines lines),
+        lines-made numbers (replay c (take at history)) node (map view_line own) low (file-lines node file.0.lines.lines lines),
       )))
   kinds-lines kinds.Dir node parent name rows fresh shown file =
       all-one IsShown rows (bare_row (record { node = node; kind = kinds.Dir; parent = parent; name = name })) shown ((λ f. absurd (dir f)), tt)
@@ -149,8 +150,8 @@ module _ (ts : List Triple) (c : List Bool) (at : ℕ) (stored : List StoredFile
       dir : true ≡ false → ⊥
       dir f = cc
 
-  -- so do the rows of all nodes of which something is stored
-  pub stored-lines : (rows : List ViewRow) (rs : List Row) → AllByRecursion IsShown rows → AreFresh ts c at stored rows rs → AllByRecursion (λ r. IsStored r.node) rs
+  -- so do the rows of all nodes, where the lines of each file among them are stored
+  pub stored-lines : (rows : List ViewRow) (rs : List Row) → AllByRecursion IsShown rows → AreFresh ts c at stored rows rs → AllByRecursion (λ r. is_dir_kind r.kind ≡ false → IsStored r.node) rs
       → AllByRecursion IsShown (fold (with_node ts c at stored) rows rs)
   stored-lines rows [] shown fresh files = shown
   stored-lines rows (r ∷ rs) shown fresh files =

@@ -1,133 +1,25 @@
 -- The file of each line has a stored file.
-use Rattle.std.proofs.Common.{◌≡◌, ℕ, zero, suc, ◌+◌, ◌-◌, ◌<◌, ◌≤◌, Bool, true, false, cond, not, nat_eq, None, Option, Some, List, [], ◌∷◌, ◌++◌, ◌⊎◌, inl, inr, length, take, slice_get, refl, sym, ap, subst, ◌∙◌, arith}
-use Rattle.std.specs.List.{fold, list_any, AllByRecursion}
+use Rattle.std.proofs.Common.{◌≡◌, ℕ, zero, suc, ◌+◌, ◌-◌, ◌<◌, ◌≤◌, Bool, true, false, cond, nat_eq, None, Option, Some, List, [], ◌∷◌, ◌⊎◌, inl, inr, length, slice_get, refl, sym, ap, subst, ◌∙◌, arith}
+use Rattle.std.specs.List.{list_any, AllByRecursion}
 use Rattle.std.proofs.lemmas.Bool.Decides.{nat_tests}
-use Rattle.cov_base.specs.Addresses.{address_in}
-use Rattle.cov_base.specs.declared.number.NodeRef.{NodeRef}
-use Rattle.cov_base.specs.declared.number.NodeRef.TheVariants as nodes
-use Rattle.cov_base.proofs.CallerLemmas.{all-placed, all-both}
+use Rattle.cov_base.specs.Rows.{has_node}
 use Rattle.cov_dd.specs.declared.triple.Triple.{Triple}
-use Rattle.cov_expr.specs.Formula.{Formula}
-use Rattle.cov_edit.specs.declared.edit.Edit.{Edit}
-use Rattle.cov_edit.specs.declared.edit.Edit.TheVariants as edits
 use Rattle.cov_edit.specs.declared.command.Command.{Command}
-use Rattle.cov_edit.specs.declared.command.Command.TheVariants as commands
-use Rattle.cov_edit.specs.Numbering.{Numbers, node_count_after, line_count_after, numbered_edit, node_number, line_number, numbers_after, numbers_of, numbered_from, line_count}
-use Rattle.cov_edit.specs.Replay.{replay}
-use Rattle.cov_edit.specs.Variant.{Variant, Line, is_line, edited}
-use Rattle.cov_view.specs.Refusals.{when, first_of, shows_node, is_dir, refused_from, refusal}
-use Rattle.cov_view.specs.References.{is_root}
-use Rattle.cov_view.specs.declared.fault.EditFault.TheVariants as faults
-use Rattle.cov_engine.specs.declared.stored_file.StoredFile.{StoredFile}
+use Rattle.cov_edit.specs.Numbering.{line_count}
+use Rattle.cov_edit.specs.Variant.{Line}
+use Rattle.cov_engine.specs.declared.file_part.FilePart.{FilePart}
 use Rattle.cov_engine.specs.declared.store.CommitMark.{CommitMark}
-use Rattle.cov_history.specs.Kept.{Kept, hidden, hidden_where, kept_address, kept_number, new_line, kept_after, Holding, kept_of, file_kept, is_kept_anchor}
+use Rattle.cov_history.specs.FileNodes.{files_of}
+use Rattle.cov_history.specs.Kept.{Kept, kept_number, kept_of, file_kept, is_kept_anchor}
 use Rattle.cov_tree.specs.Dated.{Dated}
-use Rattle.cov_engine.specs.Staging.{AreNumbered}
 use Rattle.cov_engine.specs.Holdings.{IsFileOf, IsHeldBy}
-use Rattle.cov_history.specs.Sessions.{has_commit}
-use Rattle.cov_history.specs.Verdict.{verdict, IsLegal}
+use Rattle.cov_history.specs.Verdict.{IsLegal}
+use Rattle.cov_engine.specs.Parts.{part_of}
 use Rattle.cov_engine.specs.Visibility.{item_of, stored_file_of}
-use Rattle.cov_history.proofs.CallerLemmas.{commit-lines, anchor-case, edits-accepted, no_commit-holds, edit-accepted, rest-accepted, all-mapped, file_of_line-has}
-use Rattle.cov_engine.proofs.Named.{the_file, legal-files}
-use Rattle.cov_engine.proofs.States.{along-legal}
-
--- an edit doesn't insert into the root
-abbrev IsNotAtRoot : Edit → Type 0
-IsNotAtRoot (edits.New kind parent name) = Unit {0}
-IsNotAtRoot (edits.Insert file after text) = is_root file ≡ false
-IsNotAtRoot (edits.Delete file line) = Unit {0}
-IsNotAtRoot (edits.Rename node name) = Unit {0}
-IsNotAtRoot (edits.Move node parent) = Unit {0}
-IsNotAtRoot (edits.Remove node) = Unit {0}
-
--- no edit does
-abbrev NoneAtRoot : List Edit → Type 0
-NoneAtRoot es = AllByRecursion IsNotAtRoot es
-
-not-root : (ns : Numbers) (v : Variant) (file : NodeRef) → is_dir v.rows (node_number ns.nodes file) ≡ false → is_root file ≡ false
-not-root ns v (nodes.Old zero) h = absurd (cc)
-not-root ns v (nodes.Old (suc n)) h = refl
-not-root ns v (nodes.New i) h = refl
-
-second-passes : {F : Type 0} (a b : Bool) (f g : F) (os : List (Option F)) → first_of (when a f ∷ when b g ∷ os) ≡ None → b ≡ false
-second-passes true b f g os h = absurd (cc)
-second-passes false true f g os h = absurd (cc)
-second-passes false false f g os h = refl
-
-accepted-file : (ns : Numbers) (v : Variant) (e : Edit) → refusal ns v e ≡ None → IsNotAtRoot e
-accepted-file ns v (edits.New kind parent name) accepted = tt
-accepted-file ns v (edits.Insert file after text) accepted =
-    not-root ns v file (second-passes (not (shows_node ns v file)) (is_dir v.rows (node_number ns.nodes file)) faults.NoSuchNode faults.NotFile _ accepted)
-accepted-file ns v (edits.Delete file which) accepted = tt
-accepted-file ns v (edits.Rename node name) accepted = tt
-accepted-file ns v (edits.Move node parent) accepted = tt
-accepted-file ns v (edits.Remove node) accepted = tt
-
-accepted-files : (ns : Numbers) (t : List (List ℕ)) (node line k : ℕ) (v : Variant) (es : List Edit) → refused_from ns v k es (numbered_from ns t node line es) ≡ None → NoneAtRoot es
-accepted-files ns t node line k v [] accepted = tt
-accepted-files ns t node line k v (e ∷ es) accepted = (
-  accepted-file ns v e (edit-accepted k (refusal ns v e) _ accepted),
-  accepted-files ns t (node_count_after node e) (line_count_after line e) (k + 1) (edited v (numbered_edit ns t node line e)) es (rest-accepted k (refusal ns v e) _ accepted),
-)
-
--- held lines stand below the root
-abbrev AreBelow : List (Kept Line) → Type 0
-AreBelow ks = AllByRecursion (λ k. 0 < the_file k) ks
-
-below-root : (n : ℕ) (file : NodeRef) → is_root file ≡ false → 0 < node_number n file
-below-root n (nodes.Old zero) h = absurd (cc)
-below-root n (nodes.Old (suc x)) h = omega arith
-below-root n (nodes.New i) h = omega arith
-
-hidden-below : (q : ℕ) (within : Formula ℕ) (file : ℕ) (address : List ℕ) (k : Kept Line) → 0 < the_file k → 0 < the_file (hidden_where (is_line file address) q within k)
-hidden-below q within file address k h = by (is_line file address k.item)
-  where
-    by : (b : Bool) → 0 < the_file (cond b (hidden q within k) k)
-    by true = h
-    by false = h
-
-below-edit : (q : ℕ) (within : Formula ℕ) (ns : Numbers) (t : List (List ℕ)) (node line : ℕ) (ks : List (Kept Line)) (e : Edit) → IsNotAtRoot e → AreBelow ks → AreBelow (kept_after q within ks (numbered_edit ns t node line e))
-below-edit q within ns t node line ks (edits.New kind parent name) inner h = h
-below-edit q within ns t node line ks (edits.Insert file after text) inner h =
-    all-placed kept_address (λ k. 0 < the_file k) (new_line q within (node_number ns.nodes file) (address_in t (line + 1)) text) ks (below-root ns.nodes file inner) h
-below-edit q within ns t node line ks (edits.Delete file which) inner h =
-    let f : ℕ = node_number ns.nodes file in
-    let address : List ℕ = address_in t (line_number (length ns.addresses) which) in
-    all-mapped (λ k. 0 < the_file k) (λ k. 0 < the_file k) (hidden_where (is_line f address) q within) (λ k below. hidden-below q within f address k below) ks h
-below-edit q within ns t node line ks (edits.Rename which name) inner h = h
-below-edit q within ns t node line ks (edits.Move which parent) inner h = h
-below-edit q within ns t node line ks (edits.Remove which) inner h = h
-
-below-edits : (q : ℕ) (within : Formula ℕ) (ns : Numbers) (t : List (List ℕ)) (node line : ℕ) (ks : List (Kept Line)) (es : List Edit) → NoneAtRoot es → AreBelow ks
-    → AreBelow (fold (kept_after q within) ks (numbered_from ns t node line es))
-below-edits q within ns t node line ks [] none h = h
-below-edits q within ns t node line ks (e ∷ es) none h =
-    below-edits q within ns t (node_count_after node e) (line_count_after line e) (kept_after q within ks (numbered_edit ns t node line e)) es none.1 (below-edit q within ns t node line ks e none.0 h)
-
-same-below : (history : List Command) (k : Command) → has_commit (k ∷ []) ≡ false → AreBelow (kept_of history) → AreBelow (kept_of (history ++ k ∷ []))
-same-below history k none h = subst (λ (held : Holding). AreBelow held.lines) (sym (no_commit-holds history (k ∷ []) none)) h
-
-below-one : (history : List Command) (k : Command) → verdict history k ≡ None → AreBelow (kept_of history) → AreBelow (kept_of (history ++ k ∷ []))
-below-one history (commands.Commit base choice ambition es) accepted h =
-    let ns : Numbers = numbers_of history in
-    let nb : Numbers = numbers_of (take base history) in
-    subst AreBelow (sym (commit-lines history base choice ambition es))
-    (below-edits (length history + 1) ambition ns (numbers_after ns es).addresses ns.nodes (length ns.addresses) (kept_of history) es
-    (accepted-files nb (numbers_after nb es).addresses nb.nodes (length nb.addresses) 0 (replay choice (take base history)) es (edits-accepted history base choice ambition es accepted)) h)
-below-one history k accepted h = same-below history k refl h
-
--- a node that a history made
-abbrev IsMade : List Command → ℕ → Type 0
-IsMade history node = (0 < node) × (node ≤ (numbers_of history).nodes)
-
--- each held line of a legal history is one of a node that it made
-pub legal-line-files : (history : List Command) → IsLegal history → AllByRecursion (λ k. IsMade history (the_file k)) (kept_of history)
-legal-line-files history legal =
-    all-both (λ k. 0 < the_file k) (λ k. the_file k ≤ (numbers_of history).nodes) (λ k. IsMade history (the_file k)) (λ k above below. (above, below)) (kept_of history)
-    (along-legal (λ hs. AreBelow (kept_of hs)) below-one [] history legal tt) (legal-files history legal)
-
-pub equal : (m n : ℕ) → nat_eq m n ≡ true → m ≡ n
-equal m n e = grind (arith, nat_tests, e)
+use Rattle.cov_history.proofs.CallerLemmas.{anchor-case, legal-in_files, file_of_line-has}
+use Rattle.cov_engine.proofs.Named.{the_file}
+use Rattle.cov_engine.proofs.Rising.{part-some, part-has}
+use Rattle.cov_engine.proofs.StoredFiles.{equal}
 
 -- what is true of each line's file is so of a file with a line
 file-with : (P : ℕ → Type 0) (t : Kept Line → Bool) (file : ℕ) (ks : List (Kept Line)) → AllByRecursion (λ k. P (the_file k)) ks → list_any t (file_kept file ks) ≡ true → P file
@@ -179,53 +71,24 @@ module _ {X : Type 0} where
   item-none xs zero h = inl refl
   item-none xs (suc n) h = let end = slice-end xs n (sym (item-suc xs n) ∙ h) in inr (omega (arith, end))
 
--- the stored files are of the next nodes, in order
-stored-at : (i : ℕ) (es : List StoredFile) → i < length es → (e : StoredFile) × (slice_get es i ≡ Some e)
-stored-at i [] below = absurd (omega (arith, below))
-stored-at zero (e ∷ es) below = (e, refl)
-stored-at (suc i) (e ∷ es) below = stored-at i es (omega (arith, below))
+module _ (history : List Command) (ts : List Triple) (commits : List CommitMark) (file_of_line : List ℕ) (entries : Dated) (stored : List FilePart) (legal : IsLegal history) (held : IsHeldBy history ts commits file_of_line entries stored) where
+  -- a file of the history
+  abbrev IsMade : ℕ → Type 0
+  IsMade file = has_node file (files_of history) ≡ true
 
-stored-is : (P : StoredFile → Type 0) (n i : ℕ) (es : List StoredFile) (e : StoredFile) → AreNumbered n es → AllByRecursion P es → slice_get es i ≡ Some e → (e.node ≡ n + i + 1) × P e
-stored-is P n i [] e numbered h at = absurd (cc)
-stored-is P n zero (f ∷ es) e numbered h at =
-    let same : f ≡ e = cc in
-    let own : f.node ≡ n + 1 = numbered.0 in
-    subst (λ g. (g.node ≡ n + 0 + 1) × P g) same (omega (arith, own), h.0)
-stored-is P n (suc i) (f ∷ es) e numbered h at =
-    let rest = stored-is P (n + 1) i es e numbered.1 h.1 at in
-    let number : e.node ≡ n + 1 + i + 1 = rest.0 in
-    (omega (arith, number), rest.1)
-
--- something is stored of each of the first nodes but the root
-pub item-there : (P : StoredFile → Type 0) (stored : List StoredFile) (node : ℕ) → AreNumbered 0 stored → AllByRecursion P stored → 0 < node → node ≤ length stored
-    → (e : StoredFile) × (item_of stored node ≡ Some e) × (e.node ≡ node) × P e
-item-there P stored zero numbered h above below = absurd (omega (arith, above))
-item-there P stored (suc n) numbered h above below =
-    let at = stored-at n stored (omega (arith, below)) in
-    let is = stored-is P 0 n stored at.0 numbered h at.1 in
-    let number : at.0.node ≡ 0 + n + 1 = is.0 in
-    (at.0, item-suc stored n ∙ at.1, omega (arith, number), is.1)
-
-module _ (history : List Command) (ts : List Triple) (commits : List CommitMark) (file_of_line : List ℕ) (entries : Dated) (stored : List StoredFile) (legal : IsLegal history) (held : IsHeldBy history ts commits file_of_line entries stored) where
   -- the stored file of a number is the file's
-  pub stored-held : (file : ℕ) (e : StoredFile) → item_of stored file ≡ Some e → (e.node ≡ file) × IsFileOf history ts e
-  stored-held file e h =
-      let at = item-some stored file e h in
-      let is = stored-is (IsFileOf history ts) 0 at.0 stored e held.numbered held.files at.2 in
-      let number : e.node ≡ 0 + at.0 + 1 = is.0 in
-      let own : file ≡ at.0 + 1 = at.1 in
-      (omega (arith, number, own), is.1)
+  pub stored-held : (file : ℕ) (e : FilePart) → part_of stored file ≡ Some e → (e.node ≡ file) × IsFileOf history ts e
+  stored-held file e h = part-some (IsFileOf history ts) stored file e held.files h
 
-  made-there : (file : ℕ) → IsMade history file → item_of stored file ≡ None → ⊥
+  made-there : (file : ℕ) → IsMade file → part_of stored file ≡ None → ⊥
   made-there file made none =
-      let below : file ≤ length stored = (let few : file ≤ (numbers_of history).nodes = made.1 in let counted = held.counted in omega (arith, few, counted)) in
-      let at = item-there (IsFileOf history ts) stored file held.numbered held.files made.0 below in
+      let at = part-has stored file (ap (has_node file) held.parts ∙ made) in
       let there : Some at.0 ≡ None = sym at.1 ∙ none in
       cc
 
   -- a number without a stored file has no lines
-  pub none-stored : (file : ℕ) → item_of stored file ≡ None → file_kept file (kept_of history) ≡ []
-  none-stored file none = none-kept (IsMade history) file (kept_of history) (legal-line-files history legal) (λ made. made-there file made none)
+  pub none-stored : (file : ℕ) → part_of stored file ≡ None → file_kept file (kept_of history) ≡ []
+  none-stored file none = none-kept IsMade file (kept_of history) (legal-in_files history legal) (λ made. made-there file made none)
 
   any-line : (file i : ℕ) → slice_get file_of_line i ≡ Some file → list_any (λ k. nat_eq (kept_number k) (i + 1)) (file_kept file (kept_of history)) ≡ true
   any-line file i at =
@@ -237,11 +100,11 @@ module _ (history : List Command) (ts : List Triple) (commits : List CommitMark)
       by (inl e) = absurd (omega (arith, e))
       by (inr any) = any
 
-  line-file-made : (file i : ℕ) → slice_get file_of_line i ≡ Some file → IsMade history file
-  line-file-made file i at = file-with (IsMade history) (λ k. nat_eq (kept_number k) (i + 1)) file (kept_of history) (legal-line-files history legal) (any-line file i at)
+  line-file-made : (file i : ℕ) → slice_get file_of_line i ≡ Some file → IsMade file
+  line-file-made file i at = file-with IsMade (λ k. nat_eq (kept_number k) (i + 1)) file (kept_of history) (legal-in_files history legal) (any-line file i at)
 
   -- a line whose file has a stored file is one of the history's, and stands in that file
-  pub line-stored : (line : ℕ) (e : StoredFile) → stored_file_of stored (item_of file_of_line line) ≡ Some e
+  pub line-stored : (line : ℕ) (e : FilePart) → stored_file_of stored (item_of file_of_line line) ≡ Some e
       → (0 < line) × (line ≤ line_count history) × (list_any (λ k. nat_eq (kept_number k) line) (file_kept e.node (kept_of history)) ≡ true) × IsFileOf history ts e
   line-stored line e h = by (item_of file_of_line line) refl h
     where

@@ -14,9 +14,9 @@ use Rattle.cov_file.specs.Dated.{rows_at}
 use Rattle.cov_view.specs.declared.row.ViewRow.{ViewRow}
 use Rattle.cov_view.specs.References.{is_root, same_node}
 use Rattle.cov_view.specs.Seen.{row_at, kind_in}
-use Rattle.cov_engine.specs.declared.stored_file.StoredFile.{StoredFile}
+use Rattle.cov_engine.specs.declared.file_part.FilePart.{FilePart}
 use Rattle.cov_engine.specs.Showing.{bare_row, with_row, with_lines, with_node, AreFresh}
-use Rattle.cov_engine.specs.Visibility.{item_of}
+use Rattle.cov_engine.specs.Parts.{part_of}
 use Rattle.cov_engine.proofs.Showing.{kind-still}
 
 abbrev kind_at : List ViewRow → NodeRef → Option Kind
@@ -49,20 +49,20 @@ differs node (r ∷ rs) h = (first (nat_eq r.node node) h, differs node rs (seco
     second true k = absurd (cc)
     second false k = k
 
-module _ (ts : List Triple) (c : List Bool) (at : ℕ) (stored : List StoredFile) where
+module _ (ts : List Triple) (c : List Bool) (at : ℕ) (stored : List FilePart) where
   lines-same : (node : NodeRef) (file : ℕ) (rows : List ViewRow) (shown : List FileRow) → kind_in (fold (with_row file) rows shown) node ≡ kind_in rows node
   lines-same node file rows [] = refl
   lines-same node file rows (s ∷ shown) = lines-same node file (with_row file rows s) shown ∙ kind-still (nodes.Old file) node _ rows
 
-  kinds-same : (node : NodeRef) (k : Kind) (file : ℕ) (e : Option StoredFile) (rows : List ViewRow) → kind_in (with_lines ts c at k file e rows) node ≡ kind_in rows node
-  kinds-same node kinds.File file (Some e) rows = lines-same node file rows (rows_at ts c at e.file.lines)
+  kinds-same : (node : NodeRef) (k : Kind) (file : ℕ) (e : Option FilePart) (rows : List ViewRow) → kind_in (with_lines ts c at k file e rows) node ≡ kind_in rows node
+  kinds-same node kinds.File file (Some e) rows = lines-same node file rows (rows_at ts c at e.lines.lines)
   kinds-same node kinds.File file None rows = refl
   kinds-same node kinds.Dir file e rows = refl
 
   still-new : (rows : List ViewRow) (r s : Row) → nat_eq s.node r.node ≡ false → IsNew rows s → IsNew (with_node ts c at stored rows r) s
   still-new rows r s other h =
       let differ : nat_eq r.node s.node ≡ false = grind (arith, nat_tests, other) in
-      kinds-same (nodes.Old s.node) r.kind r.node (item_of stored r.node) (rows ++ bare_row r ∷ []) ∙ kind-other rows (bare_row r) (nodes.Old s.node) differ ∙ h
+      kinds-same (nodes.Old s.node) r.kind r.node (part_of stored r.node) (rows ++ bare_row r ∷ []) ∙ kind-other rows (bare_row r) (nodes.Old s.node) differ ∙ h
 
   fresh-from : (rows : List ViewRow) (rs : List Row) → AllByRecursion (IsNew rows) rs → AreDistinct (map (λ r. r.node) rs) → AreFresh ts c at stored rows rs
   fresh-from rows [] new distinct = tt

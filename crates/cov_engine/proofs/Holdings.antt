@@ -1,8 +1,8 @@
 -- What is kept of rows and lines, and the views of it.
-use Rattle.std.proofs.Common.{◌≡◌, refl, ap, sym, subst, ◌∙◌, ℕ, zero, suc, ◌<◌, ◌≤◌, Bool, true, false, cond, nat_eq, nat_le, List, [], ◌∷◌, ◌++◌, length, map, take, slice_get, ◌-◌, Option, Some, None, append-nil, append_assoc, arith}
+use Rattle.std.proofs.Common.{◌≡◌, refl, ap, sym, subst, ◌∙◌, ℕ, zero, suc, ◌<◌, ◌≤◌, Bool, true, false, cond, nat_le, List, [], ◌∷◌, ◌++◌, length, map, take, Option, Some, None, append-nil, append_assoc, arith}
 use Rattle.std.proofs.lemmas.List.{take-append-le, take_all}
 use Rattle.std.proofs.lemmas.Bool.Decides.{nat_tests}
-use Rattle.std.specs.List.{fold}
+use Rattle.std.specs.List.{fold, AllByRecursion}
 use Rattle.cov_base.specs.declared.number.Kind.{Kind}
 use Rattle.cov_base.specs.declared.number.Kind.TheVariants as kinds
 use Rattle.cov_base.specs.declared.number.NodeRef.{NodeRef}
@@ -17,7 +17,7 @@ use Rattle.cov_file.specs.Dated.{DatedLine as FileLine, vis_at, rows_at}
 use Rattle.cov_edit.specs.declared.command.Command.{Command}
 use Rattle.cov_edit.specs.declared.command.Command.TheVariants as commands
 use Rattle.cov_edit.specs.History.{option_count}
-use Rattle.cov_edit.specs.Numbering.{Numbers, no_numbers}
+use Rattle.cov_edit.specs.Numbering.{Numbers, no_numbers, numbers_of}
 use Rattle.cov_edit.specs.Variant.{Variant}
 use Rattle.cov_edit.specs.Replay.{replay}
 use Rattle.cov_view.specs.declared.line.ViewLine.{ViewLine}
@@ -26,22 +26,23 @@ use Rattle.cov_view.specs.References.{same_node}
 use Rattle.cov_view.specs.Seen.{at_row, with_lines_by}
 use Rattle.cov_view.specs.Views.{row_by_number}
 use Rattle.cov_engine.specs.declared.store.CommitMark.{CommitMark}
-use Rattle.cov_engine.specs.declared.stored_file.StoredFile.{StoredFile}
+use Rattle.cov_engine.specs.declared.file_part.FilePart.{FilePart}
 use Rattle.cov_history.specs.Kept.{seen_at, Holding, held_by, kept_of}
 use Rattle.cov_history.specs.Files.{DatedLine, file_dated}
 use Rattle.cov_history.specs.FileOfLine.{AreFilesOfLines}
 use Rattle.cov_engine.specs.Nodes.{AreDated}
 use Rattle.cov_engine.specs.Showing.{bare_row, with_row, with_lines, with_node}
-use Rattle.cov_engine.specs.Visibility.{item_of}
+use Rattle.cov_history.specs.FileNodes.{files_from, files_of}
+use Rattle.cov_engine.specs.Parts.{part_of, files_among}
 use Rattle.cov_engine.specs.Holdings.{IsFileOf, AreEntriesOf, IsHeldBy}
 use Rattle.cov_tree.specs.Carried.{AreNodesAt}
-use Rattle.cov_tree.specs.Dated.{Dated, rows_at as entry_rows, nodes_in}
+use Rattle.cov_tree.specs.Dated.{Dated, rows_at as entry_rows, nodes_in, kinds_in}
 use Rattle.cov_tree.proofs.CallerLemmas.{nodes_stay, rows_stay}
 use Rattle.cov_history.specs.Sessions.{has_commit}
 use Rattle.cov_engine.proofs.Marking.{marks-grown, marks-declared}
 use Rattle.cov_engine.proofs.Nodes.{stands-on}
 use Rattle.cov_edit.proofs.CallerLemmas.{replay-append}
-use Rattle.cov_history.proofs.CallerLemmas.{holding-goes_on}
+use Rattle.cov_history.proofs.CallerLemmas.{files-append, holding-goes_on}
 use Rattle.cov_engine.proofs.States.{numbers-kept, length-one}
 
 map-one : {A B : Type 0} (f : A → B) (xs : List A) (x : A) → map f (xs ++ x ∷ []) ≡ map f xs ++ f x ∷ []
@@ -57,16 +58,16 @@ rows-same : (ns : Numbers) (node : NodeRef) (f : List ViewLine → List ViewLine
 rows-same ns node f [] = refl
 rows-same ns node f (r ∷ rows) = one-same ns (same_node r.node node) f r rows (at_row node (with_lines_by f) rows) (rows-same ns node f rows)
 
-abbrev pub no_files : List StoredFile
+abbrev pub no_files : List FilePart
 no_files = []
 
-module _ (ns : Numbers) (ts : List Triple) (c : List Bool) (at : ℕ) (stored : List StoredFile) where
+module _ (ns : Numbers) (ts : List Triple) (c : List Bool) (at : ℕ) (stored : List FilePart) where
   file-same : (file : ℕ) (rows : List ViewRow) (shown : List FileRow) → map (row_by_number ns) (fold (with_row file) rows shown) ≡ map (row_by_number ns) rows
   file-same file rows [] = refl
   file-same file rows (r ∷ shown) = file-same file (with_row file rows r) shown ∙ rows-same ns _ _ rows
 
-  kinds-same : (kind : Kind) (node : ℕ) (e : Option StoredFile) (rows : List ViewRow) → map (row_by_number ns) (with_lines ts c at kind node e rows) ≡ map (row_by_number ns) rows
-  kinds-same kinds.File node (Some e) rows = file-same node rows (rows_at ts c at e.file.lines)
+  kinds-same : (kind : Kind) (node : ℕ) (e : Option FilePart) (rows : List ViewRow) → map (row_by_number ns) (with_lines ts c at kind node e rows) ≡ map (row_by_number ns) rows
+  kinds-same kinds.File node (Some e) rows = file-same node rows (rows_at ts c at e.lines.lines)
   kinds-same kinds.File node None rows = refl
   kinds-same kinds.Dir node e rows = refl
 
@@ -74,23 +75,15 @@ module _ (ns : Numbers) (ts : List Triple) (c : List Bool) (at : ℕ) (stored : 
   nodes-rows rows [] = sym (append-nil (map (row_by_number ns) rows))
   nodes-rows rows (r ∷ rs) =
       nodes-rows (with_node ts c at stored rows r) rs
-      ∙ ap (λ xs. xs ++ rs) (kinds-same r.kind r.node (item_of stored r.node) (rows ++ bare_row r ∷ []) ∙ map-one (row_by_number ns) rows (bare_row r))
+      ∙ ap (λ xs. xs ++ rs) (kinds-same r.kind r.node (part_of stored r.node) (rows ++ bare_row r ∷ []) ∙ map-one (row_by_number ns) rows (bare_row r))
       ∙ append_assoc (map (row_by_number ns) rows) (r ∷ []) rs
-
--- without stored files no lines are shown
-no-item : (node : ℕ) → item_of no_files node ≡ None
-no-item node = at (nat_eq node 0)
-  where
-    at : (b : Bool) → cond b None (slice_get no_files (node - 1)) ≡ None
-    at true = refl
-    at false = refl
 
 -- rows without lines name nodes that a history has, and are told by their numbers
 pub rows-old : (ts : List Triple) (c : List Bool) (at : ℕ) (rows : List ViewRow) (rs : List Row) → AreOld rows → AreOld (fold (with_node ts c at no_files) rows rs)
 rows-old ts c at rows [] h = h
 rows-old ts c at rows (r ∷ rs) h =
     rows-old ts c at (with_node ts c at no_files rows r) rs
-    (subst (λ o. AreOld (with_lines ts c at r.kind r.node o (rows ++ bare_row r ∷ []))) (sym (no-item r.node)) (plain r.kind (all-append (λ s. is_old_row s ≡ true) rows (bare_row r ∷ []) h (refl, tt))))
+    (plain r.kind (all-append (λ s. is_old_row s ≡ true) rows (bare_row r ∷ []) h (refl, tt)))
   where
     plain : (k : Kind) → AreOld (rows ++ bare_row r ∷ []) → AreOld (with_lines ts c at k r.node None (rows ++ bare_row r ∷ []))
     plain kinds.File all = all
@@ -100,7 +93,7 @@ pub rows-told : (ts : List Triple) (c : List Bool) (at : ℕ) (rs : List Row) �
 rows-told ts c at rs = nodes-rows no_numbers ts c at no_files [] rs
 
 -- the rows that are shown are those of the replay
-pub view-rows : (ns : Numbers) (ts : List Triple) (c : List Bool) (at : ℕ) (history : List Command) (entries : Dated) (stored : List StoredFile) → AreEntriesOf history ts entries
+pub view-rows : (ns : Numbers) (ts : List Triple) (c : List Bool) (at : ℕ) (history : List Command) (entries : Dated) (stored : List FilePart) → AreEntriesOf history ts entries
     → map (row_by_number ns) (fold (with_node ts c at stored) [] (entry_rows ts c at entries)) ≡ (replay c (take at history)).rows
 view-rows ns ts c at history entries stored of_entries = nodes-rows ns ts c at stored [] (entry_rows ts c at entries) ∙ of_entries.rows c at
 
@@ -162,16 +155,16 @@ entries-grown history old new entries held grown = record {
 }
 
 -- what is held is so with a table that has more entries
-pub held-grown : (history : List Command) (old new : List Triple) (commits : List CommitMark) (file_of_line : List ℕ) (entries : Dated) (stored : List StoredFile) → IsHeldBy history old commits file_of_line entries stored → Extends old new
+pub held-grown : (history : List Command) (old new : List Triple) (commits : List CommitMark) (file_of_line : List ℕ) (entries : Dated) (stored : List FilePart) → IsHeldBy history old commits file_of_line entries stored → Extends old new
     → IsHeldBy history new commits file_of_line entries stored
 held-grown history old new commits file_of_line entries stored held grown = record {
   of_entries = entries-grown history old new entries held.of_entries grown;
+  below = held.below;
   made = held.made;
-  numbered = held.numbered;
-  counted = held.counted;
+  parts = held.parts;
   files = all-map (IsFileOf history old) (IsFileOf history new)
       (λ e h. record {
-        lines = dated-on old new (option_count history) (option_count history) (file_dated e.node (kept_of history)) e.file.lines grown (omega arith) h.lines;
+        lines = dated-on old new (option_count history) (option_count history) (file_dated e.node (kept_of history)) e.lines.lines grown (omega arith) h.lines;
         newest = h.newest;
       })
       stored held.files;
@@ -205,8 +198,18 @@ rows-declared c p history k h = by (nat_le p (length history)) refl
         let one = length-one history k in
         ap (replay c) (take-beyond p (history ++ k ∷ []) (omega (arith, above, one))) ∙ replay-same c history k h ∙ ap (replay c) (sym (take-beyond p history (omega (arith, above))))
 
+files-same : (history : List Command) (k : Command) → has_commit (k ∷ []) ≡ false → files_of (history ++ k ∷ []) ≡ files_of history
+files-same history k h = files-append history (k ∷ []) ∙ ap (λ files. files_of history ++ files) (none k h) ∙ append-nil (files_of history)
+  where
+    none : (k : Command) → has_commit (k ∷ []) ≡ false → files_from (numbers_of history).nodes (k ∷ []) ≡ []
+    none (commands.Option name) h = refl
+    none (commands.Constraint expr) h = refl
+    none (commands.Prefer expr) h = refl
+    none (commands.Default option on) h = refl
+    none (commands.Commit base choice ambition es) h = absurd (cc)
+
 -- a declaration leaves what is held as it is
-pub held-declared : (history longer : List Command) (k : Command) (ts : List Triple) (commits : List CommitMark) (file_of_line : List ℕ) (entries : Dated) (stored : List StoredFile)
+pub held-declared : (history longer : List Command) (k : Command) (ts : List Triple) (commits : List CommitMark) (file_of_line : List ℕ) (entries : Dated) (stored : List FilePart)
     → IsHeldBy history ts commits file_of_line entries stored → has_commit (k ∷ []) ≡ false → longer ≡ history ++ k ∷ [] → IsHeldBy longer ts commits file_of_line entries stored
 held-declared history longer k ts commits file_of_line entries stored held h e = rw e (record {
   of_entries = record {
@@ -214,13 +217,13 @@ held-declared history longer k ts commits file_of_line entries stored held h e =
     within = held.of_entries.within;
     from = let one = length-one history k in let from = held.of_entries.from in omega (arith, one, from);
   };
-  made = held.made;
-  numbered = held.numbered;
-  counted = held.counted ∙ ap (λ (ns : Numbers). ns.nodes) (sym (numbers-kept history k h));
+  below = subst (λ (ns : Numbers). AllByRecursion (λ node. node ≤ ns.nodes) (nodes_in entries)) (sym (numbers-kept history k h)) held.below;
+  made = held.made ∙ sym (files-same history k h);
+  parts = held.parts ∙ sym (files-same history k h);
   files = all-map (IsFileOf history ts) (IsFileOf (history ++ k ∷ []) ts)
       (λ stored file. record {
-        lines = subst (λ (held : Holding). AreDated ts (option_count (history ++ k ∷ [])) (file_dated stored.node held.lines) stored.file.lines) (sym (held-same history k h))
-            (dated-on ts ts (option_count history) (option_count (history ++ k ∷ [])) (file_dated stored.node (kept_of history)) stored.file.lines (itself ts) (as-many-options history (k ∷ [])) file.lines);
+        lines = subst (λ (held : Holding). AreDated ts (option_count (history ++ k ∷ [])) (file_dated stored.node held.lines) stored.lines.lines) (sym (held-same history k h))
+            (dated-on ts ts (option_count history) (option_count (history ++ k ∷ [])) (file_dated stored.node (kept_of history)) stored.lines.lines (itself ts) (as-many-options history (k ∷ [])) file.lines);
         newest = let one = length-one history k in let newest = file.newest in omega (arith, one, newest);
       })
       stored held.files;
@@ -239,19 +242,19 @@ take-none zero = refl
 take-none (suc p) = refl
 
 -- before any command nothing is held
-pub held-none : (history : List Command) (ts : List Triple) (commits : List CommitMark) (file_of_line : List ℕ) (entries : Dated) (stored : List StoredFile) → history ≡ [] → commits ≡ [] → file_of_line ≡ [] → stored ≡ []
-    → entries.from ≡ 0 → ((table : List Triple) (c : List Bool) (p : ℕ) → entry_rows table c p entries ≡ []) → nodes_in entries ≡ [] → ((table : List Triple) → AreNodesAt table entries)
+pub held-none : (history : List Command) (ts : List Triple) (commits : List CommitMark) (file_of_line : List ℕ) (entries : Dated) (stored : List FilePart) → history ≡ [] → commits ≡ [] → file_of_line ≡ [] → stored ≡ []
+    → entries.from ≡ 0 → ((table : List Triple) (c : List Bool) (p : ℕ) → entry_rows table c p entries ≡ []) → nodes_in entries ≡ [] → kinds_in entries ≡ [] → ((table : List Triple) → AreNodesAt table entries)
     → IsHeldBy history ts commits file_of_line entries stored
-held-none history ts commits file_of_line entries stored he ce le ee from none nodes within =
+held-none history ts commits file_of_line entries stored he ce le ee from none nodes kinds within =
     rw (he, ce, le, ee) (record {
       of_entries = record {
         rows = λ c p. none ts c p ∙ ap (λ h. (replay c h).rows) (sym (take-none p));
         within = within ts;
         from = omega (arith, from);
       };
-      made = nodes;
-      numbered = tt;
-      counted = refl;
+      below = subst (AllByRecursion (λ node. node ≤ 0)) (sym nodes) tt;
+      made = ap files_among kinds;
+      parts = refl;
       files = tt;
       lines = refl;
       in_files = tt;

@@ -1,8 +1,8 @@
 -- A commit that is staged, and then installed.
-use Rattle.std.proofs.Common.{◌≡◌, ℕ, ◌+◌, ◌<◌, ◌≤◌, ◌^◌, Bool, true, false, ◌||◌, nat_eq, nat_lt, List, [], ◌∷◌, ◌++◌, length, length-append, map, take, drop, append-nil, Option, Some, None, refl, sym, ap, subst, ◌∙◌, arith}
+use Rattle.std.proofs.Common.{◌≡◌, ℕ, ◌+◌, ◌<◌, ◌≤◌, ◌^◌, Bool, true, false, ◌||◌, nat_eq, nat_lt, List, [], ◌∷◌, ◌++◌, length, map, take, drop, append-nil, Option, Some, None, refl, sym, ap, subst, ◌∙◌, arith}
 use Rattle.std.specs.List.{AllByRecursion}
 use Rattle.std.specs.Option.{option_map_or}
-use Rattle.std.proofs.lemmas.List.{take-append-drop, length-map}
+use Rattle.std.proofs.lemmas.List.{take-append-drop}
 use Rattle.cov_base.proofs.CallerLemmas.{all-map, all-both, all-append}
 use Rattle.cov_base.specs.declared.limits.TheConstants.{LIMITS}
 use Rattle.cov_expr.specs.Formula.{Formula, reach}
@@ -13,22 +13,25 @@ use Rattle.cov_edit.specs.History.{options_of, option_count, text_bytes, byte_co
 use Rattle.cov_edit.specs.Numbering.{Numbers, nodes_made, anchors_of, no_numbers, numbers_of, line_count, node_count}
 use Rattle.cov_view.specs.Refusals.{when, first_of}
 use Rattle.cov_engine.specs.declared.store.CommitMark.{CommitMark}
-use Rattle.cov_engine.specs.declared.stored_file.StoredFile.{StoredFile}
+use Rattle.cov_engine.specs.declared.file_part.FilePart.{FilePart}
 use Rattle.cov_history.specs.declared.refusal.Refusal.{Refusal}
 use Rattle.cov_history.specs.declared.refusal.Refusal.TheVariants as refusals
 use Rattle.cov_engine.specs.Marks.{AreMarks}
 use Rattle.cov_history.specs.Kept.{held_by, kept_of}
 use Rattle.cov_history.specs.Files.{dated, file_dated}
 use Rattle.cov_tree.specs.declared.entry.Entry.{Entry}
-use Rattle.cov_tree.specs.Dated.{Dated}
+use Rattle.cov_tree.specs.Dated.{Dated, nodes_in, kinds_in}
 use Rattle.cov_engine.specs.RowPlans.{IsSet}
-use Rattle.cov_engine.specs.Holdings.{stored_node, IsFileOf, IsHeldBy}
+use Rattle.cov_engine.specs.Holdings.{IsFileOf, IsHeldBy}
+use Rattle.cov_engine.specs.Parts.{part_node, files_among}
+use Rattle.cov_edit.specs.Touched.{AreRising}
+use Rattle.cov_history.specs.FileNodes.{files_made, files_of}
 use Rattle.cov_history.specs.Sessions.{IsGood, session_of}
 use Rattle.cov_edit.specs.Replay.{replay}
 use Rattle.cov_view.specs.Refusals.{first_refused}
 use Rattle.cov_history.specs.Verdict.{IsLegal, verdict, when_full, refusals_of, size_refusals}
 use Rattle.cov_history.specs.FileOfLine.{new_file_of_line, AreFilesOfLines}
-use Rattle.cov_engine.specs.Staging.{Contents, contents, new_files, AreNear, AreLow, AreNumbered, HasRoom, named_line}
+use Rattle.cov_engine.specs.Staging.{Contents, contents, new_files, AreNear, AreLow, HasRoom, named_line}
 use Rattle.cov_engine.specs.Staged.{IsStaged}
 use Rattle.cov_history.specs.Insertions.{numbered_amid, held_amid}
 use Rattle.cov_engine.specs.Nodes.{AreDated}
@@ -37,18 +40,18 @@ use Rattle.cov_dd.specs.declared.triple.Triple.{Triple}
 use Rattle.cov_engine.specs.Carrying.{IsChangedIn, IsCarriedOut, AreCarriedOut, CanCarryOutAll, AreAllCarriedOut, AreInstalled, plan_file, with_other_lines}
 use Rattle.cov_engine.specs.declared.edit_plan.EditPlan.{EditPlan}
 use Rattle.cov_engine.specs.declared.edit_plan.EditPlan.TheVariants as plans
-use Rattle.cov_history.proofs.CallerLemmas.{commit-lines, lines-edits, all-mapped, base-nodes, new-files_of_lines-count}
+use Rattle.cov_history.proofs.CallerLemmas.{commit-lines, files-commit, files-rise, lines-edits, all-mapped, base-nodes, new-files_of_lines-count}
 use Rattle.cov_engine.proofs.FileLines.{all-unmapped}
 use Rattle.cov_edit.proofs.CallerLemmas.{numbers_from-append}
 use Rattle.cov_engine.proofs.Holdings.{as-many-options}
-use Rattle.cov_engine.proofs.Rooms.{staged-numbers}
-use Rattle.cov_engine.proofs.RowPlans.{entries-committed}
+use Rattle.cov_engine.proofs.Rooms.{staged-nodes}
+use Rattle.cov_engine.proofs.RowPlans.{entries-committed, files-kinds, made-below}
 use Rattle.cov_engine.proofs.States.{length-one, not-below, options-append}
 use Rattle.cov_engine.proofs.Marking.{marks-committed}
 use Rattle.cov_engine.proofs.Named.{edits-named, named-near, legal-files}
 use Rattle.cov_engine.proofs.MidCommit.{IsHere, AreHere, carried, line-files-along, named-low}
 use Rattle.cov_engine.proofs.Started.{planned-right}
-use Rattle.cov_engine.proofs.Committed.{new-files-all, new-files-count, line-files-after, file-empty}
+use Rattle.cov_engine.proofs.Committed.{new-files-all, line-files-after, file-empty}
 
 abbrev head_of : List (Option Refusal) → Option Refusal
 head_of [] = None
@@ -131,7 +134,7 @@ pub declared-less : (base : ℕ) (history : List Command) → option_count (take
 declared-less base history = subst (λ h. option_count (take base history) ≤ option_count h) (take-append-drop base history) (as-many-options (take base history) (drop base history))
 
 -- stored files that are the same but for their room have the same files
-pub files-contents : (history : List Command) (ts : List Triple) (old now : List StoredFile) → map contents now ≡ map contents old → AllByRecursion (IsFileOf history ts) old → AllByRecursion (IsFileOf history ts) now
+pub files-contents : (history : List Command) (ts : List Triple) (old now : List FilePart) → map contents now ≡ map contents old → AllByRecursion (IsFileOf history ts) old → AllByRecursion (IsFileOf history ts) now
 files-contents history ts old now same files =
     all-map (λ e. HasFile (contents e)) (IsFileOf history ts) (λ e h. record { lines = h.0; newest = h.1 }) now
     (all-unmapped HasFile contents now (subst (AllByRecursion HasFile) (sym same) (all-mapped (IsFileOf history ts) HasFile contents (λ e h. (h.lines, h.newest)) old files)))
@@ -139,42 +142,32 @@ files-contents history ts old now same files =
     HasFile : Contents → Type 0
     HasFile s = AreDated ts (option_count history) (file_dated s.node (kept_of history)) s.lines × (s.newest ≤ length history)
 
--- stored files of the same nodes are numbered alike
-numbered-by : (k : ℕ) (old new : List StoredFile) → map stored_node new ≡ map stored_node old → AreNumbered k old → AreNumbered k new
-numbered-by k [] [] e h = tt
-numbered-by k [] (f ∷ new) e h = absurd (cc)
-numbered-by k (e ∷ old) [] same h = absurd (cc)
-numbered-by k (e ∷ old) (f ∷ new) same h =
-    let own : f.node ≡ e.node = cc in
-    let rest : map stored_node new ≡ map stored_node old = cc in
-    (own ∙ h.0, numbered-by (k + 1) old new rest h.1)
-
 -- stored files before and after a plan are of the same rows
-module _ {X : Type 0} (row : StoredFile → X) (same : (e f : StoredFile) → contents e ≡ contents f → row e ≡ row f)
-    (kept : (e : StoredFile) (ls : List FileLine) (newest : ℕ) (f : StoredFile) → contents f ≡ with_other_lines e ls newest → row f ≡ row e) where
-  plan-row : (q : ℕ) (s : EditPlan) (e f : StoredFile) → IsChangedIn (plan_file s) (IsCarriedOut q s) e f → row f ≡ row e
+module _ {X : Type 0} (row : FilePart → X) (same : (e f : FilePart) → contents e ≡ contents f → row e ≡ row f)
+    (kept : (e : FilePart) (ls : List FileLine) (newest : ℕ) (f : FilePart) → contents f ≡ with_other_lines e ls newest → row f ≡ row e) where
+  plan-row : (q : ℕ) (s : EditPlan) (e f : FilePart) → IsChangedIn (plan_file s) (IsCarriedOut q s) e f → row f ≡ row e
   plan-row q (plans.Insert file anchor line text vis) e f h = by (nat_eq e.node file) refl
     where
       by : (b : Bool) → nat_eq e.node file ≡ b → row f ≡ row e
-      by true is = kept e f.file.lines q f (h.here is).row
+      by true is = kept e f.lines.lines q f (h.here is).row
       by false is = ap row (h.elsewhere is)
   plan-row q (plans.Delete file line vis) e f h = by (nat_eq e.node file) refl
     where
       by : (b : Bool) → nat_eq e.node file ≡ b → row f ≡ row e
-      by true is = kept e f.file.lines q f (h.here is).row
+      by true is = kept e f.lines.lines q f (h.here is).row
       by false is = ap row (h.elsewhere is)
 
-  plan-rows : (q : ℕ) (s : EditPlan) (es fs : List StoredFile) → AreCarriedOut q s es fs → map row fs ≡ map row es
+  plan-rows : (q : ℕ) (s : EditPlan) (es fs : List FilePart) → AreCarriedOut q s es fs → map row fs ≡ map row es
   plan-rows q s [] [] h = refl
   plan-rows q s [] (f ∷ fs) h = absurd h
   plan-rows q s (e ∷ es) [] h = absurd h
   plan-rows q s (e ∷ es) (f ∷ fs) h = ap (λ x. x ∷ map row fs) (plan-row q s e f h.0) ∙ ap (λ xs. row e ∷ xs) (plan-rows q s es fs h.1)
 
-  plans-rows : (q : ℕ) (ss : List EditPlan) (es fs : List StoredFile) → AreAllCarriedOut q ss es fs → map row fs ≡ map row es
+  plans-rows : (q : ℕ) (ss : List EditPlan) (es fs : List FilePart) → AreAllCarriedOut q ss es fs → map row fs ≡ map row es
   plans-rows q [] es fs h = ap (map row) h
   plans-rows q (s ∷ ss) es fs h = plans-rows q ss h.0 fs h.2 ∙ plan-rows q s es h.0 h.1
 
-  same-rows : (es fs : List StoredFile) → map contents fs ≡ map contents es → map row fs ≡ map row es
+  same-rows : (es fs : List FilePart) → map contents fs ≡ map contents es → map row fs ≡ map row es
   same-rows [] [] h = refl
   same-rows [] (f ∷ fs) h = absurd (cc)
   same-rows (e ∷ es) [] h = absurd (cc)
@@ -186,7 +179,7 @@ module _ {X : Type 0} (row : StoredFile → X) (same : (e f : StoredFile) → co
       tail-of : contents f ∷ map contents fs ≡ contents e ∷ map contents es → map contents fs ≡ map contents es
       tail-of h = cc
 
-  pub installed-rows : (q : ℕ) (ss : List EditPlan) (es fs : List StoredFile) → AreInstalled q ss es fs → map row fs ≡ map row es
+  pub installed-rows : (q : ℕ) (ss : List EditPlan) (es fs : List FilePart) → AreInstalled q ss es fs → map row fs ≡ map row es
   installed-rows q ss es fs h = same-rows h.0 fs h.2 ∙ plans-rows q ss es h.0 h.1
 
 any-position : (q : ℕ) (o : Option ℕ) → o ≡ None → option_map_or (λ p. nat_eq q p) o true ≡ true
@@ -196,7 +189,7 @@ any-position q (Some p) h = absurd (cc)
 module _ (history : List Command) (base : ℕ) (choice : List Bool) (ambition : Formula ℕ) (es : List Edit) (legal : IsLegal history)
     (good : IsGood history (session_of base choice ambition es))
     (accepted : verdict history (commands.Commit base choice ambition es) ≡ None)
-    (ts : List Triple) (commits : List CommitMark) (mark : CommitMark) (ss : List EditPlan) (plan : Option (List Entry)) (file_of_line : List ℕ) (entries : Dated) (stored : List StoredFile)
+    (ts : List Triple) (commits : List CommitMark) (mark : CommitMark) (ss : List EditPlan) (plan : Option (List Entry)) (file_of_line : List ℕ) (entries : Dated) (stored : List FilePart)
     (staged : IsStaged history ts ambition es commits mark ss plan file_of_line entries stored) where
   abbrev n : ℕ
   n = (numbers_of history).nodes
@@ -210,12 +203,12 @@ module _ (history : List Command) (base : ℕ) (choice : List Bool) (ambition : 
   abbrev all_commits : List CommitMark
   all_commits = commits ++ mark ∷ []
 
-  -- what is stored with the commit is of the nodes before it and of those that it makes
-  stored-files : map contents stored ≡ map contents staged.old_stored ++ new_files (length staged.old_stored) es
-  stored-files = staged.files ∙ ap (λ k. map contents staged.old_stored ++ new_files k es) (sym staged.held.counted)
+  -- what is stored with the commit is of the files before it and of those that it makes
+  pub staged-files : map part_node stored ≡ files_of (history ++ commit ∷ [])
+  staged-files = staged-nodes n staged.old_stored stored es staged.files ∙ ap (λ files. files ++ files_made n es) staged.held.parts ∙ sym (files-commit history base choice ambition es)
 
-  pub staged-numbered : AreNumbered 0 stored
-  staged-numbered = staged-numbers staged.old_stored stored es stored-files staged.held.numbered
+  pub staged-rise : AreRising (map part_node stored)
+  staged-rise = subst AreRising (sym staged-files) (files-rise (history ++ commit ∷ [])).0
 
   abbrev IsKeptFile : Contents → Type 0
   IsKeptFile s = AreDated ts (option_count history) (file_dated s.node (kept_of history)) s.lines × (s.newest ≤ q)
@@ -228,31 +221,33 @@ module _ (history : List Command) (base : ℕ) (choice : List Bool) (ambition : 
       (new-files-all IsKeptFile n es (λ node h.
       (subst (λ ks. AreDated ts (option_count history) (map dated ks) []) (sym (file-empty n node (kept_of history) h (legal-files history legal))) tt, omega arith))))
 
-  above-zero : (k : ℕ) (xs : List StoredFile) → AreNumbered k xs → AllByRecursion (λ (e : StoredFile). 0 < e.node) xs
-  above-zero k [] h = tt
-  above-zero k (e ∷ xs) h = (let own : e.node ≡ k + 1 = h.0 in omega (arith, own), above-zero (k + 1) xs h.1)
+  above-zero : AllByRecursion (λ (e : FilePart). 0 < e.node) stored
+  above-zero =
+      all-unmapped (λ file. 0 < file) part_node stored
+      (subst (AllByRecursion (λ file. 0 < file)) (sym staged-files)
+      (all-map (λ file. (0 < file) × (file ≤ (numbers_of (history ++ commit ∷ [])).nodes)) (λ file. 0 < file) (λ file h. h.0) (files_of (history ++ commit ∷ [])) (files-rise (history ++ commit ∷ [])).1))
 
-  abbrev AreHereNow : List Edit → List Edit → List StoredFile → Type 0
+  abbrev AreHereNow : List Edit → List Edit → List FilePart → Type 0
   AreHereNow begun left xs = AreHere history base choice ambition es good legal ts mark.node staged.stands begun left xs
 
   start : AreHereNow [] es stored
   start =
-      all-both (λ e. (0 < e.node) × HasRoom n (line_count history) es e) (λ e. IsKeptFile (contents e)) (λ e. IsHere history base choice ambition es good legal ts mark.node staged.stands e.node [] es e.file)
+      all-both (λ e. (0 < e.node) × HasRoom n (line_count history) es e) (λ e. IsKeptFile (contents e)) (λ e. IsHere history base choice ambition es good legal ts mark.node staged.stands e.node [] es e.lines)
       (λ e h file. record {
         above = h.0;
         are_dated = file.0;
         newest = file.1;
         inserts = h.1.inserts;
         changes = h.1.changes;
-        position = λ t. any-position q e.file.room.position (h.1.position t);
+        position = λ t. any-position q e.lines.room.position (h.1.position t);
       }) stored
-      (all-both (λ e. 0 < e.node) (HasRoom n (line_count history) es) (λ e. (0 < e.node) × HasRoom n (line_count history) es e) (λ e a r. (a, r)) stored (above-zero 0 stored staged-numbered) staged.room)
+      (all-both (λ e. 0 < e.node) (HasRoom n (line_count history) es) (λ e. (0 < e.node) × HasRoom n (line_count history) es e) (λ e a r. (a, r)) stored above-zero staged.room)
       (all-unmapped IsKeptFile contents stored kept-files)
 
-  all-carried : CanCarryOutAll q ss stored × ((after : List StoredFile) → AreAllCarriedOut q ss stored after → AreHereNow es [] after)
+  all-carried : CanCarryOutAll q ss stored × ((after : List FilePart) → AreAllCarriedOut q ss stored after → AreHereNow es [] after)
   all-carried =
       carried history base choice ambition es good legal ts mark.node staged.stands es [] (line_count history) stored ss refl (omega arith)
-      (planned-right history base choice ambition es good legal ts mark.node staged.stands staged.old_stored staged.held.numbered staged.held.counted staged.held.files (line_count history) es ss staged.planned)
+      (planned-right history base choice ambition es good legal ts mark.node staged.stands staged.old_stored staged.held.parts staged.held.files (line_count history) es ss staged.planned)
       start
 
   pub staged-plans : CanCarryOutAll q ss stored
@@ -277,34 +272,24 @@ module _ (history : List Command) (base : ℕ) (choice : List Bool) (ambition : 
   row-later = let from = staged.held.of_entries.from in omega (arith, from)
 
   -- after the commit, the stored files with its lines are what is held
-  pub held-committed : (later : Dated) (after : List StoredFile) → IsSet q plan entries later → AreInstalled q ss stored after → IsHeldBy (history ++ commit ∷ []) ts all_commits file_of_line later after
+  pub held-committed : (later : Dated) (after : List FilePart) → IsSet q plan entries later → AreInstalled q ss stored after → IsHeldBy (history ++ commit ∷ []) ts all_commits file_of_line later after
   held-committed later after set installed =
-      let same : map stored_node after ≡ map stored_node stored =
-      installed-rows stored_node (λ e f same. ap (λ (s : Contents). s.node) same) (λ e ls newest f same. ap (λ (s : Contents). s.node) same) q ss stored after installed in
+      let same : map part_node after ≡ map part_node stored =
+      installed-rows part_node (λ e f same. ap (λ (s : Contents). s.node) same) (λ e ls newest f same. ap (λ (s : Contents). s.node) same) q ss stored after installed in
       let one = length-one commits mark in
       let longer = length-one history commit in
       let count : length commits + 1 ≡ length all_commits = sym one in
       record {
         of_entries = entries-committed history base choice ambition es ts mark.node staged.stands.value entries plan staged.held.of_entries staged.changes later set;
-        made = set.nodes ∙ staged.nodes ∙ sym same;
-        numbered = numbered-by 0 stored after same staged-numbered;
-        counted =
-            let by_node = length-map after stored_node in
-            let by_old = length-map stored stored_node in
-            let lengths = ap length same in
-            let all = ap length stored-files in
-            let both = length-append (map contents staged.old_stored) (new_files (length staged.old_stored) es) in
-            let old = length-map staged.old_stored contents in
-            let new = length-map stored contents in
-            let fresh = new-files-count (length staged.old_stored) es in
-            let before = staged.held.counted in
-            let now = nodes-now in
-            omega (arith, by_node, by_old, lengths, all, both, old, new, fresh, before, now);
+        below = let now = nodes-now in
+            subst (AllByRecursion (λ node. node ≤ (numbers_of (history ++ commit ∷ [])).nodes)) (sym (set.nodes ∙ staged.nodes)) (made-below n (numbers_of (history ++ commit ∷ [])).nodes es (nodes_in entries) (omega (arith, now)) staged.held.below);
+        made = ap files_among (set.kinds ∙ staged.kinds) ∙ files-kinds n es (kinds_in entries) ∙ ap (λ files. files ++ files_made n es) staged.held.made ∙ sym (files-commit history base choice ambition es);
+        parts = same ∙ staged-files;
         files = files-contents (history ++ commit ∷ []) ts installed.0 after installed.2
-            (all-map (λ e. IsHere history base choice ambition es good legal ts mark.node staged.stands e.node es [] e.file) (IsFileOf (history ++ commit ∷ []) ts)
+            (all-map (λ e. IsHere history base choice ambition es good legal ts mark.node staged.stands e.node es [] e.lines) (IsFileOf (history ++ commit ∷ []) ts)
             (λ e h. record {
-              lines = subst (λ ks. AreDated ts (option_count (history ++ commit ∷ [])) (file_dated e.node ks) e.file.lines) lines-now
-                  (subst (λ c. AreDated ts c (file_dated e.node (held_amid history ambition es es).lines) e.file.lines) (sym options-now) h.are_dated);
+              lines = subst (λ ks. AreDated ts (option_count (history ++ commit ∷ [])) (file_dated e.node ks) e.lines.lines) lines-now
+                  (subst (λ c. AreDated ts c (file_dated e.node (held_amid history ambition es es).lines) e.lines.lines) (sym options-now) h.are_dated);
               newest = let low = h.newest in omega (arith, low, longer);
             }) installed.0 (all-carried.1 installed.0 installed.1));
         lines = ap length staged.file_of_line_is ∙ line-files-after history base choice ambition es staged.old_file_of_line n staged.held.lines;

@@ -15,9 +15,11 @@ pub mod Marks
 pub mod MidCommit
 pub mod Named
 pub mod Nodes
+pub mod Noting
 pub mod Planned
 pub mod Readied
 pub mod Rooms
+pub mod Rising
 pub mod RowPlans
 pub mod Ruling
 pub mod Showing
@@ -26,3 +28,4 @@ pub mod States
 pub mod StoredFiles
 pub mod Views
 pub mod Visibilities
+pub mod Wholes

@@ -32,7 +32,7 @@ use Rattle.cov_engine.specs.Nodes.{AreDated}
 use Rattle.cov_history.specs.Sessions.{IsGood, session_of}
 use Rattle.cov_history.specs.Verdict.{IsLegal}
 use Rattle.cov_engine.specs.Carrying.{CanInsert, CanDelete, IsCarriedOut, IsChangedIn, AreCarriedOut, CanCarryOutIn, CanCarryOutAll, AreAllCarriedOut}
-use Rattle.cov_engine.specs.declared.stored_file.StoredFile.{StoredFile}
+use Rattle.cov_engine.specs.declared.file_part.FilePart.{FilePart}
 use Rattle.cov_engine.specs.declared.edit_plan.EditPlan.{EditPlan}
 use Rattle.cov_engine.specs.declared.edit_plan.EditPlan.TheVariants as plans
 use Rattle.cov_history.proofs.CallerLemmas.{files_of_lines-stay, file_of_line-more, lines-edits, delete-dated, delete-elsewhere, delete-order, anchor-below, anchors-append, anchors-stay, anchor-known, insert-elsewhere, is_table-of, amid-within, stands-amid, any-mapped, insert-dated, order-takes, accepted-anchored, accepted-there, all-mapped}
@@ -301,14 +301,14 @@ module _ (history : List Command) (base : ℕ) (choice : List Bool) (ambition : 
       touched = grind (arith, nat_tests)
 
       -- a file can take the line
-      can-insert : (e : StoredFile) → IsHere e.node begun (edits.Insert file after text ∷ later) e.file → nat_eq e.node f ≡ true → CanInsert q anchor (had + 1) e
+      can-insert : (e : FilePart) → IsHere e.node begun (edits.Insert file after text ∷ later) e.lines → nat_eq e.node f ≡ true → CanInsert q anchor (had + 1) e
       can-insert e h is =
           let same : e.node ≡ f = grind (arith, nat_tests, is) in
-          let order = ap (λ k. file_order k (lines_at begun)) (sym same) ∙ sym (numbers-here e.node begun (edits.Insert file after text ∷ later) e.file h) in
+          let order = ap (λ k. file_order k (lines_at begun)) (sym same) ∙ sym (numbers-here e.node begun (edits.Insert file after text ∷ later) e.lines h) in
           let takes = subst (λ order. Takes order anchor (had + 1)) order (insert-takes begun later file after text all) in
           let turned : nat_eq f e.node ≡ true = grind (arith, nat_tests, same) in
-          let some : suc (inserts_into n e.node later) ≤ e.file.room.inserts =
-          subst (λ b. cond b (suc (inserts_into n e.node later)) (inserts_into n e.node later) ≤ e.file.room.inserts) turned h.inserts in
+          let some : suc (inserts_into n e.node later) ≤ e.lines.room.inserts =
+          subst (λ b. cond b (suc (inserts_into n e.node later)) (inserts_into n e.node later) ≤ e.lines.room.inserts) turned h.inserts in
           record {
             anchored = takes.anchored;
             above_head = takes.above_head;
@@ -345,23 +345,23 @@ module _ (history : List Command) (base : ℕ) (choice : List Bool) (ambition : 
           by line gone true is there = let same : had + 1 ≡ line = grind (arith, nat_tests, is) in subst (λ k. has_line k new.room.changes ≡ true) same own
           by line gone false is there = left.changes line (h.changes line gone there)
 
-      insert-next : (e e' : StoredFile) → IsChangedIn f (IsCarriedOut q (plans.Insert f anchor (had + 1) text a)) e e' → IsHere e.node begun (edits.Insert file after text ∷ later) e.file
-          → IsHere e'.node (begun ++ edits.Insert file after text ∷ []) later e'.file
+      insert-next : (e e' : FilePart) → IsChangedIn f (IsCarriedOut q (plans.Insert f anchor (had + 1) text a)) e e' → IsHere e.node begun (edits.Insert file after text ∷ later) e.lines
+          → IsHere e'.node (begun ++ edits.Insert file after text ∷ []) later e'.lines
       insert-next e e' changed h = by (nat_eq e.node f) refl
         where
-          by : (b : Bool) → nat_eq e.node f ≡ b → IsHere e'.node (begun ++ edits.Insert file after text ∷ []) later e'.file
+          by : (b : Bool) → nat_eq e.node f ≡ b → IsHere e'.node (begun ++ edits.Insert file after text ∷ []) later e'.lines
           by true is =
               let same : e.node ≡ f = grind (arith, nat_tests, is) in
               let it = changed.here is in
-              subst (λ k. IsHere k (begun ++ edits.Insert file after text ∷ []) later e'.file) (sym (ap (λ (s : Contents). s.node) it.row ∙ same))
-              (inserted-here e.file e'.file (subst (λ k. IsHere k begun (edits.Insert file after text ∷ later) e.file) same h) it.lines it.room it.own (ap (λ (s : Contents). s.newest) it.row))
+              subst (λ k. IsHere k (begun ++ edits.Insert file after text ∷ []) later e'.lines) (sym (ap (λ (s : Contents). s.node) it.row ∙ same))
+              (inserted-here e.lines e'.lines (subst (λ k. IsHere k begun (edits.Insert file after text ∷ later) e.lines) same h) it.lines it.room it.own (ap (λ (s : Contents). s.newest) it.row))
           by false is =
               let turned : nat_eq f e.node ≡ false = grind (arith, nat_tests, is) in
-              subst (λ (x : StoredFile). IsHere x.node (begun ++ edits.Insert file after text ∷ []) later x.file) (sym (changed.elsewhere is)) (record {
+              subst (λ (x : FilePart). IsHere x.node (begun ++ edits.Insert file after text ∷ []) later x.lines) (sym (changed.elsewhere is)) (record {
                 above = h.above;
-                are_dated = subst (λ ds. AreDated ts count ds e.file.lines) (sym (insert-there begun later file after text all e.node turned)) h.are_dated;
+                are_dated = subst (λ ds. AreDated ts count ds e.lines.lines) (sym (insert-there begun later file after text all e.node turned)) h.are_dated;
                 newest = h.newest;
-                inserts = subst (λ b. cond b (suc (inserts_into n e.node later)) (inserts_into n e.node later) ≤ e.file.room.inserts) turned h.inserts;
+                inserts = subst (λ b. cond b (suc (inserts_into n e.node later)) (inserts_into n e.node later) ≤ e.lines.room.inserts) turned h.inserts;
                 changes = h.changes;
                 position = λ t. h.position (or_right (nat_eq f e.node) (touches n e.node later) t);
               })
@@ -374,13 +374,13 @@ module _ (history : List Command) (base : ℕ) (choice : List Bool) (ambition : 
       k = line_number m line
 
       -- a file can take the line out
-      can-delete : (e : StoredFile) → IsHere e.node begun (edits.Delete file line ∷ later) e.file → nat_eq e.node df ≡ true → CanDelete q k e
+      can-delete : (e : FilePart) → IsHere e.node begun (edits.Delete file line ∷ later) e.lines → nat_eq e.node df ≡ true → CanDelete q k e
       can-delete e h is =
           let same : e.node ≡ df = grind (arith, nat_tests, is) in
           let turned : nat_eq df e.node ≡ true = grind (arith, nat_tests, same) in
           let own : nat_eq k k ≡ true = grind (arith, nat_tests) in
-          let there : has_line k (file_numbers e.file.lines) ≡ true =
-          ap (has_line k) (numbers-here e.node begun (edits.Delete file line ∷ later) e.file h ∙ ap (λ x. file_order x (lines_at begun)) same) ∙ delete-there begun later file line all in
+          let there : has_line k (file_numbers e.lines.lines) ≡ true =
+          ap (has_line k) (numbers-here e.node begun (edits.Delete file line ∷ later) e.lines h ∙ ap (λ x. file_order x (lines_at begun)) same) ∙ delete-there begun later file line all in
           record {
             there = there;
             later = h.newest;
@@ -406,35 +406,35 @@ module _ (history : List Command) (base : ℕ) (choice : List Bool) (ambition : 
             position = λ t. left.position;
           }
 
-      delete-next : (vis : ℕ) → IsRight (lines_at begun) df k vis → (e e' : StoredFile) → IsChangedIn df (IsCarriedOut q (plans.Delete df k vis)) e e' → IsHere e.node begun (edits.Delete file line ∷ later) e.file
-          → IsHere e'.node (begun ++ edits.Delete file line ∷ []) later e'.file
+      delete-next : (vis : ℕ) → IsRight (lines_at begun) df k vis → (e e' : FilePart) → IsChangedIn df (IsCarriedOut q (plans.Delete df k vis)) e e' → IsHere e.node begun (edits.Delete file line ∷ later) e.lines
+          → IsHere e'.node (begun ++ edits.Delete file line ∷ []) later e'.lines
       delete-next vis right e e' changed h = by (nat_eq e.node df) refl
         where
-          by : (b : Bool) → nat_eq e.node df ≡ b → IsHere e'.node (begun ++ edits.Delete file line ∷ []) later e'.file
+          by : (b : Bool) → nat_eq e.node df ≡ b → IsHere e'.node (begun ++ edits.Delete file line ∷ []) later e'.lines
           by true is =
               let same : e.node ≡ df = grind (arith, nat_tests, is) in
               let it = changed.here is in
-              subst (λ x. IsHere x (begun ++ edits.Delete file line ∷ []) later e'.file) (sym (ap (λ (s : Contents). s.node) it.row ∙ same))
-              (deleted-here vis e.file e'.file right (subst (λ x. IsHere x begun (edits.Delete file line ∷ later) e.file) same h) it.lines it.room (ap (λ (s : Contents). s.newest) it.row))
+              subst (λ x. IsHere x (begun ++ edits.Delete file line ∷ []) later e'.lines) (sym (ap (λ (s : Contents). s.node) it.row ∙ same))
+              (deleted-here vis e.lines e'.lines right (subst (λ x. IsHere x begun (edits.Delete file line ∷ later) e.lines) same h) it.lines it.room (ap (λ (s : Contents). s.newest) it.row))
           by false is =
               let turned : nat_eq df e.node ≡ false = grind (arith, nat_tests, is) in
-              subst (λ (x : StoredFile). IsHere x.node (begun ++ edits.Delete file line ∷ []) later x.file) (sym (changed.elsewhere is)) (record {
+              subst (λ (x : FilePart). IsHere x.node (begun ++ edits.Delete file line ∷ []) later x.lines) (sym (changed.elsewhere is)) (record {
                 above = h.above;
-                are_dated = subst (λ ds. AreDated ts count ds e.file.lines) (sym (delete-out begun later file line all e.node turned)) h.are_dated;
+                are_dated = subst (λ ds. AreDated ts count ds e.lines.lines) (sym (delete-out begun later file line all e.node turned)) h.are_dated;
                 newest = h.newest;
                 inserts = h.inserts;
                 changes = λ some gone there. h.changes some (or_right (nat_eq df e.node && nat_eq k some) (deletes_from n m e.node some later) gone) there;
                 position = λ t. h.position (or_right (nat_eq df e.node) (touches n e.node later) t);
               })
 
-    abbrev pub AreHere : List Edit → List Edit → List StoredFile → Type 0
-    AreHere begun left stored = AllByRecursion (λ e. IsHere e.node begun left e.file) stored
+    abbrev pub AreHere : List Edit → List Edit → List FilePart → Type 0
+    AreHere begun left stored = AllByRecursion (λ e. IsHere e.node begun left e.lines) stored
 
     -- an edit that changes rows does nothing to files
-    same-dated : (e : Edit) (begun : List Edit) → changes_rows e ≡ true → (x : StoredFile) → AreDated ts count (file_dated x.node (lines_at begun)) x.file.lines → AreDated ts count (file_dated x.node (lines_at (begun ++ e ∷ []))) x.file.lines
-    same-dated e begun is x h = subst (λ ks. AreDated ts count (file_dated x.node ks) x.file.lines) (sym (rows-leave begun e is)) h
+    same-dated : (e : Edit) (begun : List Edit) → changes_rows e ≡ true → (x : FilePart) → AreDated ts count (file_dated x.node (lines_at begun)) x.lines.lines → AreDated ts count (file_dated x.node (lines_at (begun ++ e ∷ []))) x.lines.lines
+    same-dated e begun is x h = subst (λ ks. AreDated ts count (file_dated x.node ks) x.lines.lines) (sym (rows-leave begun e is)) h
 
-    row-here : (e : Edit) (begun later : List Edit) → changes_rows e ≡ true → (x : StoredFile) → IsHere x.node begun (e ∷ later) x.file → IsHere x.node (begun ++ e ∷ []) later x.file
+    row-here : (e : Edit) (begun later : List Edit) → changes_rows e ≡ true → (x : FilePart) → IsHere x.node begun (e ∷ later) x.lines → IsHere x.node (begun ++ e ∷ []) later x.lines
     row-here (edits.New kind parent name) begun later is x h = record { above = h.above; are_dated = same-dated (edits.New kind parent name) begun is x h.are_dated; newest = h.newest; inserts = h.inserts; changes = h.changes; position = h.position }
     row-here (edits.Insert file after text) begun later is x h = absurd (cc)
     row-here (edits.Delete file line) begun later is x h = absurd (cc)
@@ -450,25 +450,25 @@ module _ (history : List Command) (base : ℕ) (choice : List Bool) (ambition : 
     right-behind (edits.Move node parent) ks made later ss is h = h
     right-behind (edits.Remove node) ks made later ss is h = h
 
-    abbrev AreCarried : List EditPlan → List StoredFile → Type 0
-    AreCarried ss stored = CanCarryOutAll q ss stored × ((after : List StoredFile) → AreAllCarriedOut q ss stored after → AreHere es [] after)
+    abbrev AreCarried : List EditPlan → List FilePart → Type 0
+    AreCarried ss stored = CanCarryOutAll q ss stored × ((after : List FilePart) → AreAllCarriedOut q ss stored after → AreHere es [] after)
 
-    row-carried : (e : Edit) (begun later : List Edit) → changes_rows e ≡ true → (made : ℕ) (stored : List StoredFile) (ss : List EditPlan) → begun ++ e ∷ later ≡ es → made ≡ lines_amid history begun
+    row-carried : (e : Edit) (begun later : List Edit) → changes_rows e ≡ true → (made : ℕ) (stored : List FilePart) (ss : List EditPlan) → begun ++ e ∷ later ≡ es → made ≡ lines_amid history begun
         → AreRight (lines_at begun) made (e ∷ later) ss → AreHere begun (e ∷ later) stored
-        → ((made : ℕ) (stored : List StoredFile) (ss : List EditPlan) → (begun ++ e ∷ []) ++ later ≡ es → made ≡ lines_amid history (begun ++ e ∷ []) → AreRight (lines_at (begun ++ e ∷ [])) made later ss
+        → ((made : ℕ) (stored : List FilePart) (ss : List EditPlan) → (begun ++ e ∷ []) ++ later ≡ es → made ≡ lines_amid history (begun ++ e ∷ []) → AreRight (lines_at (begun ++ e ∷ [])) made later ss
         → AreHere (begun ++ e ∷ []) later stored → AreCarried ss stored)
         → AreCarried ss stored
     row-carried e begun later is made stored ss all counted right here rest =
         rest made stored ss (append_assoc begun (e ∷ []) later ∙ all)
         (counted ∙ ap (λ l. m + length l) (sym (none_more m begun e (no-anchor m e is))))
         (subst (λ ks. AreRight ks made later ss) (sym (rows-leave begun e is)) (right-behind e (lines_at begun) made later ss is right))
-        (all-map (λ x. IsHere x.node begun (e ∷ later) x.file) (λ x. IsHere x.node (begun ++ e ∷ []) later x.file) (row-here e begun later is) stored here)
+        (all-map (λ x. IsHere x.node begun (e ∷ later) x.lines) (λ x. IsHere x.node (begun ++ e ∷ []) later x.lines) (row-here e begun later is) stored here)
 
     -- the plans of the edits can be carried out in the stored files, and are then
-    pub carried : (later begun : List Edit) (made : ℕ) (stored : List StoredFile) (ss : List EditPlan) → begun ++ later ≡ es → made ≡ lines_amid history begun → AreRight (lines_at begun) made later ss
-        → AreHere begun later stored → CanCarryOutAll q ss stored × ((after : List StoredFile) → AreAllCarriedOut q ss stored after → AreHere es [] after)
+    pub carried : (later begun : List Edit) (made : ℕ) (stored : List FilePart) (ss : List EditPlan) → begun ++ later ≡ es → made ≡ lines_amid history begun → AreRight (lines_at begun) made later ss
+        → AreHere begun later stored → CanCarryOutAll q ss stored × ((after : List FilePart) → AreAllCarriedOut q ss stored after → AreHere es [] after)
     carried [] begun made stored ss all counted right here =
-        subst (λ ss. CanCarryOutAll q ss stored × ((after : List StoredFile) → AreAllCarriedOut q ss stored after → AreHere es [] after)) (sym right)
+        subst (λ ss. CanCarryOutAll q ss stored × ((after : List FilePart) → AreAllCarriedOut q ss stored after → AreHere es [] after)) (sym right)
         (tt, λ after same. subst (λ b. AreHere b [] after) (sym (append-nil begun) ∙ all) (subst (AreHere begun []) (sym same) here))
     carried (edits.New kind parent name ∷ later) begun made stored ss all counted right here =
         row-carried (edits.New kind parent name) begun later refl made stored ss all counted right here (carried later (begun ++ edits.New kind parent name ∷ []))
@@ -482,28 +482,28 @@ module _ (history : List Command) (base : ℕ) (choice : List Bool) (ambition : 
         let e = edits.Insert file after text in
         let plan : EditPlan = plans.Insert (node_number n file) (line_number m after) (lines_amid history begun + 1) text a in
         let put : ss ≡ plan ∷ right.0 = right.1 ∙ ap (λ j. plans.Insert (node_number n file) (line_number m after) (j + 1) text a ∷ right.0) counted in
-        let rest : (mid : List StoredFile) → AreCarriedOut q plan stored mid → CanCarryOutAll q right.0 mid × ((after : List StoredFile) → AreAllCarriedOut q right.0 mid after → AreHere es [] after) =
+        let rest : (mid : List FilePart) → AreCarriedOut q plan stored mid → CanCarryOutAll q right.0 mid × ((after : List FilePart) → AreAllCarriedOut q right.0 mid after → AreHere es [] after) =
         λ mid st. carried later (begun ++ e ∷ []) (made + 1) mid right.0 (append_assoc begun (e ∷ []) later ∙ all)
         (ap (λ j. j + 1) counted ∙ sym (one_more history begun file after text))
         (right-on (lines_at begun) (lines_at (begun ++ e ∷ [])) (insert-right begun later file after text all) (made + 1) later right.0 right.2)
-        (all-pairs (IsChangedIn (node_number n file) (IsCarriedOut q plan)) (λ x. IsHere x.node begun (e ∷ later) x.file) (λ x. IsHere x.node (begun ++ e ∷ []) later x.file)
+        (all-pairs (IsChangedIn (node_number n file) (IsCarriedOut q plan)) (λ x. IsHere x.node begun (e ∷ later) x.lines) (λ x. IsHere x.node (begun ++ e ∷ []) later x.lines)
         (insert-next begun later file after text all) stored mid st here) in
-        subst (λ ss. CanCarryOutAll q ss stored × ((after : List StoredFile) → AreAllCarriedOut q ss stored after → AreHere es [] after)) (sym put) (
-          (all-map (λ x. IsHere x.node begun (e ∷ later) x.file) (CanCarryOutIn q plan) (can-insert begun later file after text all) stored here, λ mid st. (rest mid st).0),
+        subst (λ ss. CanCarryOutAll q ss stored × ((after : List FilePart) → AreAllCarriedOut q ss stored after → AreHere es [] after)) (sym put) (
+          (all-map (λ x. IsHere x.node begun (e ∷ later) x.lines) (CanCarryOutIn q plan) (can-insert begun later file after text all) stored here, λ mid st. (rest mid st).0),
           λ after st. (rest st.0 st.1).1 after st.2,
         )
     carried (edits.Delete file line ∷ later) begun made stored ss all counted right here =
         let e = edits.Delete file line in
         let vis = right.0 in
         let plan : EditPlan = plans.Delete (node_number n file) (line_number m line) vis in
-        let rest : (mid : List StoredFile) → AreCarriedOut q plan stored mid → CanCarryOutAll q right.1 mid × ((after : List StoredFile) → AreAllCarriedOut q right.1 mid after → AreHere es [] after) =
+        let rest : (mid : List FilePart) → AreCarriedOut q plan stored mid → CanCarryOutAll q right.1 mid × ((after : List FilePart) → AreAllCarriedOut q right.1 mid after → AreHere es [] after) =
         λ mid st. carried later (begun ++ e ∷ []) made mid right.1 (append_assoc begun (e ∷ []) later ∙ all)
         (counted ∙ ap (λ l. m + length l) (sym (none_more m begun e refl)))
         (right-on (lines_at begun) (lines_at (begun ++ e ∷ [])) (delete-right begun later file line all) made later right.1 right.4)
-        (all-pairs (IsChangedIn (node_number n file) (IsCarriedOut q plan)) (λ x. IsHere x.node begun (e ∷ later) x.file) (λ x. IsHere x.node (begun ++ e ∷ []) later x.file)
+        (all-pairs (IsChangedIn (node_number n file) (IsCarriedOut q plan)) (λ x. IsHere x.node begun (e ∷ later) x.lines) (λ x. IsHere x.node (begun ++ e ∷ []) later x.lines)
         (delete-next begun later file line all vis right.3) stored mid st here) in
-        subst (λ ss. CanCarryOutAll q ss stored × ((after : List StoredFile) → AreAllCarriedOut q ss stored after → AreHere es [] after)) (sym right.2) (
-          (all-map (λ x. IsHere x.node begun (e ∷ later) x.file) (CanCarryOutIn q plan) (can-delete begun later file line all) stored here, λ mid st. (rest mid st).0),
+        subst (λ ss. CanCarryOutAll q ss stored × ((after : List FilePart) → AreAllCarriedOut q ss stored after → AreHere es [] after)) (sym right.2) (
+          (all-map (λ x. IsHere x.node begun (e ∷ later) x.lines) (CanCarryOutIn q plan) (can-delete begun later file line all) stored here, λ mid st. (rest mid st).0),
           λ after st. (rest st.0 st.1).1 after st.2,
         )
 

@@ -1,5 +1,5 @@
 -- The nodes of lines before a commit, and the plans of its edits.
-use Rattle.std.proofs.Common.{◌≡◌, ℕ, zero, suc, ◌+◌, ◌<◌, ◌≤◌, max, Bool, true, false, cond, ◌&&◌, not, nat_eq, List, [], ◌∷◌, ◌++◌, length, length-append, get_or, Some, unwrap_or, option_map, append-nil, append_assoc, refl, sym, ap, subst, ◌∙◌, arith}
+use Rattle.std.proofs.Common.{◌≡◌, ℕ, zero, suc, ◌+◌, ◌<◌, ◌≤◌, max, Bool, true, false, cond, ◌&&◌, ◌||◌, not, nat_eq, List, [], ◌∷◌, ◌++◌, length, length-append, map, get_or, slice_get, Some, unwrap_or, option_map, append-nil, append_assoc, refl, sym, ap, subst, ◌∙◌, arith}
 use Rattle.std.specs.List.{AllByRecursion, find}
 use Rattle.std.proofs.lemmas.Bool.Decides.{nat_tests}
 use Rattle.cov_dd.specs.declared.triple.Triple.{Triple}
@@ -13,43 +13,38 @@ use Rattle.cov_base.specs.declared.number.NodeRef.{NodeRef}
 use Rattle.cov_base.specs.declared.number.LineRef.{LineRef}
 use Rattle.cov_base.proofs.CallerLemmas.{all-map}
 use Rattle.cov_file.specs.Dated.{DatedLine as FileLine, vis_at, vis_of}
-use Rattle.cov_engine.specs.Staging.{AreNumbered}
+use Rattle.cov_base.specs.Rows.{has_node}
+use Rattle.cov_edit.specs.Touched.{AreRising}
+use Rattle.cov_engine.specs.Parts.{part_node}
 use Rattle.cov_engine.specs.Nodes.{old_node, HasNodesIn}
 use Rattle.cov_engine.specs.Carrying.{ArePlanned, IsPlannedBehind}
-use Rattle.cov_engine.specs.declared.stored_file.StoredFile.{StoredFile}
+use Rattle.cov_engine.specs.declared.file_part.FilePart.{FilePart}
 use Rattle.cov_engine.specs.declared.edit_plan.EditPlan.{EditPlan}
 use Rattle.cov_engine.specs.declared.edit_plan.EditPlan.TheVariants as plans
-use Rattle.cov_engine.proofs.StoredFiles.{IsOutside, Below, Above}
+use Rattle.cov_engine.proofs.StoredFiles.{all-get}
 use Rattle.cov_edit.proofs.CallerLemmas.{anchors-append, rest_of, rest-is}
 
-differs-outside : (k file : ℕ) (e : StoredFile) (es : List StoredFile) → e.node ≡ k + 1 → IsOutside k (suc (length es)) file → nat_eq e.node file ≡ false
-differs-outside k file e es is (Below h) = grind (arith, nat_tests, is, h)
-differs-outside k file e es is (Above h) = grind (arith, nat_tests, is, h)
-
-rest-outside : (k file : ℕ) (es : List StoredFile) → IsOutside k (suc (length es)) file → IsOutside (k + 1) (length es) file
-rest-outside k file es (Below h) = Below (omega (arith, h))
-rest-outside k file es (Above h) = Above (omega (arith, h))
-
 -- a file without a stored file has no node for a line
-pub old-outside : (p k file line : ℕ) (es : List StoredFile) → AreNumbered k es → IsOutside k (length es) file → old_node p es file line ≡ 0
-old-outside p k file line [] numbered out = refl
-old-outside p k file line (e ∷ es) numbered out =
-    ap (λ b. cond b (unwrap_or (vis_of line p e.file.lines) 0) (old_node p es file line)) (differs-outside k file e es numbered.0 out)
-    ∙ old-outside p (k + 1) file line es numbered.1 (rest-outside k file es out)
+pub old-outside : (p file line : ℕ) (es : List FilePart) → has_node file (map part_node es) ≡ false → old_node p es file line ≡ 0
+old-outside p file line [] h = refl
+old-outside p file line (e ∷ es) h = at (nat_eq e.node file) h (old-outside p file line es)
+  where
+    at : (b : Bool) → (b || has_node file (map part_node es)) ≡ false → (has_node file (map part_node es) ≡ false → old_node p es file line ≡ 0) → cond b (unwrap_or (vis_of line p e.lines.lines) 0) (old_node p es file line) ≡ 0
+    at true k rest = absurd (cc)
+    at false k rest = rest k
 
 -- a file's node for a line is that of its stored file
-pub old-at : (p k file line i : ℕ) (es : List StoredFile) (d : StoredFile) → AreNumbered k es → file ≡ k + 1 + i → i < length es
-    → old_node p es file line ≡ unwrap_or (vis_of line p (get_or es i d).file.lines) 0
-old-at p k file line i [] d numbered is h = absurd (omega (arith, h))
-old-at p k file line zero (e ∷ es) d numbered is h =
-    let it : e.node ≡ k + 1 = numbered.0 in
-    let same : nat_eq e.node file ≡ true = grind (arith, nat_tests, it, is) in
-    ap (λ b. cond b (unwrap_or (vis_of line p e.file.lines) 0) (old_node p es file line)) same
-old-at p k file line (suc i) (e ∷ es) d numbered is h =
-    let it : e.node ≡ k + 1 = numbered.0 in
-    let differs : nat_eq e.node file ≡ false = grind (arith, nat_tests, it, is) in
-    ap (λ b. cond b (unwrap_or (vis_of line p e.file.lines) 0) (old_node p es file line)) differs
-    ∙ old-at p (k + 1) file line i es d numbered.1 (omega (arith, is)) (omega (arith, h))
+pub old-at : (p file line i : ℕ) (es : List FilePart) (d : FilePart) → AreRising (map part_node es) → slice_get (map part_node es) i ≡ Some file
+    → old_node p es file line ≡ unwrap_or (vis_of line p (get_or es i d).lines.lines) 0
+old-at p file line i [] d rising h = absurd (cc)
+old-at p file line zero (e ∷ es) d rising h =
+    let it : e.node ≡ file = cc in
+    let same : nat_eq e.node file ≡ true = grind (arith, nat_tests, it) in
+    ap (λ b. cond b (unwrap_or (vis_of line p e.lines.lines) 0) (old_node p es file line)) same
+old-at p file line (suc i) (e ∷ es) d rising h =
+    let above : e.node < file = all-get (λ y. e.node < y) (map part_node es) i file h rising.0 in
+    let differs : nat_eq e.node file ≡ false = grind (arith, nat_tests, above) in
+    ap (λ b. cond b (unwrap_or (vis_of line p e.lines.lines) 0) (old_node p es file line)) differs ∙ old-at p file line i es d rising.1 h
 
 node-within : (ts : List Triple) (p line : ℕ) (ls : List FileLine) → AllByRecursion (λ l. vis_at l.changes p < diagram_size ts) ls → unwrap_or (vis_of line p ls) 0 < diagram_size ts
 node-within ts p line [] all = let some = some_nodes ts in omega (arith, some)
@@ -61,24 +56,24 @@ node-within ts p line (l ∷ ls) all = at (nat_eq l.line line) (node-within ts p
     at false rest = rest
 
 -- it is a node of the table of which the stored files' nodes are
-pub old-within : (ts : List Triple) (p file line : ℕ) (es : List StoredFile) → AllByRecursion (HasNodesIn ts p) es → old_node p es file line < diagram_size ts
+pub old-within : (ts : List Triple) (p file line : ℕ) (es : List FilePart) → AllByRecursion (HasNodesIn ts p) es → old_node p es file line < diagram_size ts
 old-within ts p file line [] all = let some = some_nodes ts in omega (arith, some)
 old-within ts p file line (e ∷ es) all = at (nat_eq e.node file) (old-within ts p file line es all.1)
   where
-    at : (b : Bool) → old_node p es file line < diagram_size ts → cond b (unwrap_or (vis_of line p e.file.lines) 0) (old_node p es file line) < diagram_size ts
-    at true rest = node-within ts p line e.file.lines all.0.nodes
+    at : (b : Bool) → old_node p es file line < diagram_size ts → cond b (unwrap_or (vis_of line p e.lines.lines) 0) (old_node p es file line) < diagram_size ts
+    at true rest = node-within ts p line e.lines.lines all.0.nodes
     at false rest = rest
 
 -- no change of a stored file is beyond the position
-pub newest-within : (ts : List Triple) (p : ℕ) (es : List StoredFile) → AllByRecursion (HasNodesIn ts p) es → AllByRecursion (λ e. e.file.newest ≤ p) es
-newest-within ts p es all = all-map (HasNodesIn ts p) (λ e. e.file.newest ≤ p) (λ e h. h.newest) es all
+pub newest-within : (ts : List Triple) (p : ℕ) (es : List FilePart) → AllByRecursion (HasNodesIn ts p) es → AllByRecursion (λ e. e.lines.newest ≤ p) es
+newest-within ts p es all = all-map (HasNodesIn ts p) (λ e. e.lines.newest ≤ p) (λ e h. h.newest) es all
 
 -- the stored files' nodes are of a longer table too
-pub nodes-later : (ts us : List Triple) (p : ℕ) (es : List StoredFile) → Extends ts us → AllByRecursion (HasNodesIn ts p) es → AllByRecursion (HasNodesIn us p) es
+pub nodes-later : (ts us : List Triple) (p : ℕ) (es : List FilePart) → Extends ts us → AllByRecursion (HasNodesIn ts p) es → AllByRecursion (HasNodesIn us p) es
 nodes-later ts us p es x all =
     all-map (HasNodesIn ts p) (HasNodesIn us p)
     (λ e h. record {
-      nodes = all-map (λ l. vis_at l.changes p < diagram_size ts) (λ l. vis_at l.changes p < diagram_size us) (λ l less. let more = x.count in omega (arith, less, more)) e.file.lines h.nodes;
+      nodes = all-map (λ l. vis_at l.changes p < diagram_size ts) (λ l. vis_at l.changes p < diagram_size us) (λ l less. let more = x.count in omega (arith, less, more)) e.lines.lines h.nodes;
       newest = h.newest;
     }) es all
 
@@ -93,7 +88,7 @@ taken-later ts new us old a vis least x y within_old within_a s =
     (λ c. ap (λ b. b && not (value_in ts a c)) (sym (z.value old within_old c)) ∙ ap (λ b. value_in us old c && not b) (sym (z.value a within_a c)))
     (stands_later y s)
 
-module _ (p : ℕ) (stored : List StoredFile) (n m ambition : ℕ) where
+module _ (p : ℕ) (stored : List FilePart) (n m ambition : ℕ) where
   -- a delete's plan goes behind others
   pub delete-planned : (ts new : List Triple) (made old vis least : ℕ) (file : NodeRef) (line : LineRef) (before behind : List EditPlan) (edit : Edit) (plan : EditPlan)
       → Extends ts new → AllByRecursion (HasNodesIn ts p) stored → ambition < diagram_size ts → old ≡ old_node p stored (node_number n file) (line_number m line)
@@ -124,7 +119,7 @@ module _ (made next : ℕ) (edit d : Edit) (more : next ≡ made + length (ancho
       subst (λ rest. next + length (anchors_of 0 rest) < most) (sym (rest-is e es))
       (let both = anchors-first e es in let one : length (anchors_of 0 (edit ∷ [])) ≡ length (anchors_of 0 (e ∷ [])) = ap (λ x. length (anchors_of 0 (x ∷ []))) is in omega (arith, few, more, both, one))
 
-  module _ (p : ℕ) (stored : List StoredFile) (n m ambition : ℕ) where
+  module _ (p : ℕ) (stored : List FilePart) (n m ambition : ℕ) where
     -- with the plans of the rest behind those of an edit, all are planned
     pub planned-rest : (ts us : List Triple) (ahead : List Edit) (old new ss : List EditPlan) → edit ≡ get_or ahead 0 d → 1 ≤ length ahead → Extends ts us
         → IsPlannedBehind p stored n m ambition ts made edit old new → ArePlanned p stored n m ambition us next (rest_of ahead) ss
@@ -138,7 +133,7 @@ module _ (made next : ℕ) (edit d : Edit) (more : next ≡ made + length (ancho
     )
 
 -- with no edit ahead, what there is are the plans
-pub planned-end : (p : ℕ) (stored : List StoredFile) (n m ambition : ℕ) (us : List Triple) (made start : ℕ) (es ahead : List Edit) (ss : List EditPlan) → length ahead < 1
+pub planned-end : (p : ℕ) (stored : List FilePart) (n m ambition : ℕ) (us : List Triple) (made start : ℕ) (es ahead : List Edit) (ss : List EditPlan) → length ahead < 1
     → ((rest : List EditPlan) → ArePlanned p stored n m ambition us made ahead rest → ArePlanned p stored n m ambition us start es (ss ++ rest)) → ArePlanned p stored n m ambition us start es ss
 planned-end p stored n m ambition us made start es [] ss h on = subst (ArePlanned p stored n m ambition us start es) (append-nil ss) (on [] refl)
 planned-end p stored n m ambition us made start es (e ∷ ahead) ss h on = absurd (omega (arith, h))

@@ -6,7 +6,7 @@ use Rattle.std.proofs.lemmas.Bool.Decides.{nat_tests}
 use Rattle.cov_base.proofs.CallerLemmas.{length-with_lines, all-map}
 use Rattle.cov_dd.specs.declared.triple.Triple.{Triple}
 use Rattle.cov_base.specs.declared.limits.TheConstants.{LIMITS}
-use Rattle.cov_expr.specs.Formula.{Formula, reach}
+use Rattle.cov_expr.specs.Formula.{Formula, False, reach}
 use Rattle.cov_expr.specs.Validity.{is_valid}
 use Rattle.cov_edit.specs.declared.edit.Edit.{Edit}
 use Rattle.cov_edit.specs.declared.command.Command.{Command}
@@ -19,7 +19,7 @@ use Rattle.cov_rules.specs.Installing.{RulesValue, Standing, expressions, reach_
 use Rattle.cov_view.specs.Refusals.{when, first_of}
 use Rattle.cov_view.proofs.CallerLemmas.{none-when}
 use Rattle.cov_engine.specs.declared.counts.Counts.{Counts}
-use Rattle.cov_engine.specs.declared.stored_file.StoredFile.{StoredFile}
+use Rattle.cov_engine.specs.declared.file_part.FilePart.{FilePart}
 use Rattle.cov_engine.specs.declared.store.CommitMark.{CommitMark}
 use Rattle.cov_engine.specs.declared.edit_plan.EditPlan.{EditPlan}
 use Rattle.cov_engine.specs.declared.sizes.Sizes.{Sizes}
@@ -31,17 +31,19 @@ use Rattle.cov_engine.specs.Nodes.{HasNodesIn}
 use Rattle.cov_engine.proofs.Dating.{dated-nodes}
 use Rattle.cov_tree.specs.declared.entry.Entry.{Entry}
 use Rattle.cov_tree.specs.Changes.{Makes}
-use Rattle.cov_tree.specs.Dated.{Dated, HasRoom as HasRowRoom, nodes_in, nodes_with, without_room}
-use Rattle.cov_engine.specs.RowPlans.{edit_changes, made_by, IsSet}
-use Rattle.cov_engine.specs.Holdings.{stored_node, IsFileOf, IsHeldBy}
+use Rattle.cov_tree.specs.Dated.{Dated, HasRoom as HasRowRoom, nodes_in, kinds_in, nodes_with, kinds_with, without_room}
+use Rattle.cov_engine.specs.RowPlans.{edit_changes, made_by, kinds_made_by, IsSet}
+use Rattle.cov_engine.specs.Holdings.{IsFileOf, IsHeldBy}
+use Rattle.cov_engine.specs.Parts.{part_node, count_below, files_in}
+use Rattle.cov_edit.specs.Touched.{AreRising}
+use Rattle.cov_history.specs.FileNodes.{files_made, files_of}
 use Rattle.cov_history.specs.Sessions.{IsGood, MayCome, session_of}
 use Rattle.cov_engine.specs.States.{AreCountsOf, IsStateOf}
-use Rattle.cov_engine.specs.Marks.{AreMarks}
 use Rattle.cov_engine.specs.Overtakers.{IsOvertaker}
 use Rattle.cov_history.specs.Overtaking.{overtaken}
 use Rattle.cov_history.specs.Verdict.{IsLegal, as_overtaken, verdict, refusals_of, size_refusals, has_no_edits}
 use Rattle.cov_history.specs.FileOfLine.{new_file_of_line}
-use Rattle.cov_engine.specs.Staging.{Contents, contents, sizes_of, sizes_refusal, new_files, AreNumbered, AreNear, AreLow, HasRoom}
+use Rattle.cov_engine.specs.Staging.{contents, sizes_of, sizes_refusal, new_files, AreNear, AreLow, HasRoom}
 use Rattle.cov_engine.specs.Staged.{IsCommitPlan, IsStaged}
 use Rattle.cov_edit.specs.History.{is_valid_in}
 use Rattle.cov_dd.specs.Diagrams.{Extends}
@@ -50,16 +52,17 @@ use Rattle.cov_tree.proofs.CallerLemmas.{plans_grow}
 use Rattle.cov_engine.specs.Carrying.{ArePlanned, CanCarryOutAll, AreInstalled}
 use Rattle.cov_dd.specs.Diagrams.{value_in, Stands}
 use Rattle.cov_engine.specs.Ready.{IsNext, IsInBounds, AreCountsWith, IsCommitReady, IsStagedReady, IsReady, edits_in}
-use Rattle.cov_history.proofs.CallerLemmas.{edits-accepted, good-passes, new-files_of_lines-count}
+use Rattle.cov_history.proofs.CallerLemmas.{files-commit, files-rise, made-within, edits-accepted, good-passes, new-files_of_lines-count}
 use Rattle.cov_history.specs.BadChoices.{unsound_refusal}
 use Rattle.cov_engine.specs.declared.ready.Ready.{Ready}
 use Rattle.cov_engine.specs.declared.ready.Ready.TheVariants as ready
 use Rattle.cov_engine.proofs.States.{legal-one, length-one, sum-one, options-append, below}
-use Rattle.cov_engine.proofs.Committed.{map-append, new-files-nodes}
-use Rattle.cov_engine.proofs.Rooms.{same-numbers}
+use Rattle.cov_engine.proofs.StoredFiles.{same-nodes}
+use Rattle.cov_engine.proofs.Rising.{count-front}
+use Rattle.cov_engine.proofs.Rooms.{staged-nodes}
 use Rattle.cov_engine.proofs.RowPlans.{entries-room, makes-room}
 use Rattle.cov_engine.proofs.Ruling.{rules-same}
-use Rattle.cov_engine.proofs.Installed.{declared-less, lines-few, nodes-few, edits-few, bytes-few, edits-near, edits-low, accepted-sizes, staged-numbered, staged-plans, row-later, held-committed, files-contents}
+use Rattle.cov_engine.proofs.Installed.{declared-less, lines-few, nodes-few, edits-few, bytes-few, edits-near, edits-low, accepted-sizes, staged-rise, staged-plans, row-later, held-committed, files-contents}
 
 -- the refusal by sizes that are counted is that by the history's
 sized-as : (history : List Command) (counts : Counts) (es : List Edit) → AreCountsOf history counts → sizes_refusal counts es ≡ first_of (size_refusals history es ++ when (has_no_edits es) refusals.Empty ∷ [])
@@ -93,12 +96,12 @@ refused-late : (o : Option Refusal) (p found : Option ℕ) (later : List (Option
 refused-late o p found later e f = ap (λ q. first_of (q ∷ as_overtaken p ∷ later)) e ∙ ap (λ q. first_of (as_overtaken q ∷ later)) (sym f)
 
 -- what is found among the commits is what overtakes in the history
-overtaken-found : (history : List Command) (names : List (List ℕ)) (ts : List Triple) (standing : Standing) (counts : Counts) (commits some : List CommitMark) (file_of_line : List ℕ) (entries : Dated) (stored : List StoredFile) (valid base : ℕ)
+overtaken-found : (history : List Command) (names : List (List ℕ)) (ts : List Triple) (standing : Standing) (counts : Counts) (commits : List CommitMark) (file_of_line : List ℕ) (entries : Dated) (stored : List FilePart) (valid base : ℕ)
     (ambition : Formula ℕ) (es : List Edit) (found : Option ℕ) → IsStateOf history names ts standing counts → IsHeldBy history ts commits file_of_line entries stored → reach ambition ≤ option_count history
-    → valid ≡ standing.conjunction → some ≡ commits → IsOvertaker ts valid some base ambition es found → found ≡ overtaken history base ambition es
-overtaken-found history names ts standing counts commits some file_of_line entries stored valid base ambition es found state held low is same first =
+    → valid ≡ standing.conjunction → IsOvertaker ts valid commits base ambition es found → found ≡ overtaken history base ambition es
+overtaken-found history names ts standing counts commits file_of_line entries stored valid base ambition es found state held low is first =
     first history state.rules.below.few (subst (λ fs. reach_of fs ≤ option_count history) state.rules.constraints state.rules.below.constraints) low
-    (subst (AreMarks ts (option_count history) 0 history) (sym same) held.marks)
+    held.marks
     (λ c. ap (λ a. value_in ts a c) is ∙ state.rules.holds.conjunction.value c ∙ ap (λ fs. is_valid fs c) state.rules.constraints)
 
 -- a command that may come, and that is a commit
@@ -135,16 +138,16 @@ module _ (history : List Command) (k : Command) (base : ℕ) (choice : List Bool
     sized-verdict r sized = sized-or-late ∙ ap (λ o. first_of (o ∷ as_overtaken (overtaken history base ambition es) ∷ unsound ∷ [])) sized
 
     -- the verdict on another is that of what is found to overtake it, or else of a variant left unsound
-    pub late-verdict : (names : List (List ℕ)) (ts : List Triple) (standing : Standing) (commits some : List CommitMark) (file_of_line : List ℕ) (entries : Dated) (stored : List StoredFile) (valid : ℕ) (found : Option ℕ)
-        → IsStateOf history names ts standing counts → IsHeldBy history ts commits file_of_line entries stored → valid ≡ standing.conjunction → some ≡ commits → sizes_refusal counts es ≡ None
-        → IsOvertaker ts valid some base ambition es found → verdict history k ≡ first_of (as_overtaken found ∷ unsound ∷ [])
-    late-verdict names ts standing commits some file_of_line entries stored valid found state held conjunction same sized first =
+    pub late-verdict : (names : List (List ℕ)) (ts : List Triple) (standing : Standing) (commits : List CommitMark) (file_of_line : List ℕ) (entries : Dated) (stored : List FilePart) (valid : ℕ) (found : Option ℕ)
+        → IsStateOf history names ts standing counts → IsHeldBy history ts commits file_of_line entries stored → valid ≡ standing.conjunction → sizes_refusal counts es ≡ None
+        → IsOvertaker ts valid commits base ambition es found → verdict history k ≡ first_of (as_overtaken found ∷ unsound ∷ [])
+    late-verdict names ts standing commits file_of_line entries stored valid found state held conjunction sized first =
         sized-or-late
         ∙ refused-late (sizes_refusal counts es) (overtaken history base ambition es) found (unsound ∷ []) sized
-        (overtaken-found history names ts standing counts commits some file_of_line entries stored valid base ambition es found state held reach-declared conjunction same first)
+        (overtaken-found history names ts standing counts commits file_of_line entries stored valid base ambition es found state held reach-declared conjunction first)
 
   -- what is staged for a commit is what its command wants
-  module _ (os : ℕ) (ts : List Triple) (rules : RulesValue) (spare : ℕ) (commits : List CommitMark) (file_of_line : List ℕ) (entries : Dated) (stored : List StoredFile) where
+  module _ (os : ℕ) (ts : List Triple) (rules : RulesValue) (spare : ℕ) (commits : List CommitMark) (file_of_line : List ℕ) (entries : Dated) (stored : List FilePart) where
     as-staged : (r : Ready) → IsStagedReady history ts ambition es spare commits file_of_line entries stored r → IsReady history k os ts rules spare commits file_of_line entries stored r
     as-staged (ready.Option name) h = absurd h
     as-staged (ready.Rule rule plan) h = absurd h
@@ -155,50 +158,59 @@ module _ (history : List Command) (k : Command) (base : ℕ) (choice : List Bool
     all-staged (Ok r) h = as-staged r h
     all-staged (Err e) h = tt
 
-contents-nodes : (xs : List StoredFile) → map (λ (s : Contents). s.node) (map contents xs) ≡ map stored_node xs
-contents-nodes [] = refl
-contents-nodes (x ∷ xs) = ap (λ ns. x.node ∷ ns) (contents-nodes xs)
-
 -- what is the same but for rooms holds the same
-pub held-contents : (history : List Command) (ts : List Triple) (commits : List CommitMark) (file_of_line : List ℕ) (before after : Dated) (old now : List StoredFile) → without_room after ≡ without_room before → map contents now ≡ map contents old
+pub held-contents : (history : List Command) (ts : List Triple) (commits : List CommitMark) (file_of_line : List ℕ) (before after : Dated) (old now : List FilePart) → without_room after ≡ without_room before → map contents now ≡ map contents old
     → IsHeldBy history ts commits file_of_line before old → IsHeldBy history ts commits file_of_line after now
 held-contents history ts commits file_of_line before after old now rows same held =
-    let nodes : map stored_node now ≡ map stored_node old = same-nodes old now same in
     record {
       of_entries = entries-room history ts before after rows held.of_entries;
-      made = ap (λ (d : Dated). nodes_in d) rows ∙ held.made ∙ sym nodes;
-      numbered = same-numbers old now same held.numbered;
-      counted = let a = ap length nodes in let b = length-map now stored_node in let c = length-map old stored_node in let before = held.counted in omega (arith, a, b, c, before);
+      below = subst (AllByRecursion (λ node. node ≤ (numbers_of history).nodes)) (sym (ap (λ (d : Dated). nodes_in d) rows)) held.below;
+      made = ap (λ (d : Dated). files_in d) rows ∙ held.made;
+      parts = same-nodes old now same ∙ held.parts;
       files = files-contents history ts old now same held.files;
       lines = held.lines;
       in_files = held.in_files;
       few = held.few;
       marks = held.marks;
     }
-  where
-    same-nodes : (xs ys : List StoredFile) → map contents ys ≡ map contents xs → map stored_node ys ≡ map stored_node xs
-    same-nodes xs ys e = sym (contents-nodes ys) ∙ ap (map (λ (s : Contents). s.node)) e ∙ contents-nodes xs
 
 take-front : {X : Type 0} (n : ℕ) (xs ys : List X) → n ≡ length xs → take n (xs ++ ys) ≡ xs
 take-front n xs ys e = take-append-le n xs ys (omega (arith, e)) ∙ take_all n xs (omega (arith, e))
 
 -- what is staged is cut off again
-pub given-up : (history : List Command) (ts : List Triple) (ambition : Formula ℕ) (es : List Edit) (counts : Counts) (commits : List CommitMark) (mark : CommitMark) (ss : List EditPlan) (plan : Option (List Entry)) (file_of_line : List ℕ) (entries : Dated) (stored : List StoredFile)
-    (commits' : List CommitMark) (file_of_line' : List ℕ) (entries' : Dated) (stored' : List StoredFile) → AreCountsOf history counts → IsStaged history ts ambition es commits mark ss plan file_of_line entries stored
-    → commits' ≡ commits → file_of_line' ≡ take counts.lines file_of_line → entries' ≡ entries → map contents stored' ≡ map contents (take (counts.nodes - 1) stored) → IsHeldBy history ts commits' file_of_line' entries' stored'
+pub given-up : (history : List Command) (ts : List Triple) (ambition : Formula ℕ) (es : List Edit) (counts : Counts) (commits : List CommitMark) (mark : CommitMark) (ss : List EditPlan) (plan : Option (List Entry)) (file_of_line : List ℕ) (entries : Dated) (stored : List FilePart)
+    (commits' : List CommitMark) (file_of_line' : List ℕ) (entries' : Dated) (stored' : List FilePart) → AreCountsOf history counts → IsStaged history ts ambition es commits mark ss plan file_of_line entries stored
+    → commits' ≡ commits → file_of_line' ≡ take counts.lines file_of_line → entries' ≡ entries → map contents stored' ≡ map contents (take (count_below counts.nodes (map part_node stored)) stored) → IsHeldBy history ts commits' file_of_line' entries' stored'
 given-up history ts ambition es counts commits mark ss plan file_of_line entries stored commits' file_of_line' entries' stored' are staged ce he xe ee =
-    let nodes = are.nodes in
     let lines = are.lines in
-    let held_nodes = staged.held.counted in
     let held_lines = staged.held.lines in
-    let count = length-map staged.old_stored contents in
     subst (λ cs. IsHeldBy history ts cs file_of_line' entries' stored') (sym ce)
     (subst (λ xs. IsHeldBy history ts commits xs entries' stored')
     (sym (he ∙ ap (take counts.lines) staged.file_of_line_is ∙ take-front counts.lines staged.old_file_of_line (new_file_of_line (numbers_of history).nodes es) (omega (arith, lines, held_lines))))
     (held-contents history ts commits staged.old_file_of_line entries entries' staged.old_stored stored' (ap without_room xe)
-    (ee ∙ sym (take-map contents (counts.nodes - 1) stored) ∙ ap (take (counts.nodes - 1)) staged.files
-    ∙ take-front (counts.nodes - 1) (map contents staged.old_stored) (new_files (numbers_of history).nodes es) (omega (arith, nodes, held_nodes, count)))
+    (ee ∙ sym (take-map contents (count_below counts.nodes (map part_node stored)) stored) ∙ ap (take (count_below counts.nodes (map part_node stored))) staged.files
+    ∙ take-front (count_below counts.nodes (map part_node stored)) (map contents staged.old_stored) (new_files (numbers_of history).nodes es) few)
     staged.held))
+  where
+    n : ℕ
+    n = (numbers_of history).nodes
+
+    low : AllByRecursion (λ node. node < counts.nodes) (map part_node staged.old_stored)
+    low =
+        let nodes = are.nodes in
+        subst (AllByRecursion (λ node. node < counts.nodes)) (sym staged.held.parts)
+        (all-map (λ file. (0 < file) × (file ≤ n)) (λ node. node < counts.nodes) (λ file h. let most = h.1 in omega (arith, most, nodes)) (files_of history) (files-rise history).1)
+
+    high : AllByRecursion (λ node. counts.nodes ≤ node) (files_made n es)
+    high =
+        let nodes = are.nodes in
+        all-map (λ file. (n < file) × (file ≤ n + nodes_made es)) (λ node. counts.nodes ≤ node) (λ file h. let above = h.0 in omega (arith, above, nodes)) (files_made n es) (made-within n es)
+
+    few : count_below counts.nodes (map part_node stored) ≡ length (map contents staged.old_stored)
+    few =
+        ap (count_below counts.nodes) (staged-nodes n staged.old_stored stored es staged.files)
+        ∙ count-front counts.nodes (map part_node staged.old_stored) (files_made n es) low high
+        ∙ length-map staged.old_stored part_node ∙ sym (length-map staged.old_stored contents)
 
 module _ (history : List Command) (base : ℕ) (choice : List Bool) (ambition : Formula ℕ) (es : List Edit) where
   abbrev commit : Command
@@ -249,18 +261,18 @@ first-nodes : (history : List Command) (counts : Counts) → AreCountsOf history
 first-nodes history counts are = let nodes = are.nodes in omega (arith, nodes)
 
 -- a command for which a commit is ready
-module _ (history : List Command) (names : List (List ℕ)) (ts : List Triple) (standing : Standing) (old new : Counts) (ks : ℕ) (commits : List CommitMark) (mark : CommitMark) (ss : List EditPlan) (plan : Option (List Entry)) (file_of_line : List ℕ) (entries : Dated) (stored : List StoredFile)
+module _ (history : List Command) (names : List (List ℕ)) (ts : List Triple) (standing : Standing) (old new : Counts) (ks : ℕ) (commits : List CommitMark) (mark : CommitMark) (ss : List EditPlan) (plan : Option (List Entry)) (file_of_line : List ℕ) (entries : Dated) (stored : List FilePart)
     (state : IsStateOf history names ts standing old) where
   abbrev IsThat : Command → Type 0
   IsThat command = IsCommitReady history ts command ks commits file_of_line entries stored mark new ss plan
 
-  pub ready-numbered : (command : Command) (spare : ℕ) → IsNext history command spare → IsThat command → AreNumbered 0 stored
-  ready-numbered (commands.Option name) spare next r = absurd r
-  ready-numbered (commands.Constraint expr) spare next r = absurd r
-  ready-numbered (commands.Prefer expr) spare next r = absurd r
-  ready-numbered (commands.Default option on) spare next r = absurd r
-  ready-numbered (commands.Commit base choice ambition es) spare next r =
-      staged-numbered history base choice ambition es state.legal r.0 next.accepted ts commits mark ss plan file_of_line entries stored r.1
+  pub ready-rising : (command : Command) (spare : ℕ) → IsNext history command spare → IsThat command → AreRising (map part_node stored)
+  ready-rising (commands.Option name) spare next r = absurd r
+  ready-rising (commands.Constraint expr) spare next r = absurd r
+  ready-rising (commands.Prefer expr) spare next r = absurd r
+  ready-rising (commands.Default option on) spare next r = absurd r
+  ready-rising (commands.Commit base choice ambition es) spare next r =
+      staged-rise history base choice ambition es state.legal r.0 next.accepted ts commits mark ss plan file_of_line entries stored r.1
 
   pub ready-plans : (command : Command) (spare : ℕ) → IsNext history command spare → IsThat command → CanCarryOutAll mark.position ss stored
   ready-plans (commands.Option name) spare next r = absurd r
@@ -288,7 +300,7 @@ module _ (history : List Command) (names : List (List ℕ)) (ts : List Triple) (
     r.1.row_room,
   )
 
-  pub ready-held : (command : Command) (spare : ℕ) (commits' : List CommitMark) (file_of_line' : List ℕ) (entries' : Dated) (stored' : List StoredFile) → IsNext history command spare → IsThat command
+  pub ready-held : (command : Command) (spare : ℕ) (commits' : List CommitMark) (file_of_line' : List ℕ) (entries' : Dated) (stored' : List FilePart) → IsNext history command spare → IsThat command
       → commits' ≡ commits ++ mark ∷ [] → file_of_line' ≡ file_of_line → IsSet mark.position plan entries entries' → AreInstalled mark.position ss stored stored'
       → IsHeldBy (history ++ command ∷ []) ts commits' file_of_line' entries' stored'
   ready-held (commands.Option name) spare commits' file_of_line' entries' stored' next r ce he set installed = absurd r
@@ -302,8 +314,8 @@ module _ (history : List Command) (names : List (List ℕ)) (ts : List Triple) (
       (subst (λ q. IsSet q plan entries entries') r.1.at set) (subst (λ q. AreInstalled q ss stored stored') r.1.at installed)))
 
   -- given up, it leaves what is held
-  pub ready-given-up : (command : Command) (commits' : List CommitMark) (file_of_line' : List ℕ) (entries' : Dated) (stored' : List StoredFile) → IsThat command
-      → commits' ≡ commits → file_of_line' ≡ take old.lines file_of_line → entries' ≡ entries → map contents stored' ≡ map contents (take (old.nodes - 1) stored) → IsHeldBy history ts commits' file_of_line' entries' stored'
+  pub ready-given-up : (command : Command) (commits' : List CommitMark) (file_of_line' : List ℕ) (entries' : Dated) (stored' : List FilePart) → IsThat command
+      → commits' ≡ commits → file_of_line' ≡ take old.lines file_of_line → entries' ≡ entries → map contents stored' ≡ map contents (take (count_below old.nodes (map part_node stored)) stored) → IsHeldBy history ts commits' file_of_line' entries' stored'
   ready-given-up (commands.Option name) commits' file_of_line' entries' stored' r ce he xe ee = absurd r
   ready-given-up (commands.Constraint expr) commits' file_of_line' entries' stored' r ce he xe ee = absurd r
   ready-given-up (commands.Prefer expr) commits' file_of_line' entries' stored' r ce he xe ee = absurd r
@@ -352,6 +364,14 @@ made-nodes history counts entries es some before first plan are is same begun li
     ∙ ap (λ n. made_by n some (nodes_in entries)) (nodes-before history counts es some before are is)
     ∙ ap (λ xs. made_by (numbers_of history).nodes xs (nodes_in entries)) same
 
+pub made-kinds : (history : List Command) (counts : Counts) (entries : Dated) (es some : List Edit) (before : ℕ) (first plan : Option (List Entry)) → AreCountsOf history counts → before ≡ counts.nodes - 1 → some ≡ es
+    → kinds_with first entries ≡ kinds_in entries → kinds_with plan entries ≡ kinds_made_by before some (kinds_with first entries) → kinds_with plan entries ≡ kinds_made_by (numbers_of history).nodes es (kinds_in entries)
+made-kinds history counts entries es some before first plan are is same begun listed =
+    listed
+    ∙ ap (kinds_made_by before some) begun
+    ∙ ap (λ n. kinds_made_by n some (kinds_in entries)) (nodes-before history counts es some before are is)
+    ∙ ap (λ xs. kinds_made_by (numbers_of history).nodes xs (kinds_in entries)) same
+
 -- the node of the constraints is one of each table that goes on, and names only declared options
 pub conjunction-stands : {history : List Command} {names : List (List ℕ)} {ts : List Triple} {standing : Standing} {counts : Counts} (new : List Triple) → IsStateOf history names ts standing counts → Extends ts new
     → Stands new standing.conjunction 0 (option_count history) (is_valid (expressions standing.constraints))
@@ -365,23 +385,30 @@ conjunction-later new state grown c =
     grown.value _ state.rules.holds.conjunction.within c ∙ state.rules.holds.conjunction.value c ∙ ap (λ fs. is_valid fs c) state.rules.constraints
 
 -- a history with edits that are within its limits
-module _ (history : List Command) (es : List Edit) (counts : Counts) (ts : List Triple) (commits : List CommitMark) (file_of_line : List ℕ) (entries : Dated) (stored : List StoredFile)
+module _ (history : List Command) (es : List Edit) (counts : Counts) (ts : List Triple) (commits : List CommitMark) (file_of_line : List ℕ) (entries : Dated) (stored : List FilePart)
     (are : AreCountsOf history counts) (held : IsHeldBy history ts commits file_of_line entries stored) (within : IsInBounds history es) where
-  pub held-nodes : counts.nodes ≡ length stored + 1
-  held-nodes =
-      let count = held.counted in
-      let nodes = are.nodes in
-      omega (arith, count, nodes)
+  nodes-are : counts.nodes - 1 ≡ (numbers_of history).nodes
+  nodes-are = first-nodes history counts are
 
-  pub held-near : (some : List Edit) → some ≡ es → AreNear (length stored) some
-  held-near some e = subst (AreNear (length stored)) (sym e) (subst (λ n. AreNear n es) (sym held.counted) within.near)
+  pub held-rising : (some : List Edit) → some ≡ es → AreRising (map part_node stored ++ files_made (counts.nodes - 1) some)
+  held-rising some e =
+      subst AreRising
+      (files-commit history 0 [] False es ∙ (λ j. sym held.parts j ++ files_made (sym nodes-are j) (sym e j)))
+      (files-rise (history ++ commands.Commit 0 [] False es ∷ [])).0
 
-  pub held-few : (some : List Edit) → some ≡ es → length stored + nodes_made some < 2 ^ 32 - 1
+  pub held-some : 1 ≤ counts.nodes
+  held-some = let nodes = are.nodes in omega (arith, nodes)
+
+  pub held-near : (some : List Edit) → some ≡ es → AreNear (counts.nodes - 1) some
+  held-near some e = subst (AreNear (counts.nodes - 1)) (sym e) (subst (λ n. AreNear n es) (sym nodes-are) within.near)
+
+  pub held-few : (some : List Edit) → some ≡ es → counts.nodes - 1 + nodes_made some < 2 ^ 32 - 1
   held-few some e =
-      let count = held.counted in
+      let own = nodes-are in
+      let all = are.nodes in
       let nodes = within.nodes in
       let same = ap nodes_made e in
-      omega (arith, count, nodes, same)
+      omega (arith, own, all, nodes, same)
 
   pub held-lines : counts.lines ≡ length file_of_line
   held-lines = are.lines ∙ sym held.lines
@@ -390,36 +417,28 @@ module _ (history : List Command) (es : List Edit) (counts : Counts) (ts : List 
   held-low some e = subst (AreLow counts.lines) (sym e) (subst (λ m. AreLow m es) (sym are.lines) within.low)
 
   -- what is staged of them is ready
-  pub is-ready : (ambition : Formula ℕ) (spare : ℕ) (mark : CommitMark) (new : Counts) (before : List Triple) (plans : List EditPlan) (plan : Option (List Entry)) (commits' : List CommitMark) (file_of_line' : List ℕ) (entries' : Dated) (stored' : List StoredFile) (some : List Edit) → some ≡ es
+  pub is-ready : (ambition : Formula ℕ) (spare : ℕ) (mark : CommitMark) (new : Counts) (before : List Triple) (plans : List EditPlan) (plan : Option (List Entry)) (commits' : List CommitMark) (file_of_line' : List ℕ) (entries' : Dated) (stored' : List FilePart) (some : List Edit) → some ≡ es
       → IsCommitPlan history before entries ambition es mark plan → Extends before ts
       → new ≡ record { lines = counts.lines + length (anchors_of 0 es); nodes = counts.nodes + nodes_made es; bytes = counts.bytes + text_bytes es }
       → ArePlanned mark.position stored (counts.nodes - 1) counts.lines mark.node ts counts.lines some plans
-      → commits' ≡ commits → without_room entries' ≡ without_room entries → file_of_line' ≡ file_of_line ++ new_file_of_line (length stored) some
-      → map contents stored' ≡ map contents stored ++ new_files (length stored) some → AllByRecursion (HasRoom (length stored) counts.lines some) stored' → HasRowRoom plan entries' → 0 < spare
+      → commits' ≡ commits → without_room entries' ≡ without_room entries → file_of_line' ≡ file_of_line ++ new_file_of_line (counts.nodes - 1) some
+      → map contents stored' ≡ map contents stored ++ new_files (counts.nodes - 1) some → AllByRecursion (HasRoom (counts.nodes - 1) counts.lines some) stored' → HasRowRoom plan entries' → 0 < spare
       → IsStaged history ts ambition es commits' mark plans plan file_of_line' entries' stored' × AreCountsWith history es new × (0 < spare)
   is-ready ambition spare mark new before plans plan commits' file_of_line' entries' stored' some e planned_before grown ne planned ce xe he ee room row_room free =
-      let count = held.counted in
-      let nodes : counts.nodes - 1 ≡ (numbers_of history).nodes = first-nodes history counts are in (
+      let nodes : counts.nodes - 1 ≡ (numbers_of history).nodes = nodes-are in (
         record {
           old_file_of_line = file_of_line;
           old_stored = stored;
           held = subst (λ cs. IsHeldBy history ts cs file_of_line entries' stored) (sym ce) (held-contents history ts commits file_of_line entries entries' stored stored xe refl held);
           at = planned_before.at;
           touches = planned_before.touches;
-          file_of_line_is = he ∙ ap (λ k. file_of_line ++ new_file_of_line k some) count ∙ ap (λ x. file_of_line ++ new_file_of_line (numbers_of history).nodes x) e;
-          files = ee ∙ ap (λ n. map contents stored ++ new_files n some) count ∙ ap (λ x. map contents stored ++ new_files (numbers_of history).nodes x) e;
+          file_of_line_is = he ∙ ap (λ k. file_of_line ++ new_file_of_line k some) nodes ∙ ap (λ x. file_of_line ++ new_file_of_line (numbers_of history).nodes x) e;
+          files = ee ∙ ap (λ n. map contents stored ++ new_files n some) nodes ∙ ap (λ x. map contents stored ++ new_files (numbers_of history).nodes x) e;
           room = subst (λ x. AllByRecursion (HasRoom (numbers_of history).nodes (line_count history) x) stored') e
-              (subst (λ m. AllByRecursion (HasRoom (numbers_of history).nodes m some) stored') are.lines (subst (λ n. AllByRecursion (HasRoom n counts.lines some) stored') count room));
+              (subst (λ m. AllByRecursion (HasRoom (numbers_of history).nodes m some) stored') are.lines (subst (λ n. AllByRecursion (HasRoom n counts.lines some) stored') nodes room));
           changes = makes-room ts entries entries' plan _ xe (plans_grow before ts entries plan _ grown planned_before.changes);
-          nodes = ap (λ (d : Dated). nodes_with plan d) xe
-              ∙ planned_before.nodes
-              ∙ new-files-nodes (numbers_of history).nodes es (nodes_in entries)
-              ∙ ap (λ ns. ns ++ map (λ (s : Contents). s.node) (new_files (numbers_of history).nodes es)) (held.made ∙ sym (contents-nodes stored))
-              ∙ ap (λ x. map (λ (s : Contents). s.node) (map contents stored) ++ map (λ (s : Contents). s.node) (new_files (numbers_of history).nodes x)) (sym e)
-              ∙ ap (λ n. map (λ (s : Contents). s.node) (map contents stored) ++ map (λ (s : Contents). s.node) (new_files n some)) (sym count)
-              ∙ sym (map-append (λ (s : Contents). s.node) (map contents stored) (new_files (length stored) some))
-              ∙ ap (map (λ (s : Contents). s.node)) (sym ee)
-              ∙ contents-nodes stored';
+          nodes = ap (λ (d : Dated). nodes_with plan d) xe ∙ planned_before.nodes ∙ ap (λ (d : Dated). made_by (numbers_of history).nodes es (nodes_in d)) (sym xe);
+          kinds = ap (λ (d : Dated). kinds_with plan d) xe ∙ planned_before.kinds ∙ ap (λ (d : Dated). kinds_made_by (numbers_of history).nodes es (kinds_in d)) (sym xe);
           row_room = row_room;
           stands = stands_later grown planned_before.stands;
           planned = subst (λ x. ArePlanned (length history + 1) stored (numbers_of history).nodes (line_count history) mark.node ts (line_count history) x plans) e
@@ -435,17 +454,17 @@ module _ (history : List Command) (es : List Edit) (counts : Counts) (ts : List 
         free,
       )
 
-pub held-again : (history : List Command) (ts : List Triple) (commits commits' : List CommitMark) (file_of_line file_of_line' : List ℕ) (entries entries' : Dated) (stored stored' : List StoredFile) → IsHeldBy history ts commits file_of_line entries stored
+pub held-again : (history : List Command) (ts : List Triple) (commits commits' : List CommitMark) (file_of_line file_of_line' : List ℕ) (entries entries' : Dated) (stored stored' : List FilePart) → IsHeldBy history ts commits file_of_line entries stored
     → commits' ≡ commits → file_of_line' ≡ file_of_line → without_room entries' ≡ without_room entries → map contents stored' ≡ map contents stored → IsHeldBy history ts commits' file_of_line' entries' stored'
 held-again history ts commits commits' file_of_line file_of_line' entries entries' stored stored' held ce he xe ee =
     subst (λ cs. IsHeldBy history ts cs file_of_line' entries' stored') (sym ce)
     (subst (λ xs. IsHeldBy history ts commits xs entries' stored') (sym he) (held-contents history ts commits file_of_line entries entries' stored stored' xe ee held))
 
 -- the nodes of what is held are of the table
-pub held-within : (history : List Command) (ts : List Triple) (q : ℕ) (stored : List StoredFile) → length history ≤ q → AllByRecursion (IsFileOf history ts) stored → AllByRecursion (HasNodesIn ts q) stored
+pub held-within : (history : List Command) (ts : List Triple) (q : ℕ) (stored : List FilePart) → length history ≤ q → AllByRecursion (IsFileOf history ts) stored → AllByRecursion (HasNodesIn ts q) stored
 held-within history ts q stored le files =
     all-map (IsFileOf history ts) (HasNodesIn ts q)
-    (λ e h. record { nodes = dated-nodes ts (option_count history) q (file_dated e.node (kept_of history)) e.file.lines h.lines; newest = let low = h.newest in omega (arith, low, le) }) stored files
+    (λ e h. record { nodes = dated-nodes ts (option_count history) q (file_dated e.node (kept_of history)) e.lines.lines h.lines; newest = let low = h.newest in omega (arith, low, le) }) stored files
 
 pub on-any : {A E : Type 0} (r : Result A E) (P : Type 0) → P → OnErr r P
 on-any (Ok a) P p = tt

@@ -1,10 +1,12 @@
 -- The changes of rows that a commit's edits make.
-use Rattle.std.proofs.Common.{◌≡◌, ℕ, ◌+◌, ◌-◌, ◌<◌, ◌≤◌, Bool, true, false, cond, ◌||◌, nat_eq, nat_le, List, [], ◌∷◌, ◌++◌, length, map, take, get_or, Option, append-nil, append_assoc, refl, sym, ap, subst, ◌∙◌, arith}
-use Rattle.std.specs.List.{fold, AllByRecursion}
+use Rattle.std.proofs.Common.{◌≡◌, ℕ, ◌+◌, ◌-◌, ◌<◌, ◌≤◌, Bool, true, false, cond, ◌||◌, nat_eq, nat_le, List, [], ◌∷◌, ◌++◌, length, map, take, get_or, Option, Some, None, append-nil, append_assoc, refl, sym, ap, subst, ◌∙◌, arith}
+use Rattle.std.specs.List.{fold, cons_option, AllByRecursion}
 use Rattle.std.proofs.lemmas.Bool.Decides.{nat_tests}
 use Rattle.std.proofs.lemmas.List.{take-append-le, take_all}
 use Rattle.cov_base.specs.Rows.{RowChange, Created, Renamed, Moved, Removed, changed, has_node, AreOnce}
 use Rattle.cov_base.proofs.CallerLemmas.{all-append, all-map}
+use Rattle.cov_base.specs.declared.number.Kind.{Kind}
+use Rattle.cov_base.specs.declared.number.Kind.TheVariants as kinds
 use Rattle.cov_dd.specs.declared.triple.Triple.{Triple}
 use Rattle.cov_dd.specs.Diagrams.{value_in}
 use Rattle.cov_expr.specs.Formula.{Formula, value}
@@ -23,11 +25,12 @@ use Rattle.cov_tree.specs.Changes.{all_changed, Makes}
 use Rattle.cov_tree.specs.Dated.{Dated, rows_at, rows_with, nodes_in, nodes_with, without_room}
 use Rattle.cov_engine.specs.declared.counts.Counts.{Counts}
 use Rattle.cov_engine.specs.declared.store.CommitMark.{CommitMark}
-use Rattle.cov_engine.specs.declared.stored_file.StoredFile.{StoredFile}
+use Rattle.cov_engine.specs.declared.file_part.FilePart.{FilePart}
 use Rattle.cov_engine.specs.States.{AreCountsOf}
-use Rattle.cov_engine.specs.Staging.{AreNumbered}
-use Rattle.cov_engine.specs.Holdings.{stored_node, AreEntriesOf, IsHeldBy}
-use Rattle.cov_engine.specs.RowPlans.{edit_changes, AlsoMakes, AreNodesUpTo, made_by, IsSet}
+use Rattle.cov_history.specs.FileNodes.{if_file, files_made}
+use Rattle.cov_engine.specs.Parts.{files_among}
+use Rattle.cov_engine.specs.Holdings.{AreEntriesOf, IsHeldBy}
+use Rattle.cov_engine.specs.RowPlans.{edit_changes, AlsoMakes, AreNodesUpTo, made_by, kinds_made_by, IsSet}
 use Rattle.cov_engine.proofs.States.{length-one}
 
 -- the next node isn't among the first so many
@@ -70,6 +73,16 @@ made-first made (edits.Rename node name) es nodes = let same : made ≡ made + n
 made-first made (edits.Move node parent) es nodes = let same : made ≡ made + nodes_made (edits.Move node parent ∷ []) = omega arith in ap (λ k. made_by k es nodes) same
 made-first made (edits.Remove node) es nodes = let same : made ≡ made + nodes_made (edits.Remove node ∷ []) = omega arith in ap (λ k. made_by k es nodes) same
 
+kinds-first : (made : ℕ) (e : Edit) (es : List Edit) (ks : List (ℕ × Kind)) → kinds_made_by made (e ∷ es) ks ≡ kinds_made_by (made + nodes_made (e ∷ [])) es (kinds_made_by made (e ∷ []) ks)
+kinds-first made (edits.New kind parent name) es ks =
+    let one : made + 1 ≡ made + nodes_made (edits.New kind parent name ∷ []) = omega arith in
+    ap (λ k. kinds_made_by k es (ks ++ (made + 1, kind) ∷ [])) one
+kinds-first made (edits.Insert file after text) es ks = let same : made ≡ made + nodes_made (edits.Insert file after text ∷ []) = omega arith in ap (λ k. kinds_made_by k es ks) same
+kinds-first made (edits.Delete file line) es ks = let same : made ≡ made + nodes_made (edits.Delete file line ∷ []) = omega arith in ap (λ k. kinds_made_by k es ks) same
+kinds-first made (edits.Rename node name) es ks = let same : made ≡ made + nodes_made (edits.Rename node name ∷ []) = omega arith in ap (λ k. kinds_made_by k es ks) same
+kinds-first made (edits.Move node parent) es ks = let same : made ≡ made + nodes_made (edits.Move node parent ∷ []) = omega arith in ap (λ k. kinds_made_by k es ks) same
+kinds-first made (edits.Remove node) es ks = let same : made ≡ made + nodes_made (edits.Remove node ∷ []) = omega arith in ap (λ k. kinds_made_by k es ks) same
+
 count-first : (e : Edit) (es : List Edit) → nodes_made (e ∷ es) ≡ nodes_made (e ∷ []) + nodes_made es
 count-first e es = nodes-append (e ∷ []) es
 
@@ -108,6 +121,17 @@ module _ (made next : ℕ) (edit d : Edit) (more : next ≡ made + nodes_made (e
       ∙ ap (λ y. made_by made (y ∷ es) nodes) is
       ∙ g
 
+  pub kinds-rest : (ahead : List Edit) (ks later all : List (ℕ × Kind)) → edit ≡ get_or ahead 0 d → 1 ≤ length ahead → later ≡ kinds_made_by made (edit ∷ []) ks → kinds_made_by made ahead ks ≡ all
+      → kinds_made_by next (rest_of ahead) later ≡ all
+  kinds-rest [] ks later all is h e g = absurd (omega (arith, h))
+  kinds-rest (x ∷ es) ks later all is h e g =
+      ap (λ rest. kinds_made_by next rest later) (rest-is x es)
+      ∙ ap (λ k. kinds_made_by k es later) more
+      ∙ ap (λ l. kinds_made_by (made + nodes_made (edit ∷ [])) es l) e
+      ∙ sym (kinds-first made edit es ks)
+      ∙ ap (λ y. kinds_made_by made (y ∷ es) ks) is
+      ∙ g
+
   pub changes-rest : (n a : ℕ) (ahead : List Edit) (done all : List (RowChange × ℕ)) → edit ≡ get_or ahead 0 d → 1 ≤ length ahead → done ++ edit_changes n made a ahead ≡ all
       → (done ++ edit_changes n made a (edit ∷ [])) ++ edit_changes n next a (rest_of ahead) ≡ all
   changes-rest n a [] done all is h g = absurd (omega (arith, h))
@@ -135,6 +159,42 @@ also-all ts us entries p q n made a (x ∷ ahead) done all h e makes = absurd (o
 pub listed-all : (made : ℕ) (ahead : List Edit) (nodes all : List ℕ) → length ahead < 1 → made_by made ahead nodes ≡ all → nodes ≡ all
 listed-all made [] nodes all h e = e
 listed-all made (x ∷ ahead) nodes all h e = absurd (omega (arith, h))
+
+pub kinds-all : (made : ℕ) (ahead : List Edit) (ks all : List (ℕ × Kind)) → length ahead < 1 → kinds_made_by made ahead ks ≡ all → ks ≡ all
+kinds-all made [] ks all h e = e
+kinds-all made (x ∷ ahead) ks all h e = absurd (omega (arith, h))
+
+-- the nodes that edits make are no more than they make
+pub made-below : (made most : ℕ) (es : List Edit) (nodes : List ℕ) → made + nodes_made es ≤ most → AllByRecursion (λ n. n ≤ made) nodes → AllByRecursion (λ n. n ≤ most) (made_by made es nodes)
+made-below made most [] nodes le h = all-map (λ n. n ≤ made) (λ n. n ≤ most) (λ n low. omega (arith, low, le)) nodes h
+made-below made most (e ∷ es) nodes le h =
+    let count = count-first e es in
+    subst (AllByRecursion (λ n. n ≤ most)) (sym (made-first made e es nodes))
+    (made-below (made + nodes_made (e ∷ [])) most es (made_by made (e ∷ []) nodes) (omega (arith, le, count)) (up-to-next made e nodes h))
+
+-- the files that edits make come behind those before
+pub files-kinds : (made : ℕ) (es : List Edit) (ks : List (ℕ × Kind)) → files_among (kinds_made_by made es ks) ≡ files_among ks ++ files_made made es
+files-kinds made [] ks = sym (append-nil (files_among ks))
+files-kinds made (edits.New kind parent name ∷ es) ks =
+    files-kinds (made + 1) es (ks ++ (made + 1, kind) ∷ []) ∙ ap (λ files. files ++ files_made (made + 1) es) (behind ks) ∙ append_assoc (files_among ks) (cons_option (if_file kind (made + 1)) []) (files_made (made + 1) es)
+    ∙ ap (λ files. files_among ks ++ files) (first kind)
+  where
+    one : (o : Option ℕ) (xs ys : List ℕ) → cons_option o (xs ++ ys) ≡ cons_option o xs ++ ys
+    one None xs ys = refl
+    one (Some x) xs ys = refl
+
+    behind : (ks : List (ℕ × Kind)) → files_among (ks ++ (made + 1, kind) ∷ []) ≡ files_among ks ++ cons_option (if_file kind (made + 1)) []
+    behind [] = refl
+    behind (k ∷ ks) = ap (cons_option (if_file k.1 k.0)) (behind ks) ∙ one (if_file k.1 k.0) (files_among ks) (cons_option (if_file kind (made + 1)) [])
+
+    first : (of : Kind) → cons_option (if_file of (made + 1)) [] ++ files_made (made + 1) es ≡ cons_option (if_file of (made + 1)) (files_made (made + 1) es)
+    first kinds.File = refl
+    first kinds.Dir = refl
+files-kinds made (edits.Insert file after text ∷ es) ks = files-kinds made es ks
+files-kinds made (edits.Delete file line ∷ es) ks = files-kinds made es ks
+files-kinds made (edits.Rename node name ∷ es) ks = files-kinds made es ks
+files-kinds made (edits.Move node parent ∷ es) ks = files-kinds made es ks
+files-kinds made (edits.Remove node ∷ es) ks = files-kinds made es ks
 
 -- the changes of a commit's edits are those of its numbered edits on rows
 module _ (ts : List Triple) (node : ℕ) (ambition : Formula ℕ) (c : List Bool) (is : value_in ts node c ≡ value ambition c) (ns : Numbers) (t : List (List ℕ)) where
@@ -230,13 +290,8 @@ pub entries-once : (history : List Command) (ts : List Triple) (entries : Dated)
 entries-once history ts entries held = λ p c. subst AreOnce (sym (held.rows c p)) (replay-once c (take p history))
 
 -- the nodes of a plan that makes no change are those made before
-pub up-to-made : (history : List Command) (ts : List Triple) (commits : List CommitMark) (file_of_line : List ℕ) (entries : Dated) (stored : List StoredFile) (counts : Counts) (before : ℕ) (plan : Option (List Entry)) → AreCountsOf history counts
+pub up-to-made : (history : List Command) (ts : List Triple) (commits : List CommitMark) (file_of_line : List ℕ) (entries : Dated) (stored : List FilePart) (counts : Counts) (before : ℕ) (plan : Option (List Entry)) → AreCountsOf history counts
     → nodes_with plan entries ≡ nodes_in entries → IsHeldBy history ts commits file_of_line entries stored → before ≡ counts.nodes - 1 → AreNodesUpTo before plan entries
 up-to-made history ts commits file_of_line entries stored counts before plan are same held is =
-    let counted = held.counted in
     let nodes = are.nodes in
-    subst (AllByRecursion (λ n. n ≤ before)) (sym (same ∙ held.made)) (up-to 0 stored held.numbered (omega (arith, counted, nodes, is)))
-  where
-    up-to : (k : ℕ) (es : List StoredFile) → AreNumbered k es → k + length es ≤ before → AllByRecursion (λ n. n ≤ before) (map stored_node es)
-    up-to k [] h few = tt
-    up-to k (e ∷ es) h few = let own : e.node ≡ k + 1 = h.0 in (omega (arith, own, few), up-to (k + 1) es h.1 (omega (arith, few)))
+    subst (AllByRecursion (λ n. n ≤ before)) (sym same) (all-map (λ n. n ≤ (numbers_of history).nodes) (λ n. n ≤ before) (λ n low. omega (arith, low, nodes, is)) (nodes_in entries) held.below)

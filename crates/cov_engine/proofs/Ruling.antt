@@ -21,7 +21,7 @@ use Rattle.cov_rules.specs.declared.rules.Rule.TheVariants as rules
 use Rattle.cov_rules.specs.declared.rules.RuleFault.TheVariants as faults
 use Rattle.cov_rules.proofs.CallerLemmas.{holds_later, stay_below}
 use Rattle.cov_view.specs.Refusals.{when, first_of}
-use Rattle.cov_engine.specs.declared.stored_file.StoredFile.{StoredFile}
+use Rattle.cov_engine.specs.declared.file_part.FilePart.{FilePart}
 use Rattle.cov_engine.specs.declared.store.CommitMark.{CommitMark}
 use Rattle.cov_engine.specs.declared.ready.Ready.{Ready}
 use Rattle.cov_engine.specs.declared.ready.Ready.TheVariants as ready
@@ -249,7 +249,7 @@ rule-of (commands.Default option on) not_option not_commit = record { rule = rul
 rule-of (commands.Commit base choice ambition es) not_option not_commit = absurd (not_commit base choice ambition es refl)
 
 -- with what is held, a rule that is ready is what its command wants
-module _ (history : List Command) (k : Command) (os : ℕ) (ts : List Triple) (standing : RulesValue) (ks : ℕ) (commits : List CommitMark) (file_of_line : List ℕ) (entries : Dated) (stored : List StoredFile) (held : IsHeldBy history ts commits file_of_line entries stored) where
+module _ (history : List Command) (k : Command) (os : ℕ) (ts : List Triple) (standing : RulesValue) (ks : ℕ) (commits : List CommitMark) (file_of_line : List ℕ) (entries : Dated) (stored : List FilePart) (held : IsHeldBy history ts commits file_of_line entries stored) where
   as-ready : (r : Ready) → IsRuleReady k ts standing r → IsReady history k os ts standing ks commits file_of_line entries stored r
   as-ready (ready.Option name) h = absurd h
   as-ready (ready.Rule rule plan) h = (h.0, h.1, held)

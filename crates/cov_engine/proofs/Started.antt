@@ -1,5 +1,5 @@
 -- What a commit's plans start from: the nodes of the lines that are kept before it.
-use Rattle.std.proofs.Common.{◌≡◌, ℕ, ◌+◌, ◌<◌, ◌≤◌, Bool, true, false, cond, ◌&&◌, not, nat_eq, nat_le, List, [], ◌∷◌, length, map, unwrap_or, refl, sym, ap, subst, ◌∙◌, arith}
+use Rattle.std.proofs.Common.{◌≡◌, ℕ, ◌+◌, ◌<◌, ◌≤◌, Bool, true, false, cond, ◌&&◌, ◌||◌, not, nat_eq, List, [], ◌∷◌, length, map, unwrap_or, refl, sym, ap, subst, ◌∙◌, arith}
 use Rattle.std.specs.List.{AllByRecursion}
 use Rattle.std.proofs.lemmas.Bool.Decides.{nat_tests}
 use Rattle.cov_base.proofs.CallerLemmas.{all-map}
@@ -16,7 +16,9 @@ use Rattle.cov_edit.specs.Numbering.{node_number, line_number, numbers_of, line_
 use Rattle.cov_edit.specs.Variant.{Line}
 use Rattle.cov_file.specs.Dated.{vis_of}
 use Rattle.cov_order.specs.Orders.{has_line, AreLines}
-use Rattle.cov_engine.specs.Staging.{AreNumbered}
+use Rattle.cov_base.specs.Rows.{has_node}
+use Rattle.cov_history.specs.FileNodes.{files_of}
+use Rattle.cov_engine.specs.Parts.{part_node}
 use Rattle.cov_history.specs.Files.{DatedLine, dated_number, dated, file_dated, file_order}
 use Rattle.cov_engine.specs.Holdings.{IsFileOf}
 use Rattle.cov_history.specs.Kept.{Kept, seen_at, kept_number, kept_of, file_kept}
@@ -24,13 +26,13 @@ use Rattle.cov_engine.specs.Nodes.{old_node, IsTaken}
 use Rattle.cov_history.specs.Sessions.{IsGood, session_of}
 use Rattle.cov_engine.specs.Carrying.{ArePlanned}
 use Rattle.cov_history.specs.Verdict.{IsLegal}
-use Rattle.cov_engine.specs.declared.stored_file.StoredFile.{StoredFile}
+use Rattle.cov_engine.specs.declared.file_part.FilePart.{FilePart}
 use Rattle.cov_engine.specs.declared.edit_plan.EditPlan.{EditPlan}
 use Rattle.cov_engine.proofs.MidCommit.{IsRight, AreRight}
-use Rattle.cov_engine.proofs.Committed.{numbers-dated, file-empty, in-range}
+use Rattle.cov_engine.proofs.Committed.{numbers-dated, in-range}
 use Rattle.cov_engine.proofs.Dating.{AreOnce, false-stands, gone, dated-numbers, node-right, node-low, node-none, IsGone}
-use Rattle.cov_history.proofs.CallerLemmas.{lines-held, any-none, any-mapped}
-use Rattle.cov_engine.proofs.Named.{legal-files}
+use Rattle.cov_history.proofs.CallerLemmas.{legal-in_files, lines-held, any-none, any-mapped}
+use Rattle.cov_engine.proofs.FileOfLine.{none-kept}
 
 -- lines with distinct numbers
 once-of : (ks : List (Kept Line)) → AreLines (map kept_number ks) → AreOnce (map dated ks)
@@ -54,47 +56,47 @@ module _ (history : List Command) (ts : List Triple) (q line : ℕ) where
   IsSeen old d = nat_eq d.line line ≡ true → (c : List Bool) → value_in ts old c ≡ value (seen_at d.changes q) c
 
   -- the node of a line before the commit has the values of the line
-  old-seen : (file k : ℕ) (es : List StoredFile) → AreNumbered k es → AllByRecursion (IsFileOf history ts) es → k < file → file ≤ k + length es
+  old-seen : (file : ℕ) (es : List FilePart) → AllByRecursion (IsFileOf history ts) es → has_node file (map part_node es) ≡ true
       → AllByRecursion (IsSeen (old_node q es file line)) (file_dated file (kept_of history))
-  old-seen file k [] numbered files low high = absurd (omega (arith, low, high))
-  old-seen file k (e ∷ es) numbered files low high = by (nat_eq e.node file) refl (λ behind. old-seen file (k + 1) es numbered.1 files.1 behind (omega (arith, high)))
+  old-seen file [] files there = absurd (cc)
+  old-seen file (e ∷ es) files there = by (nat_eq e.node file) refl there (λ behind. old-seen file es files.1 behind)
     where
-      own : nat_eq e.node file ≡ true → AllByRecursion (IsSeen (unwrap_or (vis_of line q e.file.lines) 0)) (file_dated file (kept_of history))
+      own : nat_eq e.node file ≡ true → AllByRecursion (IsSeen (unwrap_or (vis_of line q e.lines.lines) 0)) (file_dated file (kept_of history))
       own is =
           let same : e.node ≡ file = grind (arith, nat_tests, is) in
-          subst (λ f. AllByRecursion (IsSeen (unwrap_or (vis_of line q e.file.lines) 0)) (file_dated f (kept_of history))) same
-          (node-right ts count q line (file_dated e.node (kept_of history)) e.file.lines (once-of (file_kept e.node (kept_of history)) (lines-held history e.node)) files.0.lines)
+          subst (λ f. AllByRecursion (IsSeen (unwrap_or (vis_of line q e.lines.lines) 0)) (file_dated f (kept_of history))) same
+          (node-right ts count q line (file_dated e.node (kept_of history)) e.lines.lines (once-of (file_kept e.node (kept_of history)) (lines-held history e.node)) files.0.lines)
 
-      by : (b : Bool) → nat_eq e.node file ≡ b → (k + 1 < file → AllByRecursion (IsSeen (old_node q es file line)) (file_dated file (kept_of history)))
-          → AllByRecursion (IsSeen (cond b (unwrap_or (vis_of line q e.file.lines) 0) (old_node q es file line))) (file_dated file (kept_of history))
-      by true is rest = own is
-      by false is rest = let it : e.node ≡ k + 1 = numbered.0 in rest (grind (arith, nat_tests, is, it, low))
+      by : (b : Bool) → nat_eq e.node file ≡ b → (b || has_node file (map part_node es)) ≡ true → (has_node file (map part_node es) ≡ true → AllByRecursion (IsSeen (old_node q es file line)) (file_dated file (kept_of history)))
+          → AllByRecursion (IsSeen (cond b (unwrap_or (vis_of line q e.lines.lines) 0) (old_node q es file line))) (file_dated file (kept_of history))
+      by true is any rest = own is
+      by false is any rest = rest any
 
   -- it is a node of the table, and names only declared options
-  old-low : (file : ℕ) (es : List StoredFile) → AllByRecursion (IsFileOf history ts) es → (old_node q es file line < diagram_size ts) × (span ts (old_node q es file line) ≤ count)
+  old-low : (file : ℕ) (es : List FilePart) → AllByRecursion (IsFileOf history ts) es → (old_node q es file line < diagram_size ts) × (span ts (old_node q es file line) ≤ count)
   old-low file [] files = node-low ts count q line [] [] tt
   old-low file (e ∷ es) files = by (nat_eq e.node file) (old-low file es files.1)
     where
       by : (b : Bool) → (old_node q es file line < diagram_size ts) × (span ts (old_node q es file line) ≤ count)
-          → let r = cond b (unwrap_or (vis_of line q e.file.lines) 0) (old_node q es file line) in (r < diagram_size ts) × (span ts r ≤ count)
-      by true rest = node-low ts count q line (file_dated e.node (kept_of history)) e.file.lines files.0.lines
+          → let r = cond b (unwrap_or (vis_of line q e.lines.lines) 0) (old_node q es file line) in (r < diagram_size ts) × (span ts r ≤ count)
+      by true rest = node-low ts count q line (file_dated e.node (kept_of history)) e.lines.lines files.0.lines
       by false rest = rest
 
   -- a line that isn't made yet has none
-  old-none : (file : ℕ) (es : List StoredFile) → AllByRecursion (IsFileOf history ts) es → length (numbers_of history).addresses < line → old_node q es file line ≡ 0
+  old-none : (file : ℕ) (es : List FilePart) → AllByRecursion (IsFileOf history ts) es → length (numbers_of history).addresses < line → old_node q es file line ≡ 0
   old-none file [] files above = refl
   old-none file (e ∷ es) files above = by (nat_eq e.node file) (old-none file es files.1 above)
     where
-      by : (b : Bool) → old_node q es file line ≡ 0 → cond b (unwrap_or (vis_of line q e.file.lines) 0) (old_node q es file line) ≡ 0
+      by : (b : Bool) → old_node q es file line ≡ 0 → cond b (unwrap_or (vis_of line q e.lines.lines) 0) (old_node q es file line) ≡ 0
       by true rest =
-          node-none ts count q line e.file.lines
-          (ap (has_line line) (dated-numbers ts count (file_dated e.node (kept_of history)) e.file.lines files.0.lines ∙ numbers-dated (file_kept e.node (kept_of history))) ∙ unmade history e.node line above)
+          node-none ts count q line e.lines.lines
+          (ap (has_line line) (dated-numbers ts count (file_dated e.node (kept_of history)) e.lines.lines files.0.lines ∙ numbers-dated (file_kept e.node (kept_of history))) ∙ unmade history e.node line above)
       by false rest = rest
 
 module _ (history : List Command) (base : ℕ) (choice : List Bool) (ambition : Formula ℕ) (es : List Edit)
     (good : IsGood history (session_of base choice ambition es)) (legal : IsLegal history)
-    (ts : List Triple) (a : ℕ) (stands : Stands ts a 0 (option_count history) (value ambition)) (stored : List StoredFile)
-    (numbered : AreNumbered 0 stored) (counted : length stored ≡ (numbers_of history).nodes) (files : AllByRecursion (IsFileOf history ts) stored) where
+    (ts : List Triple) (a : ℕ) (stands : Stands ts a 0 (option_count history) (value ambition)) (stored : List FilePart)
+    (parts : map part_node stored ≡ files_of history) (files : AllByRecursion (IsFileOf history ts) stored) where
   abbrev n : ℕ
   n = (numbers_of history).nodes
 
@@ -103,7 +105,7 @@ module _ (history : List Command) (base : ℕ) (choice : List Bool) (ambition : 
 
   taken-right : (file line vis : ℕ) → IsTaken ts q stored a file line vis → IsRight history base choice ambition es good legal ts a stands (kept_of history) file line vis
   taken-right file line vis h = record {
-    taken = λ above. all above (nat_le file n) refl;
+    taken = λ above. all (has_node file (map part_node stored)) refl;
     fresh = λ unmade. stands_weaker 0 (option_count history) (λ c. false) (omega arith) below
         (λ c. ap (λ r. value_in ts r c && not (value_in ts a c)) (old-none history ts q line file stored files unmade) ∙ ap (λ b. b && not (value_in ts a c)) (false-value c)) h;
   }
@@ -122,13 +124,15 @@ module _ (history : List Command) (base : ℕ) (choice : List Bool) (ambition : 
           stands_weaker 0 (option_count history) (gone ts (option_count history) ambition q d) (omega arith) below
           (λ c. ap (λ b. b && not (value_in ts a c)) (seen is c) ∙ ap (λ b. value (seen_at d.changes q) c && not b) (stands.value c)) h
 
-      all : 0 < file → (b : Bool) → nat_le file n ≡ b → AllByRecursion (IsGone ts (option_count history) ambition q line vis) (file_dated file (kept_of history))
-      all above true is =
-          all-map (IsSeen history ts q line old) (IsGone ts (option_count history) ambition q line vis) own (file_dated file (kept_of history))
-          (old-seen history ts q line file 0 stored numbered files above (grind (arith, nat_tests, is, counted)))
-      all above false is =
+      missing : has_node file (map part_node stored) ≡ false → has_node file (files_of history) ≡ true → ⊥
+      missing none there = let differ : true ≡ false = sym there ∙ ap (has_node file) (sym parts) ∙ none in cc
+
+      all : (b : Bool) → has_node file (map part_node stored) ≡ b → AllByRecursion (IsGone ts (option_count history) ambition q line vis) (file_dated file (kept_of history))
+      all true there =
+          all-map (IsSeen history ts q line old) (IsGone ts (option_count history) ambition q line vis) own (file_dated file (kept_of history)) (old-seen history ts q line file stored files there)
+      all false none =
           subst (λ ks. AllByRecursion (IsGone ts (option_count history) ambition q line vis) (map dated ks))
-          (sym (file-empty n file (kept_of history) (grind (arith, nat_tests, is)) (legal-files history legal))) tt
+          (sym (none-kept (λ f. has_node f (files_of history) ≡ true) file (kept_of history) (legal-in_files history legal) (missing none))) tt
 
   -- what is planned is right
   pub planned-right : (made : ℕ) (later : List Edit) (ss : List EditPlan) → ArePlanned q stored n (line_count history) a ts made later ss → AreRight history base choice ambition es good legal ts a stands (kept_of history) made later ss

@@ -1,10 +1,9 @@
 -- The view of a variant.
-use Rattle.std.proofs.Common.{◌≡◌, ℕ, suc, ◌+◌, ◌<◌, ◌≤◌, Bool, true, false, ◌&&◌, ◌||◌, nat_eq, List, [], ◌∷◌, length, map, take, refl, ap, sym, subst, ◌∙◌, arith}
-use Rattle.std.specs.Prelude.{Result, IfOk}
+use Rattle.std.proofs.Common.{◌≡◌, ℕ, suc, ◌+◌, ◌<◌, ◌≤◌, Bool, true, false, ◌&&◌, not, List, [], ◌++◌, length, map, take, drop, ap, sym, subst, ◌∙◌, arith}
 use Rattle.std.specs.List.{fold, AllByRecursion}
 use Rattle.std.proofs.lemmas.Bool.{and_from}
 use Rattle.std.proofs.lemmas.Bool.Decides.{nat_tests}
-use Rattle.std.proofs.lemmas.Result.{IfOk-weaker}
+use Rattle.std.proofs.lemmas.List.{take-append-drop}
 use Rattle.cov_base.specs.Addresses.{line_of, IsTable, IsLineOf}
 use Rattle.cov_base.specs.Rows.{Row, has_node, AreOnce}
 use Rattle.cov_base.specs.declared.number.NodeRef.{NodeRef}
@@ -15,23 +14,26 @@ use Rattle.cov_edit.specs.declared.command.Command.{Command}
 use Rattle.cov_edit.specs.Numbering.{Numbers, node_number, numbers_of}
 use Rattle.cov_edit.specs.Variant.{Variant}
 use Rattle.cov_edit.specs.Replay.{replay}
-use Rattle.cov_view.specs.References.{is_made_node}
+use Rattle.cov_view.specs.References.{is_dir_kind, is_made_node}
 use Rattle.cov_view.specs.Seen.{Seen}
 use Rattle.cov_view.specs.Views.{row_by_number, ShowsLines, IsMade, Shows}
 use Rattle.cov_view.specs.declared.row.ViewRow.{ViewRow}
 use Rattle.cov_engine.specs.declared.store.CommitMark.{CommitMark}
-use Rattle.cov_engine.specs.declared.stored_file.StoredFile.{StoredFile}
+use Rattle.cov_engine.specs.declared.file_part.FilePart.{FilePart}
 use Rattle.cov_tree.specs.Dated.{Dated, rows_at as entry_rows}
+use Rattle.cov_engine.specs.declared.visible.Visible.{Visible}
 use Rattle.cov_engine.specs.Showing.{with_node, AreFresh}
-use Rattle.cov_engine.specs.Staging.{AreNumbered}
+use Rattle.cov_engine.specs.Visible.{shown}
+use Rattle.cov_history.specs.FileNodes.{files_from, files_of}
+use Rattle.cov_engine.specs.Parts.{part_node}
 use Rattle.cov_engine.specs.Holdings.{IsFileOf, AreEntriesOf, IsHeldBy}
 use Rattle.cov_history.specs.Naming.{NamesOnlyMade}
 use Rattle.cov_history.specs.Verdict.{IsLegal}
-use Rattle.cov_history.proofs.CallerLemmas.{base-nodes, holding-stands, replay-once, replay-stands, legal-named, legal-take}
+use Rattle.cov_history.proofs.CallerLemmas.{among-more, files-append, rows-tell, holding-stands, replay-once, replay-stands, legal-named, legal-take}
 use Rattle.cov_engine.proofs.Holdings.{view-rows}
 use Rattle.cov_engine.proofs.Fresh.{once-fresh}
 use Rattle.cov_engine.proofs.FileLines.{all-unmapped, Shown, IsStored, stored-lines}
-use Rattle.cov_engine.proofs.FileOfLine.{item-there}
+use Rattle.cov_engine.proofs.Rising.{part-some, part-has}
 
 line-below : (t : List (List ℕ)) (a : List ℕ) → IsTable t → IsLineOf t (length t) a → line_of a ≤ length t
 line-below t a table line =
@@ -58,25 +60,24 @@ rows-made ns rows v e named =
     (all-unmapped (λ (r : Row). r.node ≤ ns.nodes) (row_by_number ns) rows (subst (AllByRecursion (λ (r : Row). r.node ≤ ns.nodes)) e named.nodes))
     (all-unmapped (λ (r : Row). r.parent ≤ ns.nodes) (row_by_number ns) rows (subst (AllByRecursion (λ (r : Row). r.parent ≤ ns.nodes)) e named.parents))
 
--- something is stored of each node but the root that a variant names
-nodes-stored : (ts : List Triple) (c : List Bool) (at : ℕ) (history : List Command) (stored : List StoredFile) (numbers : Numbers) (low : AllByRecursion (λ l. line_of l.address ≤ length numbers.addresses) (replay c (take at history)).lines)
-    → AreNumbered 0 stored → AllByRecursion (IsFileOf history ts) stored → (rs : List Row) → AllByRecursion (λ r. r.node ≤ length stored) rs → has_node 0 (map (λ r. r.node) rs) ≡ false
-    → AllByRecursion (λ r. IsStored ts c at stored numbers history low r.node) rs
-nodes-stored ts c at history stored numbers low numbered files [] below inner = tt
-nodes-stored ts c at history stored numbers low numbered files (r ∷ rs) below inner = (
-  item-there (IsFileOf history ts) stored r.node numbered files (above (nat_eq r.node 0) refl inner) below.0,
-  nodes-stored ts c at history stored numbers low numbered files rs below.1 (rest (nat_eq r.node 0) inner),
-)
+-- the lines of each file among rows that tell the files are stored
+files-stored : (ts : List Triple) (c : List Bool) (at : ℕ) (history : List Command) (stored : List FilePart) (numbers : Numbers) (low : AllByRecursion (λ l. line_of l.address ≤ length numbers.addresses) (replay c (take at history)).lines)
+    → map part_node stored ≡ files_of history → AllByRecursion (IsFileOf history ts) stored → (rs : List Row) → AllByRecursion (λ r. has_node r.node (files_of (take at history)) ≡ not (is_dir_kind r.kind)) rs
+    → AllByRecursion (λ r. is_dir_kind r.kind ≡ false → IsStored ts c at stored numbers history low r.node) rs
+files-stored ts c at history stored numbers low parts files rs tells =
+    all-map (λ r. has_node r.node (files_of (take at history)) ≡ not (is_dir_kind r.kind)) (λ r. is_dir_kind r.kind ≡ false → IsStored ts c at stored numbers history low r.node)
+    (λ r own file. there r.node (own ∙ ap not file)) rs tells
   where
-    above : (b : Bool) → nat_eq r.node 0 ≡ b → (b || has_node 0 (map (λ s. s.node) rs)) ≡ false → 0 < r.node
-    above true e h = absurd (cc)
-    above false e h = grind (arith, nat_tests, e)
+    all : files_of (take at history) ++ files_from (numbers_of (take at history)).nodes (drop at history) ≡ files_of history
+    all = sym (files-append (take at history) (drop at history)) ∙ ap files_of (take-append-drop at history)
 
-    rest : (b : Bool) → (b || has_node 0 (map (λ s. s.node) rs)) ≡ false → has_node 0 (map (λ s. s.node) rs) ≡ false
-    rest true h = absurd (cc)
-    rest false h = h
+    there : (node : ℕ) → has_node node (files_of (take at history)) ≡ true → IsStored ts c at stored numbers history low node
+    there node h =
+        let found = part-has stored node (ap (has_node node) (parts ∙ sym all) ∙ among-more node (files_of (take at history)) (files_from (numbers_of (take at history)).nodes (drop at history)) h) in
+        let own = part-some (IsFileOf history ts) stored node found.0 files found.1 in
+        (found.0, found.1, own.0, own.1)
 
-module _ (ts : List Triple) (c : List Bool) (at : ℕ) (commits : List CommitMark) (file_of_line : List ℕ) (entries : Dated) (stored : List StoredFile) where
+module _ (ts : List Triple) (c : List Bool) (at : ℕ) (commits : List CommitMark) (file_of_line : List ℕ) (entries : Dated) (stored : List FilePart) where
   abbrev seen : Seen
   seen = record { rows = fold (with_node ts c at stored) [] (entry_rows ts c at entries); nodes_made = 0; lines_made = 0 }
 
@@ -93,7 +94,7 @@ module _ (ts : List Triple) (c : List Bool) (at : ℕ) (commits : List CommitMar
     once : AreEntriesOf history ts entries → AreOnce (entry_rows ts c at entries)
     once of_entries = subst AreOnce (sym (of_entries.rows c at)) (replay-once c (take at history))
 
-    pub rows-fresh : AreEntriesOf history ts entries → AreFresh ts c at stored [] (entry_rows ts c at entries)
+    rows-fresh : AreEntriesOf history ts entries → AreFresh ts c at stored [] (entry_rows ts c at entries)
     rows-fresh of_entries = once-fresh ts c at stored (entry_rows ts c at entries) (once of_entries)
 
     view-shows : IsLegal history → IsHeldBy history ts commits file_of_line entries stored → IsVariant
@@ -101,13 +102,11 @@ module _ (ts : List Triple) (c : List Bool) (at : ℕ) (commits : List CommitMar
         let are : v.rows ≡ map (row_by_number ns) seen.rows = sym (view-rows ns ts c at history entries stored held.of_entries) in
         let named : NamesOnlyMade ns.nodes v = legal-named c (take at history) (legal-take at [] history legal) in
         let low = lines-below c (take at history) in
-        let few : ns.nodes ≤ length stored = (let all = base-nodes at history in let counted = held.counted in omega (arith, all, counted)) in
-        let below : AllByRecursion (λ (r : Row). r.node ≤ length stored) (entry_rows ts c at entries) =
-        subst (AllByRecursion (λ (r : Row). r.node ≤ length stored)) (sym (held.of_entries.rows c at))
-        (all-map (λ (r : Row). r.node ≤ ns.nodes) (λ (r : Row). r.node ≤ length stored) (λ r h. omega (arith, h, few)) v.rows named.nodes) in
+        let tells : AllByRecursion (λ (r : Row). has_node r.node (files_of (take at history)) ≡ not (is_dir_kind r.kind)) (entry_rows ts c at entries) =
+        subst (AllByRecursion (λ (r : Row). has_node r.node (files_of (take at history)) ≡ not (is_dir_kind r.kind))) (sym (held.of_entries.rows c at)) (rows-tell c (take at history)) in
         let shown : AllByRecursion (Shown c at ns history low) seen.rows =
         stored-lines ts c at stored ns history low [] (entry_rows ts c at entries) tt (rows-fresh held.of_entries)
-        (nodes-stored ts c at history stored ns low held.numbered held.files (entry_rows ts c at entries) below (once held.of_entries).0) in
+        (files-stored ts c at history stored ns low held.parts held.files (entry_rows ts c at entries) tells) in
         record {
           rows = are;
           lines = all-map (Shown c at ns history low) (ShowsLines ns v) (λ r h. h.0) seen.rows shown;
@@ -119,8 +118,9 @@ module _ (ts : List Triple) (c : List Bool) (at : ℕ) (commits : List CommitMar
           counted = let same : length ns.addresses ≡ length ns.addresses + 0 = omega arith in same;
         }
 
-  -- what is shown is the variant of the replay
-  pub shown-view : {E : Type 0} (r : Result Seen E) (history value : List Command) → IsLegal history → IsHeldBy history ts commits file_of_line entries stored → history ≡ value
-      → IfOk r (λ view. view ≡ seen) → IfOk r (λ view. Shows (ns value) (ns value).addresses view (v value))
-  shown-view r history value legal held is =
-      IfOk-weaker r _ _ (λ view e. subst (λ (s : Seen). Shows (ns value) (ns value).addresses s (v value)) (sym e) (subst (λ h. IsVariant h) is (view-shows history legal held)))
+-- what holds a history shows the variant of the replay at each position and on each choice
+pub visible-shows : (history value : List Command) (commits : List CommitMark) (file_of_line : List ℕ) (v : Visible) → IsLegal history → IsHeldBy history v.table commits file_of_line v.entries v.files → history ≡ value
+    → (at : ℕ) (c : List Bool) → Shows (numbers_of (take at value)) (numbers_of (take at value)).addresses (shown v c at) (replay c (take at value))
+visible-shows history value commits file_of_line v legal held is at c =
+    subst (λ h. Shows (numbers_of (take at h)) (numbers_of (take at h)).addresses (shown v c at) (replay c (take at h))) is
+    (view-shows v.table c at commits file_of_line v.entries v.files history legal held)

@@ -16,7 +16,7 @@ use Rattle.cov_edit.specs.Numbering.{numbers_of, line_count}
 use Rattle.cov_edit.specs.Replay.{replay}
 use Rattle.cov_edit.specs.Variant.{Variant, Line}
 use Rattle.cov_file.specs.Dated.{DatedLine as FileLine, vis_at, vis_of, all_rows}
-use Rattle.cov_engine.specs.declared.stored_file.StoredFile.{StoredFile}
+use Rattle.cov_engine.specs.declared.file_part.FilePart.{FilePart}
 use Rattle.cov_engine.specs.declared.store.CommitMark.{CommitMark}
 use Rattle.cov_history.specs.Files.{DatedLine, dated, file_dated}
 use Rattle.cov_engine.specs.Holdings.{IsFileOf, IsHeldBy}
@@ -24,9 +24,11 @@ use Rattle.cov_history.specs.Kept.{Kept, seen_at, is_seen, kept_address, kept_nu
 use Rattle.cov_engine.specs.Nodes.{IsDated, AreDated}
 use Rattle.cov_history.specs.Verdict.{IsLegal}
 use Rattle.cov_engine.specs.Visibility.{has_line_number, IsVisibilityOf, is_no_line, as_row, item_of, stored_file_of}
+use Rattle.cov_engine.specs.Parts.{part_of}
 use Rattle.cov_history.proofs.CallerLemmas.{any-seen, replay-seen, seen-cons, holding-stands}
 use Rattle.cov_tree.specs.Dated.{Dated}
-use Rattle.cov_engine.proofs.FileOfLine.{equal, stored-held, none-stored, line-stored, no-line-file}
+use Rattle.cov_engine.proofs.StoredFiles.{equal}
+use Rattle.cov_engine.proofs.FileOfLine.{stored-held, none-stored, line-stored, no-line-file}
 
 -- the first item that passes a test
 any-found : {X : Type 0} (t : X → Bool) (xs : List X) → list_any t xs ≡ true → (x : X) × (find t xs ≡ Some x)
@@ -159,17 +161,17 @@ stands-as : (ts : List Triple) (r least most : ℕ) (f g : List Bool → Bool) �
 stands-as ts r least most f g same s = record { within = s.within; above = s.above; below = s.below; value = λ c. s.value c ∙ same c }
 
 -- the newest node of a line in its file is its visibility
-record IsNode (history : List Command) (ts : List Triple) (line : ℕ) (e : StoredFile) : Type 0 where
+record IsNode (history : List Command) (ts : List Triple) (line : ℕ) (e : FilePart) : Type 0 where
   node : ℕ
-  is : vis_of line (length history) e.file.lines ≡ Some node
+  is : vis_of line (length history) e.lines.lines ≡ Some node
   stands : IsVisibilityOf history ts line node
 
-node-stands : (history : List Command) (ts : List Triple) (line : ℕ) (e : StoredFile) → list_any (λ k. nat_eq (kept_number k) line) (file_kept e.node (kept_of history)) ≡ true → IsFileOf history ts e
+node-stands : (history : List Command) (ts : List Triple) (line : ℕ) (e : FilePart) → list_any (λ k. nat_eq (kept_number k) line) (file_kept e.node (kept_of history)) ≡ true → IsFileOf history ts e
     → IsNode history ts line e
 node-stands history ts line e any file =
     let kept = any-found (λ k. nat_eq (kept_number k) line) (file_kept e.node (kept_of history)) any in
     let k : Kept Line = kept.0 in
-    let found = dated-found ts (option_count history) line (file_dated e.node (kept_of history)) e.file.lines (dated k) file.lines
+    let found = dated-found ts (option_count history) line (file_dated e.node (kept_of history)) e.lines.lines (dated k) file.lines
     (found-mapped (λ (d : DatedLine). nat_eq d.line line) dated (file_kept e.node (kept_of history)) k kept.1) in
     let l : FileLine = found.0 in
     let own : IsDated ts (option_count history) (dated k) l = found.2 in
@@ -191,7 +193,7 @@ pub record TellsVisibility (history : List Command) (ts : List Triple) (line : �
   pub none : is_none answer ≡ is_no_line history line
   pub stands : IfSome answer (IsVisibilityOf history ts line)
 
-module _ (history : List Command) (ts : List Triple) (commits : List CommitMark) (file_of_line : List ℕ) (entries : Dated) (stored : List StoredFile) (legal : IsLegal history) (held : IsHeldBy history ts commits file_of_line entries stored) where
+module _ (history : List Command) (ts : List Triple) (commits : List CommitMark) (file_of_line : List ℕ) (entries : Dated) (stored : List FilePart) (legal : IsLegal history) (held : IsHeldBy history ts commits file_of_line entries stored) where
   -- where the line's file has no stored file
   pub no-answer : (line : ℕ) → stored_file_of stored (item_of file_of_line line) ≡ None → is_no_line history line ≡ true
   no-answer line h = by (no-line-file history ts commits file_of_line entries stored legal held line h)
@@ -204,7 +206,7 @@ module _ (history : List Command) (ts : List Triple) (commits : List CommitMark)
           ap (λ b. b || nat_lt (line_count history) line) no_zero ∙ beyond
 
   -- and where it has
-  pub answer : (line : ℕ) (e : StoredFile) (result : Option ℕ) → stored_file_of stored (item_of file_of_line line) ≡ Some e → ((p : ℕ) → e.file.newest ≤ p → result ≡ vis_of line p e.file.lines)
+  pub answer : (line : ℕ) (e : FilePart) (result : Option ℕ) → stored_file_of stored (item_of file_of_line line) ≡ Some e → ((p : ℕ) → e.lines.newest ≤ p → result ≡ vis_of line p e.lines.lines)
       → TellsVisibility history ts line result
   answer line e result h latest =
       let its = line-stored history ts commits file_of_line entries stored legal held line e h in
@@ -224,11 +226,11 @@ module _ (history : List Command) (ts : List Triple) (commits : List CommitMark)
   same-rows count (d ∷ ds) (l ∷ ls) h = λ i. record { line = h.0.line i; text = h.0.text i } ∷ same-rows count ds ls h.1 i
 
   -- all lines of a file are those kept
-  pub all-kept : (file : ℕ) (e : StoredFile) → item_of stored file ≡ Some e → all_rows e.file.lines ≡ map as_row (file_dated file (kept_of history))
+  pub all-kept : (file : ℕ) (e : FilePart) → part_of stored file ≡ Some e → all_rows e.lines.lines ≡ map as_row (file_dated file (kept_of history))
   all-kept file e h =
       let own = stored-held history ts commits file_of_line entries stored legal held file e h in
-      same-rows (option_count history) (file_dated e.node (kept_of history)) e.file.lines own.1.lines
+      same-rows (option_count history) (file_dated e.node (kept_of history)) e.lines.lines own.1.lines
       ∙ ap (λ f. map as_row (file_dated f (kept_of history))) own.0
 
-  pub none-kept : (file : ℕ) → item_of stored file ≡ None → [] ≡ map as_row (file_dated file (kept_of history))
+  pub none-kept : (file : ℕ) → part_of stored file ≡ None → [] ≡ map as_row (file_dated file (kept_of history))
   none-kept file h = sym (ap (λ ks. map as_row (map dated ks)) (none-stored history ts commits file_of_line entries stored legal held file h))

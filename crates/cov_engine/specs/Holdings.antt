@@ -13,18 +13,15 @@ use Rattle.cov_history.specs.Files.{file_dated}
 use Rattle.cov_engine.specs.Marks.{AreMarks}
 use Rattle.cov_history.specs.FileOfLine.{AreFilesOfLines}
 use Rattle.cov_engine.specs.Nodes.{AreDated}
-use Rattle.cov_engine.specs.Staging.{AreNumbered}
+use Rattle.cov_history.specs.FileNodes.{files_of}
+use Rattle.cov_engine.specs.Parts.{part_node, files_in}
 use Rattle.cov_engine.specs.declared.store.CommitMark.{CommitMark}
-use Rattle.cov_engine.specs.declared.stored_file.StoredFile.{StoredFile}
-
--- the node of which something is stored
-abbrev pub stored_node : StoredFile → ℕ
-stored_node e = e.node
+use Rattle.cov_engine.specs.declared.file_part.FilePart.{FilePart}
 
 -- a stored file has its node's lines in order, with no change beyond the history
-pub record IsFileOf (history : List Command) (ts : List Triple) (e : StoredFile) : Type 0 where
-  pub lines : AreDated ts (option_count history) (file_dated e.node (kept_of history)) e.file.lines
-  pub newest : e.file.newest ≤ length history
+pub record IsFileOf (history : List Command) (ts : List Triple) (e : FilePart) : Type 0 where
+  pub lines : AreDated ts (option_count history) (file_dated e.node (kept_of history)) e.lines.lines
+  pub newest : e.lines.newest ≤ length history
 
 -- on each choice the entries have at each position the rows of the replay, their visibilities are nodes of a table, and no change
 -- of them is beyond the history
@@ -33,13 +30,13 @@ pub record AreEntriesOf (history : List Command) (ts : List Triple) (entries : D
   pub within : AreNodesAt ts entries
   pub from : entries.from ≤ length history
 
--- the entries are a history's; something is stored of each of its nodes, in order, with the lines of each file, whose nodes are
--- of a table; the file of each line is noted, and so are the commits
-pub record IsHeldBy (history : List Command) (ts : List Triple) (commits : List CommitMark) (file_of_line : List ℕ) (entries : Dated) (stored : List StoredFile) : Type 0 where
+-- the entries are a history's; so are the files, in order, with their lines, whose nodes are of a table; the file of each line is
+-- noted, and so are the commits
+pub record IsHeldBy (history : List Command) (ts : List Triple) (commits : List CommitMark) (file_of_line : List ℕ) (entries : Dated) (stored : List FilePart) : Type 0 where
   pub of_entries : AreEntriesOf history ts entries
-  pub made : nodes_in entries ≡ map stored_node stored
-  pub numbered : AreNumbered 0 stored
-  pub counted : length stored ≡ (numbers_of history).nodes
+  pub below : AllByRecursion (λ node. node ≤ (numbers_of history).nodes) (nodes_in entries)
+  pub made : files_in entries ≡ files_of history
+  pub parts : map part_node stored ≡ files_of history
   pub files : AllByRecursion (IsFileOf history ts) stored
   pub lines : length file_of_line ≡ line_count history
   pub in_files : AreFilesOfLines (kept_of history) 0 file_of_line

@@ -5,6 +5,7 @@ pub mod Holdings
 pub mod Marks
 pub mod Nodes
 pub mod Overtakers
+pub mod Parts
 pub mod Ready
 pub mod RowPlans
 pub mod Ruling
@@ -12,3 +13,4 @@ pub mod Showing
 pub mod States
 pub mod Carrying
 pub mod Visibility
+pub mod Visible

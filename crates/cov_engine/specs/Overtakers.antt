@@ -1,5 +1,5 @@
 -- The first commit that overtakes another, by nodes.
-use Rattle.std.specs.Prelude.{◌≡◌, ℕ, ◌<◌, ◌≤◌, Bool, true, false, ◌&&◌, ◌⊎◌, nat_lt, List, [], ◌∷◌, length, drop, Option, Some, None}
+use Rattle.std.specs.Prelude.{◌≡◌, ℕ, ◌<◌, ◌≤◌, Bool, true, false, ◌&&◌, ◌⊎◌, nat_lt, List, [], ◌∷◌, length, drop, get_or, Option, Some, None}
 use Rattle.std.specs.List.{AllByRecursion}
 use Rattle.cov_base.specs.declared.limits.TheConstants.{CHOICE_WIDTH}
 use Rattle.cov_dd.specs.declared.triple.Triple.{Triple}
@@ -13,6 +13,7 @@ use Rattle.cov_edit.specs.Touched.{have_common}
 use Rattle.cov_engine.specs.Marks.{AreMarks}
 use Rattle.cov_history.specs.Overtaking.{overtaken}
 use Rattle.cov_engine.specs.Visibility.{item_of}
+use Rattle.cov_engine.specs.declared.commits.Notes.{Notes}
 use Rattle.cov_engine.specs.declared.store.CommitMark.{CommitMark}
 
 -- two nodes are true on no common choice
@@ -56,6 +57,14 @@ pub record IsAfter (base : ℕ) (commits later : List CommitMark) : Type 0 where
   pub few : count ≤ length commits
   pub is : later ≡ drop count commits
   pub end : is_beyond base (item_of commits count) ≡ false
+
+-- no commit after a base touches one of the nodes
+abbrev pub NoneTouches : ℕ → List ℕ → List CommitMark → Type 0
+NoneTouches base touched commits = AllByRecursion (λ m. base < m.position → have_common m.touched touched ≡ false) commits
+
+-- the position that is noted at a node
+abbrev pub noted : Notes → ℕ → ℕ
+noted notes x = get_or notes.listed.items x notes.unlisted
 
 -- each commit's position is at most what is noted at the nodes that it touches
 abbrev pub AreNoted : (ℕ → ℕ) → List CommitMark → Type 0

@@ -19,7 +19,7 @@ use Rattle.cov_engine.specs.Ruling.{rule_in}
 use Rattle.cov_history.specs.Sessions.{MayCome}
 use Rattle.cov_history.specs.Verdict.{verdict}
 use Rattle.cov_engine.specs.declared.counts.Counts.{Counts}
-use Rattle.cov_engine.specs.declared.stored_file.StoredFile.{StoredFile}
+use Rattle.cov_engine.specs.declared.file_part.FilePart.{FilePart}
 use Rattle.cov_engine.specs.declared.store.CommitMark.{CommitMark}
 use Rattle.cov_engine.specs.declared.edit_plan.EditPlan.{EditPlan}
 use Rattle.cov_engine.specs.declared.ready.Ready.{Ready}
@@ -47,20 +47,20 @@ pub record AreCountsWith (history : List Command) (es : List Edit) (counts : Cou
   pub bytes : counts.bytes ≡ byte_count history + text_bytes es
 
 -- what is staged for edits and an ambition is ready, and there is room for their commit
-abbrev pub IsStagedReady : List Command → List Triple → Formula ℕ → List Edit → ℕ → List CommitMark → List ℕ → Dated → List StoredFile → Ready → Type 0
+abbrev pub IsStagedReady : List Command → List Triple → Formula ℕ → List Edit → ℕ → List CommitMark → List ℕ → Dated → List FilePart → Ready → Type 0
 IsStagedReady history ts ambition es spare commits file_of_line entries stored (ready.Option name) = ⊥
 IsStagedReady history ts ambition es spare commits file_of_line entries stored (ready.Rule rule plan) = ⊥
 IsStagedReady history ts ambition es spare commits file_of_line entries stored (ready.Commit mark counts plans rows) =
     IsStaged history ts ambition es commits mark plans.items rows file_of_line entries stored × AreCountsWith history es counts × (0 < spare)
 
 -- a commit is staged, and there is room for it
-abbrev pub IsCommitReady : List Command → List Triple → Command → ℕ → List CommitMark → List ℕ → Dated → List StoredFile → CommitMark → Counts → List EditPlan → Option (List Entry) → Type 0
+abbrev pub IsCommitReady : List Command → List Triple → Command → ℕ → List CommitMark → List ℕ → Dated → List FilePart → CommitMark → Counts → List EditPlan → Option (List Entry) → Type 0
 IsCommitReady history ts (commands.Commit base choice ambition es) spare commits file_of_line entries stored mark counts plans rows =
     MayCome history (commands.Commit base choice ambition es) × IsStaged history ts ambition es commits mark plans rows file_of_line entries stored × AreCountsWith history es counts × (0 < spare)
 IsCommitReady history ts command spare commits file_of_line entries stored mark counts plans rows = ⊥
 
 -- what a command wants is ready: a name and room for it, a rule with its plan, or what a commit stages
-abbrev pub IsReady : List Command → Command → ℕ → List Triple → RulesValue → ℕ → List CommitMark → List ℕ → Dated → List StoredFile → Ready → Type 0
+abbrev pub IsReady : List Command → Command → ℕ → List Triple → RulesValue → ℕ → List CommitMark → List ℕ → Dated → List FilePart → Ready → Type 0
 IsReady history command options_spare ts rules commits_spare commits file_of_line entries stored (ready.Option name) =
     (command ≡ commands.Option name) × (0 < options_spare) × IsHeldBy history ts commits file_of_line entries stored
 IsReady history command options_spare ts rules commits_spare commits file_of_line entries stored (ready.Rule rule plan) =

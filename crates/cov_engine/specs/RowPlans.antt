@@ -2,6 +2,7 @@
 use Rattle.std.specs.Prelude.{◌≡◌, ℕ, ◌+◌, ◌<◌, ◌≤◌, Bool, List, [], ◌∷◌, ◌++◌, Option}
 use Rattle.std.specs.List.{AllByRecursion}
 use Rattle.cov_base.specs.Rows.{RowChange, Created, Renamed, Moved, Removed}
+use Rattle.cov_base.specs.declared.number.Kind.{Kind}
 use Rattle.cov_dd.specs.declared.triple.Triple.{Triple}
 use Rattle.cov_edit.specs.declared.edit.Edit.{Edit}
 use Rattle.cov_edit.specs.declared.edit.Edit.TheVariants as edits
@@ -9,7 +10,7 @@ use Rattle.cov_edit.specs.Numbering.{node_number}
 use Rattle.cov_tree.specs.declared.entry.Entry.{Entry}
 use Rattle.cov_tree.specs.Carried.{AreNodesAt, AreNodesWith}
 use Rattle.cov_tree.specs.Changes.{Makes}
-use Rattle.cov_tree.specs.Dated.{Dated, rows_at, rows_with, nodes_in, nodes_with}
+use Rattle.cov_tree.specs.Dated.{Dated, rows_at, rows_with, nodes_in, kinds_in, nodes_with, kinds_with}
 
 -- the changes of rows that edits make within an ambition with this node, n nodes having been made before the commit and so many
 -- before these edits
@@ -41,10 +42,21 @@ made_by made (edits.Rename node name ∷ es) nodes = made_by made es nodes
 made_by made (edits.Move node parent ∷ es) nodes = made_by made es nodes
 made_by made (edits.Remove node ∷ es) nodes = made_by made es nodes
 
+-- and the same with their kinds
+abbrev pub kinds_made_by : ℕ → List Edit → List (ℕ × Kind) → List (ℕ × Kind)
+kinds_made_by made [] ks = ks
+kinds_made_by made (edits.New kind parent name ∷ es) ks = kinds_made_by (made + 1) es (ks ++ (made + 1, kind) ∷ [])
+kinds_made_by made (edits.Insert file after text ∷ es) ks = kinds_made_by made es ks
+kinds_made_by made (edits.Delete file line ∷ es) ks = kinds_made_by made es ks
+kinds_made_by made (edits.Rename node name ∷ es) ks = kinds_made_by made es ks
+kinds_made_by made (edits.Move node parent ∷ es) ks = kinds_made_by made es ks
+kinds_made_by made (edits.Remove node ∷ es) ks = kinds_made_by made es ks
+
 -- a plan is installed from a position on
 pub record IsSet (at : ℕ) (plan : Option (List Entry)) (old new : Dated) : Type 0 where
   pub planned : (table : List Triple) (c : List Bool) (p : ℕ) → at ≤ p → rows_at table c p new ≡ rows_with table c plan old
   pub before : (table : List Triple) (c : List Bool) (p : ℕ) → p < at → rows_at table c p new ≡ rows_at table c p old
   pub from : new.from ≤ at
   pub nodes : nodes_in new ≡ nodes_with plan old
+  pub kinds : kinds_in new ≡ kinds_with plan old
   pub within : (table : List Triple) → AreNodesAt table old → AreNodesWith table plan old → AreNodesAt table new

@@ -11,8 +11,8 @@ use Rattle.cov_file.specs.declared.row.FileRow.{FileRow}
 use Rattle.cov_file.specs.Dated.{rows_at}
 use Rattle.cov_view.specs.declared.row.ViewRow.{ViewRow}
 use Rattle.cov_view.specs.Seen.{kind_in, at_row, with_lines_by}
-use Rattle.cov_engine.specs.Visibility.{item_of}
-use Rattle.cov_engine.specs.declared.stored_file.StoredFile.{StoredFile}
+use Rattle.cov_engine.specs.Parts.{part_of}
+use Rattle.cov_engine.specs.declared.file_part.FilePart.{FilePart}
 
 -- the rows with a line of a file more
 abbrev pub with_row : ℕ → List ViewRow → FileRow → List ViewRow
@@ -24,15 +24,15 @@ bare_row r = record { node = nodes.Old r.node; kind = r.kind; parent = nodes.Old
 
 module _ (ts : List Triple) (c : List Bool) (at : ℕ) where
   -- the rows with the lines of a node that are seen, if it is a file's and they are stored
-  abbrev pub with_lines : Kind → ℕ → Option StoredFile → List ViewRow → List ViewRow
-  with_lines kinds.File node (Some e) rows = fold (with_row node) rows (rows_at ts c at e.file.lines)
+  abbrev pub with_lines : Kind → ℕ → Option FilePart → List ViewRow → List ViewRow
+  with_lines kinds.File node (Some e) rows = fold (with_row node) rows (rows_at ts c at e.lines.lines)
   with_lines kinds.File node None rows = rows
   with_lines kinds.Dir node stored rows = rows
 
-  module _ (stored : List StoredFile) where
+  module _ (stored : List FilePart) where
     -- the rows with that of a node more
     abbrev pub with_node : List ViewRow → Row → List ViewRow
-    with_node rows r = with_lines r.kind r.node (item_of stored r.node) (rows ++ bare_row r ∷ [])
+    with_node rows r = with_lines r.kind r.node (part_of stored r.node) (rows ++ bare_row r ∷ [])
 
     -- each row is of a node that isn't shown yet when it is its turn
     abbrev pub AreFresh : List ViewRow → List Row → Type 0

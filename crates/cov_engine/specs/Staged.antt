@@ -11,13 +11,13 @@ use Rattle.cov_edit.specs.Numbering.{numbers_of, line_count}
 use Rattle.cov_edit.specs.Touched.{touched}
 use Rattle.cov_history.specs.FileOfLine.{new_file_of_line}
 use Rattle.cov_engine.specs.Staging.{contents, new_files, HasRoom}
-use Rattle.cov_engine.specs.Holdings.{stored_node, IsHeldBy}
+use Rattle.cov_engine.specs.Holdings.{IsHeldBy}
 use Rattle.cov_engine.specs.Carrying.{ArePlanned}
-use Rattle.cov_engine.specs.RowPlans.{edit_changes, made_by}
+use Rattle.cov_engine.specs.RowPlans.{edit_changes, made_by, kinds_made_by}
 use Rattle.cov_tree.specs.declared.entry.Entry.{Entry}
 use Rattle.cov_tree.specs.Changes.{Makes}
-use Rattle.cov_tree.specs.Dated.{Dated, HasRoom as HasRowRoom, nodes_in, nodes_with}
-use Rattle.cov_engine.specs.declared.stored_file.StoredFile.{StoredFile}
+use Rattle.cov_tree.specs.Dated.{Dated, HasRoom as HasRowRoom, nodes_in, kinds_in, nodes_with, kinds_with}
+use Rattle.cov_engine.specs.declared.file_part.FilePart.{FilePart}
 use Rattle.cov_engine.specs.declared.store.CommitMark.{CommitMark}
 use Rattle.cov_engine.specs.declared.edit_plan.EditPlan.{EditPlan}
 
@@ -30,12 +30,13 @@ pub record IsCommitPlan (history : List Command) (ts : List Triple) (entries : D
   pub stands : Stands ts mark.node 0 (option_count history) (value ambition)
   pub changes : Makes ts entries plan (edit_changes (numbers_of history).nodes (numbers_of history).nodes mark.node es)
   pub nodes : nodes_with plan entries ≡ made_by (numbers_of history).nodes es (nodes_in entries)
+  pub kinds : kinds_with plan entries ≡ kinds_made_by (numbers_of history).nodes es (kinds_in entries)
 
--- a commit is staged: what is stored of its nodes and the files of its lines are kept behind those of the history, each file has
--- room for what it does to it and the entries for its changes of rows, and its ambition and the plans of its edits are ready
-pub record IsStaged (history : List Command) (ts : List Triple) (ambition : Formula ℕ) (es : List Edit) (commits : List CommitMark) (mark : CommitMark) (plans : List EditPlan) (plan : Option (List Entry)) (file_of_line : List ℕ) (entries : Dated) (stored : List StoredFile) : Type 0 where
+-- a commit is staged: its files and the files of its lines are kept behind those of the history, each file has room for what it
+-- does to it and the entries for its changes of rows, and its ambition and the plans of its edits are ready
+pub record IsStaged (history : List Command) (ts : List Triple) (ambition : Formula ℕ) (es : List Edit) (commits : List CommitMark) (mark : CommitMark) (plans : List EditPlan) (plan : Option (List Entry)) (file_of_line : List ℕ) (entries : Dated) (stored : List FilePart) : Type 0 where
   pub old_file_of_line : List ℕ
-  pub old_stored : List StoredFile
+  pub old_stored : List FilePart
   pub held : IsHeldBy history ts commits old_file_of_line entries old_stored
   pub at : mark.position ≡ length history + 1
   pub touches : mark.touched ≡ touched es
@@ -43,7 +44,8 @@ pub record IsStaged (history : List Command) (ts : List Triple) (ambition : Form
   pub files : map contents stored ≡ map contents old_stored ++ new_files (numbers_of history).nodes es
   pub room : AllByRecursion (HasRoom (numbers_of history).nodes (line_count history) es) stored
   pub changes : Makes ts entries plan (edit_changes (numbers_of history).nodes (numbers_of history).nodes mark.node es)
-  pub nodes : nodes_with plan entries ≡ map stored_node stored
+  pub nodes : nodes_with plan entries ≡ made_by (numbers_of history).nodes es (nodes_in entries)
+  pub kinds : kinds_with plan entries ≡ kinds_made_by (numbers_of history).nodes es (kinds_in entries)
   pub row_room : HasRowRoom plan entries
   pub stands : Stands ts mark.node 0 (option_count history) (value ambition)
   pub planned : ArePlanned (length history + 1) old_stored (numbers_of history).nodes (line_count history) mark.node ts (line_count history) es plans

@@ -1,5 +1,5 @@
 -- What a commit adds to what is kept.
-use Rattle.std.specs.Prelude.{◌≡◌, ℕ, suc, ◌+◌, ◌-◌, ◌^◌, ◌<◌, ◌≤◌, Bool, true, false, ◌&&◌, ◌||◌, nat_eq, nat_lt, nat_le, List, [], ◌∷◌, length, Option, Some, None, if◌then◌else◌, ◌++◌}
+use Rattle.std.specs.Prelude.{◌≡◌, ℕ, suc, ◌^◌, ◌<◌, ◌≤◌, Bool, true, false, ◌&&◌, ◌||◌, nat_eq, List, [], ◌∷◌, length, map, Option, None, if◌then◌else◌, ◌++◌}
 use Rattle.std.specs.List.{AllByRecursion}
 use Rattle.cov_base.specs.declared.number.NodeRef.{NodeRef}
 use Rattle.cov_base.specs.declared.limits.TheConstants.{LIMITS}
@@ -10,11 +10,12 @@ use Rattle.cov_edit.specs.declared.edit.Edit.TheVariants as edits
 use Rattle.cov_edit.specs.History.{text_bytes}
 use Rattle.cov_edit.specs.Numbering.{node_number, line_number, nodes_made, anchors_of}
 use Rattle.cov_view.specs.Refusals.{when, first_of}
+use Rattle.cov_history.specs.FileNodes.{files_made}
 use Rattle.cov_history.specs.Verdict.{has_no_edits, refusals_by_size}
 use Rattle.cov_engine.specs.declared.counts.Counts.{Counts}
 use Rattle.cov_history.specs.declared.refusal.Refusal.{Refusal}
 use Rattle.cov_history.specs.declared.refusal.Refusal.TheVariants as refusals
-use Rattle.cov_engine.specs.declared.stored_file.StoredFile.{StoredFile}
+use Rattle.cov_engine.specs.declared.file_part.FilePart.{FilePart}
 use Rattle.cov_engine.specs.declared.sizes.Sizes.{Sizes}
 
 -- how many lines and nodes edits make, and how many bytes of text they insert
@@ -25,24 +26,22 @@ sizes_of es = record { lines = length (anchors_of 0 es); nodes = nodes_made es; 
 abbrev pub sizes_refusal : Counts → List Edit → Option Refusal
 sizes_refusal counts es = first_of (refusals_by_size LIMITS counts.lines counts.nodes counts.bytes es ++ when (has_no_edits es) refusals.Empty ∷ [])
 
--- a stored file but for the room of its file
+-- a file but for its room
 pub record Contents : Type 0 where
   pub node : ℕ
   pub lines : List FileLine
   pub newest : ℕ
 
-abbrev pub contents : StoredFile → Contents
-contents e = record { node = e.node; lines = e.file.lines; newest = e.file.newest }
+abbrev pub contents : FilePart → Contents
+contents e = record { node = e.node; lines = e.lines.lines; newest = e.lines.newest }
 
--- what is stored of the nodes that a commit's edits make, so many having been made before these edits
+-- a new file, which has no lines
+abbrev pub new_contents : ℕ → Contents
+new_contents node = record { node = node; lines = []; newest = 0 }
+
+-- the files that edits make, so many nodes having been made before these edits
 abbrev pub new_files : ℕ → List Edit → List Contents
-new_files made [] = []
-new_files made (edits.New kind parent name ∷ es) = record { node = made + 1; lines = []; newest = 0 } ∷ new_files (made + 1) es
-new_files made (edits.Insert file after text ∷ es) = new_files made es
-new_files made (edits.Delete file line ∷ es) = new_files made es
-new_files made (edits.Rename node name ∷ es) = new_files made es
-new_files made (edits.Move node parent ∷ es) = new_files made es
-new_files made (edits.Remove node ∷ es) = new_files made es
+new_files made es = map new_contents (files_made made es)
 
 -- the number of a node that a reference names is below 2^32, n nodes having been made before
 abbrev pub IsNearRef : ℕ → NodeRef → Type 0
@@ -105,16 +104,7 @@ touches n file (edits.Move node parent ∷ es) = touches n file es
 touches n file (edits.Remove node ∷ es) = touches n file es
 
 -- a stored file has room for what edits do to its file, at any position
-pub record HasRoom (n m : ℕ) (es : List Edit) (e : StoredFile) : Type 0 where
-  pub inserts : inserts_into n e.node es ≤ e.file.room.inserts
-  pub changes : (line : ℕ) → deletes_from n m e.node line es ≡ true → has_line line (line_numbers_of e.file.lines) ≡ true → has_line line e.file.room.changes ≡ true
-  pub position : touches n e.node es ≡ true → e.file.room.position ≡ None
-
--- the stored files have the node numbers after n, in order
-abbrev pub AreNumbered : ℕ → List StoredFile → Type 0
-AreNumbered n [] = Unit {0}
-AreNumbered n (e ∷ es) = (e.node ≡ n + 1) × AreNumbered (n + 1) es
-
--- where the stored file of a node stands among so many
-abbrev pub index_of : ℕ → ℕ → Option ℕ
-index_of count node = if nat_lt 0 node && nat_le node count then Some (node - 1) else None
+pub record HasRoom (n m : ℕ) (es : List Edit) (e : FilePart) : Type 0 where
+  pub inserts : inserts_into n e.node es ≤ e.lines.room.inserts
+  pub changes : (line : ℕ) → deletes_from n m e.node line es ≡ true → has_line line (line_numbers_of e.lines.lines) ≡ true → has_line line e.lines.room.changes ≡ true
+  pub position : touches n e.node es ≡ true → e.lines.room.position ≡ None

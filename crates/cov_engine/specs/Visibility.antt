@@ -11,7 +11,8 @@ use Rattle.cov_edit.specs.Variant.{Variant}
 use Rattle.cov_edit.specs.Replay.{replay}
 use Rattle.cov_file.specs.declared.row.FileRow.{FileRow}
 use Rattle.cov_history.specs.Files.{DatedLine}
-use Rattle.cov_engine.specs.declared.stored_file.StoredFile.{StoredFile}
+use Rattle.cov_engine.specs.Parts.{part_of}
+use Rattle.cov_engine.specs.declared.file_part.FilePart.{FilePart}
 
 -- whether a variant has the line with a number, its file present or not
 abbrev pub has_line_number : ℕ → Variant → Bool
@@ -34,7 +35,7 @@ as_row d = record { line = d.line; text = d.text }
 abbrev pub item_of : {X : Type 0} → List X → ℕ → Option X
 item_of xs number = if nat_eq number 0 then None else slice_get xs (number - 1)
 
--- what is stored of a node, if there is one
-abbrev pub stored_file_of : List StoredFile → Option ℕ → Option StoredFile
+-- the stored file of a node, if there is one
+abbrev pub stored_file_of : List FilePart → Option ℕ → Option FilePart
 stored_file_of stored None = None
-stored_file_of stored (Some file) = item_of stored file
+stored_file_of stored (Some file) = part_of stored file

@@ -1,10 +1,12 @@
 // What a commit's plans do to the lines of files, one after another.
-ghost use Rattle.std.specs.Prelude.{◌≡◌};
+ghost use Rattle.std.specs.Prelude.{◌≡◌, map};
 ghost use Rattle.std.specs.List.{AllByRecursion};
-ghost use Rattle.cov_engine.specs.Staging.{AreNumbered};
+ghost use Rattle.cov_edit.specs.Touched.{AreRising};
+ghost use Rattle.cov_engine.specs.Parts.{part_node};
 ghost use Rattle.cov_engine.specs.Carrying.{CanCarryOutIn, AreCarriedOut, CanCarryOutAll, AreAllCarriedOut};
 
-use crate::stored_file::{StoredFile, index_of};
+use crate::FilePart;
+use crate::places::index_of;
 use cov_base::{LineNo, NodeNo, Position, Text};
 use cov_dd::Node;
 use std::collections::VecDeque;
@@ -27,8 +29,8 @@ pub(crate) enum EditPlan {
 }
 
 /// Carries out plans in order. It takes for each at most time in the lines of its file, and no memory.
-pub(crate) fn carry_out_all(files: &mut [StoredFile], plans: VecDeque<EditPlan>, at: Position)
-    requires numbered { AreNumbered 0 files.old }
+pub(crate) fn carry_out_all(files: &mut [FilePart], plans: VecDeque<EditPlan>, at: Position)
+    requires rising { AreRising (map part_node files.old) }
     requires can { CanCarryOutAll at plans.items files.old }
     ensures { AreAllCarriedOut at plans.items files.old files.new }
 {
@@ -38,8 +40,8 @@ pub(crate) fn carry_out_all(files: &mut [StoredFile], plans: VecDeque<EditPlan>,
     }
 }
 
-fn carry_out(files: &mut [StoredFile], plan: EditPlan, at: Position)
-    requires numbered { AreNumbered 0 files.old }
+fn carry_out(files: &mut [FilePart], plan: EditPlan, at: Position)
+    requires rising { AreRising (map part_node files.old) }
     requires can { AllByRecursion (CanCarryOutIn at plan) files.old }
     ensures { AreCarriedOut at plan files.old files.new }
 {

@@ -1,5 +1,5 @@
 // A history in use.
-ghost use Rattle.std.specs.Prelude.{◌≡◌, ◌≤◌, ◌+◌, ◌++◌, ◌∷◌, [], true, nat_lt, length, map, take, None, Some, is_none, IfOk, IfErr, IfSome, OnOk, OnErr};
+ghost use Rattle.std.specs.Prelude.{ℕ, Bool, List, ◌≡◌, ◌≤◌, ◌+◌, ◌++◌, ◌∷◌, [], true, nat_lt, length, map, take, None, Some, is_none, IfOk, IfErr, IfSome, OnOk, OnErr};
 ghost use Rattle.std.specs.List.{list_all};
 ghost use Rattle.cov_dd.specs.Diagrams.{Extends};
 ghost use Rattle.cov_edit.specs.History.{options_of, option_count, constraints_of, first_false_in};
@@ -15,12 +15,13 @@ ghost use Rattle.cov_history.specs.Sessions.{MayCome};
 ghost use Rattle.cov_engine.specs.States.{AreCountsOf, IsStateOf, receipt_number};
 ghost use Rattle.cov_history.specs.Verdict.{IsLegal, verdict, RefusedBy};
 ghost use Rattle.cov_engine.specs.Visibility.{IsVisibilityOf, is_no_line, as_row};
+ghost use Rattle.cov_engine.specs.Visible.{IsWhole, shown};
 
+use crate::commits::Commits;
 use crate::installing::add_ready;
-use crate::number::item_of;
 use crate::state::{EngineState, make_ready};
 use crate::store::{Store, file_of, show};
-use crate::{Counts, Prepared, Receipt, Refusal};
+use crate::{Counts, FileParts, Prepared, Receipt, Refusal, Visible};
 use cov_base::{Choice, LineNo, Memory, NodeNo, Position};
 use cov_dd::{Node, Table};
 use cov_edit::{Command, Commands};
@@ -32,7 +33,7 @@ use cov_view::View;
 use std::alloc::Global;
 use std::marker::Model;
 
-/// A history. Contracts see it as the list of its commands.
+/// A history. Contracts see it as the list of its commands, and its table.
 #[derive(Drop)]
 pub struct Engine {
     state: EngineState,
@@ -49,9 +50,9 @@ impl Model for Engine {
 
     ghost coded = { Prim.hlevel (codes, row.the_row.coded, triples.the_row.coded) };
 
-    ghost view = { λ e. record { history = e.state.commands.commands; table = e.state.table } };
+    ghost view = { λ e. record { history = e.state.commands.commands; table = e.state.visible.table } };
 
-    ghost invariant = { λ e. IsStateOf e.state.commands.commands e.state.options.names e.state.table e.state.rules.standing e.state.counts × IsHeldBy e.state.commands.commands e.state.table e.state.store.commits.items e.state.store.file_of_line.items e.state.store.entries e.state.store.files.items };
+    ghost invariant = { λ e. IsStateOf e.state.commands.commands e.state.options.names e.state.visible.table e.state.rules.standing e.state.counts × IsHeldBy e.state.commands.commands e.state.visible.table e.state.store.commits.items e.state.store.file_of_line.items e.state.visible.entries e.state.visible.files };
 }
 
 impl Engine {
@@ -63,7 +64,6 @@ impl Engine {
             state: EngineState {
                 commands: Commands::new(alloc),
                 options: Options::new(alloc),
-                table: Table::new(alloc)?,
                 rules: Rules::new(alloc),
                 counts: Counts {
                     lines: 0,
@@ -71,10 +71,13 @@ impl Engine {
                     bytes: 0,
                 },
                 store: Store {
-                    commits: Vec::new(alloc),
+                    commits: Commits::new(alloc),
                     file_of_line: Vec::new(alloc),
+                },
+                visible: Visible {
+                    table: Table::new(alloc)?,
                     entries: Entries::new(alloc)?,
-                    files: Vec::new(alloc),
+                    files: FileParts::new(alloc),
                 },
             },
         })
@@ -115,23 +118,23 @@ impl Engine {
         self.state.counts
     }
 
-    /// The diagrams of the rules and of the visibilities of lines.
+    /// The diagrams of the rules, of the ambitions of commits, and of the visibilities of lines, files and directories.
     pub fn table(&self) -> &Table
         ensures { result.now ≡ self.now.table }
     {
-        &self.state.table
+        &self.state.visible.table
     }
 
     /// The visibility of a line now: the node that is true on exactly the choices in whose replay of the whole history the
     /// line is, its file present or not. None exactly where the history has no line with this number. So two lines have the
-    /// same node (`Table::is_same`) exactly where they are in the replays of the same choices. Takes no memory, and its time
-    /// doesn't grow with the history.
+    /// same node (`Table::is_same`) exactly where they are in the replays of the same choices. Takes no memory. It looks at
+    /// as many files as halvings leave.
     pub fn vis(&self, line: LineNo) -> Option<Node>
         ensures none { is_none result ≡ is_no_line self.now.history line }
         ensures stands { IfSome result (IsVisibilityOf self.now.history self.now.table line) }
     {
-        match file_of(&self.state.store, line) {
-            Some(stored) => stored.file.vis(line),
+        match file_of(&self.state.store, &self.state.visible, line) {
+            Some(part) => part.lines.vis(line),
             None => None,
         }
     }
@@ -140,9 +143,9 @@ impl Engine {
     pub fn file_lines(&self, file: NodeNo) -> Result<FileRows, Memory>
         ensures { IfOk result (λ rows. rows ≡ map as_row (file_dated file (kept_of self.now.history))) }
     {
-        match item_of(&self.state.store.files, file.number() as usize) {
-            Some(stored) => stored.file.all(),
-            None => Ok(FileRows::new(*self.state.store.files.allocator())),
+        match self.state.visible.files.find(file) {
+            Some(part) => part.lines.all(),
+            None => Ok(FileRows::new(self.state.store.commits.allocator())),
         }
     }
 
@@ -168,22 +171,36 @@ impl Engine {
         let count = self.state.options.count();
         self.state
             .rules
-            .complete(&mut self.state.table, partial, count)
+            .complete(&mut self.state.visible.table, partial, count)
     }
 
-    /// The variant of a choice at a position; nothing in it is new. It takes time in the rows and lines that are kept.
-    pub fn view(&self, alloc: Global, choice: Choice, at: Position) -> Result<View, Memory>
-        requires position { at ≤ length self.now.history }
-        requires choice { option_count (take at self.now.history) ≤ length choice }
-        ensures shows { IfOk result (λ view. Shows (numbers_of (take at self.now.history)) (numbers_of (take at self.now.history)).addresses view (replay choice (take at self.now.history))) }
-        ensures nodes { IfOk result (λ view. view.nodes_made ≡ 0) }
-        ensures lines { IfOk result (λ view. view.lines_made ≡ 0) }
+    /// What is shown, which is whole. At each position and on each choice it shows the variant of the replay, in which nothing is
+    /// new. Takes no memory.
+    pub fn visible(&self) -> &Visible
+        ensures whole { IsWhole result.now }
+        ensures table { result.now.table ≡ self.now.table }
+        ensures shows { (at : ℕ) (choice : List Bool) → Shows (numbers_of (take at self.now.history)) (numbers_of (take at self.now.history)).addresses (shown result.now choice at) (replay choice (take at self.now.history)) }
     {
-        show(alloc, &self.state.table, &self.state.store, choice, at)
+        &self.state.visible
+    }
+
+    /// What is shown on a choice at a position: the rows that the entries have there, and of each file among them the lines. It is
+    /// lent no command, so nothing is replayed. It takes time in the rows and lines that are kept.
+    pub fn view(
+        alloc: Global,
+        visible: &Visible,
+        choice: Choice,
+        at: Position,
+    ) -> Result<View, Memory>
+        requires whole { IsWhole visible.now }
+        ensures { IfOk result (λ view. view ≡ shown visible.now choice at) }
+    {
+        show(alloc, visible, choice, at)
     }
 
     /// Makes everything ready for a command, so that its installation can't fail. A refusal hands the engine back. Every
-    /// node keeps its value, refused or not. A commit takes for each edit at most time in the lines of its file.
+    /// node keeps its value, refused or not. A commit takes for each edit at most time in the lines of its file; one that changes
+    /// rows takes time in all of them besides, and one on an older base may look at the commits since.
     pub fn prepare(self, command: Command) -> Result<Prepared, (Engine, Refusal)>
         requires { MayCome self.history command }
         ensures prepared { IfOk result (λ prepared. (prepared.history ≡ self.history) × (prepared.command ≡ command)) }
@@ -201,8 +218,8 @@ impl Engine {
         }
     }
 
-    /// Appends a command, unless the history refuses it; then it is as before. Every node keeps its value, refused or not. A
-    /// commit takes for each edit at most time in the lines of its file.
+    /// Appends a command, unless the history refuses it; then it is as before. Every node keeps its value, refused or not. It
+    /// takes the time of `prepare`.
     pub fn append(&mut self, command: Command) -> Result<Receipt, Refusal>
         requires { MayCome self.old.history command }
         ensures appended { OnOk result (self.new.history ≡ self.old.history ++ command ∷ []) }
@@ -228,9 +245,9 @@ impl Engine {
     }
 
     pub(crate) fn of_state(state: EngineState) -> Engine
-        requires state { IsStateOf state.commands.commands state.options.names state.table state.rules.standing state.counts }
-        requires held { IsHeldBy state.commands.commands state.table state.store.commits.items state.store.file_of_line.items state.store.entries state.store.files.items }
-        ensures { result ≡ record { history = state.commands.commands; table = state.table } }
+        requires state { IsStateOf state.commands.commands state.options.names state.visible.table state.rules.standing state.counts }
+        requires held { IsHeldBy state.commands.commands state.visible.table state.store.commits.items state.store.file_of_line.items state.visible.entries state.visible.files }
+        ensures { result ≡ record { history = state.commands.commands; table = state.visible.table } }
     {
         Engine { state }
     }

@@ -1,17 +1,20 @@
 // Commands that are installed, or given up.
-ghost use Rattle.std.specs.Prelude.{◌≡◌, ◌-◌, ◌++◌, [], ◌∷◌, vec_len, vec_capacity};
+ghost use Rattle.std.specs.Prelude.{◌≡◌, ◌-◌, ◌++◌, ◌≤◌, [], ◌∷◌, map, take};
+ghost use Rattle.cov_edit.specs.Touched.{AreRising};
 ghost use Rattle.cov_engine.specs.Holdings.{IsHeldBy};
+ghost use Rattle.cov_engine.specs.Parts.{part_node, count_below};
+ghost use Rattle.cov_engine.specs.Staging.{contents, AreNear};
 ghost use Rattle.cov_engine.specs.Ready.{IsNext, IsReady, edits_in};
 ghost use Rattle.cov_engine.specs.States.{IsStateOf, receipt_number};
 ghost use Rattle.cov_engine.specs.declared.ready.Ready.TheVariants as ready;
 
-use crate::Counts;
 use crate::edit_plan::EditPlan;
 use crate::ready::Ready;
 use crate::staging::{install, unstage};
 use crate::state::EngineState;
-use crate::store::CommitMark;
-use cov_base::{OptionName, Position};
+use crate::store::{CommitMark, Store};
+use crate::{Counts, Visible};
+use cov_base::{NodeNo, OptionName, Position};
 use cov_edit::{Command, Edit};
 use cov_rules::{Rule, RulePlan};
 use cov_tree::EntryPlan;
@@ -19,14 +22,14 @@ use std::collections::VecDeque;
 
 /// Adds all of a command that is ready but the command itself, and answers the number on its receipt.
 pub(crate) fn add_ready(state: &mut EngineState, command: &Command, ready: Ready) -> u32
-    requires state { IsStateOf state.old.commands.commands state.old.options.names state.old.table state.old.rules.standing state.old.counts }
+    requires state { IsStateOf state.old.commands.commands state.old.options.names state.old.visible.table state.old.rules.standing state.old.counts }
     requires next { IsNext state.old.commands.commands command.now state.old.commands.spare }
-    requires ready { IsReady state.old.commands.commands command.now state.old.options.spare state.old.table state.old.rules
-        (vec_capacity state.old.store.commits - vec_len state.old.store.commits) state.old.store.commits.items state.old.store.file_of_line.items state.old.store.entries state.old.store.files.items ready }
+    requires ready { IsReady state.old.commands.commands command.now state.old.options.spare state.old.visible.table state.old.rules
+        state.old.store.commits.spare state.old.store.commits.items state.old.store.file_of_line.items state.old.visible.entries state.old.visible.files ready }
     ensures commands { state.new.commands ≡ state.old.commands }
-    ensures table { state.new.table ≡ state.old.table }
-    ensures state { IsStateOf (state.old.commands.commands ++ command.now ∷ []) state.new.options.names state.new.table state.new.rules.standing state.new.counts }
-    ensures held { IsHeldBy (state.old.commands.commands ++ command.now ∷ []) state.new.table state.new.store.commits.items state.new.store.file_of_line.items state.new.store.entries state.new.store.files.items }
+    ensures table { state.new.visible.table ≡ state.old.visible.table }
+    ensures state { IsStateOf (state.old.commands.commands ++ command.now ∷ []) state.new.options.names state.new.visible.table state.new.rules.standing state.new.counts }
+    ensures held { IsHeldBy (state.old.commands.commands ++ command.now ∷ []) state.new.visible.table state.new.store.commits.items state.new.store.file_of_line.items state.new.visible.entries state.new.visible.files }
     ensures number { result ≡ receipt_number state.old.commands.commands command.now }
 {
     match ready {
@@ -42,28 +45,28 @@ pub(crate) fn add_ready(state: &mut EngineState, command: &Command, ready: Ready
 }
 
 fn add_option(state: &mut EngineState, command: &Command, name: OptionName) -> u32
-    requires state { IsStateOf state.old.commands.commands state.old.options.names state.old.table state.old.rules.standing state.old.counts }
+    requires state { IsStateOf state.old.commands.commands state.old.options.names state.old.visible.table state.old.rules.standing state.old.counts }
     requires next { IsNext state.old.commands.commands command.now state.old.commands.spare }
-    requires ready { IsReady state.old.commands.commands command.now state.old.options.spare state.old.table state.old.rules
-        (vec_capacity state.old.store.commits - vec_len state.old.store.commits) state.old.store.commits.items state.old.store.file_of_line.items state.old.store.entries state.old.store.files.items (ready.Option name) }
+    requires ready { IsReady state.old.commands.commands command.now state.old.options.spare state.old.visible.table state.old.rules
+        state.old.store.commits.spare state.old.store.commits.items state.old.store.file_of_line.items state.old.visible.entries state.old.visible.files (ready.Option name) }
     ensures commands { state.new.commands ≡ state.old.commands }
-    ensures table { state.new.table ≡ state.old.table }
-    ensures state { IsStateOf (state.old.commands.commands ++ command.now ∷ []) state.new.options.names state.new.table state.new.rules.standing state.new.counts }
-    ensures held { IsHeldBy (state.old.commands.commands ++ command.now ∷ []) state.new.table state.new.store.commits.items state.new.store.file_of_line.items state.new.store.entries state.new.store.files.items }
+    ensures table { state.new.visible.table ≡ state.old.visible.table }
+    ensures state { IsStateOf (state.old.commands.commands ++ command.now ∷ []) state.new.options.names state.new.visible.table state.new.rules.standing state.new.counts }
+    ensures held { IsHeldBy (state.old.commands.commands ++ command.now ∷ []) state.new.visible.table state.new.store.commits.items state.new.store.file_of_line.items state.new.visible.entries state.new.visible.files }
     ensures number { result ≡ receipt_number state.old.commands.commands command.now }
 {
     u32::from(state.options.declare(name).number())
 }
 
 fn add_rule(state: &mut EngineState, command: &Command, rule: Rule, plan: RulePlan) -> u32
-    requires state { IsStateOf state.old.commands.commands state.old.options.names state.old.table state.old.rules.standing state.old.counts }
+    requires state { IsStateOf state.old.commands.commands state.old.options.names state.old.visible.table state.old.rules.standing state.old.counts }
     requires next { IsNext state.old.commands.commands command.now state.old.commands.spare }
-    requires ready { IsReady state.old.commands.commands command.now state.old.options.spare state.old.table state.old.rules
-        (vec_capacity state.old.store.commits - vec_len state.old.store.commits) state.old.store.commits.items state.old.store.file_of_line.items state.old.store.entries state.old.store.files.items (ready.Rule rule plan) }
+    requires ready { IsReady state.old.commands.commands command.now state.old.options.spare state.old.visible.table state.old.rules
+        state.old.store.commits.spare state.old.store.commits.items state.old.store.file_of_line.items state.old.visible.entries state.old.visible.files (ready.Rule rule plan) }
     ensures commands { state.new.commands ≡ state.old.commands }
-    ensures table { state.new.table ≡ state.old.table }
-    ensures state { IsStateOf (state.old.commands.commands ++ command.now ∷ []) state.new.options.names state.new.table state.new.rules.standing state.new.counts }
-    ensures held { IsHeldBy (state.old.commands.commands ++ command.now ∷ []) state.new.table state.new.store.commits.items state.new.store.file_of_line.items state.new.store.entries state.new.store.files.items }
+    ensures table { state.new.visible.table ≡ state.old.visible.table }
+    ensures state { IsStateOf (state.old.commands.commands ++ command.now ∷ []) state.new.options.names state.new.visible.table state.new.rules.standing state.new.counts }
+    ensures held { IsHeldBy (state.old.commands.commands ++ command.now ∷ []) state.new.visible.table state.new.store.commits.items state.new.store.file_of_line.items state.new.visible.entries state.new.visible.files }
     ensures number { result ≡ receipt_number state.old.commands.commands command.now }
 {
     let at = Position::new(state.commands.len() as u32 + 1);
@@ -78,18 +81,19 @@ fn add_commit(
     plans: VecDeque<EditPlan>,
     rows: EntryPlan,
 ) -> u32
-    requires state { IsStateOf state.old.commands.commands state.old.options.names state.old.table state.old.rules.standing state.old.counts }
+    requires state { IsStateOf state.old.commands.commands state.old.options.names state.old.visible.table state.old.rules.standing state.old.counts }
     requires next { IsNext state.old.commands.commands command.now state.old.commands.spare }
-    requires ready { IsReady state.old.commands.commands command.now state.old.options.spare state.old.table state.old.rules
-        (vec_capacity state.old.store.commits - vec_len state.old.store.commits) state.old.store.commits.items state.old.store.file_of_line.items state.old.store.entries state.old.store.files.items (ready.Commit mark counts plans rows) }
+    requires ready { IsReady state.old.commands.commands command.now state.old.options.spare state.old.visible.table state.old.rules
+        state.old.store.commits.spare state.old.store.commits.items state.old.store.file_of_line.items state.old.visible.entries state.old.visible.files (ready.Commit mark counts plans rows) }
     ensures commands { state.new.commands ≡ state.old.commands }
-    ensures table { state.new.table ≡ state.old.table }
-    ensures state { IsStateOf (state.old.commands.commands ++ command.now ∷ []) state.new.options.names state.new.table state.new.rules.standing state.new.counts }
-    ensures held { IsHeldBy (state.old.commands.commands ++ command.now ∷ []) state.new.table state.new.store.commits.items state.new.store.file_of_line.items state.new.store.entries state.new.store.files.items }
+    ensures table { state.new.visible.table ≡ state.old.visible.table }
+    ensures state { IsStateOf (state.old.commands.commands ++ command.now ∷ []) state.new.options.names state.new.visible.table state.new.rules.standing state.new.counts }
+    ensures held { IsHeldBy (state.old.commands.commands ++ command.now ∷ []) state.new.visible.table state.new.store.commits.items state.new.store.file_of_line.items state.new.visible.entries state.new.visible.files }
     ensures number { result ≡ receipt_number state.old.commands.commands command.now }
 {
     install(
         &mut state.store,
+        &mut state.visible,
         state.counts.nodes - 1,
         edits_in(command),
         plans,
@@ -102,24 +106,39 @@ fn add_commit(
 
 /// Gives up what is ready for a command.
 pub(crate) fn give_up(state: &mut EngineState, command: &Command, ready: &Ready)
-    requires state { IsStateOf state.old.commands.commands state.old.options.names state.old.table state.old.rules.standing state.old.counts }
+    requires state { IsStateOf state.old.commands.commands state.old.options.names state.old.visible.table state.old.rules.standing state.old.counts }
     requires next { IsNext state.old.commands.commands command.now state.old.commands.spare }
-    requires ready { IsReady state.old.commands.commands command.now state.old.options.spare state.old.table state.old.rules
-        (vec_capacity state.old.store.commits - vec_len state.old.store.commits) state.old.store.commits.items state.old.store.file_of_line.items state.old.store.entries state.old.store.files.items ready.now }
+    requires ready { IsReady state.old.commands.commands command.now state.old.options.spare state.old.visible.table state.old.rules
+        state.old.store.commits.spare state.old.store.commits.items state.old.store.file_of_line.items state.old.visible.entries state.old.visible.files ready.now }
     ensures commands { state.new.commands ≡ state.old.commands }
-    ensures table { state.new.table ≡ state.old.table }
-    ensures state { IsStateOf state.new.commands.commands state.new.options.names state.new.table state.new.rules.standing state.new.counts }
-    ensures held { IsHeldBy state.new.commands.commands state.new.table state.new.store.commits.items state.new.store.file_of_line.items state.new.store.entries state.new.store.files.items }
+    ensures table { state.new.visible.table ≡ state.old.visible.table }
+    ensures state { IsStateOf state.new.commands.commands state.new.options.names state.new.visible.table state.new.rules.standing state.new.counts }
+    ensures held { IsHeldBy state.new.commands.commands state.new.visible.table state.new.store.commits.items state.new.store.file_of_line.items state.new.visible.entries state.new.visible.files }
 {
     match ready {
         Ready::Option { .. } | Ready::Rule { .. } => (),
-        Ready::Commit { .. } => unstage(
+        Ready::Commit { .. } => cut_off(
             &mut state.store,
-            state.counts.nodes - 1,
-            state.counts.lines,
+            &mut state.visible,
+            state.counts,
             edits_in(command),
         ),
     }
+}
+
+// Cuts off what is staged for the edits of a commit.
+fn cut_off(store: &mut Store, visible: &mut Visible, counts: Counts, edits: &[Edit])
+    requires rising { AreRising (map part_node visible.old.files) }
+    requires nodes { 1 ≤ counts.nodes }
+    requires near { AreNear (counts.nodes - 1) edits.now }
+    ensures table { visible.new.table ≡ visible.old.table }
+    ensures commits { store.new.commits.items ≡ store.old.commits.items }
+    ensures entries { visible.new.entries ≡ visible.old.entries }
+    ensures file_of_line { store.new.file_of_line.items ≡ take counts.lines store.old.file_of_line.items }
+    ensures files { map contents visible.new.files ≡ map contents (take (count_below counts.nodes (map part_node visible.old.files)) visible.old.files) }
+{
+    let files = visible.files.count_below(NodeNo::new(counts.nodes));
+    unstage(store, visible, files, counts.nodes - 1, counts.lines, edits);
 }
 
 fn edits_in(command: &Command) -> &[Edit]

@@ -1,14 +1,19 @@
 //! What a history holds for all choices and positions at once, and which commands it accepts.
 #![tactic(auto)]
 
+mod commits;
 mod counts;
 mod edit_plan;
 mod engine;
 mod evidence;
+mod file_part;
+mod file_parts;
+mod file_staging;
 mod installing;
 pub mod laws;
 mod number;
 mod overtaking;
+mod places;
 mod planning;
 mod prepared;
 mod ready;
@@ -18,9 +23,12 @@ mod sizes;
 mod staging;
 mod state;
 mod store;
-mod stored_file;
+mod visible;
 
 pub use counts::Counts;
 pub use cov_history::Refusal;
 pub use engine::Engine;
+pub use file_part::FilePart;
+pub use file_parts::FileParts;
 pub use prepared::{Prepared, Receipt};
+pub use visible::Visible;

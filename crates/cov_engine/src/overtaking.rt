@@ -7,6 +7,7 @@ ghost use Rattle.cov_edit.specs.Touched.{AreRising};
 ghost use Rattle.cov_engine.specs.Overtakers.{Overtakes, Decides, IsFirstOf, AreApart, IsOvertaker, is_beyond, IsAfter};
 ghost use Rattle.cov_engine.specs.Visibility.{item_of};
 
+use crate::commits::Commits;
 use crate::number::item_of;
 use crate::store::CommitMark;
 use cov_base::{Memory, NodeNo, Position, Steps, Uncounted};
@@ -16,29 +17,33 @@ use cov_expr::Expr;
 use cov_vis::compile;
 
 /// The position of the first commit that overtakes edits within an ambition; a node is true on exactly the valid choices. It
-/// takes time in the commits after the base alone, and neither time nor memory in the edits where there is none.
+/// takes time in the edits alone where nothing after the base is noted at the nodes that they touch, and otherwise in the
+/// commits after the base as well. Where there is no commit after the base it takes neither time nor memory in the edits.
 pub(crate) fn overtaken(
     table: &mut Table,
     valid: Node,
-    commits: &[CommitMark],
+    commits: &Commits,
     base: Position,
     ambition: &Expr,
     edits: &Edits,
 ) -> Result<Option<Position>, Memory>
     requires valid { valid < diagram_size table.old }
-    requires nodes { AllByRecursion (λ m. m.node < diagram_size table.old) commits.now }
-    requires rising { AllByRecursion (λ m. AreRising m.touched) commits.now }
+    requires nodes { AllByRecursion (λ m. m.node < diagram_size table.old) commits.now.items }
+    requires rising { AllByRecursion (λ m. AreRising m.touched) commits.now.items }
     ensures extends { Extends table.old table.new }
-    ensures first { IfOk result (IsOvertaker table.old valid commits.now base ambition.now edits.now) }
+    ensures first { IfOk result (IsOvertaker table.old valid commits.now.items base ambition.now edits.now) }
 {
-    let later = after(commits, base);
-    if later.is_empty() {
+    let marks = commits.as_slice();
+    if !ends_after(marks, marks.len(), base) {
         return Ok(None);
     }
     let touched = touched(edits)?;
+    if commits.none_touches(base, touched.as_slice()) {
+        return Ok(None);
+    }
     let node = compile(table, ambition)?;
     let within = table.and(valid, node, &mut Steps::<Uncounted>::new())?;
-    first_overtaking(table, later, base, within, touched.as_slice())
+    first_overtaking(table, after(marks, base), base, within, touched.as_slice())
 }
 
 // The commits after a base. It takes time in how many these are.

@@ -1,15 +1,18 @@
 // The plans of a commit's edits, with their nodes.
-ghost use Rattle.std.specs.Prelude.{◌≡◌, ◌<◌, ◌≤◌, ◌+◌, ◌^◌, ℕ, [], ◌∷◌, length, IfOk, OnOk};
+ghost use Rattle.std.specs.Prelude.{◌≡◌, ◌<◌, ◌≤◌, ◌+◌, ◌^◌, ℕ, [], ◌∷◌, length, map, IfOk, OnOk};
 ghost use Rattle.std.specs.List.{AllByRecursion};
 ghost use Rattle.cov_dd.specs.Diagrams.{diagram_size, Extends};
 ghost use Rattle.cov_edit.specs.Numbering.{anchors_of};
-ghost use Rattle.cov_engine.specs.Staging.{AreNumbered, AreNear, AreLow};
+ghost use Rattle.cov_edit.specs.Touched.{AreRising};
+ghost use Rattle.cov_engine.specs.Parts.{part_node};
+ghost use Rattle.cov_engine.specs.Staging.{AreNear, AreLow};
 ghost use Rattle.cov_engine.specs.Nodes.{old_node, HasNodesIn};
 ghost use Rattle.cov_engine.specs.Carrying.{ArePlanned, IsPlannedBehind};
 
+use crate::FilePart;
 use crate::edit_plan::EditPlan;
 use crate::number::{line_number, node_number};
-use crate::stored_file::{StoredFile, index_of};
+use crate::places::index_of;
 use cov_base::{LineNo, Memory, NodeNo, Position};
 use cov_dd::{FALSE, Node, Table};
 use cov_edit::Edit;
@@ -30,12 +33,12 @@ pub(crate) struct Site {
 /// the ambition isn't.
 pub(crate) fn plan_edits(
     table: &mut Table,
-    files: &[StoredFile],
+    files: &[FilePart],
     plans: &mut VecDeque<EditPlan>,
     site: &Site,
     edits: &[Edit],
 ) -> Result<(), Memory>
-    requires numbered { AreNumbered 0 files.now }
+    requires rising { AreRising (map part_node files.now) }
     requires nodes { AllByRecursion (HasNodesIn table.old site.now.at) files.now }
     requires ambition { site.now.ambition < diagram_size table.old }
     requires near { AreNear site.now.nodes edits.now }
@@ -56,13 +59,13 @@ pub(crate) fn plan_edits(
 // Plans an edit, so many lines having been made before it, and answers how many there are then.
 fn plan_edit(
     table: &mut Table,
-    files: &[StoredFile],
+    files: &[FilePart],
     plans: &mut VecDeque<EditPlan>,
     site: &Site,
     made: u32,
     edit: &Edit,
 ) -> Result<u32, Memory>
-    requires numbered { AreNumbered 0 files.now }
+    requires rising { AreRising (map part_node files.now) }
     requires nodes { AllByRecursion (HasNodesIn table.old site.now.at) files.now }
     requires ambition { site.now.ambition < diagram_size table.old }
     requires near { AreNear site.now.nodes (edit.now ∷ []) }
@@ -98,12 +101,12 @@ fn plan_edit(
 }
 
 // The newest node of a line in a file, FALSE where the file has no such line.
-fn old_node(files: &[StoredFile], file: NodeNo, line: LineNo) -> Node
-    requires numbered { AreNumbered 0 files.now }
-    ensures { (p : ℕ) → AllByRecursion (λ e. e.file.newest ≤ p) files.now → result ≡ old_node p files.now file line }
+fn old_node(files: &[FilePart], file: NodeNo, line: LineNo) -> Node
+    requires rising { AreRising (map part_node files.now) }
+    ensures { (p : ℕ) → AllByRecursion (λ e. e.lines.newest ≤ p) files.now → result ≡ old_node p files.now file line }
 {
     match index_of(files, file) {
-        Some(index) => files[index].file.vis(line).unwrap_or(FALSE),
+        Some(index) => files[index].lines.vis(line).unwrap_or(FALSE),
         None => FALSE,
     }
 }

@@ -1,5 +1,5 @@
 // Commands that a history has accepted, and doesn't have yet.
-ghost use Rattle.std.specs.Prelude.{◌≡◌, ◌+◌, ◌-◌, ◌++◌, [], ◌∷◌, length, vec_len, vec_capacity};
+ghost use Rattle.std.specs.Prelude.{◌≡◌, ◌+◌, ◌++◌, [], ◌∷◌, length};
 ghost use Rattle.cov_dd.specs.Diagrams.{Extends};
 ghost use Rattle.cov_engine.specs.Ready.{IsNext, IsReady};
 ghost use Rattle.cov_engine.specs.States.{IsStateOf, receipt_number};
@@ -21,7 +21,6 @@ pub struct Prepared {
 }
 
 impl Model for Prepared {
-    ghost use Rattle.std.specs.Prelude.{◌-◌, vec_len, vec_capacity};
     ghost use Rattle.std.specs.Coded.{codes};
     ghost use Rattle.cov_dd.specs.contracts.triple.Triple as triples;
     ghost use Rattle.cov_edit.specs.contracts.command.Command as row;
@@ -34,12 +33,12 @@ impl Model for Prepared {
 
     ghost coded = { Prim.hlevel (codes, row.the_row.coded, triples.the_row.coded) };
 
-    ghost view = { λ p. record { history = p.state.commands.commands; command = p.command; table = p.state.table } };
+    ghost view = { λ p. record { history = p.state.commands.commands; command = p.command; table = p.state.visible.table } };
 
-    ghost invariant = { λ p. IsStateOf p.state.commands.commands p.state.options.names p.state.table p.state.rules.standing p.state.counts
+    ghost invariant = { λ p. IsStateOf p.state.commands.commands p.state.options.names p.state.visible.table p.state.rules.standing p.state.counts
         × IsNext p.state.commands.commands p.command p.state.commands.spare
-        × IsReady p.state.commands.commands p.command p.state.options.spare p.state.table p.state.rules
-        (vec_capacity p.state.store.commits - vec_len p.state.store.commits) p.state.store.commits.items p.state.store.file_of_line.items p.state.store.entries p.state.store.files.items p.ready };
+        × IsReady p.state.commands.commands p.command p.state.options.spare p.state.visible.table p.state.rules
+        p.state.store.commits.spare p.state.store.commits.items p.state.store.file_of_line.items p.state.visible.entries p.state.visible.files p.ready };
 }
 
 /// What a command made: the position after it, and the option's number, the rule's within its kind, or 0 for a commit.
@@ -51,11 +50,11 @@ pub struct Receipt {
 
 impl Prepared {
     pub(crate) fn new(state: EngineState, command: Command, ready: Ready) -> Prepared
-        requires state { IsStateOf state.commands.commands state.options.names state.table state.rules.standing state.counts }
+        requires state { IsStateOf state.commands.commands state.options.names state.visible.table state.rules.standing state.counts }
         requires next { IsNext state.commands.commands command state.commands.spare }
-        requires ready { IsReady state.commands.commands command state.options.spare state.table state.rules
-            (vec_capacity state.store.commits - vec_len state.store.commits) state.store.commits.items state.store.file_of_line.items state.store.entries state.store.files.items ready }
-        ensures { result ≡ record { history = state.commands.commands; command = command; table = state.table } }
+        requires ready { IsReady state.commands.commands command state.options.spare state.visible.table state.rules
+            state.store.commits.spare state.store.commits.items state.store.file_of_line.items state.visible.entries state.visible.files ready }
+        ensures { result ≡ record { history = state.commands.commands; command = command; table = state.visible.table } }
     {
         Prepared {
             state,

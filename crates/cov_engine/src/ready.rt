@@ -1,16 +1,19 @@
 // What is made ready for a command.
-ghost use Rattle.std.specs.Prelude.{◌≡◌, ◌<◌, ◌≤◌, ◌+◌, ◌-◌, ◌++◌, ◌^◌, length, map, vec_len, vec_capacity, IfOk, OnOk, OnErr};
+ghost use Rattle.std.specs.Prelude.{◌≡◌, ◌<◌, ◌≤◌, ◌+◌, ◌-◌, ◌++◌, ◌^◌, length, map, IfOk, OnOk, OnErr};
 ghost use Rattle.std.specs.List.{AllByRecursion};
 ghost use Rattle.cov_base.specs.declared.limits.TheConstants.{LIMITS};
 ghost use Rattle.cov_edit.specs.Numbering.{nodes_made};
+ghost use Rattle.cov_edit.specs.Touched.{AreRising};
+ghost use Rattle.cov_history.specs.FileNodes.{files_made};
 ghost use Rattle.cov_history.specs.FileOfLine.{new_file_of_line};
 ghost use Rattle.cov_tree.specs.Dated.{HasRoom as HasRowRoom, without_room};
-ghost use Rattle.cov_engine.specs.Staging.{contents, new_files, AreNumbered, AreNear, AreLow, HasRoom};
+ghost use Rattle.cov_engine.specs.Parts.{part_node};
+ghost use Rattle.cov_engine.specs.Staging.{contents, new_files, AreNear, AreLow, HasRoom};
 
-use crate::Counts;
 use crate::edit_plan::EditPlan;
 use crate::staging::{stage, unstage};
 use crate::store::{CommitMark, Store};
+use crate::{Counts, Visible};
 use cov_base::{Memory, OptionName};
 use cov_edit::Edit;
 use cov_rules::{Rule, RulePlan};
@@ -42,31 +45,35 @@ pub(crate) enum Ready {
 /// Stages what a commit's edits make; on `Err` nothing of it is there.
 pub(crate) fn stage_commit(
     store: &mut Store,
+    visible: &mut Visible,
     rows: &EntryPlan,
     counts: Counts,
     edits: &[Edit],
 ) -> Result<(), Memory>
     requires lines { counts.lines ≡ length store.old.file_of_line.items }
-    requires nodes { counts.nodes ≡ length store.old.files.items + 1 }
-    requires numbered { AreNumbered 0 store.old.files.items }
-    requires near { AreNear (length store.old.files.items) edits.now }
+    requires rising { AreRising (map part_node visible.old.files ++ files_made (counts.nodes - 1) edits.now) }
+    requires nodes { 1 ≤ counts.nodes }
+    requires near { AreNear (counts.nodes - 1) edits.now }
     requires low { AreLow counts.lines edits.now }
     requires few_edits { length edits.now ≤ LIMITS.edits }
-    requires few_nodes { length store.old.files.items + nodes_made edits.now < 2 ^ 32 - 1 }
+    requires few_nodes { counts.nodes - 1 + nodes_made edits.now < 2 ^ 32 - 1 }
+    ensures table { visible.new.table ≡ visible.old.table }
     ensures commits { store.new.commits.items ≡ store.old.commits.items }
-    ensures entries { without_room store.new.entries ≡ without_room store.old.entries }
-    ensures file_of_line { OnOk result (store.new.file_of_line.items ≡ store.old.file_of_line.items ++ new_file_of_line (length store.old.files.items) edits.now) }
-    ensures files { OnOk result (map contents store.new.files.items ≡ map contents store.old.files.items ++ new_files (length store.old.files.items) edits.now) }
-    ensures room { OnOk result (AllByRecursion (HasRoom (length store.old.files.items) counts.lines edits.now) store.new.files.items) }
-    ensures row_room { OnOk result (HasRowRoom rows.now store.new.entries) }
-    ensures commit_room { OnOk result (0 < vec_capacity store.new.commits - vec_len store.new.commits) }
+    ensures entries { without_room visible.new.entries ≡ without_room visible.old.entries }
+    ensures file_of_line { OnOk result (store.new.file_of_line.items ≡ store.old.file_of_line.items ++ new_file_of_line (counts.nodes - 1) edits.now) }
+    ensures files { OnOk result (map contents visible.new.files ≡ map contents visible.old.files ++ new_files (counts.nodes - 1) edits.now) }
+    ensures room { OnOk result (AllByRecursion (HasRoom (counts.nodes - 1) counts.lines edits.now) visible.new.files) }
+    ensures row_room { OnOk result (HasRowRoom rows.now visible.new.entries) }
+    ensures commit_room { OnOk result (0 < store.new.commits.spare) }
     ensures same_file_of_line { OnErr result (store.new.file_of_line.items ≡ store.old.file_of_line.items) }
-    ensures same_files { OnErr result (map contents store.new.files.items ≡ map contents store.old.files.items) }
+    ensures same_files { OnErr result (map contents visible.new.files ≡ map contents visible.old.files) }
 {
-    match stage(store, rows, counts.lines, edits) {
+    let before = counts.nodes - 1;
+    let files = visible.files.len();
+    match stage(store, visible, rows, before, counts.lines, edits) {
         Ok(()) => Ok(()),
         Err(Memory) => {
-            unstage(store, counts.nodes - 1, counts.lines, edits);
+            unstage(store, visible, files, before, counts.lines, edits);
             Err(Memory)
         }
     }

@@ -3,8 +3,8 @@ ghost use Rattle.std.specs.Prelude.{◌≡◌, ◌<◌, ◌+◌, ◌^◌, [], �
 ghost use Rattle.cov_dd.specs.Diagrams.{diagram_size, Extends};
 ghost use Rattle.cov_edit.specs.Numbering.{nodes_made};
 ghost use Rattle.cov_tree.specs.Carried.{AreNodesWith, AreOnceWith};
-ghost use Rattle.cov_tree.specs.Dated.{nodes_with};
-ghost use Rattle.cov_engine.specs.RowPlans.{edit_changes, AlsoMakes, AreNodesUpTo, made_by};
+ghost use Rattle.cov_tree.specs.Dated.{nodes_with, kinds_with};
+ghost use Rattle.cov_engine.specs.RowPlans.{edit_changes, AlsoMakes, AreNodesUpTo, made_by, kinds_made_by};
 ghost use Rattle.cov_engine.specs.Staging.{AreNear};
 
 use crate::number::node_number;
@@ -31,6 +31,7 @@ pub(crate) fn plan_rows(
     ensures extends { Extends table.old table.new }
     ensures makes { OnOk result (AlsoMakes table.old table.new entries.now plan.old plan.new (edit_changes site.now.nodes site.now.nodes site.now.ambition edits.now)) }
     ensures nodes { OnOk result (nodes_with plan.new entries.now ≡ made_by site.now.nodes edits.now (nodes_with plan.old entries.now)) }
+    ensures kinds { OnOk result (kinds_with plan.new entries.now ≡ kinds_made_by site.now.nodes edits.now (kinds_with plan.old entries.now)) }
 {
     let mut made = site.nodes;
     let mut ahead = edits;
@@ -62,6 +63,7 @@ fn plan_row(
     ensures made { IfOk result (λ next. next ≡ made + nodes_made (edit.now ∷ [])) }
     ensures makes { OnOk result (AlsoMakes table.old table.new entries.now plan.old plan.new (edit_changes site.now.nodes made site.now.ambition (edit.now ∷ []))) }
     ensures nodes { OnOk result (nodes_with plan.new entries.now ≡ made_by made (edit.now ∷ []) (nodes_with plan.old entries.now)) }
+    ensures kinds { OnOk result (kinds_with plan.new entries.now ≡ kinds_made_by made (edit.now ∷ []) (kinds_with plan.old entries.now)) }
 {
     match edit {
         Edit::New { kind, parent, name } => {

@@ -1,5 +1,5 @@
 // What an engine keeps.
-ghost use Rattle.std.specs.Prelude.{◌≡◌, ◌<◌, ◌≤◌, ◌+◌, ◌-◌, ℕ, List, Bool, length, None, IfOk, IfErr, OnOk, OnErr, vec_len, vec_capacity};
+ghost use Rattle.std.specs.Prelude.{◌≡◌, ◌<◌, ◌≤◌, ◌+◌, ◌-◌, ℕ, List, Bool, length, None, IfOk, IfErr, OnOk, OnErr};
 ghost use Rattle.cov_dd.specs.Diagrams.{diagram_size, Extends};
 ghost use Rattle.cov_edit.specs.declared.command.Command.TheVariants.{Commit};
 ghost use Rattle.cov_expr.specs.Formula.{Formula, reach};
@@ -21,9 +21,8 @@ use crate::row_planning::plan_rows;
 use crate::rule::rule_ready;
 use crate::sizes::{measure, with_sizes};
 use crate::store::{CommitMark, Store};
-use crate::{Counts, Refusal, sizes};
+use crate::{Counts, Refusal, Visible, sizes};
 use cov_base::{LIMITS, Memory, OptionName, Position};
-use cov_dd::Table;
 use cov_edit::{Command, Commands, Edits, touched};
 use cov_expr::{Expr, Options};
 use cov_rules::Rules;
@@ -31,31 +30,31 @@ use cov_tree::EntryPlan;
 use cov_vis::compile;
 use std::collections::VecDeque;
 
-/// The history with what it declares. The table has the nodes of the rules and of the lines' visibilities.
+/// The history with what it declares and shows. The table has the nodes of the rules too.
 #[derive(Drop)]
 pub(crate) struct EngineState {
     pub(crate) commands: Commands,
     pub(crate) options: Options,
-    pub(crate) table: Table,
     pub(crate) rules: Rules,
     pub(crate) counts: Counts,
     pub(crate) store: Store,
+    pub(crate) visible: Visible,
 }
 
 /// Makes everything ready for a command, unless the history refuses it.
 pub(crate) fn make_ready(state: &mut EngineState, command: &Command) -> Result<Ready, Refusal>
-    requires state { IsStateOf state.old.commands.commands state.old.options.names state.old.table state.old.rules.standing state.old.counts }
-    requires held { IsHeldBy state.old.commands.commands state.old.table state.old.store.commits.items state.old.store.file_of_line.items state.old.store.entries state.old.store.files.items }
+    requires state { IsStateOf state.old.commands.commands state.old.options.names state.old.visible.table state.old.rules.standing state.old.counts }
+    requires held { IsHeldBy state.old.commands.commands state.old.visible.table state.old.store.commits.items state.old.store.file_of_line.items state.old.visible.entries state.old.visible.files }
     requires may_come { MayCome state.old.commands.commands command.now }
     ensures history { state.new.commands.commands ≡ state.old.commands.commands }
-    ensures extends { Extends state.old.table state.new.table }
-    ensures state { IsStateOf state.new.commands.commands state.new.options.names state.new.table state.new.rules.standing state.new.counts }
+    ensures extends { Extends state.old.visible.table state.new.visible.table }
+    ensures state { IsStateOf state.new.commands.commands state.new.options.names state.new.visible.table state.new.rules.standing state.new.counts }
     ensures room { OnOk result (0 < state.new.commands.spare) }
     ensures accepted { OnOk result (verdict state.old.commands.commands command.now ≡ None) }
-    ensures ready { IfOk result (IsReady state.new.commands.commands command.now state.new.options.spare state.new.table state.new.rules
-        (vec_capacity state.new.store.commits - vec_len state.new.store.commits) state.new.store.commits.items state.new.store.file_of_line.items state.new.store.entries state.new.store.files.items) }
+    ensures ready { IfOk result (IsReady state.new.commands.commands command.now state.new.options.spare state.new.visible.table state.new.rules
+        state.new.store.commits.spare state.new.store.commits.items state.new.store.file_of_line.items state.new.visible.entries state.new.visible.files) }
     ensures refused { IfErr result (λ refusal. RefusedBy refusal (verdict state.old.commands.commands command.now)) }
-    ensures held { OnErr result (IsHeldBy state.new.commands.commands state.new.table state.new.store.commits.items state.new.store.file_of_line.items state.new.store.entries state.new.store.files.items) }
+    ensures held { OnErr result (IsHeldBy state.new.commands.commands state.new.visible.table state.new.store.commits.items state.new.store.file_of_line.items state.new.visible.entries state.new.visible.files) }
 {
     if state.commands.len() >= LIMITS.commands {
         return Err(Refusal::Full);
@@ -68,20 +67,20 @@ pub(crate) fn make_ready(state: &mut EngineState, command: &Command) -> Result<R
 
 // Makes ready what a command adds, where there is room for one more.
 fn ready_for(state: &mut EngineState, command: &Command) -> Result<Ready, Refusal>
-    requires state { IsStateOf state.old.commands.commands state.old.options.names state.old.table state.old.rules.standing state.old.counts }
-    requires held { IsHeldBy state.old.commands.commands state.old.table state.old.store.commits.items state.old.store.file_of_line.items state.old.store.entries state.old.store.files.items }
+    requires state { IsStateOf state.old.commands.commands state.old.options.names state.old.visible.table state.old.rules.standing state.old.counts }
+    requires held { IsHeldBy state.old.commands.commands state.old.visible.table state.old.store.commits.items state.old.store.file_of_line.items state.old.visible.entries state.old.visible.files }
     requires may_come { MayCome state.old.commands.commands command.now }
     requires few { length state.old.commands.commands < LIMITS.commands }
     ensures commands { state.new.commands ≡ state.old.commands }
-    ensures extends { Extends state.old.table state.new.table }
-    ensures state { IsStateOf state.new.commands.commands state.new.options.names state.new.table state.new.rules.standing state.new.counts }
+    ensures extends { Extends state.old.visible.table state.new.visible.table }
+    ensures state { IsStateOf state.new.commands.commands state.new.options.names state.new.visible.table state.new.rules.standing state.new.counts }
     ensures accepted { OnOk result (verdict state.old.commands.commands command.now ≡ None) }
-    ensures ready { IfOk result (IsReady state.new.commands.commands command.now state.new.options.spare state.new.table state.new.rules
-        (vec_capacity state.new.store.commits - vec_len state.new.store.commits) state.new.store.commits.items state.new.store.file_of_line.items state.new.store.entries state.new.store.files.items) }
+    ensures ready { IfOk result (IsReady state.new.commands.commands command.now state.new.options.spare state.new.visible.table state.new.rules
+        state.new.store.commits.spare state.new.store.commits.items state.new.store.file_of_line.items state.new.visible.entries state.new.visible.files) }
     ensures refused { IfErr result (λ refusal. RefusedBy refusal (verdict state.old.commands.commands command.now)) }
-    ensures held { OnErr result (IsHeldBy state.new.commands.commands state.new.table state.new.store.commits.items state.new.store.file_of_line.items state.new.store.entries state.new.store.files.items) }
+    ensures held { OnErr result (IsHeldBy state.new.commands.commands state.new.visible.table state.new.store.commits.items state.new.store.file_of_line.items state.new.visible.entries state.new.visible.files) }
 {
-    let alloc = *state.store.commits.allocator();
+    let alloc = state.store.commits.allocator();
     match command {
         Command::Option { name } => option_ready(&mut state.options, name),
         Command::Commit {
@@ -92,7 +91,7 @@ fn ready_for(state: &mut EngineState, command: &Command) -> Result<Ready, Refusa
         } => match sizes::refusal(state.counts, edits) {
             Some(refusal) => Err(refusal),
             None => match overtaken(
-                &mut state.table,
+                &mut state.visible.table,
                 state.rules.conjunction(),
                 &state.store.commits,
                 *base,
@@ -104,7 +103,7 @@ fn ready_for(state: &mut EngineState, command: &Command) -> Result<Ready, Refusa
                 Err(Memory) => Err(Refusal::Memory),
             },
         },
-        _ => rule_ready(alloc, &mut state.rules, &mut state.table, command),
+        _ => rule_ready(alloc, &mut state.rules, &mut state.visible.table, command),
     }
 }
 
@@ -149,16 +148,16 @@ fn name_refusal(options: &Options, name: &[u8]) -> Option<Refusal>
 
 // Stages a commit, unless it would leave a variant unsound.
 fn commit_ready(state: &mut EngineState, ambition: &Expr, edits: &Edits) -> Result<Ready, Refusal>
-    requires state { IsStateOf state.old.commands.commands state.old.options.names state.old.table state.old.rules.standing state.old.counts }
-    requires held { IsHeldBy state.old.commands.commands state.old.table state.old.store.commits.items state.old.store.file_of_line.items state.old.store.entries state.old.store.files.items }
+    requires state { IsStateOf state.old.commands.commands state.old.options.names state.old.visible.table state.old.rules.standing state.old.counts }
+    requires held { IsHeldBy state.old.commands.commands state.old.visible.table state.old.store.commits.items state.old.store.file_of_line.items state.old.visible.entries state.old.visible.files }
     requires reach { reach ambition.now ≤ option_count state.old.commands.commands }
     requires fits { IsInBounds state.old.commands.commands edits.now }
     ensures commands { state.new.commands ≡ state.old.commands }
-    ensures extends { Extends state.old.table state.new.table }
-    ensures state { IsStateOf state.new.commands.commands state.new.options.names state.new.table state.new.rules.standing state.new.counts }
-    ensures ready { IfOk result (IsStagedReady state.new.commands.commands state.new.table ambition.now edits.now (vec_capacity state.new.store.commits - vec_len state.new.store.commits)
-        state.new.store.commits.items state.new.store.file_of_line.items state.new.store.entries state.new.store.files.items) }
-    ensures held { OnErr result (IsHeldBy state.new.commands.commands state.new.table state.new.store.commits.items state.new.store.file_of_line.items state.new.store.entries state.new.store.files.items) }
+    ensures extends { Extends state.old.visible.table state.new.visible.table }
+    ensures state { IsStateOf state.new.commands.commands state.new.options.names state.new.visible.table state.new.rules.standing state.new.counts }
+    ensures ready { IfOk result (IsStagedReady state.new.commands.commands state.new.visible.table ambition.now edits.now state.new.store.commits.spare
+        state.new.store.commits.items state.new.store.file_of_line.items state.new.visible.entries state.new.visible.files) }
+    ensures held { OnErr result (IsHeldBy state.new.commands.commands state.new.visible.table state.new.store.commits.items state.new.store.file_of_line.items state.new.visible.entries state.new.visible.files) }
     ensures sound { OnOk result ((base : ℕ) (choice : List Bool) → unsound_refusal state.old.commands.commands ambition.now (Commit base choice ambition.now edits.now) ≡ None) }
     ensures refused { IfErr result (λ refusal. (base : ℕ) (choice : List Bool) → RefusedBy refusal (unsound_refusal state.old.commands.commands ambition.now (Commit base choice ambition.now edits.now))) }
 {
@@ -172,38 +171,38 @@ fn commit_planned(
     ambition: &Expr,
     edits: &Edits,
 ) -> Result<(CommitMark, EntryPlan), Refusal>
-    requires state { IsStateOf state.old.commands.commands state.old.options.names state.old.table state.old.rules.standing state.old.counts }
-    requires held { IsHeldBy state.old.commands.commands state.old.table state.old.store.commits.items state.old.store.file_of_line.items state.old.store.entries state.old.store.files.items }
+    requires state { IsStateOf state.old.commands.commands state.old.options.names state.old.visible.table state.old.rules.standing state.old.counts }
+    requires held { IsHeldBy state.old.commands.commands state.old.visible.table state.old.store.commits.items state.old.store.file_of_line.items state.old.visible.entries state.old.visible.files }
     requires reach { reach ambition.now ≤ option_count state.old.commands.commands }
     requires fits { IsInBounds state.old.commands.commands edits.now }
     ensures commands { state.new.commands ≡ state.old.commands }
-    ensures extends { Extends state.old.table state.new.table }
-    ensures state { IsStateOf state.new.commands.commands state.new.options.names state.new.table state.new.rules.standing state.new.counts }
-    ensures held { IsHeldBy state.new.commands.commands state.new.table state.new.store.commits.items state.new.store.file_of_line.items state.new.store.entries state.new.store.files.items }
-    ensures planned { IfOk result (λ planned. IsCommitPlan state.new.commands.commands state.new.table state.new.store.entries ambition.now edits.now planned.0 planned.1) }
+    ensures extends { Extends state.old.visible.table state.new.visible.table }
+    ensures state { IsStateOf state.new.commands.commands state.new.options.names state.new.visible.table state.new.rules.standing state.new.counts }
+    ensures held { IsHeldBy state.new.commands.commands state.new.visible.table state.new.store.commits.items state.new.store.file_of_line.items state.new.visible.entries state.new.visible.files }
+    ensures planned { IfOk result (λ planned. IsCommitPlan state.new.commands.commands state.new.visible.table state.new.visible.entries ambition.now edits.now planned.0 planned.1) }
     ensures sound { OnOk result ((base : ℕ) (choice : List Bool) → unsound_refusal state.old.commands.commands ambition.now (Commit base choice ambition.now edits.now) ≡ None) }
     ensures refused { IfErr result (λ refusal. (base : ℕ) (choice : List Bool) → RefusedBy refusal (unsound_refusal state.old.commands.commands ambition.now (Commit base choice ambition.now edits.now))) }
 {
-    let alloc = *state.store.commits.allocator();
+    let alloc = state.store.commits.allocator();
     let nodes = touched(edits)?;
     let mark = CommitMark {
         position: Position::new(state.commands.len() as u32 + 1),
-        node: compile(&mut state.table, ambition)?,
+        node: compile(&mut state.visible.table, ambition)?,
         touched: nodes,
     };
     let site = site_of(state.counts, &mark);
     let mut rows = EntryPlan::new(alloc);
     plan_rows(
-        &mut state.table,
-        &state.store.entries,
+        &mut state.visible.table,
+        &state.visible.entries,
         &mut rows,
         &site,
         edits.as_slice(),
     )?;
     match refusal_left(
         alloc,
-        &mut state.table,
-        &state.store.entries,
+        &mut state.visible.table,
+        &state.visible.entries,
         &rows,
         state.rules.conjunction(),
         mark.node,
@@ -235,31 +234,37 @@ fn commit_staged(
     rows: EntryPlan,
     edits: &Edits,
 ) -> Result<Ready, Memory>
-    requires state { IsStateOf state.old.commands.commands state.old.options.names state.old.table state.old.rules.standing state.old.counts }
-    requires held { IsHeldBy state.old.commands.commands state.old.table state.old.store.commits.items state.old.store.file_of_line.items state.old.store.entries state.old.store.files.items }
+    requires state { IsStateOf state.old.commands.commands state.old.options.names state.old.visible.table state.old.rules.standing state.old.counts }
+    requires held { IsHeldBy state.old.commands.commands state.old.visible.table state.old.store.commits.items state.old.store.file_of_line.items state.old.visible.entries state.old.visible.files }
     requires fits { IsInBounds state.old.commands.commands edits.now }
     requires position { mark.position ≡ length state.old.commands.commands + 1 }
-    requires node { mark.node < diagram_size state.old.table }
+    requires node { mark.node < diagram_size state.old.visible.table }
     ensures commands { state.new.commands ≡ state.old.commands }
-    ensures extends { Extends state.old.table state.new.table }
-    ensures state { IsStateOf state.new.commands.commands state.new.options.names state.new.table state.new.rules.standing state.new.counts }
-    ensures ready { IfOk result (λ ready. (ambition : Formula ℕ) → IsCommitPlan state.old.commands.commands state.old.table state.old.store.entries ambition edits.now mark rows →
-        IsStagedReady state.new.commands.commands state.new.table ambition edits.now (vec_capacity state.new.store.commits - vec_len state.new.store.commits)
-        state.new.store.commits.items state.new.store.file_of_line.items state.new.store.entries state.new.store.files.items ready) }
-    ensures held { OnErr result (IsHeldBy state.new.commands.commands state.new.table state.new.store.commits.items state.new.store.file_of_line.items state.new.store.entries state.new.store.files.items) }
+    ensures extends { Extends state.old.visible.table state.new.visible.table }
+    ensures state { IsStateOf state.new.commands.commands state.new.options.names state.new.visible.table state.new.rules.standing state.new.counts }
+    ensures ready { IfOk result (λ ready. (ambition : Formula ℕ) → IsCommitPlan state.old.commands.commands state.old.visible.table state.old.visible.entries ambition edits.now mark rows →
+        IsStagedReady state.new.commands.commands state.new.visible.table ambition edits.now state.new.store.commits.spare
+        state.new.store.commits.items state.new.store.file_of_line.items state.new.visible.entries state.new.visible.files ready) }
+    ensures held { OnErr result (IsHeldBy state.new.commands.commands state.new.visible.table state.new.store.commits.items state.new.store.file_of_line.items state.new.visible.entries state.new.visible.files) }
 {
-    let alloc = *state.store.commits.allocator();
+    let alloc = state.store.commits.allocator();
     let counts = with_sizes(state.counts, measure(edits.as_slice()));
     let site = site_of(state.counts, &mark);
     let mut plans = VecDeque::new(alloc);
     plan_edits(
-        &mut state.table,
-        &state.store.files,
+        &mut state.visible.table,
+        state.visible.files.as_slice(),
         &mut plans,
         &site,
         edits.as_slice(),
     )?;
-    stage_commit(&mut state.store, &rows, state.counts, edits.as_slice())?;
+    stage_commit(
+        &mut state.store,
+        &mut state.visible,
+        &rows,
+        state.counts,
+        edits.as_slice(),
+    )?;
     Ok(Ready::Commit {
         mark,
         counts,

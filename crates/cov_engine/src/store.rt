@@ -10,14 +10,19 @@ ghost use Rattle.cov_file.specs.Dated.{rows_at as file_rows_at};
 ghost use Rattle.cov_tree.specs.Dated.{rows_at};
 ghost use Rattle.cov_view.specs.Seen.{kind_in};
 ghost use Rattle.cov_engine.specs.Showing.{with_row, with_node, AreFresh};
+ghost use Rattle.cov_edit.specs.Touched.{AreRising};
+ghost use Rattle.cov_engine.specs.Parts.{part_node};
 ghost use Rattle.cov_engine.specs.Visibility.{item_of, stored_file_of};
+ghost use Rattle.cov_engine.specs.Visible.{IsWhole, shown};
 
+use crate::commits::Commits;
 use crate::number::item_of;
-use crate::stored_file::StoredFile;
+use crate::places::part_of;
+use crate::{FilePart, Visible};
 use cov_base::{Choice, Kind, LineNo, Memory, NodeNo, NodeNos, Position};
 use cov_dd::{Node, Table};
 use cov_file::{FileLines, FileRows};
-use cov_tree::{Entries, NodeRow};
+use cov_tree::NodeRow;
 use cov_view::View;
 use std::alloc::Global;
 
@@ -29,30 +34,34 @@ pub(crate) struct CommitMark {
     pub(crate) touched: NodeNos,
 }
 
-/// The commits, the file of each line by number, the rows at each position, and the lines of each node in the order in which the
-/// nodes were made.
+/// The commits, and the file of each line by number.
 #[derive(Drop)]
 pub(crate) struct Store {
-    pub(crate) commits: Vec<CommitMark>,
+    pub(crate) commits: Commits,
     pub(crate) file_of_line: Vec<NodeNo>,
-    pub(crate) entries: Entries,
-    pub(crate) files: Vec<StoredFile>,
 }
 
 /// The rows and lines that are seen on a choice at a position.
 pub(crate) fn show(
     alloc: Global,
-    table: &Table,
-    store: &Store,
+    visible: &Visible,
     choice: Choice,
     at: Position,
 ) -> Result<View, Memory>
-    requires fresh { AreFresh table.now choice at store.now.files.items [] (rows_at table.now choice at store.now.entries) }
-    ensures { IfOk result (λ view. view ≡ record { rows = fold (with_node table.now choice at store.now.files.items) [] (rows_at table.now choice at store.now.entries); nodes_made = 0; lines_made = 0 }) }
+    requires whole { IsWhole visible.now }
+    ensures { IfOk result (λ view. view ≡ shown visible.now choice at) }
 {
-    let rows = store.entries.rows_at(table, choice, at)?;
+    let rows = visible.entries.rows_at(&visible.table, choice, at)?;
+    let files = visible.files.as_slice();
     let mut view = View::new(alloc)?;
-    add_nodes(&mut view, table, &store.files, rows.as_slice(), choice, at)?;
+    add_nodes(
+        &mut view,
+        &visible.table,
+        files,
+        rows.as_slice(),
+        choice,
+        at,
+    )?;
     Ok(view)
 }
 
@@ -76,11 +85,12 @@ pub(crate) fn view_of_rows(
 fn add_nodes(
     view: &mut View,
     table: &Table,
-    files: &[StoredFile],
+    files: &[FilePart],
     rows: &[NodeRow],
     choice: Choice,
     at: Position,
 ) -> Result<(), Memory>
+    requires rising { AreRising (map part_node files.now) }
     requires fresh { AreFresh table.now choice at files.now view.old.rows rows.now }
     ensures rows { OnOk result (view.new.rows ≡ fold (with_node table.now choice at files.now) view.old.rows rows.now) }
     ensures nodes { view.new.nodes_made ≡ view.old.nodes_made }
@@ -98,11 +108,12 @@ fn add_nodes(
 fn add_node(
     view: &mut View,
     table: &Table,
-    files: &[StoredFile],
+    files: &[FilePart],
     row: &NodeRow,
     choice: Choice,
     at: Position,
 ) -> Result<(), Memory>
+    requires rising { AreRising (map part_node files.now) }
     requires fresh { kind_in view.old.rows (Old row.now.node) ≡ None }
     ensures rows { OnOk result (view.new.rows ≡ with_node table.now choice at files.now view.old.rows row.now) }
     ensures nodes { view.new.nodes_made ≡ view.old.nodes_made }
@@ -111,8 +122,8 @@ fn add_node(
     view.add_row(row.node, row.kind, row.parent, &row.name)?;
     match row.kind {
         Kind::Dir => Ok(()),
-        Kind::File => match item_of(files, row.node.number() as usize) {
-            Some(stored) => add_lines(view, table, row.node, &stored.file, choice, at),
+        Kind::File => match part_of(files, row.node) {
+            Some(part) => add_lines(view, table, row.node, &part.lines, choice, at),
             None => Ok(()),
         },
     }
@@ -153,12 +164,13 @@ fn add_rows(view: &mut View, file: NodeNo, rows: &FileRows) -> Result<(), Memory
     Ok(())
 }
 
-/// What is stored of the file of a line.
-pub(crate) fn file_of(store: &Store, line: LineNo) -> Option<&StoredFile>
-    ensures { option_copied result ≡ stored_file_of store.now.files.items (item_of store.now.file_of_line.items line) }
+/// The file of a line.
+pub(crate) fn file_of<'a>(store: &Store, visible: &'a Visible, line: LineNo) -> Option<&'a FilePart>
+    requires rising { AreRising (map part_node visible.now.files) }
+    ensures { option_copied result ≡ stored_file_of visible.now.files (item_of store.now.file_of_line.items line) }
 {
     match item_of(&store.file_of_line, line.number() as usize) {
-        Some(file) => item_of(&store.files, file.number() as usize),
+        Some(file) => visible.files.find(*file),
         None => None,
     }
 }

@@ -59,6 +59,14 @@ with_C = with_B ++ commit_of 3 (true ∷ []) false (line_after 2 (codes "C")) �
 abbrev pub with_X : List Command
 with_X = with_C ++ commit_of 4 (false ∷ []) false (line_after 1 (codes "X")) ∷ []
 
+-- the file n
+abbrev pub file_n : Edit
+file_n = edits.New kinds.File (nodes.Old 0) (codes "n")
+
+-- the file n, and Y after A, both on the base before them
+abbrev pub with_Y : List Command
+with_Y = with_X ++ commit_of 5 (false ∷ []) false (file_n ∷ []) ∷ commit_of 5 (false ∷ []) false (line_after 1 (codes "Y")) ∷ []
+
 -- B is taken out of all
 abbrev pub without_B : List Command
 without_B = with_X ++ commit_of 5 (true ∷ []) false (without 2) ∷ []

@@ -1,4 +1,5 @@
 mod declaring;
 mod lines;
+mod overtaking;
 mod steps;
 mod trees;

@@ -19,8 +19,8 @@ use std::alloc::Global;
 use std::process::Abort;
 use std::test::Fail;
 
-// All variants, or those with d.
-fn ambition(for_d: bool) -> Result<Expr, Fail>
+/// All variants, or those with d.
+pub(crate) fn ambition(for_d: bool) -> Result<Expr, Fail>
     ensures { IfOk result (λ expr. expr ≡ ambition_of for_d) }
 {
     match for_d {
@@ -29,8 +29,8 @@ fn ambition(for_d: bool) -> Result<Expr, Fail>
     }
 }
 
-// Commits edits on the variant of a choice.
-fn commit(
+/// Commits edits on the variant of a choice.
+pub(crate) fn commit(
     engine: &mut Engine,
     base: u32,
     choice: Choice,
@@ -51,8 +51,8 @@ fn commit(
     Ok(())
 }
 
-// One edit.
-fn one(alloc: Global, edit: Edit) -> Result<Edits, Memory>
+/// One edit.
+pub(crate) fn one(alloc: Global, edit: Edit) -> Result<Edits, Memory>
     requires { has_line_text edit ≡ true }
     ensures { IfOk result (λ edits. edits ≡ edit ∷ []) }
 {
@@ -63,7 +63,13 @@ fn one(alloc: Global, edit: Edit) -> Result<Edits, Memory>
     }
 }
 
-fn insertion(alloc: Global, file: NodeRef, after: u32, text: &[u8]) -> Result<Edit, Memory>
+/// A line after another, in a file.
+pub(crate) fn insertion(
+    alloc: Global,
+    file: NodeRef,
+    after: u32,
+    text: &[u8],
+) -> Result<Edit, Memory>
     ensures { IfOk result (λ edit. edit ≡ line_in file after text.now) }
 {
     let text = Text::from_slice(alloc, text)?;
@@ -102,8 +108,8 @@ fn file_with_line(alloc: Global) -> Result<Edits, Fail>
     }
 }
 
-// Puts a line into the file 1, from the variant of a choice.
-fn insert(
+/// Puts a line into the file 1, from the variant of a choice.
+pub(crate) fn insert(
     alloc: Global,
     engine: &mut Engine,
     base: u32,
@@ -134,8 +140,8 @@ fn delete(alloc: Global, engine: &mut Engine, base: u32, for_d: bool, line: u32)
     commit(engine, base, Choice::new(1, 1), for_d, edits)
 }
 
-// Lines for all variants before and after one for those with d.
-fn insert_lines(alloc: Global, engine: &mut Engine) -> Result<(), Fail>
+/// Lines for all variants before and after one for those with d.
+pub(crate) fn insert_lines(alloc: Global, engine: &mut Engine) -> Result<(), Fail>
     requires { engine.old.history ≡ [] }
     ensures { OnOk result (engine.new.history ≡ with_X) }
 {
@@ -265,7 +271,7 @@ fn check_seen(rt: &impl Abort, alloc: Global, engine: &mut Engine) -> Result<(),
     requires { engine.old.history ≡ [] }
 {
     insert_lines(alloc, engine)?;
-    let view = engine.view(alloc, Choice::new(0, 1), Position::new(5))?;
+    let view = Engine::view(alloc, engine.visible(), Choice::new(0, 1), Position::new(5))?;
     let checked = check_lines(rt, &view);
     drop(view);
     checked

@@ -1,8 +1,7 @@
 //! Files and directories that are renamed, moved and removed for some variants, and commits that would leave a variant unsound.
-ghost use Rattle.std.specs.Prelude.{◌≡◌, ◌≤◌, ◌++◌, [], ◌∷◌, true, false, codes, length, take, IfOk, OnOk};
+ghost use Rattle.std.specs.Prelude.{◌≡◌, ◌++◌, [], ◌∷◌, true, false, codes, IfOk, OnOk};
 ghost use Rattle.cov_base.specs.Spelling.{is_line_text};
 ghost use Rattle.cov_base.specs.declared.number.NodeRef.TheVariants as nodes;
-ghost use Rattle.cov_edit.specs.History.{option_count};
 ghost use Rattle.cov_edit.specs.EditFits.{has_line_text};
 ghost use Rattle.cov_edit.specs.declared.edit.Edit.TheVariants as edits;
 ghost use Rattle.cov_history.specs.Sessions.{MayCome};
@@ -215,12 +214,9 @@ fn leads(
     at: u32,
     path: &[u8],
     node: Option<u32>,
-) -> Result<bool, Fail>
-    requires position { at ≤ length engine.now.history }
-    requires choice { option_count (take at engine.now.history) ≤ length choice }
-{
+) -> Result<bool, Fail> {
     let path = Path::read(alloc, path)?;
-    let view = engine.view(alloc, choice, Position::new(at))?;
+    let view = Engine::view(alloc, engine.visible(), choice, Position::new(at))?;
     let found = view.resolve(&path);
     drop(view);
     Ok(found == node.map(old))

@@ -6,7 +6,7 @@ use Rattle.cov_engine.proofs.installing.add_option.Goals as goal
 
 pub returns-clause-state : goal.returns-clause-state
 returns-clause-state c =
-    option-installed c.args.state.now.commands.commands c.args.command.now c.args.name c.args.state.now.options.names c.declare.new.self.names c.args.state.now.table c.args.state.now.rules.standing
+    option-installed c.args.state.now.commands.commands c.args.command.now c.args.name c.args.state.now.options.names c.declare.new.self.names c.args.state.now.visible.table c.args.state.now.rules.standing
     c.args.state.now.counts c.requires.ready.0 c.requires.next.fits c.requires.next.accepted c.requires.state c.declare.ensures.names
 
 pub returns-clause-held : goal.returns-clause-held

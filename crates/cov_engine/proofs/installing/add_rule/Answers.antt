@@ -5,7 +5,7 @@ use Rattle.cov_engine.proofs.installing.add_rule.Goals as goal
 
 pub returns-clause-state : goal.returns-clause-state
 returns-clause-state c =
-    rule-installed c.args.state.now.commands.commands c.args.command.now c.args.rule c.args.plan c.new-at.result c.args.state.now.options.names c.args.state.now.table c.args.state.now.rules.standing
+    rule-installed c.args.state.now.commands.commands c.args.command.now c.args.rule c.args.plan c.new-at.result c.args.state.now.options.names c.args.state.now.visible.table c.args.state.now.rules.standing
     c.install.new.self.standing c.args.state.now.counts c.requires.ready.0 c.requires.next.fits c.requires.next.accepted (c.new-at.ensures ∙ ap (λ n. n + 1) c.len.ensures) c.requires.state
     c.requires.ready.1.nodes c.install.ensures.follows c.install.ensures.holds c.install.ensures.below
 

@@ -2,7 +2,7 @@ use Rattle.std.proofs.Common.{◌++◌, ◌^◌, [], ◌∷◌, refl, arith}
 use Rattle.cov_dd.proofs.CallerLemmas.{extends_none, extends_trans}
 use Rattle.cov_edit.proofs.CallerLemmas.{all-rest}
 use Rattle.cov_engine.specs.RowPlans.{edit_changes}
-use Rattle.cov_engine.proofs.RowPlans.{fewer, up-to-rest, listed-rest, changes-rest, also-both, also-none, also-all, listed-all}
+use Rattle.cov_engine.proofs.RowPlans.{fewer, up-to-rest, listed-rest, kinds-rest, changes-rest, also-both, also-none, also-all, listed-all, kinds-all}
 use Rattle.cov_engine.proofs.row_planning.plan_rows.Goals as goal
 
 pub loop-ahead-init : goal.loop-ahead-init
@@ -16,6 +16,7 @@ loop-ahead-init c = record {
   few = c.requires.few;
   makes = ([], also-none c.args.table.now c.args.entries.now c.args.plan.now, refl);
   listed = refl;
+  kinds = refl;
 }
 
 pub loop-ahead-preserved : goal.loop-ahead-preserved
@@ -39,6 +40,7 @@ loop-ahead-preserved c =
         changes-rest c.loop-ahead.made c.in_ok-made.made c.edit-item.result c.edit-item.result more n a c.loop-ahead.ahead.now i.makes.0 _ c.edit-item.is c.in-len1-up.len_at_least i.makes.2,
       );
       listed = listed-rest c.loop-ahead.made c.in_ok-made.made c.edit-item.result c.edit-item.result more c.loop-ahead.ahead.now _ _ _ c.edit-item.is c.in-len1-up.len_at_least c.in_ok-made.ensures.nodes i.listed;
+      kinds = kinds-rest c.loop-ahead.made c.in_ok-made.made c.edit-item.result c.edit-item.result more c.loop-ahead.ahead.now _ _ _ c.edit-item.is c.in-len1-up.len_at_least c.in_ok-made.ensures.kinds i.kinds;
     }
 
 pub returns-in_err-made-clause-extends : goal.returns-in_err-made-clause-extends
@@ -51,3 +53,6 @@ returns-clause-makes c =
 
 pub returns-clause-nodes : goal.returns-clause-nodes
 returns-clause-nodes c = listed-all c.loop-ahead.made c.loop-ahead.ahead.now _ _ c.in_default.len_below c.loop-ahead.invariant.listed
+
+pub returns-clause-kinds : goal.returns-clause-kinds
+returns-clause-kinds c = kinds-all c.loop-ahead.made c.loop-ahead.ahead.now _ _ c.in_default.len_below c.loop-ahead.invariant.kinds

@@ -3,8 +3,8 @@ use Rattle.cov_base.specs.Rows.{RowChange}
 use Rattle.cov_dd.specs.Diagrams.{diagram_size, Extends}
 use Rattle.cov_edit.specs.Numbering.{nodes_made}
 use Rattle.cov_tree.specs.Carried.{AreNodesWith, AreOnceWith}
-use Rattle.cov_tree.specs.Dated.{nodes_with}
-use Rattle.cov_engine.specs.RowPlans.{edit_changes, AlsoMakes, AreNodesUpTo, made_by}
+use Rattle.cov_tree.specs.Dated.{nodes_with, kinds_with}
+use Rattle.cov_engine.specs.RowPlans.{edit_changes, AlsoMakes, AreNodesUpTo, made_by, kinds_made_by}
 use Rattle.cov_engine.specs.Staging.{AreNear}
 use Rattle.cov_engine.proofs.row_planning.plan_rows.Given as goal
 
@@ -19,6 +19,7 @@ invariant-loop-ahead l = record {
   few : l.made + nodes_made l.ahead < 2 ^ 32;
   makes : (done : List (RowChange × ℕ)) × AlsoMakes l.fn.table l.table l.entries l.fn.plan l.plan done
       × (done ++ edit_changes l.site.nodes l.made l.site.ambition l.ahead ≡ edit_changes l.site.nodes l.site.nodes l.site.ambition l.edits);
+  kinds : kinds_made_by l.made l.ahead (kinds_with l.plan l.entries) ≡ kinds_made_by l.site.nodes l.edits (kinds_with l.fn.plan l.entries);
   listed : made_by l.made l.ahead (nodes_with l.plan l.entries) ≡ made_by l.site.nodes l.edits (nodes_with l.fn.plan l.entries);
 }
 

@@ -1,13 +1,10 @@
-use Rattle.std.specs.Prelude.{IfOk, vec_capacity, vec_len}
+use Rattle.std.specs.Prelude.{IfOk}
 use Rattle.cov_edit.specs.Recorded.{Recorded}
 use Rattle.cov_engine.specs.Ready.{IsReady, IsStagedReady}
-use Rattle.std.proofs.Common.{◌≡◌, ◌<◌, ◌-◌, [], ◌∷◌, refl, sym, ap, subst, ◌∙◌}
-use Rattle.std.specs.List.{AllByRecursion}
+use Rattle.std.proofs.Common.{◌≡◌, [], ◌∷◌, refl, sym, ap, subst, ◌∙◌}
 use Rattle.std.proofs.lemmas.Result.{IfErr-weaker, on_ok_weaker}
 use Rattle.cov_dd.proofs.CallerLemmas.{extends_trans}
-use Rattle.cov_dd.specs.Diagrams.{diagram_size, diagram_size}
 use Rattle.cov_edit.specs.History.{option_count}
-use Rattle.cov_edit.specs.Touched.{AreRising}
 use Rattle.cov_edit.specs.declared.command.Command.TheVariants as commands
 use Rattle.cov_view.specs.Refusals.{first_of}
 use Rattle.cov_view.proofs.CallerLemmas.{first-one}
@@ -23,23 +20,21 @@ use Rattle.cov_engine.proofs.state.ready_for.Goals as goal
 pub overtaken-requires-clause-nodes : goal.overtaken-requires-clause-nodes
 overtaken-requires-clause-nodes c =
     let history = c.args.state.now.commands.commands in
-    subst (AllByRecursion (λ m. m.node < diagram_size c.args.state.now.table)) (sym c.deref.ensures.value)
-    (marks-within c.args.state.now.table (option_count history) 0 history c.args.state.now.store.commits.items c.requires.held.marks)
+    marks-within c.args.state.now.visible.table (option_count history) 0 history c.args.state.now.store.commits.items c.requires.held.marks
 
 pub overtaken-requires-clause-rising : goal.overtaken-requires-clause-rising
 overtaken-requires-clause-rising c =
     let history = c.args.state.now.commands.commands in
-    subst (AllByRecursion (λ m. AreRising m.touched)) (sym c.deref.ensures.value)
-    (marks-rising c.args.state.now.table (option_count history) 0 history c.args.state.now.store.commits.items c.requires.held.marks)
+    marks-rising c.args.state.now.visible.table (option_count history) 0 history c.args.state.now.store.commits.items c.requires.held.marks
 
 pub commit_ready-requires-clause-state : goal.commit_ready-requires-clause-state
 commit_ready-requires-clause-state c =
-    state-grown c.args.state.now.commands.commands c.args.state.now.options.names c.args.state.now.table c.overtaken.new.table c.args.state.now.rules.standing _ c.args.state.now.counts c.requires.state
+    state-grown c.args.state.now.commands.commands c.args.state.now.options.names c.args.state.now.visible.table c.overtaken.new.table c.args.state.now.rules.standing _ c.args.state.now.counts c.requires.state
     c.overtaken.ensures.extends refl
 
 pub commit_ready-requires-clause-held : goal.commit_ready-requires-clause-held
 commit_ready-requires-clause-held c =
-    (held-grown c.args.state.now.commands.commands c.args.state.now.table c.overtaken.new.table c.args.state.now.store.commits.items c.args.state.now.store.file_of_line.items c.args.state.now.store.entries c.args.state.now.store.files.items
+    (held-grown c.args.state.now.commands.commands c.args.state.now.visible.table c.overtaken.new.table c.args.state.now.store.commits.items c.args.state.now.store.file_of_line.items c.args.state.now.visible.entries c.args.state.now.visible.files
     c.requires.held c.overtaken.ensures.extends)
 
 pub commit_ready-requires-clause-reach : goal.commit_ready-requires-clause-reach
@@ -58,43 +53,43 @@ returns-in-Some-clause-refused c =
 
 pub returns-in-Ok-Some-clause-state : goal.returns-in-Ok-Some-clause-state
 returns-in-Ok-Some-clause-state c =
-    state-grown c.args.state.now.commands.commands c.args.state.now.options.names c.args.state.now.table c.overtaken.new.table c.args.state.now.rules.standing _ c.args.state.now.counts c.requires.state
+    state-grown c.args.state.now.commands.commands c.args.state.now.options.names c.args.state.now.visible.table c.overtaken.new.table c.args.state.now.rules.standing _ c.args.state.now.counts c.requires.state
     c.overtaken.ensures.extends refl
 
 pub returns-in-Ok-Some-clause-refused : goal.returns-in-Ok-Some-clause-refused
 returns-in-Ok-Some-clause-refused c =
     late-verdict c.args.state.now.commands.commands c.args.command.now c.in-Commit.base c.in-Commit.choice c.in-Commit.ambition c.in-Commit.edits c.in-Commit.is c.requires.may_come
-    c.args.state.now.counts c.requires.state.counted c.requires.few c.args.state.now.options.names c.args.state.now.table c.args.state.now.rules.standing c.args.state.now.store.commits.items c.deref.result.now
-    c.args.state.now.store.file_of_line.items c.args.state.now.store.entries c.args.state.now.store.files.items c.conjunction.result c.in-Ok-Some.field-0 c.requires.state c.requires.held c.conjunction.ensures c.deref.ensures.value
+    c.args.state.now.counts c.requires.state.counted c.requires.few c.args.state.now.options.names c.args.state.now.visible.table c.args.state.now.rules.standing c.args.state.now.store.commits.items
+    c.args.state.now.store.file_of_line.items c.args.state.now.visible.entries c.args.state.now.visible.files c.conjunction.result c.in-Ok-Some.field-0 c.requires.state c.requires.held c.conjunction.ensures
     (sym c.refusal.ensures ∙ c.in-None.is) c.in-Ok-Some.ensures.first
     ∙ ap (λ found. first_of (as_overtaken found ∷ unsound_refusal c.args.state.now.commands.commands c.in-Commit.ambition (commands.Commit c.in-Commit.base c.in-Commit.choice c.in-Commit.ambition c.in-Commit.edits) ∷ [])) c.in-Ok-Some.field-0-is
 
 pub returns-in-Ok-Some-clause-held : goal.returns-in-Ok-Some-clause-held
 returns-in-Ok-Some-clause-held c =
-    (held-grown c.args.state.now.commands.commands c.args.state.now.table c.overtaken.new.table c.args.state.now.store.commits.items c.args.state.now.store.file_of_line.items c.args.state.now.store.entries c.args.state.now.store.files.items
+    (held-grown c.args.state.now.commands.commands c.args.state.now.visible.table c.overtaken.new.table c.args.state.now.store.commits.items c.args.state.now.store.file_of_line.items c.args.state.now.visible.entries c.args.state.now.visible.files
     c.requires.held c.overtaken.ensures.extends)
 
 judged : (c : goal.After-commit_ready) → verdict c.args.state.now.commands.commands c.args.command.now
     ≡ unsound_refusal c.args.state.now.commands.commands c.in-Commit.ambition (commands.Commit c.in-Commit.base c.in-Commit.choice c.in-Commit.ambition c.in-Commit.edits)
 judged c =
     late-verdict c.args.state.now.commands.commands c.args.command.now c.in-Commit.base c.in-Commit.choice c.in-Commit.ambition c.in-Commit.edits c.in-Commit.is c.requires.may_come
-    c.args.state.now.counts c.requires.state.counted c.requires.few c.args.state.now.options.names c.args.state.now.table c.args.state.now.rules.standing c.args.state.now.store.commits.items c.deref.result.now
-    c.args.state.now.store.file_of_line.items c.args.state.now.store.entries c.args.state.now.store.files.items c.conjunction.result c.in-Ok-None.field-0 c.requires.state c.requires.held c.conjunction.ensures c.deref.ensures.value
+    c.args.state.now.counts c.requires.state.counted c.requires.few c.args.state.now.options.names c.args.state.now.visible.table c.args.state.now.rules.standing c.args.state.now.store.commits.items
+    c.args.state.now.store.file_of_line.items c.args.state.now.visible.entries c.args.state.now.visible.files c.conjunction.result c.in-Ok-None.field-0 c.requires.state c.requires.held c.conjunction.ensures
     (sym c.refusal.ensures ∙ c.in-None.is) c.in-Ok-None.ensures.first
     ∙ ap (λ found. first_of (as_overtaken found ∷ unsound_refusal c.args.state.now.commands.commands c.in-Commit.ambition (commands.Commit c.in-Commit.base c.in-Commit.choice c.in-Commit.ambition c.in-Commit.edits) ∷ [])) c.in-Ok-None.field-0-is
     ∙ first-one _
 
 pub returns-in-Ok-None-clause-extends : goal.returns-in-Ok-None-clause-extends
-returns-in-Ok-None-clause-extends c = extends_trans c.args.state.now.table c.overtaken.new.table c.commit_ready.new.state.table c.overtaken.ensures.extends c.commit_ready.ensures.extends
+returns-in-Ok-None-clause-extends c = extends_trans c.args.state.now.visible.table c.overtaken.new.table c.commit_ready.new.state.visible.table c.overtaken.ensures.extends c.commit_ready.ensures.extends
 
 pub returns-in-Ok-None-clause-accepted : goal.returns-in-Ok-None-clause-accepted
 returns-in-Ok-None-clause-accepted c = on_ok_weaker c.commit_ready.result (λ sound. judged c ∙ sound c.in-Commit.base c.in-Commit.choice) c.commit_ready.ensures.sound
 
 pub returns-in-Ok-None-clause-ready : goal.returns-in-Ok-None-clause-ready
 returns-in-Ok-None-clause-ready c =
-    subst (λ (ks : Recorded). IfOk c.commit_ready.result (IsReady ks.commands c.args.command.now c.commit_ready.new.state.options.spare c.commit_ready.new.state.table c.commit_ready.new.state.rules (vec_capacity c.commit_ready.new.state.store.commits - vec_len c.commit_ready.new.state.store.commits) c.commit_ready.new.state.store.commits.items c.commit_ready.new.state.store.file_of_line.items c.commit_ready.new.state.store.entries c.commit_ready.new.state.store.files.items)) (sym c.commit_ready.ensures.commands)
-    (all-staged c.args.state.now.commands.commands c.args.command.now c.in-Commit.base c.in-Commit.choice c.in-Commit.ambition c.in-Commit.edits c.in-Commit.is c.requires.may_come c.commit_ready.new.state.options.spare c.commit_ready.new.state.table c.commit_ready.new.state.rules (vec_capacity c.commit_ready.new.state.store.commits - vec_len c.commit_ready.new.state.store.commits) c.commit_ready.new.state.store.commits.items c.commit_ready.new.state.store.file_of_line.items c.commit_ready.new.state.store.entries c.commit_ready.new.state.store.files.items c.commit_ready.result
-    (subst (λ (ks : Recorded). IfOk c.commit_ready.result (IsStagedReady ks.commands c.commit_ready.new.state.table c.in-Commit.ambition c.in-Commit.edits (vec_capacity c.commit_ready.new.state.store.commits - vec_len c.commit_ready.new.state.store.commits) c.commit_ready.new.state.store.commits.items c.commit_ready.new.state.store.file_of_line.items c.commit_ready.new.state.store.entries c.commit_ready.new.state.store.files.items)) c.commit_ready.ensures.commands c.commit_ready.ensures.ready))
+    subst (λ (ks : Recorded). IfOk c.commit_ready.result (IsReady ks.commands c.args.command.now c.commit_ready.new.state.options.spare c.commit_ready.new.state.visible.table c.commit_ready.new.state.rules c.commit_ready.new.state.store.commits.spare c.commit_ready.new.state.store.commits.items c.commit_ready.new.state.store.file_of_line.items c.commit_ready.new.state.visible.entries c.commit_ready.new.state.visible.files)) (sym c.commit_ready.ensures.commands)
+    (all-staged c.args.state.now.commands.commands c.args.command.now c.in-Commit.base c.in-Commit.choice c.in-Commit.ambition c.in-Commit.edits c.in-Commit.is c.requires.may_come c.commit_ready.new.state.options.spare c.commit_ready.new.state.visible.table c.commit_ready.new.state.rules c.commit_ready.new.state.store.commits.spare c.commit_ready.new.state.store.commits.items c.commit_ready.new.state.store.file_of_line.items c.commit_ready.new.state.visible.entries c.commit_ready.new.state.visible.files c.commit_ready.result
+    (subst (λ (ks : Recorded). IfOk c.commit_ready.result (IsStagedReady ks.commands c.commit_ready.new.state.visible.table c.in-Commit.ambition c.in-Commit.edits c.commit_ready.new.state.store.commits.spare c.commit_ready.new.state.store.commits.items c.commit_ready.new.state.store.file_of_line.items c.commit_ready.new.state.visible.entries c.commit_ready.new.state.visible.files)) c.commit_ready.ensures.commands c.commit_ready.ensures.ready))
 
 pub returns-in-Ok-None-clause-refused : goal.returns-in-Ok-None-clause-refused
 returns-in-Ok-None-clause-refused c =
@@ -102,29 +97,29 @@ returns-in-Ok-None-clause-refused c =
 
 pub returns-in-Err-clause-state : goal.returns-in-Err-clause-state
 returns-in-Err-clause-state c =
-    state-grown c.args.state.now.commands.commands c.args.state.now.options.names c.args.state.now.table c.overtaken.new.table c.args.state.now.rules.standing _ c.args.state.now.counts c.requires.state
+    state-grown c.args.state.now.commands.commands c.args.state.now.options.names c.args.state.now.visible.table c.overtaken.new.table c.args.state.now.rules.standing _ c.args.state.now.counts c.requires.state
     c.overtaken.ensures.extends refl
 
 pub returns-in-Err-clause-held : goal.returns-in-Err-clause-held
 returns-in-Err-clause-held c =
-    (held-grown c.args.state.now.commands.commands c.args.state.now.table c.overtaken.new.table c.args.state.now.store.commits.items c.args.state.now.store.file_of_line.items c.args.state.now.store.entries c.args.state.now.store.files.items
+    (held-grown c.args.state.now.commands.commands c.args.state.now.visible.table c.overtaken.new.table c.args.state.now.store.commits.items c.args.state.now.store.file_of_line.items c.args.state.now.visible.entries c.args.state.now.visible.files
     c.requires.held c.overtaken.ensures.extends)
 
 pub returns-in_default : goal.returns-in_default
 returns-in_default c =
     let history = c.args.state.now.commands.commands in
     let k = c.args.command.now in
-    let ts = c.args.state.now.table in
+    let ts = c.args.state.now.visible.table in
     let standing = c.args.state.now.rules.standing in
     let of : RuleOf k = rule-of k c.in_default.not-Option c.in_default.not-Commit in
-    let grown = held-grown history ts c.rule_ready.new.table c.args.state.now.store.commits.items c.args.state.now.store.file_of_line.items c.args.state.now.store.entries c.args.state.now.store.files.items c.requires.held c.rule_ready.ensures.extends in
+    let grown = held-grown history ts c.rule_ready.new.table c.args.state.now.store.commits.items c.args.state.now.store.file_of_line.items c.args.state.now.visible.entries c.args.state.now.visible.files c.requires.held c.rule_ready.ensures.extends in
     record {
       commands = refl;
       extends = c.rule_ready.ensures.extends;
       state = state-grown history c.args.state.now.options.names ts c.rule_ready.new.table standing c.rule_ready.new.rules.standing c.args.state.now.counts
           c.requires.state c.rule_ready.ensures.extends c.rule_ready.ensures.same;
       accepted = on_ok_weaker c.rule_ready.result (λ accepted. rule-accepted history ts standing c.requires.state.rules c.requires.few k of.rule of.is c.requires.may_come (accepted of.rule of.is)) c.rule_ready.ensures.accepted;
-      ready = all-ready history k c.args.state.now.options.spare c.rule_ready.new.table c.rule_ready.new.rules _ c.args.state.now.store.commits.items c.args.state.now.store.file_of_line.items c.args.state.now.store.entries c.args.state.now.store.files.items
+      ready = all-ready history k c.args.state.now.options.spare c.rule_ready.new.table c.rule_ready.new.rules _ c.args.state.now.store.commits.items c.args.state.now.store.file_of_line.items c.args.state.now.visible.entries c.args.state.now.visible.files
           grown c.rule_ready.result c.rule_ready.ensures.ready;
       refused = IfErr-weaker c.rule_ready.result _ _ (λ r refused. rule-refused history ts standing c.requires.state.rules c.requires.few k of.rule of.is c.requires.may_come r (refused of.rule of.is)) c.rule_ready.ensures.refused;
       held = on-any c.rule_ready.result _ grown;

@@ -9,6 +9,7 @@ use Rattle.cov_engine.proofs.store.view_of_rows.Goals as goal
 
 pub add_nodes-requires : goal.add_nodes-requires
 add_nodes-requires c = record {
+  rising = tt;
   fresh = subst (λ (v : Seen). AreFresh c.args.table.now c.args.choice c.new-2.result [] v.rows c.args.rows.now) (sym c.in_ok-view.ensures)
       (once-fresh c.args.table.now c.args.choice c.new-2.result [] c.args.rows.now c.requires);
 }

@@ -11,7 +11,7 @@ use Rattle.cov_engine.proofs.engine.Engine.valid.Goals as goal
 pub returns-clause-ok : goal.returns-clause-ok
 returns-clause-ok c =
     let history = c.args.self.now.history in
-    let ts = c.self.inside.state.table in
+    let ts = c.self.inside.state.visible.table in
     let s = c.self.inside.state.rules.standing in
     let are : AreRulesOf history ts s = subst (λ (e : EngineValue). AreRulesOf e.history ts s) c.self.view_is c.self.invariant.0.rules in
     on_ok_weaker c.valid.result

@@ -1,0 +1,15 @@
+use Rattle.std.proofs.Common.{◌≡◌, length, map}
+use Rattle.cov_engine.specs.Staging.{contents, AreNear}
+use Rattle.cov_edit.specs.Touched.{AreRising}
+use Rattle.cov_engine.specs.Parts.{part_node}
+use Rattle.cov_engine.proofs.file_staging.settle_files.Given as goal
+
+abbrev pub invariant-loop-ahead : goal.invariant-loop-ahead
+invariant-loop-ahead l = record {
+  same : map contents l.files ≡ map contents l.initial.files;
+  rising : AreRising (map part_node l.files);
+  near : AreNear l.before l.ahead;
+}
+
+abbrev pub decreases-loop-ahead : goal.decreases-loop-ahead
+decreases-loop-ahead l = length l.ahead

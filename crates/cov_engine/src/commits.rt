@@ -1,0 +1,157 @@
+// The commits of a history, with what tells soon that none of them overtakes.
+ghost use Rattle.std.specs.Prelude.{◌≡◌, ◌<◌, ◌≤◌, ◌++◌, [], ◌∷◌, ℕ, true, OnOk};
+ghost use Rattle.std.specs.List.{AllByRecursion};
+ghost use Rattle.cov_engine.specs.Overtakers.{noted, NoneTouches};
+
+use crate::store::CommitMark;
+use cov_base::{Memory, NodeNo, Position};
+use std::alloc::Global;
+use std::marker::Model;
+
+/// The commits in order, and what is noted at the nodes that they touch. Contracts see them as the marks and the number of
+/// commits for which there is room.
+#[derive(Drop)]
+pub(crate) struct Commits {
+    marks: Vec<CommitMark>,
+    notes: Notes,
+}
+
+/// A position for each node, not before the newest at which a commit touched it.
+#[derive(Drop)]
+pub(crate) struct Notes {
+    // By the number of the node.
+    listed: Vec<Position>,
+    // That of the nodes that aren't listed.
+    unlisted: Position,
+}
+
+impl Model for Commits {
+    ghost use Rattle.std.specs.Prelude.{◌-◌, vec_len, vec_capacity};
+    ghost use Rattle.std.specs.Coded.{codes};
+    ghost use Rattle.cov_engine.specs.contracts.store.CommitMark as row;
+    ghost use Rattle.cov_engine.specs.Marks.{CommitsValue};
+    ghost use Rattle.cov_engine.specs.Overtakers.{noted, AreNoted};
+
+    ghost Value = { CommitsValue };
+
+    ghost coded = { Prim.hlevel (codes, row.the_row.coded) };
+
+    ghost view = { λ c. record { items = c.marks.items; spare = vec_capacity c.marks - vec_len c.marks } };
+
+    ghost invariant = { λ c. AreNoted (noted c.notes) c.marks.items };
+}
+
+impl Commits {
+    pub(crate) fn new(alloc: Global) -> Commits
+        ensures { result.items ≡ [] }
+    {
+        Commits {
+            marks: Vec::new(alloc),
+            notes: Notes {
+                listed: Vec::new(alloc),
+                unlisted: Position::new(0),
+            },
+        }
+    }
+
+    pub(crate) fn allocator(&self) -> Global {
+        *self.marks.allocator()
+    }
+
+    pub(crate) fn as_slice(&self) -> &[CommitMark]
+        ensures { result.now ≡ self.now.items }
+    {
+        self.marks.as_slice()
+    }
+
+    /// Makes room for one commit more, whose touched nodes have numbers up to this one.
+    pub(crate) fn reserve(&mut self, most: NodeNo) -> Result<(), Memory>
+        ensures same { self.new.items ≡ self.old.items }
+        ensures room { OnOk result (0 < self.new.spare) }
+    {
+        list_up_to(&mut self.notes, most)?;
+        self.marks.reserve(1)?;
+        Ok(())
+    }
+
+    /// Adds a commit. Takes no memory.
+    pub(crate) fn push(&mut self, mark: CommitMark)
+        requires room { 0 < self.old.spare }
+        ensures { self.new.items ≡ self.old.items ++ mark ∷ [] }
+    {
+        note_all(&mut self.notes, mark.touched.as_slice(), mark.position);
+        match self.marks.push(mark) {
+            Ok(()) => (),
+            Err(_) => unreachable!(),
+        }
+    }
+
+    /// Whether it is known at once that no commit after a base touches one of the nodes. It takes time in the nodes alone.
+    pub(crate) fn none_touches(&self, base: Position, nodes: &[NodeNo]) -> bool
+        ensures { result ≡ true → NoneTouches base nodes.now self.now.items }
+    {
+        are_old(&self.notes, base, nodes)
+    }
+}
+
+// What is noted at a node.
+fn noted(notes: &Notes, node: NodeNo) -> Position
+    ensures { result ≡ noted notes.now node }
+{
+    match notes.listed.get(node.number() as usize) {
+        Some(position) => *position,
+        None => notes.unlisted,
+    }
+}
+
+// Whether nothing after a base is noted at nodes.
+fn are_old(notes: &Notes, base: Position, nodes: &[NodeNo]) -> bool
+    ensures { result ≡ true → AllByRecursion (λ x. noted notes.now x ≤ base) nodes.now }
+{
+    let mut ahead = nodes;
+    while let [node, rest @ ..] = ahead {
+        if noted(notes, *node) > base {
+            return false;
+        }
+        ahead = rest;
+    }
+    true
+}
+
+// Lists the nodes up to one, with what is noted at them.
+fn list_up_to(notes: &mut Notes, most: NodeNo) -> Result<(), Memory>
+    ensures { (x : ℕ) → noted notes.new x ≡ noted notes.old x }
+{
+    while notes.listed.len() <= most.number() as usize {
+        notes.listed.push(notes.unlisted)?;
+    }
+    Ok(())
+}
+
+// Notes a position at nodes.
+fn note_all(notes: &mut Notes, nodes: &[NodeNo], position: Position)
+    ensures later { (x : ℕ) → noted notes.old x ≤ noted notes.new x }
+    ensures noted { AllByRecursion (λ x. position ≤ noted notes.new x) nodes.now }
+{
+    let mut ahead = nodes;
+    while let [node, rest @ ..] = ahead {
+        note(notes, *node, position);
+        ahead = rest;
+    }
+}
+
+// Notes a position at a node, unless a later one is noted there.
+fn note(notes: &mut Notes, node: NodeNo, position: Position)
+    ensures later { (x : ℕ) → noted notes.old x ≤ noted notes.new x }
+    ensures noted { position ≤ noted notes.new node }
+{
+    if position <= noted(notes, node) {
+        return;
+    }
+    let index = node.number() as usize;
+    if index < notes.listed.len() {
+        notes.listed[index] = position;
+    } else {
+        notes.unlisted = position;
+    }
+}
