@@ -1,0 +1,2 @@
+pub mod BelowLemmas
+mod Examples

@@ -1,0 +1,6 @@
+//! Tests of written trees, by their public calls. A crate with tests is proved twice, so these stand in a crate of their own that has
+//! nothing else.
+#![tactic(auto)]
+
+#[cfg(test)]
+mod tests;
