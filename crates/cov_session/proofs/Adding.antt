@@ -10,7 +10,7 @@ use Rattle.cov_edit.specs.declared.edit.Edit.TheVariants as edits
 use Rattle.cov_edit.specs.declared.command.Command.{Command}
 use Rattle.cov_edit.specs.declared.command.Command.TheVariants as commands
 use Rattle.cov_edit.specs.History.{text_bytes}
-use Rattle.cov_edit.specs.Numbering.{Numbers, Inserted, Deleted, node_count_after, line_count_after, anchor_of, numbered_edit, no_numbers, node_number, line_number, nodes_made, anchors_of, numbers_after, numbered_from, numbered}
+use Rattle.cov_edit.specs.Numbering.{Numbers, NumberedEdit, Inserted, Deleted, node_count_after, line_count_after, anchor_of, numbered_edit, no_numbers, node_number, line_number, nodes_made, anchors_of, numbers_after, numbered_from, numbered}
 use Rattle.cov_edit.specs.Variant.{Variant, edited}
 use Rattle.cov_edit.specs.Replay.{replay}
 use Rattle.cov_edit.proofs.CallerLemmas.{line_count_after-is, anchors-append, nodes-append, with_lines-append, numbered-append, bytes-append, fold-append, numbers_from-append}
@@ -50,7 +50,7 @@ numbered-same ns t u node line m most (e ∷ es) same h made =
     ap (λ d. d ∷ numbered_from ns u (node_count_after node e) (line_count_after line e) es) (edit-same ns t u node line m most e (anchors_of m es) same h made.0)
     ∙ ap (λ ds. numbered_edit ns t node line e ∷ ds) (numbered-same ns t u (node_count_after node e) (line_count_after line e) m most es same (omega (arith, h, counted)) made.1)
 
-module _ (ns : Numbers) (es : List Edit) (e : Edit) where
+module _ (ns : Numbers) (es fs : List Edit) where
   abbrev n : ℕ
   n = length ns.addresses
 
@@ -58,9 +58,27 @@ module _ (ns : Numbers) (es : List Edit) (e : Edit) where
   table = (numbers_after ns es).addresses
 
   abbrev longer : List (List ℕ)
-  longer = (numbers_after ns (es ++ e ∷ [])).addresses
+  longer = (numbers_after ns (es ++ fs)).addresses
 
-  one-anchor : (t : List (List ℕ)) (f : Edit) → with_lines t (anchors_of n (f ∷ [])) ≡ table_after ns t f
+  pub longer-split : longer ≡ with_lines table (anchors_of n fs)
+  longer-split = ap (with_lines ns.addresses) (anchors-append n es fs) ∙ with_lines-append ns.addresses (anchors_of n es) (anchors_of n fs)
+
+  pub table-length : length table ≡ n + length (anchors_of n es)
+  table-length = length-with_lines ns.addresses (anchors_of n es)
+
+  -- edits and others behind them are numbered as the edits are, and then the others
+  pub numbered-behind : (made : ℕ) → made ≡ nodes_made es → DeletesWithin n (length table) es
+      → numbered ns (es ++ fs) ≡ numbered ns es ++ numbered_from ns longer (ns.nodes + made) (length table) fs
+  numbered-behind made is within =
+      let k : ns.nodes + made ≡ ns.nodes + nodes_made es = omega (arith, is) in
+      numbered-append ns longer ns.nodes n (ns.nodes + made) (length table) n es fs k table-length
+      ∙ ap (λ ds. ds ++ numbered_from ns longer (ns.nodes + made) (length table) fs)
+      (numbered-same ns table longer ns.nodes n n (length table) es
+      (λ x h. ap (λ t. address_in t x) longer-split ∙ address_in-with_lines table (anchors_of n fs) x h)
+      (omega (arith, table-length)) within)
+
+module _ (ns : Numbers) (es : List Edit) (e : Edit) where
+  one-anchor : (t : List (List ℕ)) (f : Edit) → with_lines t (anchors_of (length ns.addresses) (f ∷ [])) ≡ table_after ns t f
   one-anchor t (edits.New kind parent name) = refl
   one-anchor t (edits.Insert file after text) = refl
   one-anchor t (edits.Delete file line) = refl
@@ -68,43 +86,29 @@ module _ (ns : Numbers) (es : List Edit) (e : Edit) where
   one-anchor t (edits.Move node parent) = refl
   one-anchor t (edits.Remove node) = refl
 
-  longer-split : longer ≡ with_lines table (anchors_of n (e ∷ []))
-  longer-split = ap (with_lines ns.addresses) (anchors-append n es (e ∷ [])) ∙ with_lines-append ns.addresses (anchors_of n es) (anchors_of n (e ∷ []))
-
-  pub longer-is : longer ≡ table_after ns table e
-  longer-is = longer-split ∙ one-anchor table e
-
-  pub table-length : length table ≡ n + length (anchors_of n es)
-  table-length = length-with_lines ns.addresses (anchors_of n es)
+  pub longer-is : (numbers_after ns (es ++ e ∷ [])).addresses ≡ table_after ns (numbers_after ns es).addresses e
+  longer-is = longer-split ns es (e ∷ []) ∙ one-anchor (numbers_after ns es).addresses e
 
   -- the edits with one more are those before and the next
-  pub numbered-next : (s : Seen) → s.nodes_made ≡ nodes_made es → DeletesWithin n (length table) es → numbered ns (es ++ e ∷ []) ≡ numbered ns es ++ next_by_number ns table s e
+  pub numbered-next : (s : Seen) → s.nodes_made ≡ nodes_made es → DeletesWithin (length ns.addresses) (length (numbers_after ns es).addresses) es
+      → numbered ns (es ++ e ∷ []) ≡ numbered ns es ++ next_by_number ns (numbers_after ns es).addresses s e
   numbered-next s made within =
-      let k : ns.nodes + s.nodes_made ≡ ns.nodes + nodes_made es = omega (arith, made) in
-      numbered-append ns longer ns.nodes n (ns.nodes + s.nodes_made) (length table) n es (e ∷ []) k table-length
-      ∙ ap (λ ds. ds ++ numbered_from ns longer (ns.nodes + s.nodes_made) (length table) (e ∷ []))
-      (numbered-same ns table longer ns.nodes n n (length table) es
-      (λ x h. ap (λ t. address_in t x) longer-split ∙ address_in-with_lines table (anchors_of n (e ∷ [])) x h)
-      (omega (arith, table-length)) within)
-      ∙ ap (λ t. numbered ns es ++ numbered_from ns t (ns.nodes + s.nodes_made) (length table) (e ∷ [])) longer-is
+      numbered-behind ns es (e ∷ []) s.nodes_made made within
+      ∙ ap (λ t. numbered ns es ++ numbered_from ns t (ns.nodes + s.nodes_made) (length (numbers_after ns es).addresses) (e ∷ [])) longer-is
 
 -- after an accepted edit, the first refused is among those after it
 skip-accepted : (k : ℕ) (o : Option EditFault) (later : Option (ℕ × EditFault)) → o ≡ None → refused_at k o later ≡ later
 skip-accepted k o later h = ap (λ x. refused_at k x later) h
 
-one-refused : (ns : Numbers) (v : Variant) (k : ℕ) (t : List (List ℕ)) (node line : ℕ) (e : Edit)
-    → refused_from ns v k (e ∷ []) (numbered_from ns t node line (e ∷ [])) ≡ refused_at k (refusal ns v e) None
-one-refused ns v k t node line e = refl
-
--- after accepted edits, the first refused is the last, if it is refused
-pub refused-append : (ns : Numbers) (v : Variant) (k : ℕ) (t u : List (List ℕ)) (node line a b : ℕ) (es : List Edit) (e : Edit)
+-- after accepted edits, the first refused is among those behind them
+pub refused-behind : (ns : Numbers) (v : Variant) (k i : ℕ) (t : List (List ℕ)) (node line : ℕ) (es fs : List Edit) (gs : List NumberedEdit) → i ≡ k + length es
     → refused_from ns v k es (numbered_from ns t node line es) ≡ None
-    → (i : ℕ) × (refused_from ns v k (es ++ e ∷ []) (numbered_from ns t node line es ++ numbered_from ns u a b (e ∷ []))
-    ≡ refused_at i (refusal ns (fold edited v (numbered_from ns t node line es)) e) None)
-refused-append ns v k t u node line a b [] e h = (k, one-refused ns v k u a b e)
-refused-append ns v k t u node line a b (f ∷ es) e h =
-    let ih = refused-append ns (edited v (numbered_edit ns t node line f)) (k + 1) t u (node_count_after node f) (line_count_after line f) a b es e (rest-accepted k (refusal ns v f) _ h) in
-    (ih.0, skip-accepted k (refusal ns v f) _ (edit-accepted k (refusal ns v f) _ h) ∙ ih.1)
+    → refused_from ns v k (es ++ fs) (numbered_from ns t node line es ++ gs) ≡ refused_from ns (fold edited v (numbered_from ns t node line es)) i fs gs
+refused-behind ns v k i t node line [] fs gs is h = let same : k ≡ i = omega (arith, is) in ap (λ j. refused_from ns v j fs gs) same
+refused-behind ns v k i t node line (e ∷ es) fs gs is h =
+    skip-accepted k (refusal ns v e) _ (edit-accepted k (refusal ns v e) _ h)
+    ∙ refused-behind ns (edited v (numbered_edit ns t node line e)) (k + 1) i t (node_count_after node e) (line_count_after line e) es fs gs (omega (arith, is))
+    (rest-accepted k (refusal ns v e) _ h)
 
 -- the table of a session is one
 pub is-table : (history : List Command) (s : Session) → HoldingStands → IsTable (table_of history s)
@@ -122,18 +126,21 @@ session-deletes history s stands replays here =
     (is-table history s.session stands) (omega (arith, made))
     (replay-within s.session.choice (take s.session.base history) (length (table_of history s.session)) stands replays (omega (arith, made))) here.good.accepted
 
--- the first refused edit of a session with one more
-pub first-refused : (history : List Command) (s : SessionValue) (e : Edit) → HoldingStands → ReplayStands → IsOpen history s
-    → (i : ℕ) × (first_refused (numbers_at_base history s.session) (replay s.session.choice (take s.session.base history)) (s.session.edits ++ e ∷ [])
-    ≡ refused_at i (refusal (numbers_at_base history s.session) (seen s.session history) e) None)
-first-refused history s e stands replays here =
+-- edits behind those of a session, by numbers
+abbrev pub numbered_more : List Command → SessionValue → List Edit → List NumberedEdit
+numbered_more history s es =
+    let ns = numbers_at_base history s.session in
+    numbered_from ns (numbers_after ns (s.session.edits ++ es)).addresses (ns.nodes + s.view.nodes_made) (length (table_of history s.session)) es
+
+-- the first refused edit of a session with more is the first of these that what it sees refuses
+pub first-refused : (history : List Command) (s : SessionValue) (es : List Edit) → HoldingStands → ReplayStands → IsOpen history s
+    → first_refused (numbers_at_base history s.session) (replay s.session.choice (take s.session.base history)) (s.session.edits ++ es)
+    ≡ refused_from (numbers_at_base history s.session) (seen s.session history) (length s.session.edits) es (numbered_more history s es)
+first-refused history s es stands replays here =
     let ns : Numbers = numbers_at_base history s.session in
     let v : Variant = replay s.session.choice (take s.session.base history) in
-    let t : List (List ℕ) = (numbers_after ns s.session.edits).addresses in
-    let found = refused-append ns v 0 t (table_after ns t e) ns.nodes (length ns.addresses) (ns.nodes + s.view.nodes_made) (length t) s.session.edits e here.good.accepted in (
-      found.0,
-      ap (refused_from ns v 0 (s.session.edits ++ e ∷ [])) (numbered-next ns s.session.edits e s.view here.nodes (session-deletes history s stands replays here)) ∙ found.1,
-    )
+    ap (refused_from ns v 0 (s.session.edits ++ es)) (numbered-behind ns s.session.edits es s.view.nodes_made here.nodes (session-deletes history s stands replays here))
+    ∙ refused-behind ns v 0 (length s.session.edits) (table_of history s.session) ns.nodes (length ns.addresses) s.session.edits es (numbered_more history s es) (omega arith) here.good.accepted
 
 pub fault-at : (i : ℕ) (o : Option EditFault) (f : EditFault) → o ≡ Some f → as_fault (refused_at i o None) ≡ Some (faults.Edit f)
 fault-at i None f h = absurd (cc)
@@ -231,7 +238,7 @@ module _ (history : List Command) (s : SessionValue) (e : Edit) (stands : Holdin
       none = accepts ns (table_of history s.session) (seen s.session history) here.shows
 
       passes : first_refused ns (replay s.session.choice (take s.session.base history)) (s.session.edits ++ e ∷ []) ≡ None
-      passes = let found = first-refused history s e stands replays here in found.1 ∙ ap (λ o. refused_at found.0 o None) none
+      passes = first-refused history s (e ∷ []) stands replays here ∙ ap (λ o. refused_at (length s.session.edits) o None) none
 
       shown : Shows ns (table_of history longer) view (seen longer history)
       shown =
@@ -241,16 +248,16 @@ module _ (history : List Command) (s : SessionValue) (e : Edit) (stands : Holdin
 
   module _ (room : length s.session.edits < LIMITS.edits) (light : text_bytes (s.session.edits ++ e ∷ []) ≤ LIMITS.commit_bytes) where
     -- within the limits, what the session sees decides
-    by-view : (i : ℕ) × (addition_fault history s.session (e ∷ []) ≡ as_fault (refused_at i (refusal (numbers_at_base history s.session) (seen s.session history) e) None))
+    by-view : addition_fault history s.session (e ∷ []) ≡ as_fault (refused_at (length s.session.edits) (refusal (numbers_at_base history s.session) (seen s.session history) e) None)
     by-view =
-        let found = first-refused history s e stands replays here in
-        (found.0, by-first history s.session (e ∷ []) (let l = length-one s.session.edits e in omega (arith, l, room)) light ∙ ap as_fault found.1)
+        by-first history s.session (e ∷ []) (let l = length-one s.session.edits e in omega (arith, l, room)) light
+        ∙ ap as_fault (first-refused history s (e ∷ []) stands replays here)
 
     pub accepted-by : refusal (numbers_at_base history s.session) (seen s.session history) e ≡ None → addition_fault history s.session (e ∷ []) ≡ None
-    accepted-by h = by-view.1 ∙ no-fault-at by-view.0 (refusal (numbers_at_base history s.session) (seen s.session history) e) h
+    accepted-by h = by-view ∙ no-fault-at (length s.session.edits) (refusal (numbers_at_base history s.session) (seen s.session history) e) h
 
     pub refused-as : (f : EditFault) → refusal (numbers_at_base history s.session) (seen s.session history) e ≡ Some f → addition_fault history s.session (e ∷ []) ≡ Some (faults.Edit f)
-    refused-as f h = by-view.1 ∙ fault-at by-view.0 (refusal (numbers_at_base history s.session) (seen s.session history) e) f h
+    refused-as f h = by-view ∙ fault-at (length s.session.edits) (refusal (numbers_at_base history s.session) (seen s.session history) e) f h
 
     pub refused-by : (f : EditFault) → FaultBy f (refusal (numbers_at_base history s.session) (seen s.session history) e)
         → IsAdditionFault (by_edit f) (addition_fault history s.session (e ∷ []))

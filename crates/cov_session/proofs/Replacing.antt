@@ -26,7 +26,7 @@ use Rattle.cov_session.specs.Adding.{with_edits, as_fault, addition_fault, IsAdd
 use Rattle.cov_session.specs.Faults.{by_edit}
 use Rattle.cov_session.specs.Open.{SessionValue, IsOpen, numbers_at_base, table_of}
 use Rattle.cov_session.specs.declared.fault.SessionFault.TheVariants as faults
-use Rattle.cov_session.proofs.Adding.{Accepts, Applies, refused-append, is-table, first-refused, by-first, by-fault, by-edit, fault-at, no-fault-at, refused-as, seen-after, open-after}
+use Rattle.cov_session.proofs.Adding.{Accepts, Applies, refused-behind, is-table, first-refused, by-first, by-fault, by-edit, fault-at, no-fault-at, refused-as, seen-after, open-after}
 
 -- a refused edit stays the first with more edits behind it
 refused-stays : (ns : Numbers) (v : Variant) (k : ℕ) (es fs : List Edit) (ds gs : List NumberedEdit) (r : ℕ × EditFault)
@@ -106,21 +106,17 @@ module _ (history : List Command) (s : SessionValue) (file : NodeRef) (line : Li
   inserted = fold edited v (next_by_number ns (table_of history s.session) s.view insert)
 
   -- where it isn't, the deletion decides
-  after-first : refusal ns v insert ≡ None → (i : ℕ) × (addition_fault history s.session (insert ∷ delete ∷ []) ≡ as_fault (refused_at i (refusal ns inserted delete) None))
+  after-first : refusal ns v insert ≡ None → addition_fault history s.session (insert ∷ delete ∷ []) ≡ as_fault (refused_at (length one) (refusal ns inserted delete) None)
   after-first h =
-      let found = first-refused history s insert stands replays here in
-      let first : first_refused ns base one ≡ None = found.1 ∙ ap (λ o. refused_at found.0 o None) h in
-      let second = refused-append ns base 0 table table ns.nodes (length ns.addresses) (ns.nodes + nodes_made one) (length ns.addresses + length (anchors_of (length ns.addresses) one)) one delete first in (
-        second.0,
-        by-both ∙ ap as_fault (ap (refused_from ns base 0 (one ++ delete ∷ [])) numbered-both ∙ second.1)
-            ∙ ap (λ w. as_fault (refused_at second.0 (refusal ns w delete) None)) (seen-after history s insert stands replays here),
-      )
+      let first : first_refused ns base one ≡ None = first-refused history s (insert ∷ []) stands replays here ∙ ap (λ o. refused_at (length s.session.edits) o None) h in
+      by-both
+      ∙ ap as_fault (ap (refused_from ns base 0 (one ++ delete ∷ [])) numbered-both ∙ refused-behind ns base 0 (length one) table ns.nodes (length ns.addresses) one (delete ∷ []) more (omega arith) first)
+      ∙ ap (λ w. as_fault (refused_at (length one) (refusal ns w delete) None)) (seen-after history s insert stands replays here)
 
   -- where neither is refused, both are taken
   pub both-accepted : (view : Seen) → Accepts s.view insert → Applies s.view insert view → Accepts view delete → addition_fault history s.session (insert ∷ delete ∷ []) ≡ None
   both-accepted view accepts applies second =
-      let after = after-first (accepts ns (table_of history s.session) v here.shows) in
-      after.1 ∙ no-fault-at after.0 (refusal ns inserted delete)
+      after-first (accepts ns (table_of history s.session) v here.shows) ∙ no-fault-at (length one) (refusal ns inserted delete)
       (second ns (table_after ns (table_of history s.session) insert) inserted (applies ns (table_of history s.session) v (is-table history s.session stands) here.shows))
 
   -- a session that took both is open
@@ -161,4 +157,4 @@ module _ (history : List Command) (s : SessionValue) (file : NodeRef) (line : Li
           ap (λ x. first_of (when x edit_faults.NoSuchNode ∷ when (is_dir v.rows n) edit_faults.NotFile ∷ when (is_head line || not (shows_line ns inserted n line)) edit_faults.NoSuchLine ∷ [])) d
           ∙ ap (λ y. first_of (when y edit_faults.NotFile ∷ when (is_head line || not (shows_line ns inserted n line)) edit_faults.NoSuchLine ∷ [])) e
           ∙ ap (λ z. first_of (when (z || not (shows_line ns inserted n line)) edit_faults.NoSuchLine ∷ [])) head in
-          second.1 ∙ fault-at second.0 (refusal ns inserted delete) edit_faults.NoSuchLine refuses ∙ ap (option_map (λ g. faults.Edit g)) k
+          second ∙ fault-at (length one) (refusal ns inserted delete) edit_faults.NoSuchLine refuses ∙ ap (option_map (λ g. faults.Edit g)) k

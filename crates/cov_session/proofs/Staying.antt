@@ -53,12 +53,12 @@ all-valid es c h = full-prefix c es (at (nat_lt (position_or_len (λ f. not (val
 pub open-first : (history : List Command) (name : List ℕ) (base : ℕ) (c : List Bool) (ambition : Formula ℕ) (es : List Edit) (view : Seen)
     → base ≡ length history → es ≡ [] → view.nodes_made ≡ 0 → view.lines_made ≡ 0
     → length c ≡ option_count history → reach ambition ≤ option_count history → first_false_in history c ≡ None → value ambition c ≡ true
-    → Shows (numbers_of (take base history)) (numbers_of (take base history)).addresses view (replay c (take base history))
+    → Shows (numbers_of history) (numbers_of history).addresses view (replay c history)
     → IsOpen history (record { name = name; session = record { base = base; choice = c; ambition = ambition; edits = es }; view = view })
 open-first history name base c ambition es view now none nodes lines count within valid inside shows =
     subst (λ b. IsOpen history (record { name = name; session = record { base = b; choice = c; ambition = ambition; edits = es }; view = view })) (sym now)
     (subst (λ fs. IsOpen history (record { name = name; session = record { base = length history; choice = c; ambition = ambition; edits = fs }; view = view })) (sym none)
-    (record { good = good; shows = subst (λ b. Shows (numbers_of (take b history)) (numbers_of (take b history)).addresses view (replay c (take b history))) now shows; nodes = nodes; lines = lines }))
+    (record { good = good; shows = subst (λ h. Shows (numbers_of h) (numbers_of h).addresses view (replay c h)) (sym whole) shows; nodes = nodes; lines = lines }))
   where
     whole : take (length history) history ≡ history
     whole = take-length history

@@ -1,4 +1,5 @@
 -- Faults of sessions that come from others.
+use Rattle.std.specs.Prelude.{ℕ, Option, Some, None, Result, Ok, Err}
 use Rattle.cov_rules.specs.declared.completing.CompleteFault.{CompleteFault}
 use Rattle.cov_rules.specs.declared.completing.CompleteFault.TheVariants as completions
 use Rattle.cov_view.specs.declared.fault.EditFault.{EditFault}
@@ -18,8 +19,18 @@ by_edit edit_faults.IsRoot = faults.Edit edit_faults.IsRoot
 by_edit edit_faults.NoSuchLine = faults.Edit edit_faults.NoSuchLine
 by_edit edit_faults.Memory = faults.Memory
 
+-- the fault of a session whose edit is lost as its view refuses it, by its place among the edits
+abbrev pub by_loss : ℕ → EditFault → SessionFault
+by_loss index edit_faults.Memory = faults.Memory
+by_loss index fault = faults.EditLost index
+
 -- the fault of a session whose choice the rules don't complete
 abbrev pub by_completion : CompleteFault → SessionFault
 by_completion completions.Memory = faults.Memory
 by_completion (completions.Invalid rule) = faults.Invalid rule
 by_completion (completions.Incomplete option) = faults.Incomplete option
+
+-- what comes, unless a fault refuses it
+abbrev pub unless : {X : Type 0} → Option SessionFault → X → Result X SessionFault
+unless None x = Ok x
+unless (Some fault) x = Err fault

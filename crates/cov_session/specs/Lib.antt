@@ -1,6 +1,10 @@
 pub mod Adding
+pub mod Calls
 pub mod Counting
 pub mod Faults
+pub mod Kept
 pub mod Laws
-pub mod Opening
+pub mod Named
 pub mod Open
+pub mod Opening
+pub mod Refreshing

@@ -9,6 +9,12 @@ use cov_view::EditFault;
 /// Why a session isn't opened or doesn't take edits, or want of memory.
 #[derive(Clone, Copy, Debug, PartialEq, Eq)]
 pub enum SessionFault {
+    /// No open session has the name.
+    NoSession,
+    /// An open session has the name.
+    SessionExists,
+    /// `MOST_SESSIONS` sessions are open.
+    TooManySessions,
     /// No choice agrees with the partial one and meets the constraints up to this one, from 1.
     Invalid { rule: u32 },
     /// The least option that the rules leave open.
@@ -21,8 +27,14 @@ pub enum SessionFault {
     TooManyBytes,
     /// What the session sees refuses an edit. The fault is never `EditFault::Memory`.
     Edit { fault: EditFault },
+    /// The first edit, from 0, that what the refreshed session would see refuses.
+    EditLost { index: u32 },
     Memory,
 }
+
+/// No open session has the name.
+#[derive(Clone, Copy, Debug, PartialEq, Eq)]
+pub struct NoSession;
 
 impl From<Memory> for SessionFault {
     ghost use Rattle.cov_session.specs.declared.fault.SessionFault.TheVariants.{Memory as wanting};

@@ -3,7 +3,12 @@
 
 mod fault;
 pub mod laws;
+mod opened;
 mod session;
+mod sessions;
+mod viewing;
 
-pub use fault::SessionFault;
-pub use session::OpenSession;
+pub use fault::{NoSession, SessionFault};
+pub use opened::Opened;
+use session::OpenSession;
+pub use sessions::{MOST_SESSIONS, Sessions};

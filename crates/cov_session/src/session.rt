@@ -20,10 +20,14 @@ ghost use Rattle.cov_view.specs.Seen.{seen_fault};
 ghost use Rattle.cov_view.specs.Views.{Shows, table_after, next_by_number};
 ghost use Rattle.cov_history.specs.Sessions.{commit_of};
 ghost use Rattle.cov_session.specs.Adding.{IsAdditionFault, addition_fault, with_edits};
+ghost use Rattle.cov_session.specs.Counting.{line_made, own_lines};
 ghost use Rattle.cov_session.specs.Open.{IsOpen};
 ghost use Rattle.cov_session.specs.Opening.{IsOpeningFault, NamesDeclared, new_session, opened};
 
+mod refreshing;
+
 use crate::SessionFault;
+use crate::viewing::view_now;
 use cov_base::{Choice, Kind, LIMITS, LineRef, Memory, Name, NodeRef, Position, Text};
 use cov_edit::{Command, Edit, Edits};
 use cov_engine::Engine;
@@ -108,24 +112,16 @@ impl OpenSession {
         ensures begun { IfOk result (λ s. s.session ≡ new_session engine.now.history ambition choice) }
         ensures open { IfOk result (IsOpen engine.now.history) }
     {
-        let base = engine.position();
-        let view = engine.view(alloc, choice, base)?;
+        let view = view_now(alloc, engine, choice)?;
         Ok(OpenSession {
             name,
-            base,
+            base: engine.position(),
             choice,
             ambition,
             edits: Edits::new(alloc),
             view,
             bytes: 0,
         })
-    }
-
-    /// The name by which it is called.
-    pub fn name(&self) -> &Name
-        ensures { result.now ≡ self.now.name }
-    {
-        &self.name
     }
 
     /// The position at which it was opened.
@@ -142,6 +138,27 @@ impl OpenSession {
         self.choice
     }
 
+    /// How many lines it has inserted.
+    pub fn own_lines(&self) -> u32
+        ensures { result ≡ own_lines self.now.session }
+    {
+        self.view.lines_made()
+    }
+
+    /// The number of the line that an edit inserts, from 0 among those of the session.
+    pub(crate) fn line_made(&self, edit: &Edit) -> Option<u32>
+        ensures { result ≡ line_made self.now.session edit.now }
+    {
+        match edit {
+            Edit::New { .. }
+            | Edit::Delete { .. }
+            | Edit::Rename { .. }
+            | Edit::Move { .. }
+            | Edit::Remove { .. } => None,
+            Edit::Insert { .. } => Some(self.own_lines()),
+        }
+    }
+
     /// What it sees.
     pub fn view(&self) -> &View
         ensures { result.now ≡ self.now.view }
@@ -150,7 +167,7 @@ impl OpenSession {
     }
 
     /// Takes an edit, unless the limits on a commit or what the session sees refuse it; at any `Err` it stays as it is.
-    /// It takes time in the lines of the edit's file, and copies no more than its text or name.
+    /// It takes the time of `View::apply`, and copies no more than the edit's text or name.
     pub fn edit(&mut self, edit: Edit) -> Result<(), SessionFault>
         requires text { has_line_text edit ≡ true }
         ensures accepted { OnOk result ((history : List AnyCommand) → IsOpen history self.old → addition_fault history self.old.session (edit ∷ []) ≡ None) }

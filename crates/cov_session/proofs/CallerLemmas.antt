@@ -1,0 +1,2 @@
+-- What a caller cites.
+pub use Rattle.cov_session.proofs.Naming.{all-stay, its-name, named-none, named-open, named-same, named-some}

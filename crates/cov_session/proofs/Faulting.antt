@@ -1,0 +1,99 @@
+-- Why a call on open sessions is refused.
+use Rattle.std.proofs.Common.{◌≡◌, ◌∙◌, sym, ap, subst, ℕ, Bool, true, false, List, length, nat_le, Option, Some, None, is_some, Result, Ok, Err, IfErr, if◌then◌else◌}
+use Rattle.std.specs.Result.{IsErrAnd}
+use Rattle.cov_expr.specs.Formula.{Formula, value}
+use Rattle.cov_rules.specs.Completion.{Completion, Complete, Invalid, Incomplete}
+use Rattle.cov_edit.specs.declared.command.Command.{Command}
+use Rattle.cov_edit.specs.declared.edit.Edit.{Edit}
+use Rattle.cov_view.specs.declared.fault.EditFault.{EditFault}
+use Rattle.cov_view.specs.declared.fault.EditFault.TheVariants as edit_faults
+use Rattle.cov_history.specs.Completing.{completed_in}
+use Rattle.cov_history.specs.Sessions.{Session}
+use Rattle.cov_session.specs.Adding.{addition_fault, with_edits, IsAdditionFault}
+use Rattle.cov_session.specs.Calls.{opened_among, taken, taken_by, refreshed_among, refreshed_by, IsFaultOf}
+use Rattle.cov_session.specs.Faults.{unless}
+use Rattle.cov_session.specs.Named.{named, with_session}
+use Rattle.cov_session.specs.Open.{NamedSession}
+use Rattle.cov_session.specs.Opening.{new_session, opened, opened_on, IsOpeningFault}
+use Rattle.cov_session.specs.Refreshing.{refreshed}
+use Rattle.cov_session.specs.declared.fault.SessionFault.{SessionFault}
+use Rattle.cov_session.specs.declared.fault.SessionFault.TheVariants as faults
+use Rattle.cov_session.specs.declared.sessions.TheConstants.{MOST_SESSIONS}
+
+-- a fault that is passed on
+pub passed-on : {X : Type 0} (P : SessionFault → Type 0) (fault : SessionFault) (result : Result X SessionFault) → IsErrAnd result (λ e. e ≡ fault) → P fault → IfErr result P
+passed-on P fault (Ok x) is h = tt
+passed-on P fault (Err e) is h = subst P (sym is) h
+
+-- edits that are refused in the session of a name are refused among all
+pub fault-taken : (history : List Command) (ss : List NamedSession) (name : List ℕ) (es : List Edit) (s : NamedSession) (fault : SessionFault)
+    → named ss name ≡ Some s → IsAdditionFault fault (addition_fault history s.session es) → IsFaultOf (taken history ss name es) fault
+fault-taken history ss name es s fault is h = subst (λ o. IsFaultOf (taken_by history ss es o) fault) (sym is) (at fault (addition_fault history s.session es) h)
+  where
+    after : List NamedSession
+    after = with_session ss (record { name = s.name; session = with_edits s.session es })
+
+    at : (f : SessionFault) (o : Option SessionFault) → IsAdditionFault f o → IsFaultOf (unless o after) f
+    at faults.Memory o k = tt
+    at (faults.Edit edit_faults.Memory) o k = k
+    at f o k = ap (λ p. unless p after) k
+
+-- edits that are taken in the session of a name are taken among all
+pub taken-is : (history : List Command) (ss : List NamedSession) (name : List ℕ) (es : List Edit) (s : NamedSession)
+    → named ss name ≡ Some s → addition_fault history s.session es ≡ None → taken history ss name es ≡ Ok (with_session ss (record { name = s.name; session = with_edits s.session es }))
+taken-is history ss name es s is h =
+    ap (taken_by history ss es) is ∙ ap (λ o. unless o (with_session ss (record { name = s.name; session = with_edits s.session es }))) h
+
+-- no session of the name takes edits
+pub none-taken : (history : List Command) (ss : List NamedSession) (name : List ℕ) (es : List Edit) → named ss name ≡ None → taken history ss name es ≡ Err faults.NoSession
+none-taken history ss name es is = ap (taken_by history ss es) is
+
+module _ (history : List Command) (ss : List NamedSession) (name : List ℕ) (partial : List (ℕ × Bool)) (ambition : Formula ℕ) where
+  pub among-exists : is_some (named ss name) ≡ true → opened_among history ss name partial ambition ≡ Err faults.SessionExists
+  among-exists h =
+      ap (λ b. if b then Err faults.SessionExists else if nat_le MOST_SESSIONS (length ss) then Err faults.TooManySessions else opened history partial ambition) h
+
+  pub among-many : is_some (named ss name) ≡ false → nat_le MOST_SESSIONS (length ss) ≡ true → opened_among history ss name partial ambition ≡ Err faults.TooManySessions
+  among-many h many =
+      ap (λ b. if b then Err faults.SessionExists else if nat_le MOST_SESSIONS (length ss) then Err faults.TooManySessions else opened history partial ambition) h
+      ∙ ap (λ b. if b then Err faults.TooManySessions else opened history partial ambition) many
+
+  pub among-opened : is_some (named ss name) ≡ false → nat_le MOST_SESSIONS (length ss) ≡ false → opened_among history ss name partial ambition ≡ opened history partial ambition
+  among-opened h few =
+      ap (λ b. if b then Err faults.SessionExists else if nat_le MOST_SESSIONS (length ss) then Err faults.TooManySessions else opened history partial ambition) h
+      ∙ ap (λ b. if b then Err faults.TooManySessions else opened history partial ambition) few
+
+-- a session isn't opened for an edit's fault
+no-edit : (history : List Command) (partial : List (ℕ × Bool)) (ambition : Formula ℕ) (f : EditFault) → opened history partial ambition ≡ Err (faults.Edit f) → ⊥
+no-edit history partial ambition f h = at (completed_in history partial) h
+  where
+    inside : (s : Session) (b : Bool) → (if b then Ok s else Err faults.OutsideAmbition) ≡ Err (faults.Edit f) → ⊥
+    inside s true k = absurd (cc)
+    inside s false k = absurd (cc)
+
+    at : (c : Completion) → opened_on history ambition c ≡ Err (faults.Edit f) → ⊥
+    at (Complete choice) k = inside (new_session history ambition choice) (value ambition choice) k
+    at (Invalid rule) k = absurd (cc)
+    at (Incomplete option) k = absurd (cc)
+
+-- why a session isn't opened among others, where neither its name nor their number forbids it
+pub fault-opened : (history : List Command) (ss : List NamedSession) (name : List ℕ) (partial : List (ℕ × Bool)) (ambition : Formula ℕ) (fault : SessionFault)
+    → opened_among history ss name partial ambition ≡ opened history partial ambition → IsOpeningFault fault (opened history partial ambition)
+    → IsFaultOf (opened_among history ss name partial ambition) fault
+fault-opened history ss name partial ambition fault is h = subst (λ r. IsFaultOf r fault) (sym is) (at fault h)
+  where
+    at : (f : SessionFault) → IsOpeningFault f (opened history partial ambition) → IsFaultOf (opened history partial ambition) f
+    at faults.Memory k = tt
+    at (faults.Edit edit_faults.Memory) k = no-edit history partial ambition edit_faults.Memory k
+    at f k = k
+
+-- the session of a name that isn't refreshed
+pub fault-refreshed : (history : List Command) (ss : List NamedSession) (name : List ℕ) (s : NamedSession) (fault : SessionFault)
+    → named ss name ≡ Some s → IsFaultOf (refreshed history s.session) fault → IsFaultOf (refreshed_among history ss name) fault
+fault-refreshed history ss name s fault is h = subst (λ o. IsFaultOf (refreshed_by history o) fault) (sym is) h
+
+pub refreshed-is : (history : List Command) (ss : List NamedSession) (name : List ℕ) (s : NamedSession) → named ss name ≡ Some s → refreshed_among history ss name ≡ refreshed history s.session
+refreshed-is history ss name s is = ap (refreshed_by history) is
+
+pub none-refreshed : (history : List Command) (ss : List NamedSession) (name : List ℕ) → named ss name ≡ None → refreshed_among history ss name ≡ Err faults.NoSession
+none-refreshed history ss name is = ap (refreshed_by history) is

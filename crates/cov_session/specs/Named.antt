@@ -1,0 +1,17 @@
+-- Sessions by their names.
+use Rattle.std.specs.Prelude.{ℕ, List, Option, not, map, if◌then◌else◌}
+use Rattle.std.specs.List.{filter, find}
+use Rattle.std.specs.Str.{bytes_eq}
+use Rattle.cov_session.specs.Open.{NamedSession}
+
+-- the session of a name, if one is open
+abbrev pub named : List NamedSession → List ℕ → Option NamedSession
+named ss name = find (λ s. bytes_eq s.name name) ss
+
+-- the sessions with one in the place of that of its name
+abbrev pub with_session : List NamedSession → NamedSession → List NamedSession
+with_session ss new = map (λ s. if bytes_eq s.name new.name then new else s) ss
+
+-- the sessions but that of a name
+abbrev pub without : List NamedSession → List ℕ → List NamedSession
+without ss name = filter (λ s. not (bytes_eq s.name name)) ss
