@@ -15,7 +15,7 @@ use Rattle.cov_history.specs.Completing.{completed_in}
 use Rattle.cov_history.specs.Laws.{OpenOptionsAreDeclared}
 use Rattle.cov_serve.specs.Acting.{Stops}
 use Rattle.cov_serve.specs.Codes.{bind_code, syntax_code}
-use Rattle.cov_serve.specs.Finding.{◌>>=◌, as_found, by_code, completed_choice, found_choice, found_partial}
+use Rattle.cov_serve.specs.Finding.{Found, ◌>>=◌, as_found, by_code, completed_choice, found_choice, found_partial}
 use Rattle.cov_serve.specs.States.{State}
 use Rattle.cov_script.specs.Lines.{form_of}
 use Rattle.cov_script.specs.declared.code.Code.TheVariants.{Long}
@@ -23,11 +23,17 @@ use Rattle.cov_serve.specs.Step.{acted, as_outcome, refused, served, step}
 use Rattle.cov_serve.specs.Stops.{bind_stop, complete_stop}
 use Rattle.cov_serve.proofs.Declared.{repeated_below}
 use Rattle.cov_serve.specs.declared.stop.Stop.{Stop}
+use Rattle.cov_serve.specs.declared.stop.Stop.TheVariants as stops
 
 -- what holds of a stop holds of the refusal by `?` that hands it on
 pub stopped : {X : Type 0} (P : Result X Stop → Type 0) (result : Result X Stop) (stop : Stop) → IsErrAnd result (λ e. e ≡ stop) → P (Err stop) → P result
 stopped P (Ok x) stop e h = absurd e
 stopped P (Err d) stop e h = subst (λ k. P (Err k)) (sym e) h
+
+-- what stops a step stops what would come after it
+pub stops-later : {X Y : Type 0} (wanted : Found X) (later : X → Found Y) (old new : State) (stop : Stop) → Stops wanted old new stop → Stops (wanted >>= later) old new stop
+stops-later wanted later old new stops.Memory h = tt
+stops-later wanted later old new (stops.Refused code) h = record { is = ap (λ found. found >>= later) h.is; same = h.same; told = h.told }
 
 -- a line of too many bytes is refused, whatever it says
 pub long-refused : (st : State) (line : List ℕ) → MOST_SCRIPT_LINE_BYTES < length line → step st line ≡ refused st Long

@@ -5,15 +5,34 @@ use Rattle.std.specs.Str.{is_utf8, chars}
 use Rattle.std.specs.Fmt.{digits}
 use Rattle.std.specs.List.{flat_map}
 use lib.Utf8.{encode}
-use Rattle.cov_serve.specs.Step.{model, step, acted, served, served_session, served_edit, served_text, declared, constrained, preferred, defaulted, completed, begun, made_in, renamed, moved, removed, inserted, deleted, replaced, shown, listed_at, committed, dropped, told, file_told, node_at}
+use Rattle.cov_serve.specs.Step.{model, step, acted, served, served_session, served_edit, served_text, declared, constrained, preferred, defaulted, completed, begun, rebegun, made_in, renamed, moved, removed, inserted, deleted, replaced, shown, listed_at, committed, dropped, told, file_told, node_at}
 
 abbrev text : List (List ℕ) → List ℕ
 text ls = flat_map (λ l. l ++ 10 ∷ []) ls
 
-pub one_session : (model (text (codes "open s - for true" ∷ codes "commit s" ∷ codes "insert s /m 0 x" ∷ codes "mkfile s /m" ∷ codes "open t - for true" ∷ codes "mkfile s /m" ∷ codes "drop s" ∷ codes "commit s" ∷ []))).reply
-    ≡ text (codes "ok open 0 -" ∷ codes "refused empty" ∷ codes "refused no-such-path" ∷ codes "ok" ∷ codes "refused not-built" ∷ codes "refused name-taken" ∷ codes "ok" ∷ codes "refused no-session" ∷ [])
-unfolding is_utf8 chars encode digits step acted served served_session served_edit served_text declared constrained preferred defaulted completed begun made_in renamed moved removed inserted deleted replaced shown listed_at committed dropped told file_told node_at
-one_session = refl
+-- each line is for the session that it names: one of a name is open at a time, and a commit ends it alone
+pub sessions_by_name : (model (text (codes "open s - for true" ∷ codes "commit s" ∷ codes "insert s /m 0 x" ∷ codes "mkfile s /m" ∷ codes "open t - for true" ∷ codes "mkfile s /m" ∷ codes "open s - for true" ∷ codes "mkfile t /m" ∷ codes "list t /" ∷ codes "commit s" ∷ codes "drop s" ∷ codes "mkfile t /n" ∷ codes "commit t" ∷ codes "refresh t" ∷ codes "rename t /m k" ∷ codes "refresh t" ∷ codes "list t /" ∷ codes "commit t" ∷ codes "drop t" ∷ codes "commit t" ∷ codes "refresh t" ∷ []))).reply
+    ≡ text (codes "ok open 0 -" ∷ codes "refused empty" ∷ codes "refused no-such-path" ∷ codes "ok" ∷ codes "ok open 0 -" ∷ codes "refused name-taken" ∷ codes "refused session-exists" ∷ codes "ok" ∷ codes "ok 1" ∷ codes "f m" ∷ codes "ok commit 1" ∷ codes "refused no-session" ∷ codes "ok" ∷ codes "refused clash 1 2 in -" ∷ codes "refused edit-lost 0" ∷ codes "ok" ∷ codes "refused edit-lost 0" ∷ codes "ok 2" ∷ codes "f k" ∷ codes "f n" ∷ codes "ok commit 2" ∷ codes "refused no-session" ∷ codes "refused no-session" ∷ codes "refused no-session" ∷ [])
+unfolding is_utf8 chars encode digits step acted served served_session served_edit served_text declared constrained preferred defaulted completed begun rebegun made_in renamed moved removed inserted deleted replaced shown listed_at committed dropped told file_told node_at
+sessions_by_name = refl
+
+-- two commits to one file, of disjoint variants and of one, which is overtaken, and refreshed
+overtaken_then_refreshed : (model (text (codes "option a" ∷ codes "open base - for true" ∷ codes "open base a=on for true" ∷ codes "mkfile base /m" ∷ codes "insert base /m 0 one" ∷ codes "commit base" ∷ codes "open p a=on for a" ∷ codes "open q a=on for true" ∷ codes "open r a=off for !a" ∷ codes "insert p /m 1 two" ∷ codes "insert q /m +0 x" ∷ codes "insert q /m 1 three" ∷ codes "delete r /m 1" ∷ codes "commit p" ∷ codes "commit r" ∷ codes "commit q" ∷ codes "show q /m" ∷ codes "refresh q" ∷ codes "show q /m" ∷ codes "commit q" ∷ codes "cat a=on /m" ∷ codes "cat a=off /m" ∷ []))).reply
+    ≡ text (codes "ok option 0" ∷ codes "refused incomplete a" ∷ codes "ok open 1 a=on" ∷ codes "ok" ∷ codes "ok +0" ∷ codes "ok commit 2" ∷ codes "ok open 2 a=on" ∷ codes "ok open 2 a=on" ∷ codes "ok open 2 a=off" ∷ codes "ok +0" ∷ codes "refused no-such-line" ∷ codes "ok +0" ∷ codes "ok" ∷ codes "ok commit 3" ∷ codes "ok commit 4" ∷ codes "refused overtaken 3" ∷ codes "ok 2" ∷ codes "1 one" ∷ codes "+0 three" ∷ codes "ok refresh 4 a=on" ∷ codes "ok 3" ∷ codes "1 one" ∷ codes "+0 three" ∷ codes "2 two" ∷ codes "ok commit 5" ∷ codes "ok 3" ∷ codes "1 one" ∷ codes "3 three" ∷ codes "2 two" ∷ codes "ok 1" ∷ codes "3 three" ∷ [])
+unfolding is_utf8 chars encode digits step acted served served_session served_edit served_text declared constrained preferred defaulted completed begun rebegun made_in renamed moved removed inserted deleted replaced shown listed_at committed dropped told file_told node_at
+overtaken_then_refreshed = refl
+
+-- a line that another session deletes under this one's deletion
+edit_lost : (model (text (codes "open s - for true" ∷ codes "mkfile s /m" ∷ codes "insert s /m 0 one" ∷ codes "commit s" ∷ codes "open s - for true" ∷ codes "open t - for true" ∷ codes "insert s /m 1 two" ∷ codes "delete s /m 1" ∷ codes "delete t /m 1" ∷ codes "commit t" ∷ codes "commit s" ∷ codes "refresh s" ∷ codes "show s /m" ∷ codes "commit s" ∷ codes "drop s" ∷ []))).reply
+    ≡ text (codes "ok open 0 -" ∷ codes "ok" ∷ codes "ok +0" ∷ codes "ok commit 1" ∷ codes "ok open 1 -" ∷ codes "ok open 1 -" ∷ codes "ok +0" ∷ codes "ok" ∷ codes "ok" ∷ codes "ok commit 2" ∷ codes "refused overtaken 2" ∷ codes "refused edit-lost 0" ∷ codes "ok 1" ∷ codes "+0 two" ∷ codes "refused overtaken 2" ∷ codes "ok" ∷ [])
+unfolding is_utf8 chars encode digits step acted served served_session served_edit served_text declared constrained preferred defaulted completed begun rebegun made_in renamed moved removed inserted deleted replaced shown listed_at committed dropped told file_told node_at
+edit_lost = refl
+
+-- an option and a constraint under a session that is refreshed
+refreshed_by_rules : (model (text (codes "option a" ∷ codes "open s a=on for a" ∷ codes "mkfile s /m" ∷ codes "option b" ∷ codes "refresh s" ∷ codes "default b off" ∷ codes "refresh s" ∷ codes "show s /m" ∷ codes "constraint !a" ∷ codes "refresh s" ∷ codes "commit s" ∷ codes "refresh s" ∷ []))).reply
+    ≡ text (codes "ok option 0" ∷ codes "ok open 1 a=on" ∷ codes "ok" ∷ codes "ok option 1" ∷ codes "refused incomplete b" ∷ codes "ok default 1" ∷ codes "ok refresh 3 a=on,b=off" ∷ codes "ok 0" ∷ codes "ok constraint 1" ∷ codes "refused invalid 1" ∷ codes "ok commit 5" ∷ codes "refused no-session" ∷ [])
+unfolding is_utf8 chars encode digits step acted served served_session served_edit served_text declared constrained preferred defaulted completed begun rebegun made_in renamed moved removed inserted deleted replaced shown listed_at committed dropped told file_told node_at
+refreshed_by_rules = refl
 
 plain_use : (model (text (codes "open s - for true" ∷ codes "mkfile s /m" ∷ codes "insert s /m 0 one" ∷ codes "commit s" ∷ codes "open s - for true" ∷ codes "insert s /m 1 two" ∷ codes "show s /m" ∷ codes "commit s" ∷ codes "cat - /m" ∷ []))).reply
     ≡ text (codes "ok open 0 -" ∷ codes "ok" ∷ codes "ok +0" ∷ codes "ok commit 1" ∷ codes "ok open 1 -" ∷ codes "ok +0" ∷ codes "ok 2" ∷ codes "1 one" ∷ codes "+0 two" ∷ codes "ok commit 2" ∷ codes "ok 2" ∷ codes "1 one" ∷ codes "2 two" ∷ [])

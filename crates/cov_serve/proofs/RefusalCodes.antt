@@ -1,31 +1,26 @@
--- How refusals of commands and of edits are told.
-use Rattle.std.proofs.Common.{◌≡◌, ℕ, Bool, true, false, List, [], ◌∷◌, length, Option, Some, None, IfSome, option_map, refl, sym, ap, subst, ◌∙◌, arith}
+-- How refusals of commands are told.
+use Rattle.std.proofs.Common.{◌≡◌, ℕ, Bool, true, false, List, [], ◌∷◌, length, Option, Some, None, option_map, Ok, refl, ap, subst, arith}
 use Rattle.std.specs.List.{AllByRecursion}
 use Rattle.cov_base.specs.Faults.{Fault, Clash, Orphan, Loop}
 use Rattle.cov_expr.specs.Formula.{Formula}
-use Rattle.cov_edit.specs.declared.edit.Edit.{Edit}
 use Rattle.cov_edit.specs.declared.command.Command.{Command}
 use Rattle.cov_edit.specs.declared.command.Command.TheVariants as commands
 use Rattle.cov_edit.specs.History.{option_count}
 use Rattle.cov_view.specs.Refusals.{when, first_of}
 use Rattle.cov_view.specs.declared.fault.EditFault.{EditFault}
-use Rattle.cov_view.specs.declared.fault.EditFault.TheVariants as edit_faults
 use Rattle.cov_history.proofs.CallerLemmas.{bad-is}
 use Rattle.cov_history.specs.BadChoices.{as_unsound, bad_choice, fault_after, fault_refusal, unsound_refusal}
 use Rattle.cov_history.specs.Verdict.{RefusedBy, as_bad_record, as_invalid, as_overtaken, refusals_of, verdict, when_full}
 use Rattle.cov_history.specs.declared.refusal.Refusal.{Refusal}
 use Rattle.cov_history.specs.declared.refusal.Refusal.TheVariants as refusals
 use Rattle.cov_script.specs.Replies.{IsCodeOf}
-use Rattle.cov_session.specs.Adding.{IsAdditionFault, addition_fault, as_fault, with_edits}
-use Rattle.cov_session.specs.Open.{NamedSession, SessionValue, IsOpen, as_named}
-use Rattle.cov_session.specs.declared.fault.SessionFault.{SessionFault}
-use Rattle.cov_session.specs.declared.fault.SessionFault.TheVariants as sessions
 use Rattle.cov_serve.specs.Acting.{Stops}
-use Rattle.cov_serve.specs.Codes.{refusal_code, session_code}
+use Rattle.cov_serve.specs.Codes.{refusal_code}
 use Rattle.cov_serve.specs.Finding.{unless}
-use Rattle.cov_serve.specs.States.{State, with_command, with_session}
-use Rattle.cov_serve.specs.Step.{added, appended, ended}
-use Rattle.cov_serve.specs.Stops.{refusal_stop, session_stop}
+use Rattle.cov_serve.specs.States.{State, with_command}
+use Rattle.cov_serve.specs.Step.{appended, closed, ended}
+use Rattle.cov_serve.specs.Stops.{refusal_stop}
+use Rattle.cov_serve.proofs.Acted.{stops-later}
 
 module _ (n : ℕ) where
   -- a refusal, if there is one, names no option beyond so many
@@ -89,49 +84,5 @@ refusal-stops st k r h = record {
 }
 
 -- nor does the session end, whose commit it is
-pub commit-stops : (st : State) (k : Command) (r : Refusal) → RefusedBy r (verdict st.history k) → Stops (ended (appended st k)) st st (refusal_stop r)
-commit-stops st k refusals.Memory h = tt
-commit-stops st k r h = record {
-  is = ap (λ o. ended (unless (option_map refusal_code o) (with_command st k))) h;
-  same = refl;
-  told = subst (Told (option_count st.history)) h (refusal-told st.history k);
-}
-
--- edits are never refused for an option that is left open
-never-incomplete : (b c : Bool) (o : Option (ℕ × EditFault)) (option : ℕ)
-    → first_of (when b sessions.TooManyEdits ∷ when c sessions.TooManyBytes ∷ as_fault o ∷ []) ≡ Some (sessions.Incomplete option) → ⊥
-never-incomplete true c o option h = absurd (cc)
-never-incomplete false true o option h = absurd (cc)
-never-incomplete false false None option h = absurd (cc)
-never-incomplete false false (Some refused) option h = absurd (cc)
-
--- edits that a session doesn't take change nothing
-pub addition-stops : (st : State) (s : NamedSession) (es : List Edit) (fault : SessionFault) → IsAdditionFault fault (addition_fault st.history s.session es) → Stops (added st s es) st st (session_stop fault)
-addition-stops st s es sessions.Memory h = tt
-addition-stops st s es (sessions.Edit edit_faults.Memory) h = absurd h
-addition-stops st s es (sessions.Incomplete option) h = absurd (never-incomplete _ _ _ option h)
-addition-stops st s es fault h = record {
-  is = ap (λ o. unless (option_map session_code o) (with_session st (Some (record { name = s.name; session = with_edits s.session es })))) h;
-  same = refl;
-  told = tt;
-}
-
--- a session as it was
-stays : (before : Option SessionValue) (v w : SessionValue) → before ≡ Some v → w ≡ v → option_map as_named (Some w) ≡ option_map as_named before
-stays before v w there same = ap (λ x. option_map as_named (Some x)) same ∙ ap (option_map as_named) (sym there)
-
--- the session that is open stays as it was then
-pub edit-stops : (st : State) (history : List Command) (before : Option SessionValue) (v w : SessionValue) (s : NamedSession) (es : List Edit) (fault : SessionFault)
-    → (let kept : State = record { history = history; session = option_map as_named before } in kept) ≡ st → before ≡ Some v → w ≡ v → st.session ≡ Some s → IfSome before (IsOpen history)
-    → ((h : List Command) → IsOpen h v → IsAdditionFault fault (addition_fault h v.session es))
-    → Stops (added st s es) st (record { history = history; session = Some (as_named w) }) (session_stop fault)
-edit-stops st history before v w s es fault is there same named here refused =
-    let opens : IsOpen history v = subst (λ o. IfSome o (IsOpen history)) there here in
-    let known : Some (as_named v) ≡ Some s = sym (ap (option_map as_named) there) ∙ ap (λ (t : State). t.session) is ∙ named in
-    let own : as_named v ≡ s = cc in
-    let kept = stays before v w there same in
-    subst (λ o. Stops (added st s es) st (record { history = history; session = o }) (session_stop fault)) (sym kept)
-    (subst (λ n. Stops (added st s es) st n (session_stop fault)) (sym is)
-    (addition-stops st s es fault
-    (subst (λ h. IsAdditionFault fault (addition_fault h s.session es)) (ap (λ (t : State). t.history) is)
-    (subst (λ (r : NamedSession). IsAdditionFault fault (addition_fault history r.session es)) own (refused history opens)))))
+pub commit-stops : (st : State) (name : List ℕ) (k : Command) (r : Refusal) → RefusedBy r (verdict st.history k) → Stops (closed st name k) st st (refusal_stop r)
+commit-stops st name k r h = stops-later (appended st k) (λ next. Ok (ended next name)) st st (refusal_stop r) (refusal-stops st k r h)

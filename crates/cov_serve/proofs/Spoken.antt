@@ -9,9 +9,9 @@ use Rattle.cov_base.specs.Rows.{Row, is_present}
 use Rattle.cov_base.specs.declared.number.Kind.{Kind}
 use Rattle.cov_base.specs.declared.number.NodeRef.{NodeRef}
 use Rattle.cov_base.specs.declared.number.NodeRef.TheVariants as nodes
-use Rattle.cov_edit.specs.declared.command.Command.{Command}
-use Rattle.cov_edit.specs.Numbering.{node_number}
-use Rattle.cov_history.specs.Sessions.{seen}
+use Rattle.cov_edit.specs.Numbering.{Numbers, node_number}
+use Rattle.cov_edit.specs.Variant.{Variant}
+use Rattle.cov_history.specs.Sessions.{Session, seen}
 use Rattle.cov_view.specs.Paths.{from_number, path_node}
 use Rattle.cov_base.specs.Spelling.{path_of}
 use Rattle.cov_script.specs.Fields.{below_root, new_path_of}
@@ -24,12 +24,13 @@ use Rattle.cov_view.specs.Seen.{Seen}
 use Rattle.cov_view.specs.Views.{Shows}
 use Rattle.cov_serve.proofs.References.{made_node-again}
 use Rattle.cov_serve.specs.Seeing.{IsNamed, IsNodeAt}
-use Rattle.cov_serve.specs.States.{State, named}
+use Rattle.cov_serve.specs.States.{State}
 use Rattle.cov_script.specs.declared.code.Code.TheVariants.{NoSession, NoSuchPath}
 use Rattle.cov_serve.specs.Finding.{◌>>=◌}
 use Rattle.cov_serve.specs.Editing.{directory_of, last_name}
 use Rattle.cov_serve.specs.Step.{made, made_in, node_at}
-use Rattle.cov_session.specs.Open.{SessionValue, NamedSession, IsOpen, as_named, numbers_at_base, table_of}
+use Rattle.cov_session.specs.Named.{named}
+use Rattle.cov_session.specs.Open.{NamedSession, numbers_at_base, table_of}
 use Rattle.cov_serve.specs.Texts.{HasParts}
 
 below-root : (o : Option (List (List ℕ))) (path : List (List ℕ)) → below_root o ≡ Some path → 0 < length path
@@ -97,13 +98,7 @@ path-present rows node (name ∷ names) m h e = at (find (λ (r : Row). nat_eq r
     at (Some r) f rest k =
         rest r.node (or_right (nat_eq r.node 0) (list_any (λ (q : Row). nat_eq q.node r.node) rows) (found-there (λ (q : Row). nat_eq q.parent node && bytes_eq q.name name) rows r f)) k
 
--- the view of an open session shows what the session sees
-pub shows-seen : (history : List Command) (s : SessionValue) (view : Seen) → view ≡ s.view → IsOpen history s
-    → Shows (numbers_at_base history s.session) (table_of history s.session) view (seen s.session history)
-shows-seen history s view is opens =
-    subst (λ v. Shows (numbers_at_base history s.session) (table_of history s.session) v (seen s.session history)) (sym is) opens.shows
-
-found-at : (st : State) (s : NamedSession) (name : List ℕ) (path : List (List ℕ)) (node : ℕ) → named st.session name ≡ Some s
+found-at : (st : State) (s : NamedSession) (name : List ℕ) (path : List (List ℕ)) (node : ℕ) → named st.sessions name ≡ Some s
     → path_node (seen s.session st.history).rows 0 path ≡ Some node → node_at st name path ≡ Ok (s, node)
 unfolding node_at
 found-at st s name path node has leads =
@@ -111,26 +106,30 @@ found-at st s name path node has leads =
     ∙ ap (λ o. ok_or o NoSuchPath >>= (λ (node : ℕ). Ok (s, node))) leads
 
 -- the session of a name sees a node at a path
-pub node-found : (st : State) (s : SessionValue) (ref : NodeRef) (name : List ℕ) (path : List (List ℕ)) → IsNamed st name s
-    → Some (node_number (numbers_at_base st.history s.session).nodes ref) ≡ path_node (seen s.session st.history).rows 0 path
-    → is_made_node (numbers_at_base st.history s.session).nodes s.view.nodes_made ref ≡ true → IsNodeAt st name path s ref
-node-found st s ref name path is_named leads made =
-    let n : ℕ = (numbers_at_base st.history s.session).nodes in
-    let rows : List Row = (seen s.session st.history).rows in
+pub node-found : (st : State) (view : Seen) (ref : NodeRef) (name : List ℕ) (path : List (List ℕ)) → IsNamed st name view
+    → ((ns : Numbers) (table : List (List ℕ)) (v : Variant) → Shows ns table view v → Some (node_number ns.nodes ref) ≡ path_node v.rows 0 path)
+    → ((ns : Numbers) (table : List (List ℕ)) (v : Variant) → Shows ns table view v → is_made_node ns.nodes view.nodes_made ref ≡ true) → IsNodeAt st name path view ref
+node-found st view ref name path is_named leading making =
+    let s : Session = is_named.session.session in
+    let ns : Numbers = numbers_at_base st.history s in
+    let n : ℕ = ns.nodes in
+    let rows : List Row = (seen s st.history).rows in
+    let leads : Some (node_number n ref) ≡ path_node rows 0 path = leading ns (table_of st.history s) (seen s st.history) is_named.is_open.shows in
+    let made : is_made_node n view.nodes_made ref ≡ true = making ns (table_of st.history s) (seen s st.history) is_named.is_open.shows in
     record {
       named_so = is_named;
       node = node_number n ref;
       is_seen = record {
-        reference = made_node-again n s.view.nodes_made ref made;
+        reference = made_node-again n view.nodes_made ref made;
         number = refl;
-        there = and_from (is_known_node n ref) (is_present rows (node_number n ref)) (made-known n s.view.nodes_made ref made) (path-present rows 0 path (node_number n ref) refl leads);
+        there = and_from (is_known_node n ref) (is_present rows (node_number n ref)) (made-known n view.nodes_made ref made) (path-present rows 0 path (node_number n ref) refl leads);
       };
-      found = found-at st (as_named s) name path (node_number n ref) is_named.has (sym leads);
+      found = found-at st is_named.session name path (node_number n ref) is_named.has (sym leads);
     }
 
 -- what is at names is at the path of these
-pub at-path : {st : State} {name : List ℕ} {names path : List (List ℕ)} {s : SessionValue} {ref : NodeRef} → names ≡ path → IsNodeAt st name names s ref → IsNodeAt st name path s ref
-at-path {st} {name} {names} {path} {s} {ref} same there = subst (λ p. IsNodeAt st name p s ref) same there
+pub at-path : {st : State} {name : List ℕ} {names path : List (List ℕ)} {view : Seen} {ref : NodeRef} → names ≡ path → IsNodeAt st name names view ref → IsNodeAt st name path view ref
+at-path {st} {name} {names} {path} {view} {ref} same there = subst (λ p. IsNodeAt st name p view ref) same there
 
 directory-is : (directory : List (List ℕ)) (own : List ℕ) → directory_of (directory ++ own ∷ []) ≡ directory
 directory-is [] own = refl

@@ -1,15 +1,16 @@
--- Files that are told, and sessions that end.
+-- Files and directories that are told.
 use Rattle.std.proofs.Common.{◌≡◌, ℕ, Bool, true, false, ◌&&◌, not, List, map, length, take, Ok, Err, sym, ap, subst, ◌∙◌, refl}
 use Rattle.std.proofs.lemmas.Bool.{and_parts}
 use Rattle.std.specs.Prelude.{IsErrOf, Option, Some, None, is_some, ok_or, if◌then◌else◌}
 use Rattle.std.specs.List.{AllByRecursion}
 use Rattle.cov_base.specs.declared.number.NodeRef.{NodeRef}
-use Rattle.cov_edit.specs.Numbering.{Numbers, node_number, numbers_of, line_count}
+use Rattle.cov_edit.specs.Numbering.{Numbers, node_number, numbers_of}
 use Rattle.cov_edit.specs.Variant.{Variant, lines_of}
 use Rattle.cov_view.specs.Paths.{AreLinesOf, path_node}
 use Rattle.cov_view.specs.References.{is_made_line}
 use Rattle.cov_view.specs.Refusals.{is_dir}
-use Rattle.cov_view.specs.Views.{by_number}
+use Rattle.cov_view.specs.Seen.{Seen}
+use Rattle.cov_view.specs.Views.{Shows, by_number}
 use Rattle.cov_view.specs.declared.line.ViewLine.{ViewLine}
 use Rattle.cov_history.specs.Sessions.{Session, seen}
 use Rattle.cov_view.specs.Refusals.{shows_node}
@@ -22,10 +23,10 @@ use Rattle.cov_view.specs.declared.fault.ReadFaultOfView.TheVariants as reads
 use Rattle.cov_script.specs.declared.code.Code.TheVariants.{NotDirectory, NotFile, NoSuchPath}
 use Rattle.cov_serve.specs.Acting.{Stops}
 use Rattle.cov_serve.specs.Finding.{◌>>=◌}
-use Rattle.cov_serve.specs.Seeing.{IsSeen, IsNodeAt}
+use Rattle.cov_serve.specs.Seeing.{IsNodeAt}
 use Rattle.cov_serve.specs.Step.{file_told, listed_at, listed_in, shown, shown_in, told_in}
 use Rattle.cov_serve.specs.Stops.{list_stop, read_stop}
-use Rattle.cov_session.specs.Open.{SessionValue, NamedSession}
+use Rattle.cov_session.specs.Open.{NamedSession, table_of}
 use Rattle.cov_serve.specs.Listing.{told_line}
 use Rattle.cov_serve.specs.declared.reply.LineNames.TheVariants.{ByNumber, ByReference}
 use Rattle.cov_serve.specs.Replies.{directory_reply, file_reply, lines_reply, seen_reply}
@@ -36,88 +37,93 @@ not-true : (b : Bool) → not b ≡ true → b ≡ false
 not-true true h = absurd (cc)
 not-true false h = refl
 
-module _ (st : State) (s : Session) (node : ℕ) (file : NodeRef) (is_seen : IsSeen st s node file) where
-  abbrev numbers : Numbers
-  numbers = numbers_of (take s.base st.history)
+module _ {st : State} {name : List ℕ} {path : List (List ℕ)} {view : Seen} {ref : NodeRef} (found : IsNodeAt st name path view ref) where
+  abbrev s : Session
+  s = found.named_so.session.session
 
-  abbrev there : Variant
-  there = seen s st.history
+  abbrev ns : Numbers
+  ns = numbers_of (take s.base st.history)
+
+  abbrev table : List (List ℕ)
+  table = table_of st.history s
+
+  abbrev v : Variant
+  v = seen s st.history
+
+  abbrev node : ℕ
+  node = found.node
+
+  -- what is true of each variant that the view shows is true of what the session sees
+  seen-so : (P : Numbers → Variant → Type 0) → ((numbers : Numbers) (addresses : List (List ℕ)) (variant : Variant) → Shows numbers addresses view variant → P numbers variant) → P ns v
+  seen-so P all = all ns table v found.named_so.is_open.shows
+
+  file-at : shown st name path ≡ shown_in st s node
+  unfolding shown
+  file-at = ap (λ f. f >>= (λ (at : NamedSession × ℕ). shown_in st at.0.session at.1)) found.found
+
+  dir-at : listed_at st name path ≡ listed_in st s node
+  unfolding listed_at
+  dir-at = ap (λ f. f >>= (λ (at : NamedSession × ℕ). listed_in st at.0.session at.1)) found.found
 
   -- the lines of a file are told as the session sees them
-  pub lines-shown : (made : ℕ) (ls : List ViewLine) (text : List ℕ) → AreLinesOf numbers made there file ls → text ≡ lines_reply (told_line ByReference) ls
-      → (is_dir there.rows node ≡ false) × (text ≡ seen_reply (line_count (take s.base st.history)) (map by_number (lines_of there node)))
-  lines-shown made ls text lines is =
-      subst (λ n. (is_dir there.rows n ≡ false) × (text ≡ seen_reply (line_count (take s.base st.history)) (map by_number (lines_of there n)))) is_seen.number
-      (lines.is_file, is ∙ by-reference numbers made ls lines.made ∙ ap (seen_reply (length numbers.addresses)) lines.lines)
-
-  -- a directory has none
-  pub dir-seen : (has : Bool) → (has && is_dir there.rows (node_number numbers.nodes file)) ≡ true → is_dir there.rows node ≡ true
-  dir-seen has dir = subst (λ n. is_dir there.rows n ≡ true) is_seen.number (and_parts has (is_dir there.rows (node_number numbers.nodes file)) dir).1
-
-module _ {st : State} {name : List ℕ} {path : List (List ℕ)} {s : SessionValue} {file : NodeRef} (found : IsNodeAt st name path s file) where
-  at_node : shown st name path ≡ shown_in st s.session found.node
-  unfolding shown
-  at_node = ap (λ f. f >>= (λ (at : NamedSession × ℕ). shown_in st at.0.session at.1)) found.found
-
-  -- a file is shown
-  pub shown-lines : (made : ℕ) (ls : List ViewLine) (text : List ℕ) → AreLinesOf (numbers_of (take s.session.base st.history)) made (seen s.session st.history) file ls
+  pub shown-lines : (ls : List ViewLine) (text : List ℕ)
+      → ((numbers : Numbers) (addresses : List (List ℕ)) (variant : Variant) → Shows numbers addresses view variant → AreLinesOf numbers view.lines_made variant ref ls)
       → text ≡ lines_reply (told_line ByReference) ls → shown st name path ≡ Ok (st, text)
-  shown-lines made ls text lines is =
-      let told = lines-shown st s.session found.node file found.is_seen made ls text lines is in
-      at_node
-      ∙ ap (λ b. if b then Err NotFile else Ok (st, seen_reply (line_count (take s.session.base st.history)) (map by_number (lines_of (seen s.session st.history) found.node)))) told.0
-      ∙ ap (λ t. Ok (st, t)) (sym told.1)
+  shown-lines ls text lines is =
+      let own : AreLinesOf ns view.lines_made v ref ls = seen-so (λ numbers variant. AreLinesOf numbers view.lines_made variant ref ls) lines in
+      let number = found.is_seen.number in
+      file-at
+      ∙ ap (λ b. if b then Err NotFile else Ok (st, seen_reply (length ns.addresses) (map by_number (lines_of v node)))) (subst (λ n. is_dir v.rows n ≡ false) number own.is_file)
+      ∙ ap (λ t. Ok (st, t))
+      (sym (is ∙ by-reference ns view.lines_made ls own.made ∙ ap (seen_reply (length ns.addresses)) (own.lines ∙ ap (λ n. map by_number (lines_of v n)) number)))
 
   -- what can't be read is refused
   pub read-stops : (fault : ReadFaultOfView)
-      → (IsErrOf {T = List ViewLine} (Err fault) reads.NoSuchNode → shows_node (numbers_of (take s.session.base st.history)) (seen s.session st.history) file ≡ false)
-      → (IsErrOf {T = List ViewLine} (Err fault) reads.NotFile → (shows_node (numbers_of (take s.session.base st.history)) (seen s.session st.history) file
-      && is_dir (seen s.session st.history).rows (node_number (numbers_of (take s.session.base st.history)).nodes file)) ≡ true)
+      → (IsErrOf {T = List ViewLine} (Err fault) reads.NoSuchNode
+      → (numbers : Numbers) (addresses : List (List ℕ)) (variant : Variant) → Shows numbers addresses view variant → shows_node numbers variant ref ≡ false)
+      → (IsErrOf {T = List ViewLine} (Err fault) reads.NotFile
+      → (numbers : Numbers) (addresses : List (List ℕ)) (variant : Variant) → Shows numbers addresses view variant → (shows_node numbers variant ref && is_dir variant.rows (node_number numbers.nodes ref)) ≡ true)
       → Stops (shown st name path) st st (read_stop fault)
-  read-stops reads.NoSuchNode absent dir = absurd (let none = absent refl in let there = found.is_seen.there in cc)
-  read-stops reads.NotFile absent dir = record {
-    is = at_node
-        ∙ ap (λ b. if b then Err NotFile else Ok (st, seen_reply (line_count (take s.session.base st.history)) (map by_number (lines_of (seen s.session st.history) found.node))))
-        (dir-seen st s.session found.node file found.is_seen (shows_node (numbers_of (take s.session.base st.history)) (seen s.session st.history) file) (dir refl));
-    same = refl;
-    told = tt;
-  }
+  read-stops reads.NoSuchNode absent dir = absurd (let none = seen-so (λ numbers variant. shows_node numbers variant ref ≡ false) (absent refl) in let there = found.is_seen.there in cc)
+  read-stops reads.NotFile absent dir =
+      let own = seen-so (λ numbers variant. (shows_node numbers variant ref && is_dir variant.rows (node_number numbers.nodes ref)) ≡ true) (dir refl) in
+      record {
+        is = file-at
+            ∙ ap (λ b. if b then Err NotFile else Ok (st, seen_reply (length ns.addresses) (map by_number (lines_of v node))))
+            (subst (λ n. is_dir v.rows n ≡ true) found.is_seen.number (and_parts (shows_node ns v ref) (is_dir v.rows (node_number ns.nodes ref)) own).1);
+        same = refl;
+        told = tt;
+      }
   read-stops reads.Memory absent dir = tt
 
-module _ {st : State} {name : List ℕ} {path : List (List ℕ)} {s : SessionValue} {dir : NodeRef} (found : IsNodeAt st name path s dir) where
-  abbrev ns : Numbers
-  ns = numbers_of (take s.session.base st.history)
-
-  abbrev v : Variant
-  v = seen s.session st.history
-
-  at_dir : listed_at st name path ≡ listed_in st s.session found.node
-  unfolding listed_at
-  at_dir = ap (λ f. f >>= (λ (at : NamedSession × ℕ). listed_in st at.0.session at.1)) found.found
-
-  -- a directory is listed
-  pub listed-nodes : (rows : List DirRow) (text : List ℕ) → IsListingOf ns v dir rows → text ≡ directory_reply rows → listed_at st name path ≡ Ok (st, text)
+  -- what is in a directory is told as the session sees it
+  pub listed-nodes : (rows : List DirRow) (text : List ℕ)
+      → ((numbers : Numbers) (addresses : List (List ℕ)) (variant : Variant) → Shows numbers addresses view variant → IsListingOf numbers variant ref rows)
+      → text ≡ directory_reply rows → listed_at st name path ≡ Ok (st, text)
   listed-nodes rows text listing is =
-      at_dir
-      ∙ ap (λ b. if b then Ok (st, directory_reply (listed v.rows found.node)) else Err NotDirectory) (subst (λ n. is_dir v.rows n ≡ true) found.is_seen.number listing.is_directory)
-      ∙ ap (λ t. Ok (st, t)) (sym (is ∙ ap directory_reply (listing.rows ∙ ap (listed v.rows) found.is_seen.number)))
-
-  -- a file has no listing
-  file-seen : (has : Bool) → (has && not (is_dir v.rows (node_number ns.nodes dir))) ≡ true → is_dir v.rows found.node ≡ false
-  file-seen has file = subst (λ n. is_dir v.rows n ≡ false) found.is_seen.number (not-true (is_dir v.rows (node_number ns.nodes dir)) (and_parts has (not (is_dir v.rows (node_number ns.nodes dir))) file).1)
+      let own : IsListingOf ns v ref rows = seen-so (λ numbers variant. IsListingOf numbers variant ref rows) listing in
+      let number = found.is_seen.number in
+      dir-at
+      ∙ ap (λ b. if b then Ok (st, directory_reply (listed v.rows node)) else Err NotDirectory) (subst (λ n. is_dir v.rows n ≡ true) number own.is_directory)
+      ∙ ap (λ t. Ok (st, t)) (sym (is ∙ ap directory_reply (own.rows ∙ ap (listed v.rows) number)))
 
   -- what can't be listed is refused
   pub list-stops : (fault : ListFault)
-      → (IsErrOf {T = List DirRow} (Err fault) lists.NoSuchNode → shows_node ns v dir ≡ false)
-      → (IsErrOf {T = List DirRow} (Err fault) lists.NotDirectory → (shows_node ns v dir && not (is_dir v.rows (node_number ns.nodes dir))) ≡ true)
+      → (IsErrOf {T = List DirRow} (Err fault) lists.NoSuchNode
+      → (numbers : Numbers) (addresses : List (List ℕ)) (variant : Variant) → Shows numbers addresses view variant → shows_node numbers variant ref ≡ false)
+      → (IsErrOf {T = List DirRow} (Err fault) lists.NotDirectory
+      → (numbers : Numbers) (addresses : List (List ℕ)) (variant : Variant) → Shows numbers addresses view variant → (shows_node numbers variant ref && not (is_dir variant.rows (node_number numbers.nodes ref))) ≡ true)
       → Stops (listed_at st name path) st st (list_stop fault)
-  list-stops lists.NoSuchNode absent file = absurd (let none = absent refl in let there = found.is_seen.there in cc)
-  list-stops lists.NotDirectory absent file = record {
-    is = at_dir
-        ∙ ap (λ b. if b then Ok (st, directory_reply (listed v.rows found.node)) else Err NotDirectory) (file-seen (shows_node ns v dir) (file refl));
-    same = refl;
-    told = tt;
-  }
+  list-stops lists.NoSuchNode absent file = absurd (let none = seen-so (λ numbers variant. shows_node numbers variant ref ≡ false) (absent refl) in let there = found.is_seen.there in cc)
+  list-stops lists.NotDirectory absent file =
+      let own = seen-so (λ numbers variant. (shows_node numbers variant ref && not (is_dir variant.rows (node_number numbers.nodes ref))) ≡ true) (file refl) in
+      record {
+        is = dir-at
+            ∙ ap (λ b. if b then Ok (st, directory_reply (listed v.rows node)) else Err NotDirectory)
+            (subst (λ n. is_dir v.rows n ≡ false) found.is_seen.number (not-true (is_dir v.rows (node_number ns.nodes ref)) (and_parts (shows_node ns v ref) (not (is_dir v.rows (node_number ns.nodes ref))) own).1));
+        same = refl;
+        told = tt;
+      }
   list-stops lists.Memory absent file = tt
 
 pub none-there : {X : Type 0} (found : Option X) → found ≡ None → is_some found ≡ true → ⊥

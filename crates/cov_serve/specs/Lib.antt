@@ -2,6 +2,7 @@ pub mod Acting
 pub mod Codes
 pub mod Editing
 pub mod Finding
+pub mod Isolation
 pub mod Laws
 pub mod Listing
 pub mod Program

@@ -1,9 +1,10 @@
 -- The model of the program: what one line of a script does.
-use Rattle.std.specs.Prelude.{ℕ, ◌+◌, Bool, true, false, nat_lt, List, [], ◌∷◌, length, map, take, is_some, ok_or, Some, None, option_map, Ok, Err, if◌then◌else◌}
+use Rattle.std.specs.Prelude.{ℕ, ◌+◌, Bool, true, false, nat_lt, List, [], ◌∷◌, ◌++◌, length, map, take, ok_or, option_map, Ok, Err, if◌then◌else◌}
 use Rattle.cov_base.specs.Lines.{lines_of as script_lines}
 use Rattle.cov_base.specs.Spelling.{is_option_name}
 use Rattle.cov_base.specs.declared.number.Kind.{Kind}
 use Rattle.cov_base.specs.declared.number.Kind.TheVariants as kinds
+use Rattle.cov_base.specs.declared.number.LineRef.{LineRef}
 use Rattle.cov_base.specs.declared.number.NodeRef.{NodeRef}
 use Rattle.cov_base.specs.declared.limits.TheConstants.{MOST_SCRIPT_LINE_BYTES}
 use Rattle.cov_expr.specs.Formula.{Formula}
@@ -11,7 +12,7 @@ use Rattle.cov_script.specs.Lines.{form_of}
 use Rattle.cov_script.specs.declared.line.Line.{Line}
 use Rattle.cov_script.specs.declared.line.Line.TheVariants as lines
 use Rattle.cov_script.specs.declared.line.LineField.{LineField}
-use Rattle.cov_script.specs.Replies.{refused_reply, option_reply, constraint_reply, prefer_reply, default_reply, complete_reply, open_reply, plain_reply, new_line_reply, commit_reply}
+use Rattle.cov_script.specs.Replies.{refused_reply, option_reply, constraint_reply, prefer_reply, default_reply, complete_reply, open_reply, refresh_reply, plain_reply, new_line_reply, commit_reply}
 use Rattle.cov_script.specs.declared.code.Code.{Code}
 use Rattle.cov_script.specs.declared.code.Code.TheVariants.{Long, BadName, NotBuilt, NoSession, NoSuchPath, NotFile, NotDirectory}
 use Rattle.cov_edit.specs.declared.edit.Edit.{Edit}
@@ -28,15 +29,16 @@ use Rattle.cov_view.specs.Refusals.{is_dir}
 use Rattle.cov_view.specs.Views.{by_number}
 use Rattle.cov_history.specs.Sessions.{Session, seen, commit_of}
 use Rattle.cov_history.specs.Verdict.{verdict}
-use Rattle.cov_session.specs.Adding.{addition_fault, with_edits}
+use Rattle.cov_session.specs.Calls.{opened_among, refreshed_among, taken}
+use Rattle.cov_session.specs.Counting.{line_made, own_lines}
+use Rattle.cov_session.specs.Named.{named, with_session, without}
 use Rattle.cov_session.specs.Open.{NamedSession}
-use Rattle.cov_session.specs.Opening.{opened}
 use Rattle.cov_loop.specs.Outcome.{Outcome, answers}
 use Rattle.cov_serve.specs.Codes.{syntax_code, refusal_code, session_code}
-use Rattle.cov_serve.specs.Editing.{directory_of, last_name, ref_in, line_ref, own_lines}
+use Rattle.cov_serve.specs.Editing.{directory_of, last_name, ref_in, line_ref}
 use Rattle.cov_serve.specs.Finding.{Found, by_code, unless, ◌>>=◌, found_option, found_expression, found_partial, found_choice}
-use Rattle.cov_serve.specs.Replies.{directory_reply, file_reply, seen_reply}
-use Rattle.cov_serve.specs.States.{State, at_start, with_command, with_session, named}
+use Rattle.cov_serve.specs.Replies.{directory_reply, edit_reply, file_reply, seen_reply}
+use Rattle.cov_serve.specs.States.{State, at_start, with_command, with_sessions}
 
 -- what a line does: the state after it with its reply, or the code by which it is refused
 abbrev pub Act : Type 0
@@ -46,16 +48,22 @@ Act = Found (State × List ℕ)
 abbrev pub appended : State → Command → Found State
 appended st command = unless (option_map refusal_code (verdict st.history command)) (with_command st command)
 
--- edits are added to a session, all or none of them
-abbrev pub added : State → NamedSession → List Edit → Found State
-added st s es =
-    unless (option_map session_code (addition_fault st.history s.session es))
-    (with_session st (Some (record { name = s.name; session = with_edits s.session es })))
+-- edits are added to the session of a name, all or none of them
+abbrev pub added : State → List ℕ → List Edit → Found State
+added st name es = by_code session_code (taken st.history st.sessions name es) >>= (λ ss. Ok (with_sessions st ss))
+
+-- an edit is added to a session of a name; the reply gives the number of the line that it inserts, if it does
+abbrev pub edited : State → List ℕ → Session → Edit → Act
+edited st name s edit = added st name (edit ∷ []) >>= (λ next. Ok (next, edit_reply (line_made s edit)))
+
+-- a line is replaced in a session of a name; the reply gives the number of the new one
+abbrev pub exchanged : State → List ℕ → Session → NodeRef → LineRef → List ℕ → Act
+exchanged st name s file line text = added st name (edits.Insert file line text ∷ edits.Delete file line ∷ []) >>= (λ next. Ok (next, new_line_reply (own_lines s)))
 
 -- the session of a name and the node that it sees at a path
 unfoldable pub node_at : State → List ℕ → List (List ℕ) → Found (NamedSession × ℕ)
 node_at st name path = do
-  s ← ok_or (named st.session name) NoSession
+  s ← ok_or (named st.sessions name) NoSession
   node ← ok_or (path_node (seen s.session st.history).rows 0 path) NoSuchPath
   Ok (s, node)
 
@@ -97,20 +105,25 @@ completed st bindings = do
   choice ← found_choice st.history bindings
   Ok (st, complete_reply (options_of st.history) choice)
 
--- a session is opened; while one is open, no other is
+-- a session is opened
 unfoldable pub begun : State → List ℕ → List (List ℕ × Bool) → Formula (List ℕ) → Act
 begun st name bindings ambition = do
-  free ← (if is_some st.session then Err NotBuilt else Ok name)
   partial ← found_partial st.history bindings
   within ← found_expression st.history ambition
-  session ← by_code session_code (opened st.history partial within)
-  Ok (with_session st (Some (record { name = free; session = session })), open_reply session.base (options_of st.history) session.choice)
+  session ← by_code session_code (opened_among st.history st.sessions name partial within)
+  Ok (with_sessions st (st.sessions ++ record { name = name; session = session } ∷ []), open_reply session.base (options_of st.history) session.choice)
+
+-- a session is refreshed
+unfoldable pub rebegun : State → List ℕ → Act
+rebegun st name = do
+  session ← by_code session_code (refreshed_among st.history st.sessions name)
+  Ok (with_sessions st (with_session st.sessions (record { name = name; session = session })), refresh_reply session.base (options_of st.history) session.choice)
 
 -- a node of a kind is made in the directory at a path, with a name
 unfoldable pub made_in : State → Kind → List ℕ → List (List ℕ) → List ℕ → Act
 made_in st kind name path own = do
   dir ← node_at st name path
-  next ← added st dir.0 (edits.New kind (ref_at st dir) own ∷ [])
+  next ← added st name (edits.New kind (ref_at st dir) own ∷ [])
   Ok (next, plain_reply)
 
 -- a node of a kind is made at a path: in its directory, with its last name
@@ -121,7 +134,7 @@ made st kind name path = made_in st kind name (directory_of path) (last_name pat
 unfoldable pub renamed : State → List ℕ → List (List ℕ) → List ℕ → Act
 renamed st name path to = do
   node ← node_at st name path
-  next ← added st node.0 (edits.Rename (ref_at st node) to ∷ [])
+  next ← added st name (edits.Rename (ref_at st node) to ∷ [])
   Ok (next, plain_reply)
 
 -- a node that a session sees is in another directory, under its own name
@@ -129,35 +142,35 @@ unfoldable pub moved : State → List ℕ → List (List ℕ) → List (List ℕ
 moved st name path target = do
   node ← node_at st name path
   dir ← node_at st name target
-  next ← added st node.0 (edits.Move (ref_at st node) (ref_at st dir) ∷ [])
+  next ← added st name (edits.Move (ref_at st node) (ref_at st dir) ∷ [])
   Ok (next, plain_reply)
 
 -- a node that a session sees is removed
 unfoldable pub removed : State → List ℕ → List (List ℕ) → Act
 removed st name path = do
   node ← node_at st name path
-  next ← added st node.0 (edits.Remove (ref_at st node) ∷ [])
+  next ← added st name (edits.Remove (ref_at st node) ∷ [])
   Ok (next, plain_reply)
 
 -- a line is inserted into a file that a session sees
 unfoldable pub inserted : State → List ℕ → List (List ℕ) → LineField → List ℕ → Act
 inserted st name path line text = do
   file ← node_at st name path
-  next ← added st file.0 (edits.Insert (ref_at st file) (line_ref line) text ∷ [])
+  next ← added st name (edits.Insert (ref_at st file) (line_ref line) text ∷ [])
   Ok (next, new_line_reply (own_lines file.0.session))
 
 -- a line of a file that a session sees is deleted
 unfoldable pub deleted : State → List ℕ → List (List ℕ) → LineField → Act
 deleted st name path line = do
   file ← node_at st name path
-  next ← added st file.0 (edits.Delete (ref_at st file) (line_ref line) ∷ [])
+  next ← added st name (edits.Delete (ref_at st file) (line_ref line) ∷ [])
   Ok (next, plain_reply)
 
 -- a line of a file that a session sees is replaced: another is inserted directly after it, and it is deleted
 unfoldable pub replaced : State → List ℕ → List (List ℕ) → LineField → List ℕ → Act
 replaced st name path line text = do
   file ← node_at st name path
-  next ← added st file.0 (edits.Insert (ref_at st file) (line_ref line) text ∷ edits.Delete (ref_at st file) (line_ref line) ∷ [])
+  next ← added st name (edits.Insert (ref_at st file) (line_ref line) text ∷ edits.Delete (ref_at st file) (line_ref line) ∷ [])
   Ok (next, new_line_reply (own_lines file.0.session))
 
 -- the lines of a node are told as a session sees them, if it is a file
@@ -184,22 +197,26 @@ listed_at st name path = do
   dir ← node_at st name path
   listed_in st dir.0.session dir.1
 
--- a state in which the session has ended
-abbrev pub ended : Found State → Found State
-ended found = found >>= (λ st. Ok (with_session st None))
+-- the state in which the session of a name has ended
+abbrev pub ended : State → List ℕ → State
+ended st name = with_sessions st (without st.sessions name)
+
+-- a command is appended, and the session of a name has ended
+abbrev pub closed : State → List ℕ → Command → Found State
+closed st name command = appended st command >>= (λ next. Ok (ended next name))
 
 -- a session is committed, which ends it
 unfoldable pub committed : State → List ℕ → Act
 committed st name = do
-  s ← ok_or (named st.session name) NoSession
-  next ← ended (appended st (commit_of s.session))
-  Ok (next, commit_reply (length st.history + 1))
+  s ← ok_or (named st.sessions name) NoSession
+  next ← appended st (commit_of s.session)
+  Ok (ended next name, commit_reply (length st.history + 1))
 
 -- a session is given up
 unfoldable pub dropped : State → List ℕ → Act
 dropped st name = do
-  s ← ok_or (named st.session name) NoSession
-  Ok (with_session st None, plain_reply)
+  s ← ok_or (named st.sessions name) NoSession
+  Ok (ended st name, plain_reply)
 
 -- the lines of a node are told in a variant, if it is a file
 abbrev pub told_in : State → Variant → ℕ → Act
@@ -236,6 +253,7 @@ served_edit st line = served_text st line
 -- what a line does that opens, tells or ends a session, or edits it
 unfoldable pub served_session : State → Line → Act
 served_session st (lines.OpenSession name bindings ambition) = begun st name bindings ambition
+served_session st (lines.Refresh name) = rebegun st name
 served_session st (lines.Show name path) = shown st name path
 served_session st (lines.List name path) = listed_at st name path
 served_session st (lines.Commit name) = committed st name

@@ -21,6 +21,7 @@ use Rattle.cov_rules.specs.declared.completing.CompleteFault.{CompleteFault}
 use Rattle.cov_rules.specs.declared.completing.CompleteFault.TheVariants as completions
 use Rattle.cov_session.specs.declared.fault.SessionFault.{SessionFault}
 use Rattle.cov_session.specs.declared.fault.SessionFault.TheVariants as sessions
+use Rattle.cov_session.specs.declared.fault.NoSession.{NoSession}
 use Rattle.cov_serve.specs.Codes.{bind_code, edit_code, name_code, refusal_code, session_code, syntax_code}
 use Rattle.cov_serve.specs.declared.stop.Stop.{Stop}
 use Rattle.cov_serve.specs.declared.stop.Stop.TheVariants as stops
@@ -73,6 +74,15 @@ abbrev pub session_stop : SessionFault → Stop
 session_stop sessions.Memory = stops.Memory
 session_stop (sessions.Edit fault) = edit_stop fault
 session_stop fault = stops.Refused (session_code fault)
+
+-- a name that no open session has
+abbrev pub no_session_stop : NoSession → Stop
+no_session_stop none = stops.Refused codes.NoSession
+
+-- a commit of a session that isn't open
+abbrev pub command_stop : MemoryOr NoSession → Stop
+command_stop memory_or.Memory = stops.Memory
+command_stop (memory_or.Refused none) = stops.Refused codes.NoSession
 
 -- a history's refusal of a command
 abbrev pub refusal_stop : Refusal → Stop

@@ -3,12 +3,15 @@
 
 mod declaring;
 mod editing;
+mod ending;
 mod finding;
+pub mod laws;
 mod line;
 mod opening;
 mod program;
 mod reply;
 mod script_server;
+mod seeing;
 mod server;
 mod serving;
 mod stop;

@@ -1,20 +1,16 @@
-// How a session is opened.
-ghost use Rattle.std.specs.Prelude.{◌≡◌, [], None, Some};
-ghost use Rattle.cov_session.specs.Open.{IsOpen, as_named};
+// How a session is opened, and refreshed.
+ghost use Rattle.std.specs.Prelude.{◌≡◌};
 ghost use Rattle.cov_serve.specs.Acting.{Acts};
-ghost use Rattle.cov_serve.specs.States.{with_session};
-ghost use Rattle.cov_serve.specs.Step.{begun};
+ghost use Rattle.cov_serve.specs.Step.{begun, rebegun};
 
-use crate::server::{Server, close_session};
+use crate::server::Server;
 use crate::stop::Stop;
 use cov_base::{Name, Text};
 use cov_expr::{RawChoice, RawExpr};
-use cov_script::{Code, reply_open};
-use cov_session::OpenSession;
-use std::mem;
+use cov_script::{reply_open, reply_refresh};
 
 impl Server {
-    /// Opens a session while none is open.
+    /// Opens a session by a name that no open one has.
     #[tactic(auto, unfolding(crate::specs::Step::begun))]
     pub(crate) fn open(
         &mut self,
@@ -24,25 +20,22 @@ impl Server {
     ) -> Result<Text, Stop>
         ensures { Acts (begun self.old name choice.now ambition.now) self.old self.new result }
     {
-        if self.session.is_some() {
-            return Err(Stop::Refused(Code::NotBuilt));
-        }
         let partial = self.find_partial(choice)?;
         let ambition = self.find_expression(ambition)?;
-        let session = OpenSession::open(self.alloc, &mut self.engine, name, &partial, ambition)?;
-        let base = session.base();
-        let choice = session.choice();
-        self.begin(session);
-        Ok(reply_open(self.alloc, base, self.engine.options(), choice)?)
+        let opened = self
+            .sessions
+            .open(&mut self.engine, name, &partial, ambition)?;
+        let options = self.engine.options();
+        Ok(reply_open(self.alloc, opened.base, options, opened.choice)?)
     }
 
-    // From now on a session is open.
-    fn begin(&mut self, session: OpenSession)
-        requires none { self.old.session ≡ None }
-        requires open { IsOpen self.old.history session }
-        requires new { session.session.edits ≡ [] }
-        ensures { self.new ≡ with_session self.old (Some (as_named session)) }
+    /// Moves the base of a session to now.
+    #[tactic(auto, unfolding(crate::specs::Step::rebegun))]
+    pub(crate) fn refresh(&mut self, name: &Name) -> Result<Text, Stop>
+        ensures { Acts (rebegun self.old name.now) self.old self.new result }
     {
-        close_session(mem::replace(&mut self.session, Some(session)));
+        let opened = self.sessions.refresh(&mut self.engine, name)?;
+        let options = self.engine.options();
+        Ok(reply_refresh(self.alloc, opened.base, options, opened.choice)?)
     }
 }

@@ -4,34 +4,35 @@ ghost use Rattle.cov_serve.specs.States.{at_start};
 
 use cov_base::Memory;
 use cov_engine::Engine;
-use cov_session::OpenSession;
+use cov_session::Sessions;
 use std::alloc::Global;
 use std::marker::Model;
 
-/// What the script has made so far: the history, and the session that is open.
+/// What the script has made so far: the history, and the sessions that are open.
 #[derive(Drop)]
 pub struct Server {
     pub(crate) alloc: Global,
     pub(crate) engine: Engine,
-    pub(crate) session: Option<OpenSession>,
+    pub(crate) sessions: Sessions,
 }
 
 impl Model for Server {
-    ghost use Rattle.std.specs.Prelude.{IfSome, option_map};
+    ghost use Rattle.std.specs.Prelude.{map};
     ghost use Rattle.std.specs.Coded.{codes, coded_ℕ};
     ghost use Rattle.cov_expr.specs.Formula.{formula_code};
     ghost use Rattle.cov_edit.specs.contracts.command.Command as command_row;
     ghost use Rattle.cov_edit.specs.contracts.edit.Edit as edit_row;
-    ghost use Rattle.cov_session.specs.Open.{IsOpen, as_named};
+    ghost use Rattle.cov_session.specs.Calls.{AreOpen};
+    ghost use Rattle.cov_session.specs.Open.{as_named};
     ghost use Rattle.cov_serve.specs.States.{State};
 
     ghost Value = { State };
 
     ghost coded = { Prim.hlevel (codes, formula_code coded_ℕ, command_row.the_row.coded, edit_row.the_row.coded) };
 
-    ghost view = { λ s. record { history = s.engine.history; session = option_map as_named s.session } };
+    ghost view = { λ s. record { history = s.engine.history; sessions = map as_named s.sessions } };
 
-    ghost invariant = { λ s. IfSome s.session (IsOpen s.engine.history) };
+    ghost invariant = { λ s. AreOpen s.engine.history s.sessions };
 }
 
 impl Server {
@@ -41,7 +42,7 @@ impl Server {
         Ok(Server {
             alloc,
             engine: Engine::new(alloc)?,
-            session: None,
+            sessions: Sessions::new(alloc),
         })
     }
 
@@ -50,15 +51,15 @@ impl Server {
         let Server {
             alloc: _,
             engine,
-            session,
+            sessions,
         } = self;
         close_engine(engine);
-        close_session(session);
+        close_sessions(sessions);
     }
 }
 
 // Drops an engine, in the one place where that is done.
 fn close_engine(_: Engine) {}
 
-/// Drops a session, in the one place where that is done.
-pub(crate) fn close_session(_: Option<OpenSession>) {}
+// Drops sessions, in the one place where that is done.
+fn close_sessions(_: Sessions) {}

@@ -68,6 +68,7 @@ impl Server {
                 choice,
                 ambition,
             } => self.open(name, &choice, &ambition),
+            Line::Refresh { name } => self.refresh(&name),
             Line::Show { name, path } => self.show(&name, &path),
             Line::List { name, path } => self.list(&name, &path),
             Line::Commit { name } => self.commit(&name),

@@ -1,13 +1,13 @@
 // Why a line isn't done.
 ghost use Rattle.std.specs.Prelude.{◌≡◌};
-ghost use Rattle.cov_serve.specs.Stops.{syntax_stop, bad_name_stop, name_stop, bind_stop, complete_stop, read_stop, list_stop, edit_stop, session_stop, refusal_stop};
+ghost use Rattle.cov_serve.specs.Stops.{syntax_stop, bad_name_stop, name_stop, bind_stop, complete_stop, read_stop, list_stop, edit_stop, session_stop, no_session_stop, command_stop, refusal_stop};
 
 use cov_base::{BadName, Memory, MemoryOr};
 use cov_engine::Refusal;
 use cov_expr::{BindFault, NameFault};
 use cov_rules::CompleteFault;
 use cov_script::{Code, LineSyntax};
-use cov_session::SessionFault;
+use cov_session::{NoSession, SessionFault};
 use cov_view::{EditFault, ListFault, ReadFaultOfView};
 
 /// Why a line isn't done: a rule refuses it, and then the state is as it was; or memory is wanting, and then the run ends.
@@ -97,13 +97,36 @@ impl From<SessionFault> for Stop {
 
     fn from(fault: SessionFault) -> Self {
         match fault {
+            SessionFault::NoSession => Stop::Refused(Code::NoSession),
+            SessionFault::SessionExists => Stop::Refused(Code::SessionExists),
+            SessionFault::TooManySessions => Stop::Refused(Code::TooManySessions),
             SessionFault::Invalid { rule } => Stop::Refused(Code::Invalid { rule }),
             SessionFault::Incomplete { option } => Stop::Refused(Code::Incomplete { option }),
             SessionFault::OutsideAmbition => Stop::Refused(Code::OutsideAmbition),
             SessionFault::TooManyEdits => Stop::Refused(Code::TooManyEdits),
             SessionFault::TooManyBytes => Stop::Refused(Code::TooManyBytes),
             SessionFault::Edit { fault } => Stop::from(fault),
+            SessionFault::EditLost { index } => Stop::Refused(Code::EditLost { index }),
             SessionFault::Memory => Stop::Memory,
+        }
+    }
+}
+
+impl From<NoSession> for Stop {
+    ghost from_gives = { λ none stop. stop ≡ no_session_stop none };
+
+    fn from(_: NoSession) -> Self {
+        Stop::Refused(Code::NoSession)
+    }
+}
+
+impl From<MemoryOr<NoSession>> for Stop {
+    ghost from_gives = { λ fault stop. stop ≡ command_stop fault };
+
+    fn from(fault: MemoryOr<NoSession>) -> Self {
+        match fault {
+            MemoryOr::Refused(none) => Stop::from(none),
+            MemoryOr::Memory => Stop::Memory,
         }
     }
 }

@@ -1,4 +1,4 @@
-// How a choice and a file are told: a file in the variant of a choice, or as the session sees it.
+// How a choice and a file are told: a file in the variant of a choice, or as a session sees it.
 ghost use Rattle.std.specs.Prelude.{List, ℕ, ◌≡◌, length};
 ghost use Rattle.cov_edit.specs.History.{option_count};
 ghost use Rattle.cov_edit.specs.Numbering.{Numbers};
@@ -12,6 +12,7 @@ use crate::reply::{LineNames, directory_reply, lines_reply};
 use crate::server::Server;
 use crate::stop::Stop;
 use cov_base::{Choice, Name, Path, Text};
+use cov_engine::Engine;
 use cov_expr::RawChoice;
 use cov_script::{Code, reply_complete};
 use cov_view::View;
@@ -39,9 +40,8 @@ impl Server {
         requires { length choice ≡ option_count self.now.history }
         ensures { Acts (file_told self.now (replay choice self.now.history) path.now) self.now self.now result }
     {
-        let view = self
-            .engine
-            .view(self.alloc, choice, self.engine.position())?;
+        let at = self.engine.position();
+        let view = Engine::view(self.alloc, self.engine.visible(), choice, at)?;
         let told = self.tell_file(&view, path);
         close_view(view);
         told
@@ -60,23 +60,23 @@ impl Server {
         Ok(lines_reply(self.alloc, LineNames::ByNumber, &lines)?)
     }
 
-    /// Tells the lines of a file as the session sees them.
+    /// Tells the lines of a file as a session sees them.
     #[tactic(auto, unfolding(crate::specs::Step::shown))]
     pub(crate) fn show(&self, name: &Name, path: &Path) -> Result<Text, Stop>
         ensures { Acts (shown self.now name.now path.now) self.now self.now result }
     {
-        let (session, file) = self.node_at(name, path.as_slice())?;
-        let lines = session.view().lines(file)?;
+        let (view, file) = self.node_at(name, path.as_slice())?;
+        let lines = view.lines(file)?;
         Ok(lines_reply(self.alloc, LineNames::ByReference, &lines)?)
     }
 
-    /// Tells what is in a directory as the session sees it.
+    /// Tells what is in a directory as a session sees it.
     #[tactic(auto, unfolding(crate::specs::Step::listed_at))]
     pub(crate) fn list(&self, name: &Name, path: &Path) -> Result<Text, Stop>
         ensures { Acts (listed_at self.now name.now path.now) self.now self.now result }
     {
-        let (session, directory) = self.node_at(name, path.as_slice())?;
-        let nodes = session.view().list(directory)?;
+        let (view, directory) = self.node_at(name, path.as_slice())?;
+        let nodes = view.list(directory)?;
         Ok(directory_reply(self.alloc, &nodes)?)
     }
 }

@@ -1,0 +1,12 @@
+//! Laws of what a script is answered. Each function does nothing; what it ensures is the law.
+ghost use Rattle.cov_serve.specs.Isolation.{SessionsAreIsolated, SessionsBeginNow};
+
+/// What a session is answered is a function of it, of the history up to its base and of its own lines, whatever others do.
+pub fn sessions_are_isolated()
+    ensures { SessionsAreIsolated }
+{}
+
+/// A session that is opened or refreshed is there, with the whole history before its base.
+pub fn sessions_begin_now()
+    ensures { SessionsBeginNow }
+{}
