@@ -1,6 +1,8 @@
 mod endings;
+mod interleavings;
 mod limits;
 mod lines;
 mod refusals;
 mod running;
 mod scripts;
+mod sessions;

@@ -47,6 +47,27 @@ fn replacements_are_limited(rt: HostRuntime) -> Result<(), Fail> {
     expect(&rt, alloc, SERVED, case)
 }
 
+// What more is asked while 64 sessions are open: a name more, names in use, faults beside, and a place that comes free.
+const MORE: (&str, &str) = (
+    "open s64 - for true\nopen s0 - for true\nopen s0 - for a\noption a\nconstraint !a\nopen t a=on for true\nopen t - for b\nmkfile s63 /m\ncommit s63\nopen t a=on for true\nopen t a=off for a\nopen t - for true\nopen s63 - for true\nlist t /\nlist s62 /\ndrop s5\nopen s63 - for true\nmkfile s62 /m\ncommit s62\ncommit s0\nrefresh s62\nmkfile s61 /n\nrefresh s61\nlist s61 /\n",
+    "refused too-many-sessions\nrefused session-exists\nrefused unknown-option a\nok option 0\nok constraint 1\nrefused too-many-sessions\nrefused unknown-option b\nok\nok commit 3\nrefused invalid 1\nrefused outside-ambition\nok open 3 a=off\nrefused too-many-sessions\nok 1\nf m\nok 0\nok\nok open 3 a=off\nok\nrefused clash 1 2 in a=off\nrefused empty\nrefused edit-lost 0\nok\nok refresh 3 a=off\nok 2\nf m\nf n\n",
+);
+
+#[test]
+fn open_sessions_are_limited(rt: HostRuntime) -> Result<(), Fail> {
+    let alloc = rt.alloc();
+    let mut script = String::new(alloc);
+    let mut written = String::new(alloc);
+    for number in 0..64u32 {
+        writeln!(script, "open s{number} - for true")?;
+        written.push_str("ok open 0 -\n")?;
+    }
+    script.push_str(MORE.0)?;
+    written.push_str(MORE.1)?;
+    let case = (script.as_bytes(), written.as_bytes(), Status::SomeRefused);
+    expect(&rt, alloc, SERVED, case)
+}
+
 #[test]
 fn limits_are_kept(rt: HostRuntime) -> Result<(), Fail> {
     let alloc = rt.alloc();

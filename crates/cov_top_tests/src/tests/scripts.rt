@@ -1,10 +1,6 @@
 // Scripts that a whole run serves, with their replies.
-ghost use Rattle.std.specs.Prelude.{◌≤◌};
-
-use crate::tests::running::{Case, SERVED, Setting, expect};
+use crate::tests::running::{Case, SERVED, are_served};
 use cov_serve::Status;
-use std::alloc::Global;
-use std::process::Abort;
 use std::test::Fail;
 
 const CASES: [Case; 7] = [
@@ -41,16 +37,6 @@ const CASES: [Case; 7] = [
     ),
 ];
 
-// Runs the program on each of these scripts.
-fn are_served(rt: &impl Abort, alloc: Global, setting: Setting, cases: &[Case]) -> Result<(), Fail>
-    requires { 1 ≤ setting.1 }
-{
-    for case in cases {
-        expect(rt, alloc, setting, *case)?;
-    }
-    Ok(())
-}
-
 #[test]
 fn scripts_are_served(rt: HostRuntime) -> Result<(), Fail> {
     are_served(&rt, rt.alloc(), SERVED, &CASES)?;
@@ -80,12 +66,12 @@ const RULES: [Case; 6] = [
     ),
     (
         b"option a\noption b\nopen s a=on,c=on,a=on for d\nopen s a=on,b=on,a=on for d\nopen s a=on for d\nopen s a=on for true\nconstraint !a | !b\nopen s a=on,b=on for false\nopen s a=on,b=off for false\ndefault c on\ndefault 9x on\ndefault on off\ndefault b off\nprefer c & on\nopen s a=on for !b\nopen t a=on,c=on for d\ncat c=on /n/x\ncat c=on /m\ncat b=on,b=off /m\ncat a=on,b=on /m\ncat - /m\ncat a=off /m\nmkfile t /m\nmkfile s /m\nmkfile t /m\ninsert t /m/n 0 x\nmkfile t /n/m\n",
-        b"ok option 0\nok option 1\nrefused unknown-option c\nrefused repeated a\nrefused unknown-option d\nrefused incomplete b\nok constraint 1\nrefused invalid 1\nrefused outside-ambition\nrefused unknown-option c\nrefused unknown-option 9x\nrefused unknown-option on\nok default 1\nrefused unknown-option c\nok open 4 a=on,b=off\nrefused not-built\nrefused unknown-option c\nrefused unknown-option c\nrefused repeated b\nrefused invalid 1\nrefused incomplete a\nrefused no-such-path\nrefused no-session\nok\nrefused no-session\nrefused no-session\nrefused no-session\n",
+        b"ok option 0\nok option 1\nrefused unknown-option c\nrefused repeated a\nrefused unknown-option d\nrefused incomplete b\nok constraint 1\nrefused invalid 1\nrefused outside-ambition\nrefused unknown-option c\nrefused unknown-option 9x\nrefused unknown-option on\nok default 1\nrefused unknown-option c\nok open 4 a=on,b=off\nrefused unknown-option c\nrefused unknown-option c\nrefused unknown-option c\nrefused repeated b\nrefused invalid 1\nrefused incomplete a\nrefused no-such-path\nrefused no-session\nok\nrefused no-session\nrefused no-session\nrefused no-session\n",
         Status::SomeRefused,
     ),
     (
         b"mkdir s /d\nrename s /m n\nmove s /m /\nremove s /m\nlist s /\nrefresh s\ncheckout t -\nalt - a /m\nwhere 1\nmkdir s m\nwhere 01\nside s true\nupgrade\n",
-        b"refused no-session\nrefused no-session\nrefused no-session\nrefused no-session\nrefused no-session\nrefused not-built\nrefused not-built\nrefused not-built\nrefused not-built\nrefused syntax 8\nrefused syntax 6\nrefused syntax 0\nrefused syntax 0\n",
+        b"refused no-session\nrefused no-session\nrefused no-session\nrefused no-session\nrefused no-session\nrefused no-session\nrefused not-built\nrefused not-built\nrefused not-built\nrefused syntax 8\nrefused syntax 6\nrefused syntax 0\nrefused syntax 0\n",
         Status::SomeRefused,
     ),
 ];
@@ -98,7 +84,7 @@ fn rules_are_served(rt: HostRuntime) -> Result<(), Fail> {
 const SESSIONS: [Case; 5] = [
     (
         b"open s - for true\ncommit s\ninsert s /m 0 x\nmkfile s /m\nopen t - for true\ndrop s\ncommit s\n",
-        b"ok open 0 -\nrefused empty\nrefused no-such-path\nok\nrefused not-built\nok\nrefused no-session\n",
+        b"ok open 0 -\nrefused empty\nrefused no-such-path\nok\nok open 0 -\nok\nrefused no-session\n",
         Status::SomeRefused,
     ),
     (
@@ -169,12 +155,7 @@ fn deletes_are_committed(rt: HostRuntime) -> Result<(), Fail> {
     are_served(&rt, rt.alloc(), SERVED, &DELETED)
 }
 
-const DIRECTORIES: [Case; 6] = [
-    (
-        b"open s - for true\nmkfile s /m\ninsert s /m 0 one\ncommit s\nopen s - for true\ninsert s /m 1 two\nshow s /m\ncommit s\ncat - /m\nopen s - for true\nmkdir s /d\nmkfile s /m\nmkfile s /m/x\nmkfile s /q/x\nrename s / z\nrename s /m d\nmove s /d /d\nmove s /m /m\nmove s /m /\nmkfile s /d/k\nremove s /d\ninsert s /d 0 x\ninsert s /m 9 x\ndelete s /m 0\nreplace s /m 1 uno\nshow s /m\nlist s /\nlist s /m\nmove s /m /d\nrename s /d/k j\nlist s /d\nremove s /d/m\ncommit s\nopen s - for true\ncommit s\n",
-        b"ok open 0 -\nok\nok +0\nok commit 1\nok open 1 -\nok +0\nok 2\n1 one\n+0 two\nok commit 2\nok 2\n1 one\n2 two\nok open 2 -\nok\nrefused name-taken\nrefused not-directory\nrefused no-such-path\nrefused is-root\nrefused name-taken\nrefused into-itself\nrefused not-directory\nrefused name-taken\nok\nrefused not-empty\nrefused not-file\nrefused no-such-line\nrefused no-such-line\nok +0\nok 2\n+0 uno\n2 two\nok 2\nd d\nf m\nrefused not-directory\nok\nok\nok 2\nf j\nf m\nok\nok commit 3\nok open 3 -\nrefused empty\n",
-        Status::SomeRefused,
-    ),
+const DIRECTORIES: [Case; 5] = [
     (
         b"open s - for true\nmkdir s /src\nmkfile s /a\nmkfile s /Makefile\nmkdir s /src/b\nlist s /\nlist s /src\nlist s /src/b\nlist s /a\nlist s /n\nlist t /\nrename s /a z\nmove s /src/b /\nlist s /\n",
         b"ok open 0 -\nok\nok\nok\nok\nok 3\nf Makefile\nf a\nd src\nok 1\nd b\nok 0\nrefused not-directory\nrefused no-such-path\nrefused no-session\nok\nok\nok 4\nf Makefile\nd b\nd src\nf z\n",
