@@ -1,11 +1,9 @@
 #!/usr/bin/env python3
 """Counts and times the line `commit` of a session that inserted one line, in a store of 100 files and in one of 10,000."""
 import statistics
-import subprocess
 import sys
-import time
 
-from timing import build, counted
+from timing import ask, build, counted, started
 
 SIZES, SESSIONS = (100, 10000), 1000
 
@@ -19,35 +17,22 @@ def session(file, last):
     return ['open s phone=on for phone', 'insert s /f%d 0 a line' % file, last + ' s']
 
 
-def ask(child, line):
-    """The processor seconds that a run takes for a line, which is accepted."""
-    clock = (~child.pid << 3) | 2  # the clock of another process, as clock_getcpuclockid gives it
-    start = time.clock_gettime_ns(clock)
-    child.stdin.write(line.encode() + b'\n')
-    child.stdin.flush()
-    reply = child.stdout.readline()
-    taken = time.clock_gettime_ns(clock) - start
-    assert reply.startswith(b'ok')
-    return taken / 1e9
-
-
 def seconds(program, files):
     """The median seconds of `commit` and of `drop`, over sessions that end by turns with the one and the other in one run."""
     taken = {'commit': [], 'drop': []}
-    with subprocess.Popen([program, 'run'], stdin=subprocess.PIPE, stdout=subprocess.PIPE) as child:
+    with started(program) as child:
         for line in store(files):
             ask(child, line)
         for i in range(SESSIONS):
             for last in taken:
                 taken[last].append([ask(child, line) for line in session(i % files, last)][-1])
-        child.stdin.close()
-        assert child.wait() == 0
     return statistics.median(taken['commit']), statistics.median(taken['drop'])
 
 
 def instructions(program, files):
-    """The instructions of a run less those of one that says `drop` in the place of the last `commit`."""
-    commit, drop = (counted(store(files) + session(0, last), program)[0] for last in ('commit', 'drop'))
+    """The instructions of a run less those of one that says `drop` in the place of the last `commit`, which isn't the first since
+    the files were made."""
+    commit, drop = (counted(store(files) + session(1, 'commit') + session(0, last), program)[0] for last in ('commit', 'drop'))
     return commit - drop
 
 

@@ -1,9 +1,11 @@
-"""Runs `covstore run` on a script, and tells its processor time or counts its instructions."""
+"""Runs `covstore run` on a script, and tells its processor time or counts its instructions; or asks a run one line after another."""
+import contextlib
 import os
 import re
 import subprocess
 import sys
 import tempfile
+import time
 
 TOP = os.path.dirname(os.path.dirname(os.path.abspath(__file__)))
 COVSTORE = os.path.join(TOP, 'covstore')
@@ -32,6 +34,35 @@ def served(lines, program=COVSTORE):
         assert status == 0
         out.seek(0)
         return usage.ru_utime + usage.ru_stime, usage.ru_maxrss, out.read()
+
+
+@contextlib.contextmanager
+def started(program):
+    """A run that is asked one line after another; at the end it has refused none."""
+    with subprocess.Popen([program, 'run'], stdin=subprocess.PIPE, stdout=subprocess.PIPE) as child:
+        yield child
+        child.stdin.close()
+        assert child.wait() == 0
+
+
+def ask(child, line):
+    """The processor seconds that a run takes for a line, which is accepted."""
+    clock = (~child.pid << 3) | 2  # the clock of another process, as clock_getcpuclockid gives it
+    start = time.clock_gettime_ns(clock)
+    child.stdin.write(line.encode() + b'\n')
+    child.stdin.flush()
+    first, _, count = child.stdout.readline().partition(b' ')
+    for _ in range(int(count) if count.strip().isdigit() else 0):
+        child.stdout.readline()
+    taken = time.clock_gettime_ns(clock) - start
+    assert first.strip() == b'ok'
+    return taken / 1e9
+
+
+def peak(child):
+    """The peak of a run's memory so far, in KB."""
+    with open('/proc/%d/status' % child.pid) as status:
+        return next(int(line.split()[1]) for line in status if line.startswith('VmHWM:'))
 
 
 def counted(lines, program, name=None):

@@ -1,0 +1,58 @@
+#!/usr/bin/env python3
+"""Counts and times the line `commit` of a session with 5,000 commits of other files after its base, and with none."""
+import statistics
+import sys
+
+from timing import ask, build, counted, started
+
+OTHERS, COMMITS, SESSIONS = 100, 5000, 60
+
+
+def store():
+    """A file for each session, and others."""
+    lines = ['option phone', 'open start phone=off for true']
+    lines += ['mkfile start /f%d' % i for i in range(SESSIONS)] + ['mkfile start /g%d' % i for i in range(OTHERS)]
+    return lines + ['commit start']
+
+
+def others():
+    """Commits of other files than those of the sessions."""
+    lines = []
+    for i in range(COMMITS):
+        lines += ['open other phone=on for phone', 'insert other /g%d 0 a line' % (i % OTHERS), 'commit other']
+    return lines
+
+
+def begun(number):
+    return ['open s%d phone=on for true' % number, 'insert s%d /f%d 0 a line' % (number, number)]
+
+
+def seconds(program, is_before):
+    """The median seconds of `commit`, of sessions that are opened before the commits of other files or after them."""
+    opened = [line for number in range(SESSIONS) for line in begun(number)]
+    lines = store() + (opened + others() if is_before else others() + opened)
+    with started(program) as child:
+        for line in lines:
+            ask(child, line)
+        return statistics.median(ask(child, 'commit s%d' % number) for number in range(SESSIONS))
+
+
+def instructions(program, is_before):
+    """The instructions of a run less those of one that says `drop` in the place of the last `commit`."""
+    lines = store() + (begun(0) + others() if is_before else others() + begun(0))
+    commit, drop = (counted(lines + [last + ' s0'], program)[0] for last in ('commit', 'drop'))
+    return commit - drop
+
+
+def main():
+    program = build()
+    counts, times = [], []
+    for is_before, told in ((False, 'no commit'), (True, '%d commits' % COMMITS)):
+        counts.append(instructions(program, is_before))
+        times.append(seconds(program, is_before))
+        print('%s after the base: %d instructions more than drop; commit %.1f us' % (told, counts[-1], 1e6 * times[-1]))
+    print('ratio of the instructions %.2f, of the times %.2f' % (counts[1] / counts[0], times[1] / times[0]))
+
+
+if __name__ == '__main__':
+    sys.exit(main())
