@@ -2,5 +2,7 @@ mod diagrams;
 mod edits;
 mod entries;
 mod files;
+mod listings;
 mod rules;
+mod trees;
 mod view;

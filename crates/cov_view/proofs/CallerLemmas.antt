@@ -1,7 +1,10 @@
--- Lemmas on refusals, references and rows of a history's nodes, for the proofs of callers.
+-- Lemmas on refusals, references, trees and rows of a history's nodes, for the proofs of callers.
 pub use Rattle.cov_view.proofs.Changes.{not_there}
+pub use Rattle.cov_view.proofs.FewRows.{few-tree}
 pub use Rattle.cov_view.proofs.Placed.{old-append, rows-old}
 pub use Rattle.cov_view.proofs.Refusing.{fault-by}
+pub use Rattle.cov_view.proofs.Treeing.{length-tree, once-shown, tree_shown, whole-shown}
+pub use Rattle.cov_view.proofs.WholeTree.{tree_whole}
 use Rattle.std.proofs.Common.{◌≡◌, ℕ, zero, suc, Bool, true, false, ◌||◌, not, List, [], ◌∷◌, ◌++◌, length, Option, Some, None, refl, arith}
 use Rattle.std.proofs.lemmas.Bool.{and_parts, not-false, or_parts}
 use Rattle.cov_base.specs.declared.number.Kind.{Kind}

@@ -1,11 +1,10 @@
 -- What a view finds is what each variant that it shows has.
 use Rattle.std.proofs.Common.{◌≡◌, ℕ, zero, suc, Bool, true, false, cond, ◌&&◌, nat_eq, IfSome, IfOk, OnOk, Result, Ok, Err, nat_le, List, [], ◌∷◌, map, Option, Some, None, is_some, option_map, refl, sym, ap, subst, ◌∙◌, arith}
 use Rattle.std.specs.Str.{bytes_eq}
-use Rattle.std.specs.List.{filter, find, AllByRecursion}
-use Rattle.std.specs.List.Sorted.{IsPermutation}
+use Rattle.std.specs.List.{find, AllByRecursion}
 use Rattle.cov_view.proofs.Listed.{listed-shown}
 use Rattle.std.proofs.lemmas.Bool.Decides.{nat_tests}
-use Rattle.std.proofs.lemmas.Bool.{and_parts}
+use Rattle.std.proofs.lemmas.Bool.{and_from, and_parts}
 use Rattle.cov_base.specs.declared.number.Kind.{Kind}
 use Rattle.cov_base.specs.declared.number.Kind.TheVariants as kinds
 use Rattle.cov_base.specs.declared.number.NodeRef.{NodeRef}
@@ -23,8 +22,7 @@ use Rattle.cov_view.specs.Views.{row_by_number, IsMade, Shows}
 use Rattle.cov_view.specs.declared.line.ViewLine.{ViewLine}
 use Rattle.cov_view.specs.declared.row.ViewRow.{ViewRow}
 use Rattle.cov_view.proofs.Naming.{same-node, row-known, row-unknown, below_root, kind_below, there-known, dir}
-use Rattle.cov_view.proofs.Refusing.{file_row, shown_lines, made_lines, here, is_dir-rows}
-use Rattle.cov_view.proofs.Refusing.{there-made}
+use Rattle.cov_view.proofs.Refusing.{file_row, shown_lines, made_lines, here, is_dir-rows, there-made}
 use Rattle.cov_view.proofs.Standing.{node-itself}
 
 -- a row that is found is that of its node, which is there
@@ -163,6 +161,11 @@ module _ (ns : Numbers) (table : List (List ℕ)) (s : Seen) (v : Variant) (show
 
   pub dir-shown : (node : NodeRef) (k : Kind) → kind_in s.rows node ≡ Some k → is_dir v.rows (node_number ns.nodes node) ≡ is_dir_kind k
   dir-shown node k h = is_dir-rows ns table s v shows node ∙ dir ns s s.rows shows.made node (ap is_some h) ∙ ap kind_is_dir h
+
+  -- a node of a kind is there, and passes a test of directories where the kind does
+  pub kind-there : (node : NodeRef) (k : Kind) (t : Bool → Bool) → kind_in s.rows node ≡ Some k → t (is_dir_kind k) ≡ true → (shows_node ns v node && t (is_dir v.rows (node_number ns.nodes node))) ≡ true
+  kind-there node k t h passes =
+      and_from (shows_node ns v node) (t (is_dir v.rows (node_number ns.nodes node))) (there-shown node k h) (ap t (dir-shown node k h) ∙ passes)
 
   -- the lines of a file in a view are those in its variant
   pub lines-shown : (file : NodeRef) (ls : List ViewLine) → kind_in s.rows file ≡ Some kinds.File → lines_in s.rows file ≡ Some ls → AreLinesOf ns s.lines_made v file ls

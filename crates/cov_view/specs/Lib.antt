@@ -1,4 +1,5 @@
 pub mod Keys
+pub mod Laws
 pub mod Lines
 pub mod Listing
 pub mod Ordering
@@ -6,5 +7,7 @@ pub mod Paths
 pub mod References
 pub mod Refusals
 pub mod Seen
+pub mod SeenTree
 pub mod Soundness
+pub mod Tree
 pub mod Views

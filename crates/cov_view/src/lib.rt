@@ -3,15 +3,22 @@
 
 mod changing;
 mod children;
+mod counting;
 mod fault;
+mod hashing;
+pub mod laws;
 mod line;
 mod listing;
 mod row;
 mod rows;
 mod soundness;
+mod tree;
 mod view;
 
+pub use counting::{dirs_in, files_in};
 pub use fault::{EditFault, Fault, ListFault, ReadFaultOfView};
+pub use hashing::digest;
 pub use line::{ViewLine, ViewLines, is_head};
 pub use listing::{DirRow, DirRows};
+pub use tree::{TreeRow, TreeRows};
 pub use view::View;

@@ -1,5 +1,6 @@
 // The nodes of a variant.
-ghost use Rattle.std.specs.Prelude.{◌≡◌, ◌&&◌, ◌||◌, not};
+ghost use Rattle.std.specs.Prelude.{◌≡◌, ◌&&◌, ◌||◌, not, true};
+ghost use Rattle.cov_base.specs.Spelling.{is_name};
 ghost use Rattle.cov_view.specs.References.{is_root, is_head, same_node};
 ghost use Rattle.cov_view.specs.Seen.{has_line_in};
 
@@ -15,6 +16,15 @@ pub struct ViewRow {
     pub(crate) parent: NodeRef,
     pub(crate) name: Name,
     pub(crate) lines: ViewLines,
+}
+
+impl ViewRow {
+    /// Does nothing; it tells of a row what the type of its name keeps.
+    pub(crate) fn name_is_spelt(&self)
+        ensures { is_name self.now.name ≡ true }
+    {
+        self.name.as_slice();
+    }
 }
 
 /// Whether a line can be put directly after one of a file.

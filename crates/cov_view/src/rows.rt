@@ -171,6 +171,12 @@ impl Rows {
         self.rows.get(at)
     }
 
+    pub(crate) fn len(&self) -> usize
+        ensures { result ≡ length self.now }
+    {
+        self.rows.len()
+    }
+
     /// All rows, in the order in which they were added.
     pub(crate) fn as_slice(&self) -> &[ViewRow]
         ensures rows { result.now ≡ self.now }

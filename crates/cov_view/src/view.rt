@@ -2,6 +2,7 @@
 ghost use Rattle.std.specs.Prelude.{◌≡◌, ◌<◌, ◌-◌, ◌^◌, ◌+◌, ◌&&◌, not, true, false, List, ℕ, [], ◌∷◌, ◌++◌, length, map, None, Some, is_some, option_map, IfSome, IfOk, IfErr, IsErrOf, OnOk, OnErr};
 ghost use Rattle.std.specs.List.{fold};
 ghost use Rattle.cov_base.specs.Addresses.{IsTable};
+ghost use Rattle.cov_base.specs.Faults.{fault_of};
 ghost use Rattle.cov_base.specs.declared.number.Kind.TheVariants.{File, Dir};
 ghost use Rattle.cov_base.specs.declared.number.NodeRef.TheVariants.{Old};
 ghost use Rattle.cov_base.specs.declared.number.LineRef.TheVariants as lines;
@@ -13,7 +14,9 @@ ghost use Rattle.cov_view.specs.Listing.{IsListingOf, listed_in};
 ghost use Rattle.cov_view.specs.Refusals.{shows_node, is_dir, refusal, takes_memory};
 ghost use Rattle.cov_view.specs.Paths.{path_node, shown_kind, AreLinesOf};
 ghost use Rattle.cov_view.specs.Seen.{Seen, kind_in, node_at, lines_in, has_child, is_there, kind_is_dir, new_fault, line_fault, rename_fault, move_fault, remove_fault, seen_fault, seen_after, at_row, with_lines_by, with_name_by, with_parent_by, without_node, AreRows};
+ghost use Rattle.cov_view.specs.SeenTree.{tree_in};
 ghost use Rattle.cov_view.specs.Soundness.{AreOld, old_row, fault_in};
+ghost use Rattle.cov_view.specs.Tree.{tree_of, IsTreeOf};
 ghost use Rattle.cov_view.specs.Views.{Shows, table_after, next_by_number, FaultBy};
 
 use crate::line::copied;
@@ -21,7 +24,8 @@ use crate::listing::listing;
 use crate::row::{ViewRow, is_root, shows_anchor, shows_line};
 use crate::rows::Rows;
 use crate::soundness::first_fault;
-use crate::{DirRows, EditFault, Fault, ListFault, ReadFaultOfView, ViewLine, ViewLines};
+use crate::tree::tree;
+use crate::{DirRows, EditFault, Fault, ListFault, ReadFaultOfView, TreeRows, ViewLine, ViewLines};
 use cov_base::{Kind, LineNo, LineRef, Memory, Name, NodeNo, NodeRef, Path, Text};
 use cov_edit::Edit;
 use std::alloc::Global;
@@ -221,6 +225,16 @@ impl View {
                 Err(Memory) => Err(ListFault::Memory),
             },
         }
+    }
+
+    /// The tree: all nodes but the root in byte order of their paths, which have no `/` before them, each file with its lines,
+    /// every one followed by byte 10. It takes time in the tree, but for the path of each node, which it climbs to the root.
+    pub fn tree(&self) -> Result<TreeRows, Memory>
+        ensures tree { IfOk result (λ tree. tree ≡ tree_in self.now.rows) }
+        ensures shown { IfOk result (λ tree. (ns : Numbers) (table : List (List ℕ)) (v : Variant) → Shows ns table self.now v → tree ≡ tree_of v) }
+        ensures whole { IfOk result (λ tree. (ns : Numbers) (table : List (List ℕ)) (v : Variant) → Shows ns table self.now v → fault_of v.rows ≡ None → IsTreeOf v tree) }
+    {
+        tree(&self.rows)
     }
 
     /// The first fault of a view of nodes that a history has, None exactly where each variant that it shows is sound. It

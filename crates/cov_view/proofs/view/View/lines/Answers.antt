@@ -1,13 +1,11 @@
-use Rattle.std.proofs.Common.{◌≡◌, List, ℕ, Some}
-use Rattle.std.proofs.lemmas.Bool.{and_from}
+use Rattle.std.proofs.Common.{◌≡◌, List, ℕ, Some, refl}
 use Rattle.cov_base.specs.declared.number.Kind.TheVariants as kinds
-use Rattle.cov_edit.specs.Numbering.{Numbers, node_number}
+use Rattle.cov_edit.specs.Numbering.{Numbers}
 use Rattle.cov_edit.specs.Variant.{Variant}
 use Rattle.cov_view.specs.Paths.{AreLinesOf}
-use Rattle.cov_view.specs.Refusals.{shows_node, is_dir}
 use Rattle.cov_view.specs.Seen.{kind_in, lines_in}
 use Rattle.cov_view.specs.Views.{Shows}
-use Rattle.cov_view.proofs.Finding.{ok, lines-shown, absent-shown, there-shown, dir-shown}
+use Rattle.cov_view.proofs.Finding.{ok, absent-shown, kind-there, lines-shown}
 use Rattle.cov_view.proofs.view.View.lines.Goals as goal
 
 pub returns-clause-shown : goal.returns-clause-shown
@@ -25,8 +23,4 @@ returns-clause-absent_shown c = λ fault ns table v shows.
 
 pub returns-clause-not_file_shown : goal.returns-clause-not_file_shown
 returns-clause-not_file_shown c = λ fault ns table v shows.
-    let s = c.args.self.now in
-    let file = c.args.file in
-    and_from (shows_node ns v file) (is_dir v.rows (node_number ns.nodes file))
-    (there-shown ns table s v shows file kinds.Dir (c.lines_of.ensures.not_file fault))
-    (dir-shown ns table s v shows file kinds.Dir (c.lines_of.ensures.not_file fault))
+    kind-there ns table c.args.self.now v shows c.args.file kinds.Dir (λ b. b) (c.lines_of.ensures.not_file fault) refl

@@ -1,13 +1,11 @@
-use Rattle.std.proofs.Common.{◌≡◌, List, ℕ, Some, not, ap}
-use Rattle.std.proofs.lemmas.Bool.{and_from}
+use Rattle.std.proofs.Common.{◌≡◌, List, ℕ, Some, not, refl}
 use Rattle.cov_base.specs.declared.number.Kind.TheVariants as kinds
-use Rattle.cov_edit.specs.Numbering.{Numbers, node_number}
+use Rattle.cov_edit.specs.Numbering.{Numbers}
 use Rattle.cov_edit.specs.Variant.{Variant}
 use Rattle.cov_view.specs.Listing.{IsListingOf, listed_in}
-use Rattle.cov_view.specs.Refusals.{shows_node, is_dir}
 use Rattle.cov_view.specs.Seen.{kind_in}
 use Rattle.cov_view.specs.Views.{Shows}
-use Rattle.cov_view.proofs.Finding.{ok, absent-shown, dir-shown, listing-shown, there-shown}
+use Rattle.cov_view.proofs.Finding.{ok, absent-shown, kind-there, listing-shown}
 use Rattle.cov_view.proofs.view.View.list.Goals as goal
 
 pub returns-clause-shown : goal.returns-clause-shown
@@ -25,8 +23,4 @@ returns-clause-absent_shown c = λ fault ns table v shows.
 
 pub returns-clause-not_directory_shown : goal.returns-clause-not_directory_shown
 returns-clause-not_directory_shown c = λ fault ns table v shows.
-    let s = c.args.self.now in
-    let dir = c.args.dir in
-    and_from (shows_node ns v dir) (not (is_dir v.rows (node_number ns.nodes dir)))
-    (there-shown ns table s v shows dir kinds.File (c.list_of.ensures.not_directory fault))
-    (ap not (dir-shown ns table s v shows dir kinds.File (c.list_of.ensures.not_directory fault)))
+    kind-there ns table c.args.self.now v shows c.args.dir kinds.File not (c.list_of.ensures.not_directory fault) refl
