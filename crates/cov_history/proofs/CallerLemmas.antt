@@ -3,7 +3,7 @@ pub use Rattle.cov_history.proofs.Appends.{commit-lines, commit-rows, holding-go
 pub use Rattle.cov_history.proofs.BadChoices.{bad-is, least-bad, no-bad, none-bad, none-unsound, refusal-by_rows, some-unsound}
 pub use Rattle.cov_history.proofs.Deletes.{delete-dated, delete-elsewhere, delete-order, lines-held}
 pub use Rattle.cov_history.proofs.FileNodes.{AreTold, AreWithin, absent-high, absent-low, among-last, among-more, edits-told, files-append, files-commit, files-rise, from-within, made-append, made-within, replay-told, rows-tell}
-pub use Rattle.cov_history.proofs.Files.{anchor-below, anchor-case, any-seen}
+pub use Rattle.cov_history.proofs.Files.{anchor-below, anchor-case, any-seen, file-replay}
 pub use Rattle.cov_history.proofs.Inserts.{amid-within, anchor-known, anchors-append, anchors-stay, insert-elsewhere, is_table-of, stands-amid}
 pub use Rattle.cov_history.proofs.LineFiles.{AreLinesIn, accepted-names, amid-in_files, begun-named, legal-in_files, named-in_turn, turn-names}
 pub use Rattle.cov_history.proofs.Naming.{AreNamed, IsNamed, accepted-named, base-nodes, edits-accepted, further, legal-named, made-number, nodes-replay, sound-accepted, the_node}
@@ -11,7 +11,7 @@ pub use Rattle.cov_history.proofs.Older.{accepted-anchored, accepted-there, lega
 pub use Rattle.cov_history.proofs.Orders.{any-mapped, any-none, file-shows, insert-dated, no_commit-holds, order-takes}
 pub use Rattle.cov_history.proofs.Replays.{replay-seen}
 pub use Rattle.cov_history.proofs.RowChanges.{committed-where, rows-committed, rows-kept}
-pub use Rattle.cov_history.proofs.RowsRising.{fault-as_stands, replay-in_order, replay-once}
+pub use Rattle.cov_history.proofs.RowsRising.{fault-as_stands, replay-few, replay-in_order, replay-once}
 pub use Rattle.cov_history.proofs.Seen.{seen-cons}
 pub use Rattle.cov_history.proofs.Sessions.{edit-accepted, good-passes, rest-accepted}
 pub use Rattle.cov_history.proofs.Shown.{replay-stands}

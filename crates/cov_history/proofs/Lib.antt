@@ -23,7 +23,9 @@ pub mod Seen
 pub mod Sessions
 pub mod Shown
 pub mod Sound
+pub mod SpeltRows
 pub mod Standing
 pub mod Touching
 pub mod Unread
 pub mod Whole
+pub mod WholeTrees

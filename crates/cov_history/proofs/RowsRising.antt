@@ -9,7 +9,7 @@ use Rattle.cov_edit.specs.declared.edit.Edit.{Edit}
 use Rattle.cov_edit.specs.declared.edit.Edit.TheVariants as edits
 use Rattle.cov_edit.specs.declared.command.Command.{Command}
 use Rattle.cov_edit.specs.declared.command.Command.TheVariants as commands
-use Rattle.cov_edit.specs.Numbering.{Numbers, NumberedEdit, no_numbers, node_number, node_count_after, line_count_after, nodes_made, numbers_after, numbers_from, numbered_edit, numbered_from}
+use Rattle.cov_edit.specs.Numbering.{Numbers, NumberedEdit, no_numbers, node_number, node_count_after, line_count_after, nodes_made, numbers_after, numbers_from, numbers_of, numbered_edit, numbered_from}
 use Rattle.cov_edit.specs.Replay.{applying, commit_changes, changes_from, applied, replay}
 use Rattle.cov_edit.specs.Variant.{Variant, bare, edited}
 use Rattle.cov_edit.proofs.CallerLemmas.{fold-append, node_count_after-is}
@@ -125,3 +125,18 @@ replay-once c history = (up-other 0 (replay c history).rows (replay-up c history
 -- the first fault of a replay is that of its rows as they stand
 pub fault-as_stands : (c : List Bool) (history : List Command) → fault_of (replay c history).rows ≡ first_fault (replay c history).rows
 fault-as_stands c history = ap first_fault (replay-in_order c history)
+
+-- there are no more of them than numbers between
+up-few : (low n : ℕ) (rows : List Row) → low ≤ n → AreUp low rows → AreUpTo the_node n rows → length rows + low ≤ n
+up-few low n [] le h up = omega (arith, le)
+up-few low n (r ∷ rows) le h up =
+    let own = h.0 in
+    let rest = up-few r.node n rows up.0 h.1 up.1 in
+    omega (arith, own, rest)
+
+-- a replay has no more rows than its history made nodes
+pub replay-few : (c : List Bool) (history : List Command) → length (replay c history).rows ≤ (numbers_of history).nodes
+replay-few c history =
+    let h = changes-up c no_numbers bare history (tt, tt) in
+    let few = up-few 0 (numbers_of history).nodes (replay c history).rows (omega arith) h.0 h.1 in
+    omega (arith, few)

@@ -16,6 +16,7 @@ use Rattle.cov_edit.specs.Variant.{Line, line_address, lines_of}
 use Rattle.cov_view.specs.Paths.{kind_of}
 use Rattle.cov_edit.specs.Touched.{touch, AreRising}
 use Rattle.cov_view.specs.References.{is_dir_kind}
+use Rattle.cov_view.specs.Tree.{IsTreeOf, tree_of}
 use Rattle.cov_history.specs.FileNodes.{files_made, files_from, files_of, NamesFile}
 use Rattle.cov_rules.specs.Completion.{Incomplete}
 use Rattle.cov_history.specs.BadChoices.{fault_after, bad_choice, unsound_refusal}
@@ -301,3 +302,12 @@ TurnNamesFile = (history : List Command) (s : Session) (begun later : List Edit)
 abbrev pub AmidIsInFiles : Type 0
 AmidIsInFiles = (history : List Command) (s : Session) (begun later : List Edit) → IsLegal history → IsGood history s → begun ++ later ≡ s.edits
     → AllByRecursion (λ k. has_node k.item.file (files_of history ++ files_made (numbers_of history).nodes begun) ≡ true) (held_amid history s.ambition s.edits begun).lines
+
+-- a replay has no more rows than its history made nodes
+abbrev pub RowsAreFew : Type 0
+RowsAreFew = (c : List Bool) (history : List Command) → length (replay c history).rows ≤ (numbers_of history).nodes
+
+-- the tree of each valid variant of a legal history has one row of each of its nodes but the root, and their paths rise
+abbrev pub LegalTreeIsWhole : Type 0
+LegalTreeIsWhole = (history : List Command) (c : List Bool) → IsLegal history → option_count history ≤ length c → is_valid_in history c ≡ true
+    → IsTreeOf (replay c history) (tree_of (replay c history))

@@ -1,5 +1,7 @@
 //! Laws of what a history holds and accepts. Each function does nothing; what it ensures is the law.
-ghost use Rattle.cov_history.specs.Laws.{LinesFollowReplay, RowsFollowReplay, HoldingFollowsReplay, HoldingStands, HoldingIsWhole, HoldingGoesOn, CommitKeepsLines, CommitKeepsRows, FileFollowsReplay, ShownIsKept, InsertAfterAnchor, InsertInOneFile, InsertIsNumbered, AnchorsStay, GoodSessionsStay, GoodCommitsPass, CommitShowsSeen, AcceptedIsAnchored, DeclarationsHoldNothing, FileShowsReplay, InsertIsDated, OrderTakesInsert, LegalIsInReach, ReplayStands, LegalIsMade, DeleteIsDated, DeleteInOneFile, AcceptedIsThere, DeleteKeepsOrder, LinesAreDistinct, CommitShowsFiles, SeenStays, OpenOptionsAreDeclared, RowsAreInOrder, RowsAreOnce, CommitChangesRows, LinesKeepRows, LegalIsUnread, CommitIsUnread, NoneBadIsSound, BadHasFault, LegalIsSound, LinesStaySound, FilesRise, FilesGoOn, RowsTellFiles, LinesAreInFiles, AcceptedNamesFiles, TurnNamesFile, AmidIsInFiles};
+ghost use Rattle.cov_history.specs.Laws.{LinesFollowReplay, RowsFollowReplay, HoldingFollowsReplay, HoldingStands, HoldingIsWhole, HoldingGoesOn, CommitKeepsLines, CommitKeepsRows, FileFollowsReplay, ShownIsKept, InsertAfterAnchor, InsertInOneFile, InsertIsNumbered, AnchorsStay, GoodSessionsStay, GoodCommitsPass, CommitShowsSeen, AcceptedIsAnchored, DeclarationsHoldNothing, FileShowsReplay, InsertIsDated, OrderTakesInsert, LegalIsInReach, ReplayStands, LegalIsMade, DeleteIsDated, DeleteInOneFile, AcceptedIsThere, DeleteKeepsOrder, LinesAreDistinct, CommitShowsFiles, SeenStays, OpenOptionsAreDeclared, RowsAreInOrder, RowsAreOnce, CommitChangesRows, LinesKeepRows, LegalIsUnread, CommitIsUnread, NoneBadIsSound, BadHasFault, LegalIsSound, LinesStaySound, FilesRise, FilesGoOn, RowsTellFiles, LinesAreInFiles, AcceptedNamesFiles, TurnNamesFile, AmidIsInFiles, RowsAreFew, LegalTreeIsWhole};
+
+use cov_view::laws::tree_is_whole;
 
 /// At each position, the lines seen on a choice are those of the replay of the history up to there.
 pub fn lines_follow_replay()
@@ -250,3 +252,15 @@ pub fn turn_names_file()
 pub fn amid_is_in_files()
     ensures { AmidIsInFiles }
 {}
+
+/// A replay has no more rows than its history made nodes.
+pub fn rows_are_few()
+    ensures { RowsAreFew }
+{}
+
+/// The tree of each valid variant of a legal history has a row of each of its nodes, in byte order of paths.
+pub fn legal_tree_is_whole()
+    ensures { LegalTreeIsWhole }
+{
+    tree_is_whole();
+}
