@@ -29,6 +29,7 @@ use Rattle.cov_engine.specs.declared.file_part.FilePart.{FilePart}
 use Rattle.cov_history.specs.Kept.{kept_of}
 use Rattle.cov_history.specs.Files.{DatedLine, ShownLine, as_shown, dated_as_shown, dated_shown, is_dated_seen, file_dated}
 use Rattle.cov_engine.specs.Nodes.{AreDated}
+use Rattle.cov_engine.specs.Reading.{line_row}
 use Rattle.cov_engine.specs.Showing.{bare_row, with_row, with_lines, with_node, AreFresh}
 use Rattle.cov_engine.specs.Parts.{part_of}
 use Rattle.cov_engine.specs.Holdings.{IsFileOf}
@@ -43,12 +44,19 @@ last-changed (s ∷ rows) r file f h same = at (same_node s.node file) (λ k. la
     at true ih k = absurd (cc)
     at false ih k = ap (λ rs. s ∷ rs) (ih k)
 
-abbrev pair : ShownLine → ℕ × List ℕ
-pair s = (s.line, s.text)
+abbrev row_pair : FileRow → ℕ × List ℕ
+row_pair r = (r.line, r.text)
 
-pairs : (xs : List Line) → map pair (map as_shown xs) ≡ map by_number xs
+pairs : (xs : List Line) → map row_pair (map line_row xs) ≡ map by_number xs
 pairs [] = refl
 pairs (x ∷ xs) = ap (λ ps. by_number x ∷ ps) (pairs xs)
+
+abbrev shown_row : ShownLine → FileRow
+shown_row s = record { line = s.line; text = s.text }
+
+shown-rows : (xs : List Line) → map shown_row (map as_shown xs) ≡ map line_row xs
+shown-rows [] = refl
+shown-rows (x ∷ xs) = ap (λ rows. line_row x ∷ rows) (shown-rows xs)
 
 pub all-unmapped : {X Y : Type 0} (Q : Y → Type 0) (f : X → Y) (xs : List X) → AllByRecursion Q (map f xs) → AllByRecursion (λ x. Q (f x)) xs
 all-unmapped Q f [] h = tt
@@ -76,9 +84,6 @@ all-one P (s ∷ rows) r h p = (h.0, all-one P rows r h.1 p)
 abbrev view_line : FileRow → ViewLine
 view_line r = record { line = lines.Old r.line; text = r.text }
 
-abbrev row_pair : FileRow → ℕ × List ℕ
-row_pair r = (r.line, r.text)
-
 -- a row that is last gets the lines that are shown
 file-last : (file : ℕ) (rows : List ViewRow) (r : ViewRow) (shown : List FileRow) → has_row rows (nodes.Old file) ≡ false → same_node r.node (nodes.Old file) ≡ true
     → fold (with_row file) (rows ++ r ∷ []) shown ≡ rows ++ with_lines_by (λ l. l ++ map view_line shown) r ∷ []
@@ -94,19 +99,27 @@ by-row numbers (s ∷ shown) = ap (λ ps. row_pair s ∷ ps) (by-row numbers sho
 
 -- the lines whose nodes are true are those that are seen
 dated-rows : (ts : List Triple) (c : List Bool) (at count : ℕ) (ds : List DatedLine) (ls : List FileLine) → AreDated ts count ds ls
-    → map row_pair (rows_at ts c at ls) ≡ map pair (dated_shown c at ds)
+    → rows_at ts c at ls ≡ map shown_row (dated_shown c at ds)
 dated-rows ts c at count [] [] h = refl
 dated-rows ts c at count [] (l ∷ ls) h = absurd h
 dated-rows ts c at count (d ∷ ds) [] h = absurd h
 dated-rows ts c at count (d ∷ ds) (l ∷ ls) h =
-    ap (λ b. map row_pair (map file_row_of (cond b (l ∷ filter (is_visible ts c at) ls) (filter (is_visible ts c at) ls)))) ((h.0.nodes at).value c)
+    ap (λ b. map file_row_of (cond b (l ∷ filter (is_visible ts c at) ls) (filter (is_visible ts c at) ls))) ((h.0.nodes at).value c)
     ∙ one (is_dated_seen c at d) (dated-rows ts c at count ds ls h.1)
   where
-    one : (b : Bool) → map row_pair (rows_at ts c at ls) ≡ map pair (dated_shown c at ds)
-        → map row_pair (map file_row_of (cond b (l ∷ filter (is_visible ts c at) ls) (filter (is_visible ts c at) ls)))
-        ≡ map pair (map dated_as_shown (cond b (d ∷ filter (is_dated_seen c at) ds) (filter (is_dated_seen c at) ds)))
-    one true ih = λ i. (h.0.line i, h.0.text i) ∷ ih i
+    one : (b : Bool) → rows_at ts c at ls ≡ map shown_row (dated_shown c at ds)
+        → map file_row_of (cond b (l ∷ filter (is_visible ts c at) ls) (filter (is_visible ts c at) ls))
+        ≡ map shown_row (map dated_as_shown (cond b (d ∷ filter (is_dated_seen c at) ds) (filter (is_dated_seen c at) ds)))
+    one true ih = λ i. record { line = h.0.line i; text = h.0.text i } ∷ ih i
     one false ih = ih
+
+-- the lines of a file that are seen are those of the replay
+pub file-rows : (ts : List Triple) (c : List Bool) (at file : ℕ) (history : List Command) (ls : List FileLine) → AreDated ts (option_count history) (file_dated file (kept_of history)) ls
+    → rows_at ts c at ls ≡ map line_row (lines_of (replay c (take at history)) file)
+file-rows ts c at file history ls are =
+    dated-rows ts c at (option_count history) (file_dated file (kept_of history)) ls are
+    ∙ ap (map shown_row) (file-shows c at file history)
+    ∙ shown-rows (lines_of (replay c (take at history)) file)
 
 module _ (c : List Bool) (at : ℕ) (numbers : Numbers) (history : List Command) (low : AllByRecursion (λ l. line_of l.address ≤ length numbers.addresses) (replay c (take at history)).lines) where
   -- a row shows its lines, all of which are made
@@ -121,8 +134,7 @@ module _ (ts : List Triple) (c : List Bool) (at : ℕ) (stored : List FilePart) 
       → map by_number (lines_of (replay c (take at history)) file) ≡ map (line_by_number numbers) (map view_line (rows_at ts c at ls))
   file-lines file ls are =
       sym (pairs (lines_of (replay c (take at history)) file))
-      ∙ ap (λ xs. map pair xs) (sym (file-shows c at file history))
-      ∙ sym (dated-rows ts c at (option_count history) (file_dated file (kept_of history)) ls are)
+      ∙ ap (map row_pair) (sym (file-rows ts c at file history ls are))
       ∙ sym (by-row numbers (rows_at ts c at ls))
 
   -- the lines of a file are stored

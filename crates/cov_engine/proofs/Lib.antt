@@ -12,6 +12,7 @@ pub mod Installed
 pub mod Judged
 pub mod Marking
 pub mod Marks
+pub mod LinesRead
 pub mod MidCommit
 pub mod Named
 pub mod Nodes

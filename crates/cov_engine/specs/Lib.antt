@@ -6,6 +6,7 @@ pub mod Marks
 pub mod Nodes
 pub mod Overtakers
 pub mod Parts
+pub mod Reading
 pub mod Ready
 pub mod RowPlans
 pub mod Ruling

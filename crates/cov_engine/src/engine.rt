@@ -1,28 +1,32 @@
 // A history in use.
 ghost use Rattle.std.specs.Prelude.{ℕ, Bool, List, ◌≡◌, ◌≤◌, ◌+◌, ◌++◌, ◌∷◌, [], true, nat_lt, length, map, take, None, Some, is_none, IfOk, IfErr, IfSome, OnOk, OnErr};
 ghost use Rattle.std.specs.List.{list_all};
+ghost use Rattle.cov_base.specs.Rows.{is_present};
 ghost use Rattle.cov_dd.specs.Diagrams.{Extends};
 ghost use Rattle.cov_edit.specs.History.{options_of, option_count, constraints_of, first_false_in};
 ghost use Rattle.cov_edit.specs.Numbering.{numbers_of};
 ghost use Rattle.cov_edit.specs.Replay.{replay};
+ghost use Rattle.cov_edit.specs.Variant.{lines_of};
 ghost use Rattle.cov_rules.specs.Completion.{Complete, IsCompletion, IsRefusalBy};
 ghost use Rattle.cov_view.specs.Views.{Shows};
+ghost use Rattle.cov_vis.specs.Listings.{has_options_below, is_reduced, reads};
 ghost use Rattle.cov_history.specs.Files.{file_dated};
 ghost use Rattle.cov_engine.specs.Holdings.{IsHeldBy};
 ghost use Rattle.cov_history.specs.Kept.{kept_of};
 ghost use Rattle.cov_history.specs.Completing.{completed_in};
 ghost use Rattle.cov_history.specs.Sessions.{MayCome};
+ghost use Rattle.cov_engine.specs.Reading.{IsFileAt, line_row};
 ghost use Rattle.cov_engine.specs.States.{AreCountsOf, IsStateOf, receipt_number};
 ghost use Rattle.cov_history.specs.Verdict.{IsLegal, verdict, RefusedBy};
-ghost use Rattle.cov_engine.specs.Visibility.{IsVisibilityOf, is_no_line, as_row};
+ghost use Rattle.cov_engine.specs.Visibility.{IsVisibilityOf, as_row, has_line_number, is_no_line, is_refusal, presence_of};
 ghost use Rattle.cov_engine.specs.Visible.{IsWhole, shown};
 
 use crate::commits::Commits;
 use crate::installing::add_ready;
 use crate::state::{EngineState, make_ready};
 use crate::store::{Store, file_of, show};
-use crate::{Counts, FileParts, Prepared, Receipt, Refusal, Visible};
-use cov_base::{Choice, LineNo, Memory, NodeNo, Position};
+use crate::{Counts, FileFault, FileParts, Prepared, Receipt, Refusal, Visible, reading};
+use cov_base::{Choice, LineNo, Memory, MemoryOr, Name, NodeNo, Position};
 use cov_dd::{Node, Table};
 use cov_edit::{Command, Commands};
 use cov_expr::{Options, Partial};
@@ -30,8 +34,13 @@ use cov_file::FileRows;
 use cov_rules::{CompleteFault, Invalid, Rules};
 use cov_tree::Entries;
 use cov_view::View;
+use cov_vis::{Listing, list};
 use std::alloc::Global;
 use std::marker::Model;
+
+/// The history has no line with the number.
+#[derive(Clone, Copy, Debug, PartialEq, Eq)]
+pub struct NoSuchLine;
 
 /// A history. Contracts see it as the list of its commands, and its table.
 #[derive(Drop)]
@@ -139,6 +148,22 @@ impl Engine {
         }
     }
 
+    /// The presence of a line: the one reduced listing that is true on exactly the choices in whose replay of the whole history the
+    /// line is, its file present or not. `NoSuchLine` comes exactly where the history has no line with this number. It takes time
+    /// in the nodes below the line's visibility.
+    pub fn presence(&self, line: LineNo) -> Result<Listing, MemoryOr<NoSuchLine>>
+        ensures listing { IfOk result (λ listing. listing ≡ presence_of self.now.history line) }
+        ensures reduced { IfOk result (λ listing. is_reduced listing ≡ true) }
+        ensures options { IfOk result (λ listing. has_options_below (option_count self.now.history) listing ≡ true) }
+        ensures reads { IfOk result (λ listing. (c : List Bool) → reads listing c ≡ has_line_number line (replay c self.now.history)) }
+        ensures none { is_refusal result ≡ is_no_line self.now.history line }
+    {
+        match self.vis(line) {
+            Some(node) => Ok(list(self.table(), node)?),
+            None => Err(MemoryOr::Refused(NoSuchLine)),
+        }
+    }
+
     /// All lines ever inserted into a file, in order; none where the number isn't a file's. It takes time in their number.
     pub fn file_lines(&self, file: NodeNo) -> Result<FileRows, Memory>
         ensures { IfOk result (λ rows. rows ≡ map as_row (file_dated file (kept_of self.now.history))) }
@@ -196,6 +221,31 @@ impl Engine {
         ensures { IfOk result (λ view. view ≡ shown visible.now choice at) }
     {
         show(alloc, visible, choice, at)
+    }
+
+    /// The file at a path, its names from the root on, in the variant of a choice at a position; beyond the history that is the one
+    /// now. `NoSuchPath` and `NotFile` come exactly where a name on the path isn't there and where the path leads to a directory.
+    /// Reads rows alone, and no lines. It takes time in the rows, for each name of the path.
+    pub fn file_at(&self, choice: Choice, at: Position, path: &[Name]) -> Result<NodeNo, FileFault>
+        ensures { IsFileAt (replay choice (take at self.now.history)) path.now result }
+    {
+        reading::file_at(&self.state.visible, choice, at, path)
+    }
+
+    /// The lines of a file, visible on a choice at a position, in order, whether the file is there or not; none where the number
+    /// isn't a file's. It takes time in the lines ever inserted into that file.
+    pub fn lines_at(&self, file: NodeNo, choice: Choice, at: Position) -> Result<FileRows, Memory>
+        ensures { IfOk result (λ rows. rows ≡ map line_row (lines_of (replay choice (take at self.now.history)) file)) }
+    {
+        let alloc = self.state.store.commits.allocator();
+        reading::lines_at(alloc, &self.state.visible, file, choice, at)
+    }
+
+    /// Whether a node is in the variant of a choice at a position. It takes time in the rows.
+    pub fn has_node(&self, node: NodeNo, choice: Choice, at: Position) -> Result<bool, Memory>
+        ensures { IfOk result (λ is. is ≡ is_present (replay choice (take at self.now.history)).rows node) }
+    {
+        reading::has_node(&self.state.visible, node, choice, at)
     }
 
     /// Makes everything ready for a command, so that its installation can't fail. A refusal hands the engine back. Every

@@ -16,6 +16,7 @@ mod overtaking;
 mod places;
 mod planning;
 mod prepared;
+mod reading;
 mod ready;
 mod row_planning;
 mod rule;
@@ -27,8 +28,9 @@ mod visible;
 
 pub use counts::Counts;
 pub use cov_history::Refusal;
-pub use engine::Engine;
+pub use engine::{Engine, NoSuchLine};
 pub use file_part::FilePart;
 pub use file_parts::FileParts;
 pub use prepared::{Prepared, Receipt};
+pub use reading::FileFault;
 pub use visible::Visible;

@@ -62,6 +62,34 @@ fn stage_file_of_line(
     }
 }
 
+// The last node that there is with those that edits make, so many having been made before.
+fn last_node(before: u32, edits: &[Edit]) -> NodeNo
+    requires few { before + nodes_made edits.now < 2 ^ 32 - 1 }
+    ensures { result ≡ before + nodes_made edits.now }
+{
+    let mut last = before;
+    let mut ahead = edits;
+    while let [edit, rest @ ..] = ahead {
+        last += made_by(edit);
+        ahead = rest;
+    }
+    NodeNo::new(last)
+}
+
+// How many nodes an edit makes.
+fn made_by(edit: &Edit) -> u32
+    ensures { result ≡ nodes_made (edit.now ∷ []) }
+{
+    match edit {
+        Edit::New { .. } => 1,
+        Edit::Insert { .. }
+        | Edit::Delete { .. }
+        | Edit::Rename { .. }
+        | Edit::Move { .. }
+        | Edit::Remove { .. } => 0,
+    }
+}
+
 /// Adds what a commit's edits make, and makes room for what they do to files and for the commit. On `Err` some of it may be
 /// there.
 pub(crate) fn stage(
@@ -88,7 +116,7 @@ pub(crate) fn stage(
     ensures table { visible.new.table ≡ visible.old.table }
     ensures front_files { map contents (take (length visible.old.files) visible.new.files) ≡ map contents visible.old.files }
 {
-    store.commits.reserve(NodeNo::new(before))?;
+    store.commits.reserve(last_node(before, edits))?;
     visible.entries.reserve(rows)?;
     stage_files_of_lines(&mut store.file_of_line, before, edits)?;
     visible.files.stage(before, edits)?;
