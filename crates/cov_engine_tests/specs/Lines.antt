@@ -74,3 +74,7 @@ without_B = with_X ++ commit_of 5 (true ∷ []) false (without 2) ∷ []
 -- X is taken out of those with d
 abbrev pub without_X : List Command
 without_X = without_B ++ commit_of 6 (true ∷ []) true (without 4) ∷ []
+
+-- each choice has d
+abbrev pub bound_to_d : List Command
+bound_to_d = with_X ++ commands.Constraint (On 0) ∷ []

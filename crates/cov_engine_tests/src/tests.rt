@@ -1,5 +1,6 @@
 mod declaring;
 mod lines;
 mod overtaking;
+mod sides;
 mod steps;
 mod trees;

@@ -7,14 +7,16 @@ ghost use Rattle.cov_engine_tests.specs.Lines.{ambition_of, file_m, line_in, fil
 
 use crate::tests::steps::{append, close, declare_d};
 use cov_base::{
-    Choice, Kind, LineNo, LineRef, Memory, Name, NodeNo, NodeRef, OptionId, Position, Text,
+    Choice, Kind, LineNo, LineRef, Memory, MemoryOr, Name, NodeNo, NodeRef, OptionId, Position,
+    Text,
 };
 use cov_dd::{FALSE, TRUE};
 use cov_edit::{Command, Edit, Edits};
-use cov_engine::Engine;
+use cov_engine::{Engine, NoSuchLine};
 use cov_expr::{Expr, Part};
 use cov_file::FileRows;
 use cov_view::{View, ViewLines};
+use cov_vis::{Child, ListingEntry};
 use std::alloc::Global;
 use std::process::Abort;
 use std::test::Fail;
@@ -153,8 +155,8 @@ pub(crate) fn insert_lines(alloc: Global, engine: &mut Engine) -> Result<(), Fai
     insert(alloc, engine, 4, Choice::new(0, 1), false, 1, b"X")
 }
 
-// One line taken out of all variants, and one out of those with d.
-fn delete_lines(alloc: Global, engine: &mut Engine) -> Result<(), Fail>
+/// One line taken out of all variants, and one out of those with d.
+pub(crate) fn delete_lines(alloc: Global, engine: &mut Engine) -> Result<(), Fail>
     requires { engine.old.history ≡ with_X }
     ensures { OnOk result (engine.new.history ≡ without_X) }
 {
@@ -209,6 +211,48 @@ fn check_deleted(rt: &impl Abort, alloc: Global, engine: &mut Engine) -> Result<
 fn deleted_lines_are_hidden_where_it_was_meant(rt: HostRuntime) -> Result<(), Fail> {
     let mut engine = Engine::new(rt.alloc())?;
     let checked = check_deleted(&rt, rt.alloc(), &mut engine);
+    close(engine);
+    checked
+}
+
+// Whether the presence of a line is a root with no entry, or with one of option 0.
+fn is_present_as(engine: &Engine, line: u32, root: Child, entry: Option<&ListingEntry>) -> bool {
+    match engine.presence(LineNo::new(line)) {
+        Ok(listing) => listing.root() == root && listing.entries().as_slice().get(0) == entry,
+        Err(_) => false,
+    }
+}
+
+// Whether there is no line with a number.
+fn is_refused(engine: &Engine, line: u32) -> bool {
+    match engine.presence(LineNo::new(line)) {
+        Ok(_) => false,
+        Err(fault) => fault == MemoryOr::Refused(NoSuchLine),
+    }
+}
+
+fn check_presence(rt: &impl Abort, alloc: Global, engine: &mut Engine) -> Result<(), Fail>
+    requires { engine.old.history ≡ [] }
+{
+    insert_lines(alloc, engine)?;
+    let with_d = ListingEntry {
+        option: OptionId::new(0),
+        off: Child::F,
+        on: Child::T,
+    };
+    assert!(rt; is_present_as(engine, 2, Child::At(0), Some(&with_d)));
+    delete_lines(alloc, engine)?;
+    assert!(rt; is_present_as(engine, 1, Child::T, None));
+    assert!(rt; is_present_as(engine, 2, Child::F, None));
+    assert!(rt; is_refused(engine, 0));
+    assert!(rt; is_refused(engine, 5));
+    Ok(())
+}
+
+#[test]
+fn a_line_is_present_where_its_replays_have_it(rt: HostRuntime) -> Result<(), Fail> {
+    let mut engine = Engine::new(rt.alloc())?;
+    let checked = check_presence(&rt, rt.alloc(), &mut engine);
     close(engine);
     checked
 }

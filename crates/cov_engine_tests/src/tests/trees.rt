@@ -9,12 +9,12 @@ ghost use Rattle.cov_engine_tests.specs.Trees.{ambition_in, commit_in, of_option
 
 use crate::tests::steps::{append, close};
 use cov_base::{
-    Choice, Kind, LineNo, LineRef, Name, NodeNo, NodeRef, OptionId, OptionName, Path, Position,
-    Text,
+    Choice, Kind, LineNo, LineRef, Memory, Name, NodeNo, NodeRef, OptionId, OptionName, Path,
+    Position, Text,
 };
 use cov_dd::TRUE;
 use cov_edit::{Command, Edit, Edits};
-use cov_engine::{Counts, Engine, Refusal};
+use cov_engine::{Counts, Engine, FileFault, Refusal};
 use cov_expr::{Expr, Part};
 use std::alloc::Global;
 use std::process::Abort;
@@ -257,6 +257,37 @@ fn check_grown(rt: &impl Abort, alloc: Global, engine: &Engine) -> Result<(), Fa
     Ok(())
 }
 
+// The file at a path on a choice at the end.
+fn found(
+    alloc: Global,
+    engine: &Engine,
+    choice: Choice,
+    path: &[u8],
+) -> Result<Result<NodeNo, FileFault>, Fail> {
+    let path = Path::read(alloc, path)?;
+    Ok(engine.file_at(choice, Position::new(9), path.as_slice()))
+}
+
+// How many lines the file has on a choice at a position.
+fn count_lines(engine: &Engine, choice: Choice, at: u32) -> Result<usize, Memory> {
+    let rows = engine.lines_at(NodeNo::new(1), choice, Position::new(at))?;
+    Ok(rows.len())
+}
+
+// What is read of variants: the file by its path where it is there, its lines also where it is gone.
+fn check_read(rt: &impl Abort, alloc: Global, engine: &Engine) -> Result<(), Fail>
+    requires { engine.now.history ≡ grown }
+{
+    assert!(rt; found(alloc, engine, Choice::new(2, 2), b"/a/z")? == Ok(NodeNo::new(1)));
+    assert!(rt; found(alloc, engine, Choice::new(2, 2), b"/a")? == Err(FileFault::NotFile));
+    assert!(rt; found(alloc, engine, Choice::new(1, 2), b"/y")? == Err(FileFault::NoSuchPath));
+    assert!(rt; engine.has_node(NodeNo::new(1), Choice::new(2, 2), Position::new(9))?);
+    assert!(rt; !engine.has_node(NodeNo::new(1), Choice::new(1, 2), Position::new(9))?);
+    assert_eq!(rt; count_lines(engine, Choice::new(1, 2), 9)?, 2);
+    assert_eq!(rt; count_lines(engine, Choice::new(1, 2), 4)?, 1);
+    Ok(())
+}
+
 fn check_tree(rt: &impl Abort, alloc: Global, engine: &mut Engine) -> Result<(), Fail>
     requires { engine.old.history ≡ [] }
 {
@@ -264,7 +295,8 @@ fn check_tree(rt: &impl Abort, alloc: Global, engine: &mut Engine) -> Result<(),
     rename(alloc, engine)?;
     grow(alloc, engine)?;
     check_renamed(rt, alloc, engine)?;
-    check_grown(rt, alloc, engine)
+    check_grown(rt, alloc, engine)?;
+    check_read(rt, alloc, engine)
 }
 
 #[test]
