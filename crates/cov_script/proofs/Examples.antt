@@ -35,6 +35,16 @@ sessions : map form_of (codes "open s a=on for a & b" ∷ codes "insert s /m +0"
 unfolding is_utf8 chars encode
 sessions = refl
 
+variants : map form_of (codes "checkout t -" ∷ codes "checkout t a=off" ∷ codes "alt d=on d /m" ∷ codes "where 1" ∷ [])
+    ≡ Ok (lines.Checkout (codes "t") []) ∷ Ok (lines.Checkout (codes "t") ((codes "a", false) ∷ [])) ∷ Ok (lines.Alt ((codes "d", true) ∷ []) (codes "d") (codes "m" ∷ [])) ∷ Ok (lines.Presence 1) ∷ []
+unfolding is_utf8 chars encode
+variants = refl
+
+places_of_variants : map form_of (codes "checkout t" ∷ codes "checkout - t" ∷ codes "checkout t/ -" ∷ codes "alt - a m" ∷ codes "alt -  /m" ∷ codes "where" ∷ codes "where +1" ∷ codes "where 1 " ∷ [])
+    ≡ map at (10 ∷ 11 ∷ 9 ∷ 8 ∷ 6 ∷ 5 ∷ 6 ∷ 7 ∷ [])
+unfolding is_utf8 chars encode
+places_of_variants = refl
+
 -- a text has at most 4,096 bytes and no line's end
 texts : map form_of ((codes "insert s /m 0 " ++ replicate 4097 120) ∷ (codes "insert s /m 0 a" ++ 10 ∷ codes "b") ∷ [])
     ≡ map at (14 ∷ 14 ∷ [])

@@ -1,8 +1,9 @@
 // Why a line is refused.
 ghost use Rattle.std.specs.Prelude.{◌≡◌, ◌≤◌, ◌++◌, IfOk, OnOk, codes, length};
 ghost use Rattle.std.specs.Fmt.{decimal};
-ghost use Rattle.cov_script.specs.Replies.{code_detail, code_text, code_word, place_text, IsCodeOf};
+ghost use Rattle.cov_script.specs.Replies.{code_detail, code_text, code_word, place_text, side_word, IsCodeOf};
 
+use crate::word::{append_number, append_word};
 use cov_base::{Choice, Memory, NodeNo, OptionId, Position, Text};
 use cov_expr::{Options, print_choice};
 use std::alloc::Global;
@@ -82,7 +83,7 @@ pub enum Code {
     BadRecord {
         edit: u32,
     },
-    /// The commit with this position touched a common node and shares a valid choice.
+    /// The first commit after the base that touches a common node and shares a valid choice has this position.
     Overtaken {
         position: Position,
     },
@@ -102,8 +103,13 @@ pub enum Code {
         node: NodeNo,
         choice: Choice,
     },
-    /// The line has a form that isn't served.
-    NotBuilt,
+    /// On this side of an option, the constraint with this number, from 1, is the first that is false.
+    SideInvalid {
+        on: bool,
+        rule: u32,
+    },
+    /// A tree of that name was written in this run.
+    TreeTaken,
 }
 
 /// The words of a refusal, without a line's end.
@@ -157,11 +163,12 @@ fn word_of(code: &Code) -> &'static [u8]
         Code::Clash { .. } => b"clash",
         Code::Orphan { .. } => b"orphan",
         Code::Loop { .. } => b"loop",
-        Code::NotBuilt => b"not-built",
+        Code::SideInvalid { .. } => b"side-invalid",
+        Code::TreeTaken => b"tree-taken",
     }
 }
 
-// Appends what a refusal says behind its first word: a number, a name, or nodes and a choice.
+// Appends what a refusal says behind its first word: a number, a name, nodes and a choice, or a side and a number.
 fn append_detail(
     alloc: Global,
     text: &mut Text,
@@ -172,11 +179,11 @@ fn append_detail(
     ensures { OnOk result (text.new ≡ text.old ++ code_detail options.now.names code.now) }
 {
     match code {
-        Code::Syntax { at } => append_number(alloc, text, *at),
-        Code::Invalid { rule } => append_number(alloc, text, *rule),
-        Code::EditLost { index } => append_number(alloc, text, *index),
-        Code::BadRecord { edit } => append_number(alloc, text, *edit),
-        Code::Overtaken { position } => append_number(alloc, text, position.number()),
+        Code::Syntax { at } => append_number(alloc, text, *at as u64),
+        Code::Invalid { rule } => append_number(alloc, text, *rule as u64),
+        Code::EditLost { index } => append_number(alloc, text, *index as u64),
+        Code::BadRecord { edit } => append_number(alloc, text, *edit as u64),
+        Code::Overtaken { position } => append_number(alloc, text, position.number() as u64),
         Code::UnknownOption { name } => append_word(text, name.as_slice()),
         Code::Repeated { option } | Code::Incomplete { option } => append_word(
             text,
@@ -192,6 +199,7 @@ fn append_detail(
         Code::Orphan { node, choice } | Code::Loop { node, choice } => append_place(
             alloc, text, options, *node, *choice,
         ),
+        Code::SideInvalid { on, rule } => append_side(alloc, text, *on, *rule),
         _ => Ok(()),
     }
 }
@@ -207,7 +215,7 @@ fn append_clash(
     requires { length choice ≤ length options.now.names }
     ensures { OnOk result (text.new ≡ text.old ++ codes " " ++ decimal nodes.0 ++ place_text options.now.names nodes.1 choice) }
 {
-    append_number(alloc, text, nodes.0.number())?;
+    append_number(alloc, text, nodes.0.number() as u64)?;
     append_place(alloc, text, options, nodes.1, choice)
 }
 
@@ -222,24 +230,26 @@ fn append_place(
     requires { length choice ≤ length options.now.names }
     ensures { OnOk result (text.new ≡ text.old ++ place_text options.now.names node choice) }
 {
-    append_number(alloc, text, node.number())?;
+    append_number(alloc, text, node.number() as u64)?;
     append_word(text, b"in")?;
     let choice = print_choice(alloc, options, choice)?;
     append_word(text, choice.as_slice())
 }
 
-// Appends a number behind a space.
-fn append_number(alloc: Global, text: &mut Text, number: u32) -> Result<(), Memory>
-    ensures { OnOk result (text.new ≡ text.old ++ codes " " ++ decimal number) }
+// Appends a side of an option and the number of a constraint.
+fn append_side(alloc: Global, text: &mut Text, on: bool, rule: u32) -> Result<(), Memory>
+    ensures { OnOk result (text.new ≡ text.old ++ codes " " ++ side_word on ++ codes " " ++ decimal rule) }
 {
-    let number = format!(in alloc; "{number}")?;
-    append_word(text, number.as_bytes())
+    append_word(text, side_word(on))?;
+    append_number(alloc, text, rule as u64)
 }
 
-// Appends a word behind a space.
-fn append_word(text: &mut Text, word: &[u8]) -> Result<(), Memory>
-    ensures { OnOk result (text.new ≡ text.old ++ codes " " ++ word.now) }
+// The word of a side of an option.
+fn side_word(on: bool) -> &'static [u8]
+    ensures { result.now ≡ side_word on }
 {
-    text.append(b" ")?;
-    text.append(word)
+    match on {
+        true => b"on",
+        false => b"off",
+    }
 }

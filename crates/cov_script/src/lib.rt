@@ -10,14 +10,18 @@ mod line;
 mod number;
 mod read;
 mod reply;
+mod target;
 mod unread;
+mod word;
 
 pub use code::{Code, code_text};
 pub use laws::{lines_read_as_spelt, mistakes_are_placed};
 pub use line::{Line, LineField, LineSyntax};
 pub use read::read_line;
 pub use reply::{
-    cat_line, list_line, reply_commit, reply_complete, reply_constraint, reply_count,
-    reply_default, reply_new_line, reply_open, reply_option, reply_plain, reply_prefer,
-    reply_refresh, reply_refused, show_line, whole,
+    alt_line, append_cat_line, cat_line, list_line, reply_checkout, reply_commit, reply_complete,
+    reply_constraint, reply_count, reply_default, reply_new_line, reply_open, reply_option,
+    reply_plain, reply_prefer, reply_refresh, reply_refused, reply_where, show_line, where_line,
+    whole,
 };
+pub use target::Target;

@@ -1,43 +1,48 @@
 // The texts of replies. Each function but `whole` gives one line with its end.
 ghost use Rattle.std.specs.Prelude.{◌≡◌, ◌<◌, ◌≤◌, ◌++◌, [], IfOk, OnOk, codes, get_or, length};
 ghost use Rattle.std.specs.List.{concat};
-ghost use Rattle.cov_script.specs.Replies.{option_reply, constraint_reply, prefer_reply, default_reply, complete_reply, open_reply, refresh_reply, plain_reply, new_line_reply, count_reply, commit_reply, shown_line, cat_line, kind_letter, list_line, refused_reply, numbered, based, IsCodeOf};
+ghost use Rattle.cov_script.specs.Replies.{option_reply, constraint_reply, prefer_reply, default_reply, complete_reply, open_reply, refresh_reply, plain_reply, new_line_reply, count_reply, commit_reply, shown_line, cat_line, kind_letter, list_line, refused_reply, numbered, based, checkout_reply, alt_line, where_reply, where_line, IsCodeOf};
 
 use crate::code::{Code, code_text};
+use crate::target::{Target, append_target};
+use crate::word::{append_number, append_word};
 use cov_base::{Choice, Kind, LineNo, LineRef, Memory, Name, OptionId, Position, Text, Texts};
 use cov_expr::{Options, print_choice};
 use std::alloc::Global;
 
+/// The text of a reply; want of memory is its only refusal.
+type Reply = Result<Text, Memory>;
+
 /// The reply to an option that is declared.
-pub fn reply_option(alloc: Global, id: OptionId) -> Result<Text, Memory>
+pub fn reply_option(alloc: Global, id: OptionId) -> Reply
     ensures { IfOk result (λ text. text ≡ option_reply id) }
 {
     numbered(alloc, "ok option ", id.number() as u64)
 }
 
 /// The reply to a constraint that is added, with its number from 1.
-pub fn reply_constraint(alloc: Global, number: u32) -> Result<Text, Memory>
+pub fn reply_constraint(alloc: Global, number: u32) -> Reply
     ensures { IfOk result (λ text. text ≡ constraint_reply number) }
 {
     numbered(alloc, "ok constraint ", number as u64)
 }
 
 /// The reply to a preference that is added, with its number from 1.
-pub fn reply_prefer(alloc: Global, number: u32) -> Result<Text, Memory>
+pub fn reply_prefer(alloc: Global, number: u32) -> Reply
     ensures { IfOk result (λ text. text ≡ prefer_reply number) }
 {
     numbered(alloc, "ok prefer ", number as u64)
 }
 
 /// The reply to a default that is added, with its number from 1.
-pub fn reply_default(alloc: Global, number: u32) -> Result<Text, Memory>
+pub fn reply_default(alloc: Global, number: u32) -> Reply
     ensures { IfOk result (λ text. text ≡ default_reply number) }
 {
     numbered(alloc, "ok default ", number as u64)
 }
 
 /// The reply that tells a completion.
-pub fn reply_complete(alloc: Global, options: &Options, choice: Choice) -> Result<Text, Memory>
+pub fn reply_complete(alloc: Global, options: &Options, choice: Choice) -> Reply
     requires { length choice ≤ length options.now.names }
     ensures { IfOk result (λ text. text ≡ complete_reply options.now.names choice) }
 {
@@ -46,12 +51,7 @@ pub fn reply_complete(alloc: Global, options: &Options, choice: Choice) -> Resul
 }
 
 /// The reply to a session that is opened, with its base and its choice.
-pub fn reply_open(
-    alloc: Global,
-    base: Position,
-    options: &Options,
-    choice: Choice,
-) -> Result<Text, Memory>
+pub fn reply_open(alloc: Global, base: Position, options: &Options, choice: Choice) -> Reply
     requires { length choice ≤ length options.now.names }
     ensures { IfOk result (λ text. text ≡ open_reply base options.now.names choice) }
 {
@@ -59,12 +59,7 @@ pub fn reply_open(
 }
 
 /// The reply to a session that is refreshed, with its new base and the choice that it has there.
-pub fn reply_refresh(
-    alloc: Global,
-    base: Position,
-    options: &Options,
-    choice: Choice,
-) -> Result<Text, Memory>
+pub fn reply_refresh(alloc: Global, base: Position, options: &Options, choice: Choice) -> Reply
     requires { length choice ≤ length options.now.names }
     ensures { IfOk result (λ text. text ≡ refresh_reply base options.now.names choice) }
 {
@@ -72,35 +67,35 @@ pub fn reply_refresh(
 }
 
 /// The reply that says no more than that a line is accepted.
-pub fn reply_plain(alloc: Global) -> Result<Text, Memory>
+pub fn reply_plain(alloc: Global) -> Reply
     ensures { IfOk result (λ text. text ≡ plain_reply) }
 {
     Text::from_slice(alloc, b"ok\n")
 }
 
 /// The reply to a line that a session inserts, with its number, from 0, among those of the session.
-pub fn reply_new_line(alloc: Global, index: u32) -> Result<Text, Memory>
+pub fn reply_new_line(alloc: Global, index: u32) -> Reply
     ensures { IfOk result (λ text. text ≡ new_line_reply index) }
 {
     numbered(alloc, "ok +", index as u64)
 }
 
 /// The first line of a reply that has so many lines more.
-pub fn reply_count(alloc: Global, count: u64) -> Result<Text, Memory>
+pub fn reply_count(alloc: Global, count: u64) -> Reply
     ensures { IfOk result (λ text. text ≡ count_reply count) }
 {
     numbered(alloc, "ok ", count)
 }
 
 /// The reply to a commit, with its number in the history.
-pub fn reply_commit(alloc: Global, at: Position) -> Result<Text, Memory>
+pub fn reply_commit(alloc: Global, at: Position) -> Reply
     ensures { IfOk result (λ text. text ≡ commit_reply at) }
 {
     numbered(alloc, "ok commit ", at.number() as u64)
 }
 
 /// A line of a file as a session sees it.
-pub fn show_line(alloc: Global, line: LineRef, text: &Text) -> Result<Text, Memory>
+pub fn show_line(alloc: Global, line: LineRef, text: &Text) -> Reply
     ensures { IfOk result (λ shown. shown ≡ shown_line line text.now) }
 {
     let head = match line {
@@ -114,16 +109,33 @@ pub fn show_line(alloc: Global, line: LineRef, text: &Text) -> Result<Text, Memo
 }
 
 /// A line of a file under a choice.
-pub fn cat_line(alloc: Global, line: LineNo, text: &Text) -> Result<Text, Memory>
+pub fn cat_line(alloc: Global, line: LineNo, text: &Text) -> Reply
     ensures { IfOk result (λ shown. shown ≡ cat_line line text.now) }
+{
+    let mut shown = Text::new(alloc);
+    append_cat_line(alloc, &mut shown, line, text)?;
+    Ok(shown)
+}
+
+/// Appends a line of a file under a choice to a reply; the text is copied into it alone.
+pub fn append_cat_line(
+    alloc: Global,
+    reply: &mut Text,
+    line: LineNo,
+    text: &Text,
+) -> Result<(), Memory>
+    ensures { OnOk result (reply.new ≡ reply.old ++ cat_line line text.now) }
 {
     let number = line.number();
     let head = format!(in alloc; "{number}")?;
-    spaced(alloc, head.as_bytes(), text.as_slice())
+    reply.append(head.as_bytes())?;
+    reply.append(b" ")?;
+    reply.append(text.as_slice())?;
+    reply.append(b"\n")
 }
 
 /// A node of a directory.
-pub fn list_line(alloc: Global, kind: Kind, name: &Name) -> Result<Text, Memory>
+pub fn list_line(alloc: Global, kind: Kind, name: &Name) -> Reply
     ensures { IfOk result (λ shown. shown ≡ list_line kind name.now) }
 {
     spaced(alloc, letter_of(kind), name.as_slice())
@@ -139,8 +151,61 @@ fn letter_of(kind: Kind) -> &'static [u8]
     }
 }
 
+/// The reply to a tree that is written: how many directories it has without its own, how many files, and its digest.
+pub fn reply_checkout(alloc: Global, tree: &Name, dirs: u32, files: u32, digest: &[u8; 32]) -> Reply
+    ensures { IfOk result (λ text. text ≡ checkout_reply tree.now dirs files digest.now) }
+{
+    let digest = hex::encode(alloc, digest.as_slice())?;
+    let mut head = Text::from_slice(alloc, b"ok checkout ")?;
+    head.append(tree.as_slice())?;
+    append_number(alloc, &mut head, dirs as u64)?;
+    append_number(alloc, &mut head, files as u64)?;
+    spaced(alloc, head.as_slice(), digest.as_bytes())
+}
+
+/// A line of a file with both sides of an option, behind the byte of `=` where both have it, of `+` where on alone has it,
+/// or of `-` where off alone has it.
+pub fn alt_line(alloc: Global, mark: u8, line: LineNo, text: &Text) -> Reply
+    ensures { IfOk result (λ shown. shown ≡ alt_line mark line text.now) }
+{
+    let mut head = Text::from_slice(alloc, &[mark])?;
+    append_number(alloc, &mut head, line.number() as u64)?;
+    spaced(alloc, head.as_slice(), text.as_slice())
+}
+
+/// The first line of the reply that tells a listing, with the number of its entries.
+pub fn reply_where(alloc: Global, count: u64, root: Target) -> Reply
+    ensures { IfOk result (λ text. text ≡ where_reply count root) }
+{
+    let mut text = Text::from_slice(alloc, b"ok")?;
+    append_number(alloc, &mut text, count)?;
+    append_target(alloc, &mut text, root)?;
+    text.append(b"\n")?;
+    Ok(text)
+}
+
+/// An entry of a listing, with its number from 0.
+pub fn where_line(
+    alloc: Global,
+    index: u64,
+    options: &Options,
+    option: OptionId,
+    off: Target,
+    on: Target,
+) -> Reply
+    requires { option < length options.now.names }
+    ensures { IfOk result (λ text. text ≡ where_line index options.now.names option off on) }
+{
+    let mut text = Text::from(format!(in alloc; "{index}")?);
+    append_word(&mut text, options.name(option))?;
+    append_target(alloc, &mut text, off)?;
+    append_target(alloc, &mut text, on)?;
+    text.append(b"\n")?;
+    Ok(text)
+}
+
 /// The reply to a line that is refused.
-pub fn reply_refused(alloc: Global, options: &Options, code: &Code) -> Result<Text, Memory>
+pub fn reply_refused(alloc: Global, options: &Options, code: &Code) -> Reply
     requires { IsCodeOf (length options.now.names) code.now }
     ensures { IfOk result (λ text. text ≡ refused_reply options.now.names code.now) }
 {
@@ -149,7 +214,7 @@ pub fn reply_refused(alloc: Global, options: &Options, code: &Code) -> Result<Te
 }
 
 /// A reply of several lines: the first line and the others in order, in work that is linear in them all.
-pub fn whole(first: &Text, lines: &Texts) -> Result<Text, Memory>
+pub fn whole(first: &Text, lines: &Texts) -> Reply
     ensures { IfOk result (λ text. text ≡ first.now ++ concat lines.now) }
 {
     let mut text = first.copy()?;
@@ -171,20 +236,14 @@ fn append_line(text: &mut Text, lines: &Texts, index: usize) -> Result<(), Memor
 }
 
 // A line of words and a number behind them.
-fn numbered(alloc: Global, words: &str, number: u64) -> Result<Text, Memory>
+fn numbered(alloc: Global, words: &str, number: u64) -> Reply
     ensures { IfOk result (λ text. text ≡ numbered words.now number) }
 {
     Ok(Text::from(format!(in alloc; "{words}{number}\n")?))
 }
 
 // A line of words, and a base and a choice behind them.
-fn based(
-    alloc: Global,
-    words: &str,
-    base: Position,
-    options: &Options,
-    choice: Choice,
-) -> Result<Text, Memory>
+fn based(alloc: Global, words: &str, base: Position, options: &Options, choice: Choice) -> Reply
     requires { length choice ≤ length options.now.names }
     ensures { IfOk result (λ text. text ≡ based words.now base options.now.names choice) }
 {
@@ -195,7 +254,7 @@ fn based(
 }
 
 // A line of two words with a space between them.
-fn spaced(alloc: Global, first: &[u8], second: &[u8]) -> Result<Text, Memory>
+fn spaced(alloc: Global, first: &[u8], second: &[u8]) -> Reply
     ensures { IfOk result (λ line. line ≡ first.now ++ (codes " " ++ (second.now ++ codes "\n"))) }
 {
     let mut line = Text::from_slice(alloc, first)?;

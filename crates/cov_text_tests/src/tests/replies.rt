@@ -8,9 +8,10 @@ use cov_base::{
 };
 use cov_expr::Options;
 use cov_script::{
-    Code, cat_line, list_line, reply_commit, reply_complete, reply_constraint, reply_count,
-    reply_default, reply_new_line, reply_open, reply_option, reply_plain, reply_prefer,
-    reply_refresh, reply_refused, show_line, whole,
+    Code, Target, alt_line, cat_line, list_line, reply_checkout, reply_commit, reply_complete,
+    reply_constraint, reply_count, reply_default, reply_new_line, reply_open, reply_option,
+    reply_plain, reply_prefer, reply_refresh, reply_refused, reply_where, show_line, where_line,
+    whole,
 };
 use std::alloc::Global;
 use std::test::Fail;
@@ -30,7 +31,8 @@ fn add_numbers(alloc: Global, lines: &mut Texts) -> Result<(), Memory> {
 fn add_lines(alloc: Global, words: &Text, empty: &Text, lines: &mut Texts) -> Result<(), Memory> {
     lines.push(show_line(alloc, LineRef::Old(LineNo::new(12)), words)?)?;
     lines.push(show_line(alloc, LineRef::New(3), empty)?)?;
-    lines.push(cat_line(alloc, LineNo::new(13), empty)?)
+    lines.push(cat_line(alloc, LineNo::new(13), empty)?)?;
+    lines.push(alt_line(alloc, b'+', LineNo::new(2), words)?)
 }
 
 // The lines that tell a node.
@@ -39,6 +41,28 @@ fn add_nodes(alloc: Global, lines: &mut Texts) -> Result<(), Fail> {
     lines.push(list_line(alloc, Kind::Dir, &name)?)?;
     lines.push(list_line(alloc, Kind::File, &name)?)?;
     Ok(())
+}
+
+// SHA-256 of no bytes.
+const DIGEST: &[u8; 32] =
+    b"\xe3\xb0\xc4\x42\x98\xfc\x1c\x14\x9a\xfb\xf4\xc8\x99\x6f\xb9\x24\x27\xae\x41\xe4\x64\x9b\x93\x4c\xa4\x95\x99\x1b\x78\x52\xb8\x55";
+
+// The reply that tells a tree.
+fn add_tree(alloc: Global, lines: &mut Texts) -> Result<(), Fail> {
+    let name = Name::read(alloc, b"t")?;
+    lines.push(reply_checkout(alloc, &name, 8, 64, DIGEST)?)?;
+    Ok(())
+}
+
+// The lines that tell a listing, where there are two options.
+fn add_listing(alloc: Global, options: &Options, lines: &mut Texts) -> Result<(), Memory> {
+    if options.count() != 2 {
+        return Ok(());
+    }
+    let (first, second) = (OptionId::new(0), OptionId::new(1));
+    lines.push(reply_where(alloc, 2, Target::At(0))?)?;
+    lines.push(where_line(alloc, 0, options, first, Target::At(1), Target::T)?)?;
+    lines.push(where_line(alloc, 1, options, second, Target::F, Target::T)?)
 }
 
 // The accepted replies that tell no choice.
@@ -102,12 +126,15 @@ fn add_refused(alloc: Global, options: &Options, lines: &mut Texts) -> Result<()
     add_code(alloc, options, &Code::UnknownOption { name }, lines)?;
     add_code(alloc, options, &Code::Invalid { rule: 2 }, lines)?;
     add_code(alloc, options, &Code::EditLost { index: 16383 }, lines)?;
+    let side = Code::SideInvalid { on: false, rule: 1 };
+    add_code(alloc, options, &side, lines)?;
+    add_code(alloc, options, &Code::TreeTaken, lines)?;
     add_code(alloc, options, &Code::NoVariantLeft, lines)?;
     add_code(alloc, options, &Code::SessionExists, lines)?;
     add_code(alloc, options, &Code::TooManySessions, lines)
 }
 
-const REPLIES: &str = "ok 27
+const REPLIES: &str = "ok 34
 ok option 63
 ok constraint 256
 ok prefer 1
@@ -116,8 +143,13 @@ ok
 ok +0
 ok commit 7
 12 one  two
-+3 \n13 \nd Makefile
++3 \n13 \n+ 2 one  two
+d Makefile
 f Makefile
+ok checkout t 8 64 e3b0c44298fc1c149afbf4c8996fb92427ae41e4649b934ca495991b7852b855
+ok 2 0
+0 a 1 T
+1 b F T
 ok a=on,b=off
 ok open 9 a=on,b=off
 ok refresh 10 a=on,b=off
@@ -130,6 +162,8 @@ refused syntax 0
 refused unknown-option for
 refused invalid 2
 refused edit-lost 16383
+refused side-invalid off 1
+refused tree-taken
 refused no-variant-left
 refused session-exists
 refused too-many-sessions
@@ -140,6 +174,8 @@ fn joined(alloc: Global, options: &mut Options, lines: &mut Texts) -> Result<Tex
     declare_two(alloc, options)?;
     add_accepted(alloc, lines)?;
     add_nodes(alloc, lines)?;
+    add_tree(alloc, lines)?;
+    add_listing(alloc, options, lines)?;
     add_choices(alloc, options, lines)?;
     add_faults(alloc, options, lines)?;
     add_refused(alloc, options, lines)?;

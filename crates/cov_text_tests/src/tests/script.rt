@@ -42,7 +42,7 @@ fn place_of(read: &Result<Line, LineSyntax>) -> Option<u32> {
     }
 }
 
-const FORMS: [(&[u8], &str); 36] = [
+const FORMS: [(&[u8], &str); 39] = [
     (b"", ""),
     (b"#x", ""),
     (b"# option", ""),
@@ -77,8 +77,11 @@ const FORMS: [(&[u8], &str); 36] = [
     (b"drop s", "drop"),
     (b"cat - /m", "cat"),
     (b"checkout t a=off", "checkout"),
+    (b"checkout t -", "checkout"),
     (b"alt - a /m", "alt"),
+    (b"alt d=on d /m", "alt"),
     (b"where 0", "where"),
+    (b"where 1", "where"),
 ];
 
 const PLACES: [(&[u8], u32); 54] = [
