@@ -1,12 +1,15 @@
 -- The loop's invariant: it is kept by one line more, and at the end of the script or at a stop it gives what was written, the state and the status.
-use Rattle.std.proofs.Common.{◌≡◌, ◌≢◌, ◌∙◌, refl, sym, ap, ℕ, Bool, true, false, ◌||◌, List, [], ◌∷◌, ◌++◌, append-nil, append_assoc, Option, Some, None}
-use mathlib.Core.Bool.{or_assoc, or-false}
+use Rattle.std.proofs.Common.{◌≡◌, ◌≢◌, ◌∙◌, refl, sym, ap, subst, ℕ, ◌⊎◌, inl, inr, ◌+◌, ◌≤◌, arith, Bool, true, false, ◌||◌, List, [], ◌∷◌, ◌++◌, length, length-append, append-nil, append_assoc, Option, Some, None}
 use Rattle.cov_base.specs.Lines.{lines_of}
 use Rattle.cov_io.specs.Progress.{Progress}
+use Rattle.cov_io.specs.Devices.{AppendsAll, AppendsSome}
 use Rattle.cov_loop.specs.Answers.{is_refusal, kind_of}
 use Rattle.cov_loop.specs.Outcome.{Outcome, answers, followed_by}
-use Rattle.cov_loop.specs.Turns.{EndsWith, GoesOn, HasState, IsWhole, ServesFirst, WritesFront, ahead_of, status_at_end}
+use Rattle.cov_loop.specs.Turns.{EndsWith, Ends, GoesOn, HasRows, HasState, IsWhole, Output, RowsComeFirst, ServesFirst, StopsAmid, WritesAll, ahead_of, status_at_end}
 use Rattle.cov_loop.specs.declared.answer.Answer.{Answer}
+use Rattle.cov_loop.proofs.Appending.{all_some, all_then, all_then_some, same_all, told_all}
+use Rattle.cov_loop.proofs.Outcomes.{answers_append, answers_last, cut_twice, nothing_next}
+use Rattle.cov_out.specs.declared.row.OutRow.{OutRow}
 
 -- where a refusal has a reply, the kind of the reply says whether it refuses
 kind_says : (reply : List ℕ) (is_refused : Bool) → (is_refused ≡ true → reply ≢ []) → is_refusal (kind_of reply is_refused) ≡ is_refused
@@ -15,86 +18,172 @@ kind_says [] false told = refl
 kind_says (b ∷ bs) true told = refl
 kind_says (b ∷ bs) false told = refl
 
--- an outcome by its parts
-abbrev outcome_of : {S : Type 0} → S → List ℕ → Bool → Outcome S
-outcome_of state reply is_refused = record { state = state; reply = reply; is_refused = is_refused }
+-- what an outcome gives, and then another
+written_then : {S : Type 0} (first next : Outcome S) (old mid new : Output) → WritesAll first old mid → WritesAll next mid new → WritesAll (followed_by first next) old new
+written_then first next old mid new before after = record {
+  bytes = all_then first.reply next.reply old.bytes mid.bytes new.bytes before.bytes after.bytes;
+  rows = all_then first.rows next.rows old.rows mid.rows new.rows before.rows after.rows;
+}
 
-followed_assoc : {S : Type 0} (a b c : Outcome S) → followed_by a (followed_by b c) ≡ followed_by (followed_by a b) c
-followed_assoc a b c =
-    ap (λ bytes. outcome_of c.state bytes (a.is_refused || (b.is_refused || c.is_refused))) (sym (append_assoc a.reply b.reply c.reply))
-    ∙ ap (outcome_of c.state ((a.reply ++ b.reply) ++ c.reply)) (sym (or_assoc a.is_refused b.is_refused c.is_refused))
+-- no line was served yet
+pub begins : {S : Type 0} (step : S → List ℕ → Outcome S) (start : S) (text : List ℕ) (ahead : Option (List ℕ)) (all : Output)
+    → ahead ≡ Some text → GoesOn step start text start false ahead all all
+begins step start text ahead all told = record {
+  served = [];
+  rest = text;
+  lines = refl;
+  ahead_is = told;
+  state_is = refl;
+  refused_is = refl;
+  written = record { bytes = same_all all.bytes all.bytes refl; rows = same_all all.rows all.rows refl };
+}
 
 -- one line more was served
-pub goes_on : {S : Type 0} {step : S → List ℕ → Outcome S} {start : S} {text before : List ℕ} {state : S} {was : Bool} {ahead written : Option (List ℕ)} (next : S) (is : Bool) (answer : Answer) (ahead' written' : Option (List ℕ))
+pub goes_on : {S : Type 0} {step : S → List ℕ → Outcome S} {start : S} {text : List ℕ} {state : S} {was : Bool} {ahead : Option (List ℕ)} {old mid : Output} (next : S) (is : Bool) (answer : Answer) (ahead' : Option (List ℕ)) (new : Output)
     → ((s : S) (line : List ℕ) → (step s line).is_refused ≡ true → (step s line).reply ≢ [])
-    → GoesOn step start text before state was ahead written
-    → ((t b : List ℕ) → ahead ≡ Some t → written ≡ Some b → ServesFirst step state t b next answer ahead' written')
+    → GoesOn step start text state was ahead old mid
+    → ((t : List ℕ) → ahead ≡ Some t → ServesFirst step state t next answer ahead' mid new)
     → is ≡ (was || is_refusal answer)
-    → GoesOn step start text before next is ahead' written'
-goes_on {S} {step} {start} {text} {before} {state} {was} next is answer ahead' written' told so_far turn flag =
-    let s : ServesFirst step state so_far.rest (before ++ so_far.bytes) next answer ahead' written' = turn so_far.rest (before ++ so_far.bytes) so_far.ahead_is so_far.written_is in
+    → GoesOn step start text next is ahead' old new
+goes_on {S} {step} {start} {text} {state} {was} {ahead} {old} {mid} next is answer ahead' new told so_far turn flag =
+    let s : ServesFirst step state so_far.rest next answer ahead' mid new = turn so_far.rest so_far.ahead_is in
+    let first : Outcome S = answers step start so_far.served in
     let now : Outcome S = step state s.line in
-    let done : Outcome S = outcome_of state so_far.bytes was in
+    let same : now ≡ step first.state s.line = ap (λ st. step st s.line) so_far.state_is in
+    let all : answers step start (so_far.served ++ s.line ∷ []) ≡ followed_by first now =
+    answers_last step start so_far.served s.line ∙ ap (followed_by first) (sym same) in
     let said : is_refusal answer ≡ now.is_refused = ap is_refusal s.served.answer_is ∙ kind_says now.reply now.is_refused (told state s.line) in
     record {
+      served = so_far.served ++ s.line ∷ [];
       rest = s.rest;
-      bytes = so_far.bytes ++ now.reply;
+      lines = so_far.lines ∙ ap (λ ls. so_far.served ++ ls) s.lines ∙ sym (append_assoc so_far.served (s.line ∷ []) (lines_of s.rest));
       ahead_is = s.ahead_is;
-      written_is = s.written_is ∙ ap Some (append_assoc before so_far.bytes now.reply);
-      outcome = so_far.outcome
-          ∙ ap (λ ls. followed_by done (answers step state ls)) s.lines
-          ∙ followed_assoc done now (answers step now.state (lines_of s.rest))
-          ∙ ap (λ st. followed_by (outcome_of st (so_far.bytes ++ now.reply) (was || now.is_refused)) (answers step st (lines_of s.rest))) (sym s.served.state_is)
-          ∙ ap (λ b. followed_by (outcome_of next (so_far.bytes ++ now.reply) b) (answers step next (lines_of s.rest))) (ap (λ b. was || b) (sym said) ∙ sym flag);
+      state_is = s.served.state_is ∙ sym (ap (λ (o : Outcome S). o.state) all);
+      refused_is = flag ∙ ap (λ b. b || is_refusal answer) so_far.refused_is ∙ ap (λ b. first.is_refused || b) said ∙ sym (ap (λ (o : Outcome S). o.is_refused) all);
+      written = subst (λ o. WritesAll o old new) (sym all) (written_then first now old mid new so_far.written s.written);
     }
+
+-- what is known where no line is left
+pub record Ended {S : Type 0} (step : S → List ℕ → Outcome S) (start : S) (text : List ℕ) (next : S) (refused : Bool) (ahead : Option (List ℕ)) (old new : Output) : Type 0 where
+  pub state_is : next ≡ (answers step start (lines_of text)).state
+  pub refused_is : (answers step start (lines_of text)).is_refused ≡ refused
+  pub ahead_is : ahead ≡ Some []
+  pub written : WritesAll (answers step start (lines_of text)) old new
 
 -- no line is left
-pub ended : {S : Type 0} {step : S → List ℕ → Outcome S} {start : S} {text before : List ℕ} {state : S} {was : Bool} {ahead written : Option (List ℕ)} (next : S) (ahead' written' : Option (List ℕ))
-    → GoesOn step start text before state was ahead written
-    → ((t b : List ℕ) → ahead ≡ Some t → written ≡ Some b → (t ≡ []) × (next ≡ state) × (ahead' ≡ Some []) × (written' ≡ Some b))
-    → (next ≡ (answers step start (lines_of text)).state) × (ahead' ≡ Some []) × (written' ≡ Some (before ++ (answers step start (lines_of text)).reply)) × ((answers step start (lines_of text)).is_refused ≡ was)
-ended {S} {step} {start} {text} {before} {state} {was} next ahead' written' so_far turn =
-    let t : (so_far.rest ≡ []) × (next ≡ state) × (ahead' ≡ Some []) × (written' ≡ Some (before ++ so_far.bytes)) = turn so_far.rest (before ++ so_far.bytes) so_far.ahead_is so_far.written_is in
-    let all : Outcome S = answers step start (lines_of text) in
-    let is : all ≡ followed_by (outcome_of state so_far.bytes was) (answers step state []) =
-    so_far.outcome ∙ ap (λ r. followed_by (outcome_of state so_far.bytes was) (answers step state (lines_of r))) t.0 in
-    let replies : all.reply ≡ so_far.bytes = ap (λ (o : Outcome S). o.reply) is ∙ append-nil so_far.bytes in
-    let refusals : all.is_refused ≡ was = ap (λ (o : Outcome S). o.is_refused) is ∙ or-false was in
-    (t.1 ∙ sym (ap (λ (o : Outcome S). o.state) is), t.2, t.3 ∙ ap (λ xs. Some (before ++ xs)) (sym replies), refusals)
-
--- what is written whole is a front
-pub whole_front : (before all : List ℕ) (written : Option (List ℕ)) → written ≡ Some (before ++ all) → WritesFront before all written
-whole_front before all written is = record { first = all; rest = []; front = sym (append-nil all); is = is }
-
--- the run stopped within a line
-pub stopped : {S : Type 0} {step : S → List ℕ → Outcome S} {start : S} {text before : List ℕ} {state : S} {was : Bool} {ahead written : Option (List ℕ)} (written' : Option (List ℕ))
-    → GoesOn step start text before state was ahead written
-    → ((t b : List ℕ) → ahead ≡ Some t → written ≡ Some b → WritesFront b (answers step state (lines_of t)).reply written')
-    → WritesFront before (answers step start (lines_of text)).reply written'
-stopped {S} {step} {start} {text} {before} {state} written' so_far turn =
-    let t : WritesFront (before ++ so_far.bytes) (answers step state (lines_of so_far.rest)).reply written' = turn so_far.rest (before ++ so_far.bytes) so_far.ahead_is so_far.written_is in
+pub ended : {S : Type 0} {step : S → List ℕ → Outcome S} {start : S} {text : List ℕ} {state : S} {was : Bool} {ahead : Option (List ℕ)} {old mid : Output} (next : S) (ahead' : Option (List ℕ)) (new : Output)
+    → GoesOn step start text state was ahead old mid
+    → ((t : List ℕ) → ahead ≡ Some t → Ends state t next ahead' mid new)
+    → Ended step start text next was ahead' old new
+ended {S} {step} {start} {text} {state} {was} {ahead} {old} {mid} next ahead' new so_far turn =
+    let t : Ends state so_far.rest next ahead' mid new = turn so_far.rest so_far.ahead_is in
+    let whole : lines_of text ≡ so_far.served = so_far.lines ∙ ap (λ r. so_far.served ++ lines_of r) t.text_is ∙ append-nil so_far.served in
     record {
-      first = so_far.bytes ++ t.first;
-      rest = t.rest;
-      front = ap (λ (o : Outcome S). o.reply) so_far.outcome ∙ ap (λ xs. so_far.bytes ++ xs) t.front ∙ sym (append_assoc so_far.bytes t.first t.rest);
-      is = t.is ∙ ap Some (append_assoc before so_far.bytes t.first);
+      state_is = t.next_is ∙ so_far.state_is ∙ ap (λ ls. (answers step start ls).state) (sym whole);
+      refused_is = ap (λ ls. (answers step start ls).is_refused) whole ∙ sym so_far.refused_is;
+      ahead_is = t.ahead_is;
+      written = subst (λ ls. WritesAll (answers step start ls) old new) (sym whole) (subst (λ o. WritesAll (answers step start so_far.served) old o) (sym t.same) so_far.written);
     }
 
-nothing_left : (xs ys : List ℕ) → xs ++ ys ≡ [] → ys ≡ []
-nothing_left [] ys e = e
-nothing_left (x ∷ xs) ys e = absurd (cc)
+-- the first few of some lines write no more rows than all
+fewer_rows : {S : Type 0} (step : S → List ℕ → Outcome S) (start : S) (lines ls ms : List (List ℕ)) → lines ≡ ls ++ ms
+    → length (answers step start ls).rows ≤ length (answers step start lines).rows
+fewer_rows {S} step start lines ls ms e =
+    let first : Outcome S = answers step start ls in
+    let rest : Outcome S = answers step first.state ms in
+    let size : length (answers step start lines).rows ≡ length (first.rows ++ rest.rows) =
+    ap (λ all. length (answers step start all).rows) e ∙ ap (λ (o : Outcome S). length o.rows) (answers_append step start ls ms) in
+    omega (arith, size, length-append first.rows rest.rows)
+
+-- what is written whole is written in part, with the rows of all lines
+pub all_amid : {S : Type 0} (step : S → List ℕ → Outcome S) (start : S) (text : List ℕ) (old new : Output)
+    → WritesAll (answers step start (lines_of text)) old new → StopsAmid step start text old new
+all_amid {S} step start text old new all =
+    let o : Outcome S = answers step start (lines_of text) in
+    record {
+      bytes = all_some o.reply old.bytes new.bytes all.bytes;
+      rows = all_some o.rows old.rows new.rows all.rows;
+      first = λ bytes rows wrote grew. record {
+        bytes = o.reply;
+        rows = o.rows;
+        bytes_are = told_all o.reply bytes old.bytes new.bytes all.bytes wrote;
+        rows_are = told_all o.rows rows old.rows new.rows all.rows grew;
+        first = λ ls ms lines short. fewer_rows step start (lines_of text) ls ms lines;
+      };
+    }
+
+-- some lines were served, and the run stopped amid others
+module _ {S : Type 0} (step : S → List ℕ → Outcome S) (start : S) (served more : List (List ℕ)) (bytes : List ℕ) (rows : List OutRow) (written : Option (List ℕ)) (grown : Option (List OutRow))
+    (later : RowsComeFirst step (answers step start served).state more (bytes ++ (answers step start served).reply) (rows ++ (answers step start served).rows) written grown) where
+  rows_later : (ls ms : List (List ℕ)) → more ≡ ls ++ ms → length (answers step start (served ++ ls)).reply ≤ length ((answers step start served).reply ++ later.bytes)
+      → length (answers step start (served ++ ls)).rows ≤ length ((answers step start served).rows ++ later.rows)
+  rows_later ls ms e short =
+      let first : Outcome S = answers step start served in
+      let next : Outcome S = answers step first.state ls in
+      let all : answers step start (served ++ ls) ≡ followed_by first next = answers_append step start served ls in
+      let replies : length (answers step start (served ++ ls)).reply ≡ length first.reply + length next.reply =
+      ap (λ (o : Outcome S). length o.reply) all ∙ length-append first.reply next.reply in
+      let trees : length (answers step start (served ++ ls)).rows ≡ length first.rows + length next.rows =
+      ap (λ (o : Outcome S). length o.rows) all ∙ length-append first.rows next.rows in
+      let here : length next.rows ≤ length later.rows = later.first ls ms e (omega (arith, short, replies, length-append first.reply later.bytes)) in
+      omega (arith, trees, length-append first.rows later.rows, here)
+
+  each_line : (ls ms : List (List ℕ)) → served ++ more ≡ ls ++ ms → length (answers step start ls).reply ≤ length ((answers step start served).reply ++ later.bytes)
+      → length (answers step start ls).rows ≤ length ((answers step start served).rows ++ later.rows)
+  each_line ls ms e short = cases (cut_twice served more ls ms e) where
+    cases : ((k : List (List ℕ)) × (served ≡ ls ++ k)) ⊎ ((k : List (List ℕ)) × (ls ≡ served ++ k) × (more ≡ k ++ ms))
+        → length (answers step start ls).rows ≤ length ((answers step start served).rows ++ later.rows)
+    cases (inl c) = omega (arith, fewer_rows step start served ls c.0 c.1, length-append (answers step start served).rows later.rows)
+    cases (inr c) =
+        subst (λ zs. length (answers step start zs).reply ≤ length ((answers step start served).reply ++ later.bytes) → length (answers step start zs).rows ≤ length ((answers step start served).rows ++ later.rows))
+        (sym c.1) (rows_later c.0 ms c.2) short
+
+  stops_later : RowsComeFirst step start (served ++ more) bytes rows written grown
+  stops_later = record {
+    bytes = (answers step start served).reply ++ later.bytes;
+    rows = (answers step start served).rows ++ later.rows;
+    bytes_are = later.bytes_are ∙ ap Some (append_assoc bytes (answers step start served).reply later.bytes);
+    rows_are = later.rows_are ∙ ap Some (append_assoc rows (answers step start served).rows later.rows);
+    first = each_line;
+  }
+
+-- the run stopped within a line
+pub stopped : {S : Type 0} {step : S → List ℕ → Outcome S} {start : S} {text : List ℕ} {state : S} {was : Bool} {ahead : Option (List ℕ)} {old mid : Output} (new : Output)
+    → GoesOn step start text state was ahead old mid
+    → ((t : List ℕ) → ahead ≡ Some t → StopsAmid step state t mid new)
+    → StopsAmid step start text old new
+stopped {S} {step} {start} {text} {state} {was} {ahead} {old} {mid} new so_far turn =
+    let first : Outcome S = answers step start so_far.served in
+    let stop : StopsAmid step first.state so_far.rest mid new = subst (λ st. StopsAmid step st so_far.rest mid new) so_far.state_is (turn so_far.rest so_far.ahead_is) in
+    let rest : Outcome S = answers step first.state (lines_of so_far.rest) in
+    let all : answers step start (lines_of text) ≡ followed_by first rest =
+    ap (answers step start) so_far.lines ∙ answers_append step start so_far.served (lines_of so_far.rest) in
+    record {
+      bytes = subst (λ (o : Outcome S). AppendsSome o.reply old.bytes new.bytes) (sym all) (all_then_some first.reply rest.reply old.bytes mid.bytes new.bytes so_far.written.bytes stop.bytes);
+      rows = subst (λ (o : Outcome S). AppendsSome o.rows old.rows new.rows) (sym all) (all_then_some first.rows rest.rows old.rows mid.rows new.rows so_far.written.rows stop.rows);
+      first = λ bytes rows wrote grew.
+          subst (λ ls. RowsComeFirst step start ls bytes rows new.bytes new.rows) (sym so_far.lines)
+          (stops_later step start so_far.served (lines_of so_far.rest) bytes rows new.bytes new.rows
+          (stop.first (bytes ++ first.reply) (rows ++ first.rows)
+          (told_all first.reply bytes old.bytes mid.bytes so_far.written.bytes wrote) (told_all first.rows rows old.rows mid.rows so_far.written.rows grew)));
+    }
 
 -- where nothing is ahead, nothing is left
 pub left_is_empty : (progress : Progress) (left : Option (List ℕ)) → ahead_of progress left ≡ Some [] → left ≡ Some []
 left_is_empty progress None e = absurd (cc)
 left_is_empty progress (Some bytes) e =
     let none : progress.ahead ++ bytes ≡ [] = cc in
-    ap Some (nothing_left progress.ahead bytes none)
+    ap Some (nothing_next progress.ahead bytes none)
 
 pub ends_whole : {S : Type 0} (was : Bool) (outcome : Outcome S) (before : List ℕ) (left written : Option (List ℕ))
     → EndsWith was outcome before left written → IsWhole (status_at_end was) outcome before left written
 ends_whole true outcome before left written h = h
 ends_whole false outcome before left written h = h
+
+pub has_rows : {S : Type 0} (was : Bool) (outcome : Outcome S) (before : List OutRow) (grown : Option (List OutRow))
+    → grown ≡ Some (before ++ outcome.rows) → HasRows (status_at_end was) outcome before grown
+has_rows true outcome before grown h = h
+has_rows false outcome before grown h = h
 
 pub has_state : {S : Type 0} (was : Bool) (outcome : Outcome S) (state : S) → state ≡ outcome.state → HasState (status_at_end was) outcome state
 has_state true outcome state h = h

@@ -1,5 +1,6 @@
 -- One turn after another.
-use Rattle.std.proofs.Common.{◌≡◌, ◌∙◌, refl, ap, ℕ, ◌<◌, List, ◌∷◌, ◌++◌, length, append_assoc, Option, Some, None, Result, Ok, Err, IfOk, OnOk, OnErr}
+use Rattle.std.proofs.Common.{◌≡◌, ◌∙◌, refl, sym, ap, subst, ℕ, ◌⊎◌, inl, inr, ◌+◌, ◌<◌, ◌≤◌, arith, List, [], ◌∷◌, ◌++◌, length, length-append, append-nil, Option, Some, None, Result, Ok, Err, IfOk, OnOk, OnErr}
+use Rattle.std.proofs.lemmas.List.{nil_from_length}
 use Rattle.cov_base.specs.Lines.{lines_of}
 use Rattle.cov_base.specs.declared.limits.TheConstants.{MOST_SCRIPT_LINE_BYTES}
 use Rattle.cov_io.specs.Devices.{AppendsAll, AppendsSome}
@@ -8,56 +9,119 @@ use Rattle.cov_io.specs.Progress.{Progress}
 use Rattle.cov_io.specs.declared.reading.Item.TheVariants as items
 use Rattle.cov_loop.specs.Answers.{IsServed}
 use Rattle.cov_loop.specs.Outcome.{Outcome, answers}
-use Rattle.cov_loop.specs.Turns.{Turns, ahead_of, turn_of}
+use Rattle.cov_loop.specs.Turns.{Output, RowsComeFirst, StopsAmid, Turns, ahead_of, turn_of}
 use Rattle.cov_loop.specs.declared.answer.Answer.{Answer}
 use Rattle.cov_loop.specs.declared.status.Status.{Status}
+use Rattle.cov_loop.proofs.Appending.{same_some, some_more}
+use Rattle.cov_loop.proofs.Outcomes.{silent}
+use Rattle.cov_out.specs.declared.row.OutRow.{OutRow}
+
+-- lines without a reply write no row
+abbrev pub TellsRows : {S : Type 0} → (S → List ℕ → Outcome S) → Type 0
+TellsRows {S} step = (state : S) (line : List ℕ) → (step state line).reply ≡ [] → (step state line).rows ≡ []
+
+-- what was written of an outcome, by the answer
+pub record Serves {S : Type 0} (outcome : Outcome S) (next : S) (old new : Output) (r : Result Answer Status) : Type 0 where
+  pub served : IfOk r (IsServed outcome next)
+  pub all : OnOk r (AppendsAll outcome.reply old.bytes new.bytes)
+  pub some : OnErr r (AppendsSome outcome.reply old.bytes new.bytes)
+  pub rows_all : OnOk r (AppendsAll outcome.rows old.rows new.rows)
+  pub rows_some : OnErr r (AppendsSome outcome.rows old.rows new.rows)
+  pub rows_first : OnErr r (AppendsAll outcome.rows old.rows new.rows ⊎ (new.bytes ≡ old.bytes))
+
+-- the run stopped within the first of some lines
+module _ {S : Type 0} (step : S → List ℕ → Outcome S) (told : TellsRows step) (state : S) (line : List ℕ) (more : List (List ℕ)) (bytes : List ℕ) (rows : List OutRow) (written : Option (List ℕ)) (grown : Option (List OutRow))
+    (some : AppendsSome (step state line).reply (Some bytes) written) (rows_some : AppendsSome (step state line).rows (Some rows) grown)
+    (rows_first : AppendsAll (step state line).rows (Some rows) grown ⊎ (written ≡ Some bytes)) where
+  rows_whole : length (step state line).reply ≤ length some.0 → length (step state line).rows ≤ length rows_some.0
+  rows_whole short = cases rows_first where
+    cases : AppendsAll (step state line).rows (Some rows) grown ⊎ (written ≡ Some bytes) → length (step state line).rows ≤ length rows_some.0
+    cases (inl all) =
+        let same : rows ++ (step state line).rows ≡ rows ++ rows_some.0 = cc in
+        omega (arith, ap length same, length-append rows (step state line).rows, length-append rows rows_some.0)
+    cases (inr same) =
+        let none : bytes ≡ bytes ++ some.0 = cc in
+        let unsaid : (step state line).reply ≡ [] = nil_from_length (step state line).reply (omega (arith, ap length none, length-append bytes some.0, short)) in
+        omega (arith, ap length (told state line unsaid))
+
+  with_first : (ls : List (List ℕ)) → length (answers step state (line ∷ ls)).reply ≤ length some.0 → length (answers step state (line ∷ ls)).rows ≤ length rows_some.0
+  with_first ls short =
+      let o = step state line in
+      let rest = answers step o.state ls in
+      let size : length o.reply ≡ length some.0 + length some.1 = ap length some.2 ∙ length-append some.0 some.1 in
+      let whole : length (o.reply ++ rest.reply) ≡ length o.reply + length rest.reply = length-append o.reply rest.reply in
+      let quiet : rest.rows ≡ [] = silent step told o.state ls (nil_from_length rest.reply (omega (arith, short, size, whole))) in
+      omega (arith, length-append o.rows rest.rows, ap length quiet, rows_whole (omega (arith, short, whole)))
+
+  each_first : (ls ms : List (List ℕ)) → line ∷ more ≡ ls ++ ms → length (answers step state ls).reply ≤ length some.0 → length (answers step state ls).rows ≤ length rows_some.0
+  each_first [] ms e short = omega arith
+  each_first (l ∷ ls) ms e short =
+      let is : line ≡ l = cc in
+      subst (λ x. length (answers step state (x ∷ ls)).reply ≤ length some.0 → length (answers step state (x ∷ ls)).rows ≤ length rows_some.0) is (with_first ls) short
+
+  stops_within : RowsComeFirst step state (line ∷ more) bytes rows written grown
+  stops_within = record {
+    bytes = some.0;
+    rows = rows_some.0;
+    bytes_are = some.3;
+    rows_are = rows_some.3;
+    first = each_first;
+  }
 
 -- a line was served that is the first of a text
-first_served : {S : Type 0} (step : S → List ℕ → Outcome S) (state : S) (text before line rest : List ℕ) (written : Option (List ℕ)) (next : S) (r : Result Answer Status)
+first_served : {S : Type 0} (step : S → List ℕ → Outcome S) (told : TellsRows step) (state : S) (text line rest : List ℕ) (old new : Output) (next : S) (r : Result Answer Status)
     → lines_of text ≡ line ∷ lines_of rest
-    → IfOk r (IsServed (step state line) next)
-    → OnOk r (AppendsAll (step state line).reply (Some before) written)
-    → OnErr r (AppendsSome (step state line).reply (Some before) written)
-    → Turns step state text before next (Some rest) written (turn_of r)
-first_served step state text before line rest written next (Ok answer) lines served all some =
-    record { line = line; rest = rest; lines = lines; ahead_is = refl; served = served; written_is = all }
-first_served step state text before line rest written next (Err status) lines served all some =
-    let later : List ℕ = (answers step (step state line).state (lines_of rest)).reply in
+    → Serves (step state line) next old new r
+    → Turns step state text next (Some rest) old new (turn_of r)
+first_served step told state text line rest old new next (Ok answer) lines serves =
+    record { line = line; rest = rest; lines = lines; ahead_is = refl; served = serves.served; written = record { bytes = serves.all; rows = serves.rows_all } }
+first_served {S} step told state text line rest old new next (Err status) lines serves =
+    let o : Outcome S = step state line in
+    let later : Outcome S = answers step o.state (lines_of rest) in
     record {
-      first = some.0;
-      rest = some.1 ++ later;
-      front = ap (λ ls. (answers step state ls).reply) lines ∙ ap (λ xs. xs ++ later) some.2 ∙ append_assoc some.0 some.1 later;
-      is = some.3;
+      bytes = rw lines (some_more o.reply later.reply old.bytes new.bytes serves.some);
+      rows = rw lines (some_more o.rows later.rows old.rows new.rows serves.rows_some);
+      first = λ bytes rows wrote grew.
+          rw lines
+          (stops_within step told state line (lines_of rest) bytes rows new.bytes new.rows
+          (rw wrote at serves.some) (rw grew at serves.rows_some)
+          (elim serves.rows_first [ inl all ↦ inl (rw grew at all) | inr same ↦ inr (same ∙ wrote) ]));
     }
 
 -- the next line that a reader gives was served
-pub line_turn : {S : Type 0} (step : S → List ℕ → Outcome S) (state : S) (text before line : List ℕ) (old new : Progress) (left later out written : Option (List ℕ)) (next : S) (r : Result Answer Status)
-    → GivesTold old new left later (items.Line line)
-    → ahead_of old left ≡ Some text
-    → out ≡ Some before
-    → IfOk r (IsServed (step state line) next)
-    → OnOk r (AppendsAll (step state line).reply out written)
-    → OnErr r (AppendsSome (step state line).reply out written)
-    → Turns step state text before next (ahead_of new later) written (turn_of r)
-line_turn step state text before line old new None later out written next r given ahead told served all some = absurd (cc)
-line_turn step state text before line old new (Some left) None out written next r given ahead told served all some = absurd given
-line_turn step state text before line old new (Some left) (Some later) out written next r given ahead told served all some =
-    let here : old.ahead ++ left ≡ text = cc in
-    first_served step state text before line (new.ahead ++ later) written next r
-    (rw (← here) given.0) served (rw told at all) (rw told at some)
+pub line_turn : {S : Type 0} (step : S → List ℕ → Outcome S) (told : TellsRows step) (state : S) (text line : List ℕ) (was now : Progress) (left later : Option (List ℕ)) (old new : Output) (next : S) (r : Result Answer Status)
+    → GivesTold was now left later (items.Line line)
+    → ahead_of was left ≡ Some text
+    → Serves (step state line) next old new r
+    → Turns step state text next (ahead_of now later) old new (turn_of r)
+line_turn step told state text line was now None later old new next r given ahead serves = absurd (cc)
+line_turn step told state text line was now (Some left) None old new next r given ahead serves = absurd given
+line_turn step told state text line was now (Some left) (Some later) old new next r given ahead serves =
+    let here : was.ahead ++ left ≡ text = cc in
+    first_served step told state text line (now.ahead ++ later) old new next r (rw (← here) given.0) serves
 
 -- a line that a reader skipped was served
-pub long_turn : {S : Type 0} (step : S → List ℕ → Outcome S) (state : S) (text before : List ℕ) (old new : Progress) (left later out written : Option (List ℕ)) (next : S) (r : Result Answer Status)
-    → GivesTold old new left later items.Long
-    → ahead_of old left ≡ Some text
-    → out ≡ Some before
-    → ((line : List ℕ) → MOST_SCRIPT_LINE_BYTES < length line → IfOk r (IsServed (step state line) next))
-    → ((line : List ℕ) → MOST_SCRIPT_LINE_BYTES < length line → OnOk r (AppendsAll (step state line).reply out written))
-    → ((line : List ℕ) → MOST_SCRIPT_LINE_BYTES < length line → OnErr r (AppendsSome (step state line).reply out written))
-    → Turns step state text before next (ahead_of new later) written (turn_of r)
-long_turn step state text before old new None later out written next r given ahead told served all some = absurd (cc)
-long_turn step state text before old new (Some left) None out written next r given ahead told served all some = absurd given
-long_turn step state text before old new (Some left) (Some later) out written next r given ahead told served all some =
-    let here : old.ahead ++ left ≡ text = cc in
-    first_served step state text before given.0 (new.ahead ++ later) written next r
-    (rw (← here) given.1) (served given.0 given.2) (rw told at (all given.0 given.2)) (rw told at (some given.0 given.2))
+pub long_turn : {S : Type 0} (step : S → List ℕ → Outcome S) (told : TellsRows step) (state : S) (text : List ℕ) (was now : Progress) (left later : Option (List ℕ)) (old new : Output) (next : S) (r : Result Answer Status)
+    → GivesTold was now left later items.Long
+    → ahead_of was left ≡ Some text
+    → ((line : List ℕ) → MOST_SCRIPT_LINE_BYTES < length line → Serves (step state line) next old new r)
+    → Turns step state text next (ahead_of now later) old new (turn_of r)
+long_turn step told state text was now None later old new next r given ahead serves = absurd (cc)
+long_turn step told state text was now (Some left) None old new next r given ahead serves = absurd given
+long_turn step told state text was now (Some left) (Some later) old new next r given ahead serves =
+    let here : was.ahead ++ left ≡ text = cc in
+    first_served step told state text given.0 (now.ahead ++ later) old new next r (rw (← here) given.1) (serves given.0 given.2)
+
+-- nothing was written of a text, the run having stopped before a line was served
+pub fault_turn : {S : Type 0} (step : S → List ℕ → Outcome S) → TellsRows step → (state : S) (text : List ℕ) (all : Output) → StopsAmid step state text all all
+fault_turn step told state text all = record {
+  bytes = same_some (answers step state (lines_of text)).reply all.bytes all.bytes refl;
+  rows = same_some (answers step state (lines_of text)).rows all.rows all.rows refl;
+  first = λ bytes rows wrote grew. record {
+    bytes = [];
+    rows = [];
+    bytes_are = wrote ∙ ap Some (sym (append-nil bytes));
+    rows_are = grew ∙ ap Some (sym (append-nil rows));
+    first = λ ls ms lines short. omega (arith, ap length (silent step told state ls (nil_from_length (answers step state ls).reply (omega (arith, short)))));
+  };
+}

@@ -27,6 +27,7 @@ is_refusal Nothing = false
 pub record Gives {S : Type 0} (outcome : Outcome S) (state : S) (reply : Reply) : Type 0 where
   pub state_is : state ≡ outcome.state
   pub text : reply.text ≡ outcome.reply
+  pub rows : reply.rows ≡ outcome.rows
   pub answer : reply.answer ≡ answer_of outcome
 
 -- a state and an answer are those of an outcome
@@ -34,8 +35,9 @@ pub record IsServed {S : Type 0} (outcome : Outcome S) (state : S) (answer : Ans
   pub state_is : state ≡ outcome.state
   pub answer_is : answer ≡ answer_of outcome
 
--- why a line ends the run, the sink's count of faults being known before and after
-abbrev pub StopsLine : Status → ℕ → ℕ → Type 0
-StopsLine statuses.NoMemory old new = Unit {0}
-StopsLine statuses.WriteFault old new = Rose old new
-StopsLine _ old new = ⊥
+-- why a line ends the run, the counts of faults of the sink and of the trees being known before and after
+abbrev pub StopsLine : Status → ℕ → ℕ → ℕ → ℕ → Type 0
+StopsLine statuses.NoMemory sink sink' trees trees' = Unit {0}
+StopsLine statuses.WriteFault sink sink' trees trees' = Rose sink sink'
+StopsLine statuses.TreesFault sink sink' trees trees' = Rose trees trees'
+StopsLine _ sink sink' trees trees' = ⊥

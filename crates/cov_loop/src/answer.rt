@@ -1,8 +1,10 @@
 // What a line comes to.
-ghost use Rattle.std.specs.Prelude.{◌≡◌, false};
+ghost use Rattle.std.specs.Prelude.{◌≡◌, false, []};
 ghost use Rattle.cov_loop.specs.Answers.{kind_of};
 
 use cov_base::Text;
+use cov_out::OutRows;
+use std::alloc::Global;
 
 /// What a line came to.
 #[derive(Clone, Copy, Debug, PartialEq, Eq)]
@@ -15,23 +17,29 @@ pub enum Answer {
     Nothing,
 }
 
-/// A reply that isn't written yet; its text is empty where there is none.
+/// A reply that isn't written yet, with the rows of trees that are written before it. Its text is empty where there is none.
 #[derive(Drop)]
 pub struct Reply {
     pub text: Text,
+    pub rows: OutRows,
     pub answer: Answer,
 }
 
 impl Reply {
-    /// The reply to a line that is done.
-    pub fn to_done(text: Text) -> Reply
+    /// The reply to a line that is done and writes no row.
+    pub fn to_done(alloc: Global, text: Text) -> Reply
         ensures text { result.text ≡ text }
+        ensures rows { result.rows ≡ [] }
         ensures answer { result.answer ≡ kind_of text false }
     {
         let answer = match text.is_empty() {
             true => Answer::Nothing,
             false => Answer::Accepted,
         };
-        Reply { text, answer }
+        Reply {
+            text,
+            rows: OutRows::new(alloc),
+            answer,
+        }
     }
 }

@@ -1,9 +1,10 @@
-//! One line of a script after another: each is answered, its reply is put, and the run ends with a status.
+//! One line of a script after another: each is answered, its rows of trees are written, its reply is put, and the run ends with a status.
 #![tactic(auto)]
 
 mod answer;
 mod line;
 mod line_server;
+mod rows;
 mod status;
 mod turn;
 

@@ -9,7 +9,7 @@ use cov_base::Memory;
 
 /// What serves one line after another. Each line changes the state that the next one meets.
 pub trait LineServer {
-    /// What a line does: the state after it, its reply, and whether it is refused.
+    /// What a line does: the state after it, its reply, the rows that it writes, and whether it is refused.
     ghost step: { Self → List ℕ → Outcome Self };
 
     /// Does what a line says, and makes its reply. After an `Err` nothing is known of the state.
@@ -22,4 +22,7 @@ pub trait LineServer {
 
     /// A line that is refused has a reply.
     ghost refusal_told: { (state : Self) (line : List ℕ) → (step state line).is_refused ≡ true → (step state line).reply ≢ [] };
+
+    /// A line without a reply writes no row.
+    ghost rows_told: { (state : Self) (line : List ℕ) → (step state line).reply ≡ [] → (step state line).rows ≡ [] };
 }

@@ -17,6 +17,8 @@ pub enum Status {
     ReadFault,
     /// A write of a reply failed.
     WriteFault,
+    /// A row of a tree could not be written.
+    TreesFault,
     /// The source gave at least 2^32 bytes, and its end wasn't reached.
     TooMuch,
 }
@@ -33,6 +35,7 @@ impl Status {
             Status::NoMemory => 3,
             Status::ReadFault => 4,
             Status::WriteFault => 5,
+            Status::TreesFault => 7,
             Status::TooMuch => 10,
         }
     }

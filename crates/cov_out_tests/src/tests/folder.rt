@@ -30,5 +30,12 @@ fn writes_below_the_folder(rt: HostRuntime) -> Result<(), Fail> {
     );
     assert_eq!(rt; fs::read(&rt, "trees/t/\u{e9}")?.len(), 0);
     fs::remove_dir_all(&rt, "trees")?;
+
+    // Where a file has the folder's name, nothing can be made below it.
+    fs::write(&rt, "trees", b"in the way")?;
+    let mut trees = FolderTrees::new(&rt);
+    assert!(rt; trees.make_dir(b"t").is_err());
+    assert!(rt; trees.put_file(b"m", b"one\n").is_err());
+    fs::remove_file(&rt, "trees")?;
     Ok(())
 }

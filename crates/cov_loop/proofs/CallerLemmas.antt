@@ -1,0 +1,2 @@
+-- What callers cite.
+pub use Rattle.cov_loop.proofs.Turning.{fault_turn}
