@@ -1,9 +1,10 @@
-//! The program: its words, its standard input and its standard output.
+//! The program: its words, its standard input and output, and the folder that trees are written below.
 #![tactic(auto)]
 
 use cov_base::{Memory, Text, Texts};
 use cov_io::{StdSink, StdSource};
 use cov_loop::Status;
+use cov_out::FolderTrees;
 use cov_serve::run;
 use std::alloc::Global;
 use std::env::{self, Args};
@@ -21,7 +22,8 @@ fn main(rt: HostRuntime) -> ExitCode {
 fn serve(rt: &HostRuntime, words: &Texts) -> Status {
     let mut script = StdSource::new(rt.stdin());
     let mut out = StdSink::new(rt.stdout());
-    run(rt.alloc(), words, &mut script, &mut out)
+    let mut trees = FolderTrees::new(rt);
+    run(rt.alloc(), words, &mut script, &mut out, &mut trees)
 }
 
 // The words after the program's name. Words that can't be told are of no form, and so is no word.

@@ -1,5 +1,5 @@
 -- How refusals are handed on.
-use Rattle.std.proofs.Common.{◌≡◌, ◌∙◌, refl, sym, ap, subst, ℕ, ◌<◌, Bool, true, nat_lt, List, length, Result, Ok, Err, arith}
+use Rattle.std.proofs.Common.{◌≡◌, refl, sym, ap, subst, ℕ, ◌<◌, Bool, true, nat_lt, List, length, Result, Ok, Err, arith}
 use Rattle.std.proofs.lemmas.Bool.Decides.{nat_tests}
 use Rattle.std.specs.Prelude.{if◌then◌else◌}
 use Rattle.std.specs.Result.{IsErrAnd}
@@ -19,7 +19,7 @@ use Rattle.cov_serve.specs.Finding.{Found, ◌>>=◌, as_found, by_code, complet
 use Rattle.cov_serve.specs.States.{State}
 use Rattle.cov_script.specs.Lines.{form_of}
 use Rattle.cov_script.specs.declared.code.Code.TheVariants.{Long}
-use Rattle.cov_serve.specs.Step.{acted, as_outcome, refused, served, step}
+use Rattle.cov_serve.specs.Step.{acted, as_outcome, done, refused, step}
 use Rattle.cov_serve.specs.Stops.{bind_stop, complete_stop}
 use Rattle.cov_serve.proofs.Declared.{repeated_below}
 use Rattle.cov_serve.specs.declared.stop.Stop.{Stop}
@@ -38,7 +38,7 @@ stops-later wanted later old new (stops.Refused code) h = record { is = ap (λ f
 -- a line of too many bytes is refused, whatever it says
 pub long-refused : (st : State) (line : List ℕ) → MOST_SCRIPT_LINE_BYTES < length line → step st line ≡ refused st Long
 unfolding step acted
-long-refused st line long = ap (λ b. as_outcome st ((if b then Err Long else Ok line) >>= (λ short. by_code syntax_code (form_of short) >>= (λ form. served st form)))) (over long)
+long-refused st line long = ap (λ b. as_outcome st ((if b then Err Long else Ok line) >>= (λ short. by_code syntax_code (form_of short) >>= (λ form. done st form)))) (over long)
   where
     over : MOST_SCRIPT_LINE_BYTES < length line → nat_lt MOST_SCRIPT_LINE_BYTES (length line) ≡ true
     over h = grind (arith, nat_tests, h)
@@ -51,10 +51,13 @@ bind-stops st bindings (binds.Repeated option) h = record { is = ap (by_code bin
 bind-stops st bindings binds.Memory h = tt
 
 -- a partial choice that the rules don't complete
-pub complete-stops : OpenOptionsAreDeclared → (st : State) (bindings : List (List ℕ × Bool)) (partial : List (ℕ × Bool)) (fault : CompleteFault) → found_partial st.history bindings ≡ Ok partial
-    → IsRefusalBy (completed_in st.history partial) fault → Stops (found_choice st.history bindings) st st (complete_stop fault)
-complete-stops law st bindings partial (completions.Invalid rule) found h =
-    record { is = ap (λ f. f >>= completed_choice st.history) found ∙ ap as_found h; same = refl; told = tt }
-complete-stops law st bindings partial (completions.Incomplete option) found h =
-    record { is = ap (λ f. f >>= completed_choice st.history) found ∙ ap as_found h; same = refl; told = law st.history partial option h }
-complete-stops law st bindings partial completions.Memory found h = tt
+pub complete-stops : OpenOptionsAreDeclared → (st : State) (partial : List (ℕ × Bool)) (fault : CompleteFault)
+    → IsRefusalBy (completed_in st.history partial) fault → Stops (completed_choice st.history partial) st st (complete_stop fault)
+complete-stops law st partial (completions.Invalid rule) h = record { is = ap as_found h; same = refl; told = tt }
+complete-stops law st partial (completions.Incomplete option) h = record { is = ap as_found h; same = refl; told = law st.history partial option h }
+complete-stops law st partial completions.Memory h = tt
+
+-- bindings that are no partial choice, or one that the rules don't complete
+pub choice-stops : (st : State) (bindings : List (List ℕ × Bool)) (partial : List (ℕ × Bool)) (stop : Stop) → found_partial st.history bindings ≡ Ok partial
+    → Stops (completed_choice st.history partial) st st stop → Stops (found_choice st.history bindings) st st stop
+choice-stops st bindings partial stop found h = subst (λ f. Stops (f >>= completed_choice st.history) st st stop) (sym found) h

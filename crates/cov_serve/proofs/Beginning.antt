@@ -34,7 +34,7 @@ use Rattle.cov_serve.specs.Codes.{session_code, syntax_code}
 use Rattle.cov_serve.specs.Finding.{Found, ◌>>=◌, by_code, found_expression, found_partial}
 use Rattle.cov_serve.specs.Isolation.{HasSession, SessionsBeginNow, begins, has_form}
 use Rattle.cov_serve.specs.States.{State, with_sessions}
-use Rattle.cov_serve.specs.Step.{Act, acted, as_outcome, begun, rebegun, served, served_session, step}
+use Rattle.cov_serve.specs.Step.{Act, Done, acted, done, plainly, as_outcome, begun, rebegun, served, served_session, step}
 use Rattle.cov_serve.proofs.NamedSessions.{itself, named-changed, same-name}
 
 module _ (name : List ℕ) (st : State) where
@@ -46,6 +46,11 @@ module _ (name : List ℕ) (st : State) where
   abbrev Begins : Act → Type 0
   Begins (Ok done) = (s : NamedSession) × HasSession name s done.0.history done.0
   Begins (Err code) = Unit {0}
+
+  -- the same of a line that may write rows
+  abbrev BeginsDone : Found Done → Type 0
+  BeginsDone (Ok done) = (s : NamedSession) × HasSession name s done.state.history done.state
+  BeginsDone (Err code) = Unit {0}
 
   on-found : {X : Type 0} (found : Found X) (later : X → Act) → ((x : X) → Begins (later x)) → Begins (found >>= later)
   on-found (Ok x) later h = h x
@@ -112,15 +117,24 @@ module _ (name : List ℕ) (st : State) where
   form-now (lines.Refresh n) own = subst (λ m. Begins (rebegun st m)) (sym (same-name n name own)) rebegun-now
   form-now _ own = absurd (cc)
 
-  acted-now : (line : List ℕ) → has_form (begins name) (form_of line) ≡ true → Begins (acted st line)
+  plainly-now : (act : Act) → Begins act → BeginsDone (plainly act)
+  plainly-now (Ok act) h = h
+  plainly-now (Err code) h = tt
+
+  done-now : (form : Line) → begins name form ≡ true → BeginsDone (done st form)
+  unfolding done
+  done-now (lines.Checkout tree bindings) own = absurd (cc)
+  done-now form own = plainly-now (served st form) (form-now form own)
+
+  acted-now : (line : List ℕ) → has_form (begins name) (form_of line) ≡ true → BeginsDone (acted st line)
   unfolding acted
   acted-now line own = at (nat_lt MOST_SCRIPT_LINE_BYTES (length line))
     where
-      of : (form : Result Line LineSyntax) → has_form (begins name) form ≡ true → Begins (by_code syntax_code form >>= served st)
-      of (Ok form) h = form-now form h
+      of : (form : Result Line LineSyntax) → has_form (begins name) form ≡ true → BeginsDone (by_code syntax_code form >>= done st)
+      of (Ok form) h = done-now form h
       of (Err fault) h = tt
 
-      at : (long : Bool) → Begins ((if long then Err Long else Ok line) >>= (λ short. by_code syntax_code (form_of short) >>= (λ form. served st form)))
+      at : (long : Bool) → BeginsDone ((if long then Err Long else Ok line) >>= (λ short. by_code syntax_code (form_of short) >>= (λ form. done st form)))
       at true = tt
       at false = of (form_of line) own
 
@@ -128,6 +142,6 @@ pub begin-now : SessionsBeginNow
 unfolding step
 begin-now name st line own accepted = at (acted st line) (acted-now name st line own) accepted
   where
-    at : (act : Act) → Begins name st act → (as_outcome st act).is_refused ≡ false → (s : NamedSession) × HasSession name s (as_outcome st act).state.history (as_outcome st act).state
+    at : (act : Found Done) → BeginsDone name st act → (as_outcome st act).is_refused ≡ false → (s : NamedSession) × HasSession name s (as_outcome st act).state.history (as_outcome st act).state
     at (Ok done) h k = h
     at (Err code) h k = absurd (cc)

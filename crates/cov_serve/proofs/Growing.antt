@@ -27,10 +27,10 @@ commit-may history name (t ∷ ss) k h here = at (bytes_eq t.name name) h (λ c.
     at false c rest = rest c
 
 -- the view of the session of a name
-pub is-named : (st : State) (history : List Command) (ss : List SessionValue) (name : List ℕ) (view : Seen)
-    → (let kept : State = record { history = history; sessions = map as_named ss } in kept) ≡ st → AreOpen history ss
+pub is-named : (st : State) (history : List Command) (ss : List SessionValue) (trees : List (List ℕ)) (name : List ℕ) (view : Seen)
+    → (let kept : State = record { history = history; sessions = map as_named ss; trees = trees } in kept) ≡ st → AreOpen history ss
     → (s : SessionValue) × IsOfName ss name s × (s.view ≡ view) → IsNamed st name view
-is-named st history ss name view is here found =
+is-named st history ss trees name view is here found =
     let s : SessionValue = found.0 in
     subst (λ t. IsNamed t name view) is
     (record {

@@ -1,7 +1,9 @@
 pub mod Acted
 pub mod Beginning
+pub mod Compared
 pub mod Declared
 pub mod Ended
+pub mod Entries
 pub mod Examples
 pub mod Growing
 pub mod Isolated
@@ -17,3 +19,4 @@ pub mod SessionFaults
 pub mod Spoken
 pub mod ToldFiles
 pub mod ToldLines
+pub mod WrittenExamples

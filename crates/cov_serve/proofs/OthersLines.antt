@@ -7,7 +7,7 @@ use Rattle.cov_base.specs.Spelling.{is_option_name}
 use Rattle.cov_base.specs.declared.limits.TheConstants.{MOST_SCRIPT_LINE_BYTES}
 use Rattle.cov_script.specs.Lines.{form_of}
 use Rattle.cov_script.specs.declared.code.Code.{Code}
-use Rattle.cov_script.specs.declared.code.Code.TheVariants.{BadName, Long, NoSession, NoSuchPath}
+use Rattle.cov_script.specs.declared.code.Code.TheVariants.{BadName, Long, NoSession, NoSuchLine, NoSuchPath, TreeTaken}
 use Rattle.cov_script.specs.declared.line.Line.{Line}
 use Rattle.cov_script.specs.declared.line.Line.TheVariants as lines
 use Rattle.cov_script.specs.declared.line.LineSyntax.{LineSyntax}
@@ -25,12 +25,14 @@ use Rattle.cov_session.specs.Faults.{unless}
 use Rattle.cov_session.specs.Named.{named, with_session, without}
 use Rattle.cov_session.specs.Open.{NamedSession}
 use Rattle.cov_session.specs.declared.fault.SessionFault.{SessionFault}
-use Rattle.cov_serve.specs.Codes.{refusal_code, session_code, syntax_code}
+use Rattle.cov_engine.specs.Visibility.{is_no_line}
+use Rattle.cov_alt.specs.Sides.{sides_at}
+use Rattle.cov_serve.specs.Codes.{alt_code, refusal_code, session_code, syntax_code}
 use Rattle.cov_serve.specs.Editing.{directory_of}
-use Rattle.cov_serve.specs.Finding.{Found, ◌>>=◌, by_code, unless as coded, found_choice, found_expression, found_option, found_partial}
+use Rattle.cov_serve.specs.Finding.{Found, ◌>>=◌, by_code, unless as coded, completed_choice, found_choice, found_expression, found_option, found_partial}
 use Rattle.cov_serve.specs.Isolation.{HasSession, begins_or_ends, has_form, is_boundary, is_own, works_in}
-use Rattle.cov_serve.specs.States.{State, with_command, with_sessions}
-use Rattle.cov_serve.specs.Step.{Act, acted, added, appended, as_outcome, begun, committed, completed, constrained, declared, defaulted, deleted, dropped, ended, file_told, inserted, listed_at, made_in, moved, node_at, preferred, rebegun, removed, renamed, replaced, served, served_edit, served_session, served_text, shown, step, told}
+use Rattle.cov_serve.specs.States.{State, with_command, with_sessions, with_tree}
+use Rattle.cov_serve.specs.Step.{Act, Done, acted, checked_out, compared, done, is_taken, located, plainly, added, appended, as_outcome, begun, committed, completed, constrained, declared, defaulted, deleted, dropped, ended, file_told, inserted, listed_at, made_in, moved, node_at, preferred, rebegun, removed, renamed, replaced, served, served_edit, served_session, served_text, shown, step, told}
 use Rattle.cov_serve.proofs.NamedSessions.{named-before, named-has, named-kept, named-left}
 
 module _ (name : List ℕ) (s : NamedSession) (before : List Command) where
@@ -38,6 +40,15 @@ module _ (name : List ℕ) (s : NamedSession) (before : List Command) where
   abbrev Leaves : Act → Type 0
   Leaves (Ok done) = HasSession name s before done.0
   Leaves (Err code) = Unit {0}
+
+  -- the same of a line that may write rows
+  abbrev LeavesDone : Found Done → Type 0
+  LeavesDone (Ok done) = HasSession name s before done.state
+  LeavesDone (Err code) = Unit {0}
+
+  on-found-done : {X : Type 0} (found : Found X) (later : X → Found Done) → ((x : X) → LeavesDone (later x)) → LeavesDone (found >>= later)
+  on-found-done (Ok x) later h = h x
+  on-found-done (Err code) later h = tt
 
   -- what goes on from what is found leaves it, if it does from each
   on-found : {X : Type 0} (found : Found X) (later : X → Act) → ((x : X) → Leaves (later x)) → Leaves (found >>= later)
@@ -102,13 +113,16 @@ module _ (name : List ℕ) (s : NamedSession) (before : List Command) where
     listed_in-leaves true code reply = has
     listed_in-leaves false code reply = tt
 
+    has-tree : (tree : List ℕ) → HasSession name s before (with_tree st tree)
+    has-tree tree = record { there = has.there; within = has.within; same = has.same }
+
     -- lines that edit in the session of another name
     text-leaves : (form : Line) → works_in name form ≡ false → Leaves (served_text st form)
     unfolding served_text inserted deleted replaced
     text-leaves (lines.Insert n path line text) other = on-found (node_at st n path) _ (λ file. on-added st has n _ _ other)
     text-leaves (lines.Delete n path line) other = on-found (node_at st n path) _ (λ file. on-added st has n _ _ other)
     text-leaves (lines.Replace n path line text) other = on-found (node_at st n path) _ (λ file. on-added st has n _ _ other)
-    text-leaves _ other = tt
+    text-leaves _ other = has
 
     edit-leaves : (form : Line) → works_in name form ≡ false → Leaves (served_edit st form)
     unfolding served_edit made_in renamed moved removed
@@ -136,8 +150,7 @@ module _ (name : List ℕ) (s : NamedSession) (before : List Command) where
 
     -- lines of others of every form
     form-leaves : (form : Line) → works_in name form ≡ false → begins_or_ends name form ≡ false → Leaves (served st form)
-    unfolding served declared constrained preferred defaulted completed told file_told
-    form-leaves lines.Nothing other turned = has
+    unfolding served declared constrained preferred defaulted completed told file_told compared located
     form-leaves (lines.Option token) other turned = on-found (if is_option_name token then Ok token else Err BadName) _ (λ n. on-command st has (commands.Option n) _)
     form-leaves (lines.Constraint expr) other turned = on-found (found_expression st.history expr) _ (λ bound. on-command st has (commands.Constraint bound) _)
     form-leaves (lines.Prefer expr) other turned = on-found (found_expression st.history expr) _ (λ bound. on-command st has (commands.Prefer bound) _)
@@ -145,25 +158,40 @@ module _ (name : List ℕ) (s : NamedSession) (before : List Command) where
     form-leaves (lines.Complete bindings) other turned = on-found (found_choice st.history bindings) _ (λ c. has)
     form-leaves (lines.Cat bindings path) other turned =
         on-found (found_choice st.history bindings) _ (λ c. on-found (ok_or (path_node (replay c st.history).rows 0 path) NoSuchPath) _ (λ node. told_in-leaves _ _ _))
+    form-leaves (lines.Alt bindings token path) other turned =
+        on-found (found_partial st.history bindings) _ (λ partial. on-found (found_option st.history token) _ (λ option. on-found (completed_choice st.history partial) _ (λ c.
+        on-found (by_code alt_code (sides_at st.history c option path)) _ (λ ls. has))))
+    form-leaves (lines.Presence line) other turned = on-found (if is_no_line st.history line then Err NoSuchLine else Ok line) _ (λ there. has)
     form-leaves form other turned = session-leaves form other turned
 
-    acted-leaves : (line : List ℕ) → is_own name line ≡ false → is_boundary name line ≡ false → Leaves (acted st line)
+    plainly-leaves : (act : Act) → Leaves act → LeavesDone (plainly act)
+    plainly-leaves (Ok done) h = h
+    plainly-leaves (Err code) h = tt
+
+    done-form-leaves : (form : Line) → works_in name form ≡ false → begins_or_ends name form ≡ false → LeavesDone (done st form)
+    unfolding done checked_out
+    done-form-leaves (lines.Checkout tree bindings) other turned =
+        on-found-done (found_partial st.history bindings) _ (λ partial. on-found-done (if is_taken st tree then Err TreeTaken else Ok tree) _ (λ new.
+        on-found-done (completed_choice st.history partial) _ (λ c. has-tree new)))
+    done-form-leaves form other turned = plainly-leaves (served st form) (form-leaves form other turned)
+
+    acted-leaves : (line : List ℕ) → is_own name line ≡ false → is_boundary name line ≡ false → LeavesDone (acted st line)
     unfolding acted
     acted-leaves line other turned = at (nat_lt MOST_SCRIPT_LINE_BYTES (length line))
       where
-        of : (form : Result Line LineSyntax) → has_form (works_in name) form ≡ false → has_form (begins_or_ends name) form ≡ false → Leaves (by_code syntax_code form >>= served st)
-        of (Ok form) h k = form-leaves form h k
+        of : (form : Result Line LineSyntax) → has_form (works_in name) form ≡ false → has_form (begins_or_ends name) form ≡ false → LeavesDone (by_code syntax_code form >>= done st)
+        of (Ok form) h k = done-form-leaves form h k
         of (Err fault) h k = tt
 
-        at : (long : Bool) → Leaves ((if long then Err Long else Ok line) >>= (λ short. by_code syntax_code (form_of short) >>= (λ form. served st form)))
+        at : (long : Bool) → LeavesDone ((if long then Err Long else Ok line) >>= (λ short. by_code syntax_code (form_of short) >>= (λ form. done st form)))
         at true = tt
         at false = of (form_of line) other turned
 
-    done-leaves : (act : Act) → Leaves act → HasSession name s before (as_outcome st act).state
+    done-leaves : (act : Found Done) → LeavesDone act → HasSession name s before (as_outcome st act).state
     done-leaves (Ok done) h = h
     done-leaves (Err code) h = has
 
-    refused-leaves : (act : Act) → (as_outcome st act).is_refused ≡ true → HasSession name s before (as_outcome st act).state
+    refused-leaves : (act : Found Done) → (as_outcome st act).is_refused ≡ true → HasSession name s before (as_outcome st act).state
     refused-leaves (Ok done) h = absurd (cc)
     refused-leaves (Err code) h = has
 

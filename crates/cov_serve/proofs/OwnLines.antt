@@ -28,11 +28,11 @@ use Rattle.cov_session.specs.Open.{NamedSession}
 use Rattle.cov_session.specs.declared.fault.SessionFault.{SessionFault}
 use Rattle.cov_serve.specs.Codes.{session_code, syntax_code}
 use Rattle.cov_serve.specs.Editing.{directory_of, last_name, line_ref, node_ref}
-use Rattle.cov_serve.specs.Finding.{◌>>=◌, by_code}
+use Rattle.cov_serve.specs.Finding.{Found, ◌>>=◌, by_code}
 use Rattle.cov_serve.specs.Isolation.{HasSession, SeeAlike, has_form, is_own, works_in}
 use Rattle.cov_serve.specs.Replies.{directory_reply, seen_reply}
 use Rattle.cov_serve.specs.States.{State, with_sessions}
-use Rattle.cov_serve.specs.Step.{Act, acted, added, as_outcome, deleted, inserted, listed_at, made, made_in, moved, node_at, ref_at, removed, renamed, replaced, served, served_edit, served_session, served_text, shown, step}
+use Rattle.cov_serve.specs.Step.{Act, Done, acted, done, plainly, added, as_outcome, deleted, inserted, listed_at, made, made_in, moved, node_at, ref_at, removed, renamed, replaced, served, served_edit, served_session, served_text, shown, step}
 use Rattle.cov_serve.proofs.NamedSessions.{same-name}
 use Rattle.cov_serve.proofs.OwnActs.{IsQuiet, IsQuietFault, added-is, fault-quiet, fault_on, grown, has-grown, node-is, node_on, view_on}
 
@@ -41,6 +41,12 @@ abbrev pub AreAlike : List ℕ → Act → Act → Type 0
 AreAlike name (Ok one) (Ok other) = SeeAlike name one.0 other.0 × (one.1 ≡ other.1)
 AreAlike name (Err code) (Err fault) = (code ≡ fault) × IsQuiet code
 AreAlike name _ _ = ⊥
+
+-- the same of lines that may write rows
+abbrev AreDoneAlike : List ℕ → Found Done → Found Done → Type 0
+AreDoneAlike name (Ok one) (Ok other) = SeeAlike name one.state other.state × (one.reply ≡ other.reply)
+AreDoneAlike name (Err code) (Err fault) = (code ≡ fault) × IsQuiet code
+AreDoneAlike name _ _ = ⊥
 
 module _ (name : List ℕ) (s : NamedSession) (before : List Command) (one other : State) (in_one : HasSession name s before one) (in_other : HasSession name s before other) where
   as_before : SeeAlike name one other
@@ -152,16 +158,27 @@ module _ (name : List ℕ) (s : NamedSession) (before : List Command) (one other
   form-alike (lines.List n path) own = by-name n (λ m. listed_at one m path) (λ m. listed_at other m path) own (listed-alike path)
   form-alike _ own = absurd (cc)
 
-  acted-alike : (line : List ℕ) → is_own name line ≡ true → AreAlike name (acted one line) (acted other line)
+  plainly-alike : (x y : Act) → AreAlike name x y → AreDoneAlike name (plainly x) (plainly y)
+  plainly-alike (Ok x) (Ok y) h = h
+  plainly-alike (Err c) (Err d) h = h
+  plainly-alike (Ok x) (Err d) h = absurd h
+  plainly-alike (Err c) (Ok y) h = absurd h
+
+  done-alike : (form : Line) → works_in name form ≡ true → AreDoneAlike name (done one form) (done other form)
+  unfolding done
+  done-alike (lines.Checkout tree bindings) own = absurd (cc)
+  done-alike form own = plainly-alike (served one form) (served other form) (form-alike form own)
+
+  acted-alike : (line : List ℕ) → is_own name line ≡ true → AreDoneAlike name (acted one line) (acted other line)
   unfolding acted
   acted-alike line own = at (nat_lt MOST_SCRIPT_LINE_BYTES (length line))
     where
-      of : (form : Result Line LineSyntax) → has_form (works_in name) form ≡ true → AreAlike name (by_code syntax_code form >>= served one) (by_code syntax_code form >>= served other)
-      of (Ok form) h = form-alike form h
+      of : (form : Result Line LineSyntax) → has_form (works_in name) form ≡ true → AreDoneAlike name (by_code syntax_code form >>= done one) (by_code syntax_code form >>= done other)
+      of (Ok form) h = done-alike form h
       of (Err fault) h = absurd (cc)
 
-      at : (long : Bool) → AreAlike name ((if long then Err Long else Ok line) >>= (λ short. by_code syntax_code (form_of short) >>= (λ form. served one form)))
-          ((if long then Err Long else Ok line) >>= (λ short. by_code syntax_code (form_of short) >>= (λ form. served other form)))
+      at : (long : Bool) → AreDoneAlike name ((if long then Err Long else Ok line) >>= (λ short. by_code syntax_code (form_of short) >>= (λ form. done one form)))
+          ((if long then Err Long else Ok line) >>= (λ short. by_code syntax_code (form_of short) >>= (λ form. done other form)))
       at true = (refl, λ names others. refl)
       at false = of (form_of line) own
 
@@ -170,7 +187,7 @@ module _ (name : List ℕ) (s : NamedSession) (before : List Command) (one other
   unfolding step
   own-alike line own = at (acted one line) (acted other line) (acted-alike line own)
     where
-      at : (x y : Act) → AreAlike name x y → ((as_outcome one x).reply ≡ (as_outcome other y).reply) × SeeAlike name (as_outcome one x).state (as_outcome other y).state
+      at : (x y : Found Done) → AreDoneAlike name x y → ((as_outcome one x).reply ≡ (as_outcome other y).reply) × SeeAlike name (as_outcome one x).state (as_outcome other y).state
       at (Ok x) (Ok y) h = (h.1, h.0)
       at (Err c) (Err d) h = (h.1 (options_of one.history) (options_of other.history) ∙ ap (refused_reply (options_of other.history)) h.0, as_before)
       at (Ok x) (Err d) h = absurd h

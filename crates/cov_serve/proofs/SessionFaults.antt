@@ -52,11 +52,11 @@ taken-declared n history ss name es (faults.Incomplete option) h = absurd (at (n
 taken-declared n history ss name es fault h = tt
 
 -- where the session of a name doesn't take edits, nothing changes
-pub edit-stops : (st new : State) (history : List Command) (ss : List SessionValue) (name : List ℕ) (es : List Edit) (fault : SessionFault)
-    → (let kept : State = record { history = history; sessions = map as_named ss } in kept) ≡ st → new ≡ st → AreOpen history ss
+pub edit-stops : (st new : State) (history : List Command) (ss : List SessionValue) (trees : List (List ℕ)) (name : List ℕ) (es : List Edit) (fault : SessionFault)
+    → (let kept : State = record { history = history; sessions = map as_named ss; trees = trees } in kept) ≡ st → new ≡ st → AreOpen history ss
     → ((h : List Command) → AreOpen h ss → IsFaultOf (taken h (map as_named ss) name es) fault)
     → Stops (added st name es) st new (session_stop fault)
-edit-stops st new history ss name es fault is same opens refused =
+edit-stops st new history ss trees name es fault is same opens refused =
     let own : IsFaultOf (taken st.history st.sessions name es) fault = subst (λ (t : State). IsFaultOf (taken t.history t.sessions name es) fault) is (refused history opens) in
     stops-later (by_code session_code (taken st.history st.sessions name es)) (λ left. Ok (with_sessions st left)) st new (session_stop fault)
     (fault-stops (taken st.history st.sessions name es) st new fault same own (taken-declared (option_count st.history) st.history st.sessions name es fault own))

@@ -1,13 +1,11 @@
 -- Files and directories that are told.
 use Rattle.std.proofs.Common.{◌≡◌, ℕ, Bool, true, false, ◌&&◌, not, List, map, length, take, Ok, Err, sym, ap, subst, ◌∙◌, refl}
 use Rattle.std.proofs.lemmas.Bool.{and_parts}
-use Rattle.std.specs.Prelude.{IsErrOf, Option, Some, None, is_some, ok_or, if◌then◌else◌}
-use Rattle.std.specs.List.{AllByRecursion}
+use Rattle.std.specs.Prelude.{IsErrOf, ok_or, if◌then◌else◌}
 use Rattle.cov_base.specs.declared.number.NodeRef.{NodeRef}
 use Rattle.cov_edit.specs.Numbering.{Numbers, node_number, numbers_of}
 use Rattle.cov_edit.specs.Variant.{Variant, lines_of}
-use Rattle.cov_view.specs.Paths.{AreLinesOf, path_node}
-use Rattle.cov_view.specs.References.{is_made_line}
+use Rattle.cov_view.specs.Paths.{AreLinesOf}
 use Rattle.cov_view.specs.Refusals.{is_dir}
 use Rattle.cov_view.specs.Seen.{Seen}
 use Rattle.cov_view.specs.Views.{Shows, by_number}
@@ -25,13 +23,16 @@ use Rattle.cov_serve.specs.Acting.{Stops}
 use Rattle.cov_serve.specs.Finding.{◌>>=◌}
 use Rattle.cov_serve.specs.Seeing.{IsNodeAt}
 use Rattle.cov_serve.specs.Step.{file_told, listed_at, listed_in, shown, shown_in, told_in}
-use Rattle.cov_serve.specs.Stops.{list_stop, read_stop}
+use Rattle.cov_serve.specs.Stops.{file_stop, list_stop, read_stop}
 use Rattle.cov_session.specs.Open.{NamedSession, table_of}
-use Rattle.cov_serve.specs.Listing.{told_line}
-use Rattle.cov_serve.specs.declared.reply.LineNames.TheVariants.{ByNumber, ByReference}
+use Rattle.cov_serve.specs.Listing.{file_line, view_line}
+use Rattle.cov_engine.specs.Reading.{IsFileAt, line_row}
+use Rattle.cov_engine.specs.declared.reading.FileFault.{FileFault}
+use Rattle.cov_engine.specs.declared.reading.FileFault.TheVariants as files
+use Rattle.cov_file.specs.declared.row.FileRow.{FileRow}
 use Rattle.cov_serve.specs.Replies.{directory_reply, file_reply, lines_reply, seen_reply}
 use Rattle.cov_serve.specs.States.{State}
-use Rattle.cov_serve.proofs.ToldLines.{by-number, by-reference}
+use Rattle.cov_serve.proofs.ToldLines.{by-reference, by-row}
 
 not-true : (b : Bool) → not b ≡ true → b ≡ false
 not-true true h = absurd (cc)
@@ -68,7 +69,7 @@ module _ {st : State} {name : List ℕ} {path : List (List ℕ)} {view : Seen} {
   -- the lines of a file are told as the session sees them
   pub shown-lines : (ls : List ViewLine) (text : List ℕ)
       → ((numbers : Numbers) (addresses : List (List ℕ)) (variant : Variant) → Shows numbers addresses view variant → AreLinesOf numbers view.lines_made variant ref ls)
-      → text ≡ lines_reply (told_line ByReference) ls → shown st name path ≡ Ok (st, text)
+      → text ≡ lines_reply view_line ls → shown st name path ≡ Ok (st, text)
   shown-lines ls text lines is =
       let own : AreLinesOf ns view.lines_made v ref ls = seen-so (λ numbers variant. AreLinesOf numbers view.lines_made variant ref ls) lines in
       let number = found.is_seen.number in
@@ -126,32 +127,22 @@ module _ {st : State} {name : List ℕ} {path : List (List ℕ)} {view : Seen} {
       }
   list-stops lists.Memory absent file = tt
 
-pub none-there : {X : Type 0} (found : Option X) → found ≡ None → is_some found ≡ true → ⊥
-none-there None e h = absurd (cc)
-none-there (Some x) e h = absurd (cc)
+-- the lines of the file at a path of a variant are told
+pub told-lines : (st : State) (v : Variant) (path : List (List ℕ)) (node : ℕ) (rows : List FileRow) (text : List ℕ) → IsFileAt v path (Ok node) → rows ≡ map line_row (lines_of v node)
+    → text ≡ lines_reply file_line rows → file_told st v path ≡ Ok (st, text)
+unfolding file_told
+told-lines st v path node rows text found lines is =
+    ap (λ o. ok_or o NoSuchPath >>= told_in st v) found.0
+    ∙ ap (λ b. if b then Err NotFile else Ok (st, file_reply (map by_number (lines_of v node)))) found.1
+    ∙ ap (λ t. Ok (st, t)) (sym (is ∙ ap (lines_reply file_line) lines ∙ by-row (lines_of v node)))
 
-module _ (st : State) (ns : Numbers) (v : Variant) (file : NodeRef) (path : List (List ℕ)) (found : Some (node_number ns.nodes file) ≡ path_node v.rows 0 path) where
-  told-at : file_told st v path ≡ told_in st v (node_number ns.nodes file)
-  unfolding file_told
-  told-at = ap (λ o. ok_or o NoSuchPath >>= (λ (node : ℕ). told_in st v node)) (sym found)
-
-  -- the lines of a file are told
-  pub told-lines : (made : ℕ) (ls : List ViewLine) (text : List ℕ) → made ≡ 0 → AreLinesOf ns made v file ls → text ≡ lines_reply (told_line ByNumber) ls → file_told st v path ≡ Ok (st, text)
-  told-lines made ls text none lines is =
-      told-at
-      ∙ ap (λ b. if b then Err NotFile else Ok (st, file_reply (map by_number (lines_of v (node_number ns.nodes file))))) lines.is_file
-      ∙ ap (λ t. Ok (st, t)) (sym (is ∙ by-number ns ls (subst (λ n. AllByRecursion (λ l. is_made_line (length ns.addresses) n l.line ≡ true) ls) none lines.made) ∙ ap file_reply lines.lines))
-
-  -- what can't be read is refused
-  pub told-stops : (fault : ReadFaultOfView)
-      → (IsErrOf {T = List ViewLine} (Err fault) reads.NoSuchNode → ⊥)
-      → (IsErrOf {T = List ViewLine} (Err fault) reads.NotFile → (shows_node ns v file && is_dir v.rows (node_number ns.nodes file)) ≡ true)
-      → Stops (file_told st v path) st st (read_stop fault)
-  told-stops reads.NoSuchNode absent dir = absurd (absent refl)
-  told-stops reads.NotFile absent dir = record {
-    is = told-at
-        ∙ ap (λ b. if b then Err NotFile else Ok (st, file_reply (map by_number (lines_of v (node_number ns.nodes file))))) (and_parts (shows_node ns v file) (is_dir v.rows (node_number ns.nodes file)) (dir refl)).1;
-    same = refl;
-    told = tt;
-  }
-  told-stops reads.Memory absent dir = tt
+-- a path that leads to no file is refused
+pub told-stops : (st : State) (v : Variant) (path : List (List ℕ)) (fault : FileFault) → IsFileAt v path (Err fault) → Stops (file_told st v path) st st (file_stop fault)
+unfolding file_told
+told-stops st v path files.NoSuchPath none = record { is = ap (λ o. ok_or o NoSuchPath >>= told_in st v) none; same = refl; told = tt }
+told-stops st v path files.NotFile dir = record {
+  is = ap (λ o. ok_or o NoSuchPath >>= told_in st v) dir.1 ∙ ap (λ b. if b then Err NotFile else Ok (st, file_reply (map by_number (lines_of v dir.0)))) dir.2;
+  same = refl;
+  told = tt;
+}
+told-stops st v path files.Memory none = tt

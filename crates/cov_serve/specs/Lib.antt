@@ -12,3 +12,4 @@ pub mod States
 pub mod Step
 pub mod Stops
 pub mod Texts
+pub mod Written

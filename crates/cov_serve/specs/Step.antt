@@ -1,5 +1,7 @@
 -- The model of the program: what one line of a script does.
 use Rattle.std.specs.Prelude.{ℕ, ◌+◌, Bool, true, false, nat_lt, List, [], ◌∷◌, ◌++◌, length, map, take, ok_or, option_map, Ok, Err, if◌then◌else◌}
+use Rattle.std.specs.List.{list_any}
+use Rattle.std.specs.Str.{bytes_eq}
 use Rattle.cov_base.specs.Lines.{lines_of as script_lines}
 use Rattle.cov_base.specs.Spelling.{is_option_name}
 use Rattle.cov_base.specs.declared.number.Kind.{Kind}
@@ -14,7 +16,7 @@ use Rattle.cov_script.specs.declared.line.Line.TheVariants as lines
 use Rattle.cov_script.specs.declared.line.LineField.{LineField}
 use Rattle.cov_script.specs.Replies.{refused_reply, option_reply, constraint_reply, prefer_reply, default_reply, complete_reply, open_reply, refresh_reply, plain_reply, new_line_reply, commit_reply}
 use Rattle.cov_script.specs.declared.code.Code.{Code}
-use Rattle.cov_script.specs.declared.code.Code.TheVariants.{Long, BadName, NotBuilt, NoSession, NoSuchPath, NotFile, NotDirectory}
+use Rattle.cov_script.specs.declared.code.Code.TheVariants.{Long, BadName, NoSession, NoSuchLine, NoSuchPath, NotFile, NotDirectory, TreeTaken}
 use Rattle.cov_edit.specs.declared.edit.Edit.{Edit}
 use Rattle.cov_edit.specs.declared.edit.Edit.TheVariants as edits
 use Rattle.cov_edit.specs.declared.command.Command.{Command}
@@ -26,23 +28,40 @@ use Rattle.cov_edit.specs.Variant.{Variant, lines_of}
 use Rattle.cov_view.specs.Listing.{listed}
 use Rattle.cov_view.specs.Paths.{path_node}
 use Rattle.cov_view.specs.Refusals.{is_dir}
+use Rattle.cov_view.specs.Tree.{tree_of}
 use Rattle.cov_view.specs.Views.{by_number}
+use Rattle.cov_view.specs.declared.tree.TreeRow.{TreeRow}
 use Rattle.cov_history.specs.Sessions.{Session, seen, commit_of}
 use Rattle.cov_history.specs.Verdict.{verdict}
+use Rattle.cov_engine.specs.Visibility.{is_no_line, presence_of}
+use Rattle.cov_alt.specs.Sides.{sides_at}
+use Rattle.cov_out.specs.declared.row.OutRow.{OutRow}
 use Rattle.cov_session.specs.Calls.{opened_among, refreshed_among, taken}
 use Rattle.cov_session.specs.Counting.{line_made, own_lines}
 use Rattle.cov_session.specs.Named.{named, with_session, without}
 use Rattle.cov_session.specs.Open.{NamedSession}
 use Rattle.cov_loop.specs.Outcome.{Outcome, answers}
-use Rattle.cov_serve.specs.Codes.{syntax_code, refusal_code, session_code}
+use Rattle.cov_serve.specs.Codes.{alt_code, syntax_code, refusal_code, session_code}
 use Rattle.cov_serve.specs.Editing.{directory_of, last_name, ref_in, line_ref}
-use Rattle.cov_serve.specs.Finding.{Found, by_code, unless, ◌>>=◌, found_option, found_expression, found_partial, found_choice}
-use Rattle.cov_serve.specs.Replies.{directory_reply, edit_reply, file_reply, seen_reply}
-use Rattle.cov_serve.specs.States.{State, at_start, with_command, with_sessions}
+use Rattle.cov_serve.specs.Finding.{Found, by_code, unless, ◌>>=◌, completed_choice, found_option, found_expression, found_partial, found_choice}
+use Rattle.cov_serve.specs.Replies.{directory_reply, edit_reply, file_reply, lines_reply, marked_line, presence_reply, seen_reply}
+use Rattle.cov_serve.specs.States.{State, at_start, with_command, with_sessions, with_tree}
+use Rattle.cov_serve.specs.Written.{rows_in, tree_reply}
 
--- what a line does: the state after it with its reply, or the code by which it is refused
+-- what a line does that writes no rows: the state after it with its reply, or the code by which it is refused
 abbrev pub Act : Type 0
 Act = Found (State × List ℕ)
+
+-- a line that is done: the state after it, its reply, and the rows that it writes
+pub record Done : Type 0 where
+  pub state : State
+  pub reply : List ℕ
+  pub rows : List OutRow
+
+-- what a line does that writes no rows, as one that may
+abbrev pub plainly : Act → Found Done
+plainly (Ok done) = Ok (record { state = done.0; reply = done.1; rows = [] })
+plainly (Err code) = Err code
 
 -- a command is appended, unless the history refuses it
 abbrev pub appended : State → Command → Found State
@@ -234,12 +253,43 @@ told st bindings path = do
   c ← found_choice st.history bindings
   file_told st (replay c st.history) path
 
--- what a line does that edits lines in a session; no other form is served
+-- on which choices a line is, its file there or not, is told by the one reduced listing
+unfoldable pub located : State → ℕ → Act
+located st line = do
+  there ← (if is_no_line st.history line then Err NoSuchLine else Ok line)
+  Ok (st, presence_reply (options_of st.history) (presence_of st.history there))
+
+-- the lines of a file with an option on and with it off are told, in the variant of the choice to which the rules complete bindings
+unfoldable pub compared : State → List (List ℕ × Bool) → List ℕ → List (List ℕ) → Act
+compared st bindings token path = do
+  partial ← found_partial st.history bindings
+  option ← found_option st.history token
+  choice ← completed_choice st.history partial
+  ls ← by_code alt_code (sides_at st.history choice option path)
+  Ok (st, lines_reply marked_line ls)
+
+-- whether a checkout has used a name
+abbrev pub is_taken : State → List ℕ → Bool
+is_taken st tree = list_any (bytes_eq tree) st.trees
+
+-- the tree of a variant is written, and its name is used
+abbrev pub written : State → List ℕ → List TreeRow → Done
+written st tree rows = record { state = with_tree st tree; reply = tree_reply tree rows; rows = rows_in tree rows }
+
+-- a tree is written: that of the variant of the choice to which the rules complete bindings
+unfoldable pub checked_out : State → List ℕ → List (List ℕ × Bool) → Found Done
+checked_out st tree bindings = do
+  partial ← found_partial st.history bindings
+  new ← (if is_taken st tree then Err TreeTaken else Ok tree)
+  choice ← completed_choice st.history partial
+  Ok (written st new (tree_of (replay choice st.history)))
+
+-- what a line does that edits lines in a session; one of no other form has no reply
 unfoldable pub served_text : State → Line → Act
 served_text st (lines.Insert name path line text) = inserted st name path line text
 served_text st (lines.Delete name path line) = deleted st name path line
 served_text st (lines.Replace name path line text) = replaced st name path line text
-served_text st _ = Err NotBuilt
+served_text st _ = Ok (st, [])
 
 -- what a line does that edits nodes or lines in a session
 unfoldable pub served_edit : State → Line → Act
@@ -260,31 +310,37 @@ served_session st (lines.Commit name) = committed st name
 served_session st (lines.Discard name) = dropped st name
 served_session st line = served_edit st line
 
--- what a line of a form does
+-- what a line of a form does that writes no rows
 unfoldable pub served : State → Line → Act
-served st lines.Nothing = Ok (st, [])
 served st (lines.Option token) = declared st token
 served st (lines.Constraint expr) = constrained st expr
 served st (lines.Prefer expr) = preferred st expr
 served st (lines.Default token on) = defaulted st token on
 served st (lines.Complete bindings) = completed st bindings
 served st (lines.Cat bindings path) = told st bindings path
+served st (lines.Alt bindings token path) = compared st bindings token path
+served st (lines.Presence line) = located st line
 served st line = served_session st line
 
+-- what a line of a form does
+unfoldable pub done : State → Line → Found Done
+done st (lines.Checkout tree bindings) = checked_out st tree bindings
+done st line = plainly (served st line)
+
 -- what a line does
-unfoldable pub acted : State → List ℕ → Act
+unfoldable pub acted : State → List ℕ → Found Done
 acted st line = do
   short ← (if nat_lt MOST_SCRIPT_LINE_BYTES (length line) then Err Long else Ok line)
   form ← by_code syntax_code (form_of short)
-  served st form
+  done st form
 
 -- what every refusal is: the same state, and the reply that names it
 abbrev pub refused : State → Code → Outcome State
-refused st code = record { state = st; reply = refused_reply (options_of st.history) code; is_refused = true }
+refused st code = record { state = st; reply = refused_reply (options_of st.history) code; rows = []; is_refused = true }
 
 -- a line that is done, or refused
-abbrev pub as_outcome : State → Act → Outcome State
-as_outcome st (Ok done) = record { state = done.0; reply = done.1; is_refused = false }
+abbrev pub as_outcome : State → Found Done → Outcome State
+as_outcome st (Ok done) = record { state = done.state; reply = done.reply; rows = done.rows; is_refused = false }
 as_outcome st (Err code) = refused st code
 
 -- what a line comes to

@@ -1,4 +1,6 @@
 -- Why a line isn't done: by the code of each fault, but where memory is wanting.
+use Rattle.cov_alt.specs.declared.fault.AltFault.{AltFault}
+use Rattle.cov_alt.specs.declared.fault.AltFault.TheVariants as sides
 use Rattle.cov_base.specs.declared.error.BadName.{BadName}
 use Rattle.cov_base.specs.declared.error.MemoryOr.{MemoryOr}
 use Rattle.cov_base.specs.declared.error.MemoryOr.TheVariants as memory_or
@@ -15,6 +17,9 @@ use Rattle.cov_view.specs.declared.fault.ListFault.{ListFault}
 use Rattle.cov_view.specs.declared.fault.ListFault.TheVariants as lists
 use Rattle.cov_view.specs.declared.fault.ReadFaultOfView.{ReadFaultOfView}
 use Rattle.cov_view.specs.declared.fault.ReadFaultOfView.TheVariants as reads
+use Rattle.cov_engine.specs.declared.engine.NoSuchLine.{NoSuchLine}
+use Rattle.cov_engine.specs.declared.reading.FileFault.{FileFault}
+use Rattle.cov_engine.specs.declared.reading.FileFault.TheVariants as files
 use Rattle.cov_history.specs.declared.refusal.Refusal.{Refusal}
 use Rattle.cov_history.specs.declared.refusal.Refusal.TheVariants as refusals
 use Rattle.cov_rules.specs.declared.completing.CompleteFault.{CompleteFault}
@@ -22,7 +27,7 @@ use Rattle.cov_rules.specs.declared.completing.CompleteFault.TheVariants as comp
 use Rattle.cov_session.specs.declared.fault.SessionFault.{SessionFault}
 use Rattle.cov_session.specs.declared.fault.SessionFault.TheVariants as sessions
 use Rattle.cov_session.specs.declared.fault.NoSession.{NoSession}
-use Rattle.cov_serve.specs.Codes.{bind_code, edit_code, name_code, refusal_code, session_code, syntax_code}
+use Rattle.cov_serve.specs.Codes.{alt_code, bind_code, edit_code, name_code, refusal_code, session_code, syntax_code}
 use Rattle.cov_serve.specs.declared.stop.Stop.{Stop}
 use Rattle.cov_serve.specs.declared.stop.Stop.TheVariants as stops
 
@@ -88,3 +93,19 @@ command_stop (memory_or.Refused none) = stops.Refused codes.NoSession
 abbrev pub refusal_stop : Refusal → Stop
 refusal_stop refusals.Memory = stops.Memory
 refusal_stop refusal = stops.Refused (refusal_code refusal)
+
+-- a path that leads to no file
+abbrev pub file_stop : FileFault → Stop
+file_stop files.Memory = stops.Memory
+file_stop files.NoSuchPath = stops.Refused codes.NoSuchPath
+file_stop files.NotFile = stops.Refused codes.NotFile
+
+-- a line that the history doesn't have
+abbrev pub no_line_stop : MemoryOr NoSuchLine → Stop
+no_line_stop memory_or.Memory = stops.Memory
+no_line_stop (memory_or.Refused none) = stops.Refused codes.NoSuchLine
+
+-- two sides that can't be told
+abbrev pub alt_stop : AltFault → Stop
+alt_stop sides.Memory = stops.Memory
+alt_stop fault = stops.Refused (alt_code fault)

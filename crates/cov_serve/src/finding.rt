@@ -1,10 +1,10 @@
 // What a line names in the history: options, expressions and choices.
-ghost use Rattle.std.specs.Prelude.{◌≡◌, ◌<◌, ◌≤◌, true, nat_lt, length, IfOk};
+ghost use Rattle.std.specs.Prelude.{◌≡◌, ◌<◌, ◌≤◌, true, nat_lt, length, None, IfOk};
 ghost use Rattle.std.specs.List.{list_all};
 ghost use Rattle.cov_expr.specs.Formula.{reach};
-ghost use Rattle.cov_edit.specs.History.{option_count};
+ghost use Rattle.cov_edit.specs.History.{first_false_in, option_count};
 ghost use Rattle.cov_serve.specs.Acting.{Finds};
-ghost use Rattle.cov_serve.specs.Finding.{found_choice, found_expression, found_option, found_partial};
+ghost use Rattle.cov_serve.specs.Finding.{completed_choice, found_choice, found_expression, found_option, found_partial};
 
 use crate::server::Server;
 use crate::stop::Stop;
@@ -41,14 +41,25 @@ impl Server {
         Ok(choice.bind(self.alloc, self.engine.options())?)
     }
 
+    /// The choice to which the rules complete a partial one. It is valid.
+    pub(crate) fn complete_partial(&mut self, partial: &Partial) -> Result<Choice, Stop>
+        requires { list_all (λ b. nat_lt b.0 (option_count self.old.history)) partial.now ≡ true }
+        ensures found { Finds (completed_choice self.old.history partial.now) self.old result }
+        ensures same { self.new ≡ self.old }
+        ensures whole { IfOk result (λ choice. length choice ≡ option_count self.old.history) }
+        ensures valid { IfOk result (λ choice. first_false_in self.old.history choice ≡ None) }
+    {
+        open_options_are_declared();
+        Ok(self.engine.complete(partial)?)
+    }
+
     /// The choice to which the rules complete bindings.
     pub(crate) fn find_choice(&mut self, choice: &RawChoice) -> Result<Choice, Stop>
         ensures found { Finds (found_choice self.old.history choice.now) self.old result }
         ensures same { self.new ≡ self.old }
         ensures whole { IfOk result (λ choice. length choice ≡ option_count self.old.history) }
     {
-        open_options_are_declared();
         let partial = self.find_partial(choice)?;
-        Ok(self.engine.complete(&partial)?)
+        self.complete_partial(&partial)
     }
 }

@@ -1,12 +1,14 @@
 //! Serves the lines of a script, one after another, and is the whole program but for its real devices.
 #![tactic(auto)]
 
+mod comparing;
 mod declaring;
 mod editing;
 mod ending;
 mod finding;
 pub mod laws;
 mod line;
+mod locating;
 mod opening;
 mod program;
 mod reply;
@@ -16,6 +18,8 @@ mod server;
 mod serving;
 mod stop;
 mod telling;
+mod tree_names;
+mod writing;
 
 pub use cov_loop::{Answer, Status};
 pub use line::serve_line;

@@ -1,66 +1,86 @@
-// The texts of replies that aren't one line of a form alone.
-ghost use Rattle.std.specs.Prelude.{◌≡◌, IfOk};
-ghost use Rattle.cov_serve.specs.Listing.{number_within, told_line};
-ghost use Rattle.cov_serve.specs.Replies.{directory_reply, lines_reply};
+// The texts of replies of several lines.
+ghost use Rattle.std.specs.Prelude.{◌≡◌, ◌++◌, ℕ, List, IfOk, OnOk};
+ghost use Rattle.cov_serve.specs.Replies.{lines_reply, mark_byte};
 
-use cov_base::{LineNo, LineRef, Memory, Text, Texts};
-use cov_script::{cat_line, list_line, reply_count, show_line, whole};
-use cov_view::{DirRows, ViewLine, ViewLines};
+use cov_alt::{AltLine, Mark};
+use cov_base::{Memory, Text};
+use cov_file::FileRow;
+use cov_script::{alt_line, append_cat_line, list_line, reply_count, show_line};
+use cov_view::{DirRow, ViewLine};
 use std::alloc::Global;
 
-/// How lines are named where they are told.
-#[derive(Clone, Copy)]
-pub enum LineNames {
-    /// By their numbers in the history.
-    ByNumber,
-    /// As a session names them: those of its own by their numbers among these.
-    ByReference,
+/// What is told in one line of a reply.
+pub(crate) trait Told {
+    /// The line, with its end.
+    ghost line: { Self → List ℕ };
+
+    /// Appends the line to a reply.
+    fn tell(&self, alloc: Global, reply: &mut Text) -> Result<(), Memory>
+        ensures { OnOk result (reply.new ≡ reply.old ++ line self.now) };
 }
 
-/// The reply that tells the lines of a file.
-pub fn lines_reply(alloc: Global, names: LineNames, lines: &ViewLines) -> Result<Text, Memory>
-    ensures { IfOk result (λ text. text ≡ lines_reply (told_line names) lines.now) }
-{
-    let first = reply_count(alloc, lines.len() as u64)?;
-    let mut rows = Texts::new(alloc);
-    let mut index = 0;
-    'lines: while let Some(line) = lines.get(index) {
-        rows.push(tell_line(alloc, names, line)?)?;
-        index += 1;
-    }
-    whole(&first, &rows)
-}
+impl Told for FileRow {
+    ghost use Rattle.cov_serve.specs.Listing.{file_line};
 
-/// The reply that tells what is in a directory.
-pub fn directory_reply(alloc: Global, nodes: &DirRows) -> Result<Text, Memory>
-    ensures { IfOk result (λ text. text ≡ directory_reply nodes.now) }
-{
-    let first = reply_count(alloc, nodes.len() as u64)?;
-    let mut rows = Texts::new(alloc);
-    let mut index = 0;
-    'nodes: while let Some(node) = nodes.get(index) {
-        rows.push(list_line(alloc, node.kind, &node.name)?)?;
-        index += 1;
-    }
-    whole(&first, &rows)
-}
+    ghost line = { file_line };
 
-// A line with its text.
-fn tell_line(alloc: Global, names: LineNames, line: &ViewLine) -> Result<Text, Memory>
-    ensures { IfOk result (λ text. text ≡ told_line names line.now) }
-{
-    match names {
-        LineNames::ByNumber => cat_line(alloc, number_within(line.line), &line.text),
-        LineNames::ByReference => show_line(alloc, line.line, &line.text),
+    fn tell(&self, alloc: Global, reply: &mut Text) -> Result<(), Memory> {
+        append_cat_line(alloc, reply, self.line, &self.text)
     }
 }
 
-// The number of a line in the history or, of one that edits made, among theirs.
-fn number_within(line: LineRef) -> LineNo
-    ensures { result ≡ number_within line }
-{
-    match line {
-        LineRef::Old(line) => line,
-        LineRef::New(number) => LineNo::new(number),
+impl Told for ViewLine {
+    ghost use Rattle.cov_serve.specs.Listing.{view_line};
+
+    ghost line = { view_line };
+
+    fn tell(&self, alloc: Global, reply: &mut Text) -> Result<(), Memory> {
+        let line = show_line(alloc, self.line, &self.text)?;
+        reply.append(line.as_slice())
     }
+}
+
+impl Told for DirRow {
+    ghost use Rattle.cov_serve.specs.Replies.{node_line};
+
+    ghost line = { node_line };
+
+    fn tell(&self, alloc: Global, reply: &mut Text) -> Result<(), Memory> {
+        let line = list_line(alloc, self.kind, &self.name)?;
+        reply.append(line.as_slice())
+    }
+}
+
+impl Told for AltLine {
+    ghost use Rattle.cov_serve.specs.Replies.{marked_line};
+
+    ghost line = { marked_line };
+
+    fn tell(&self, alloc: Global, reply: &mut Text) -> Result<(), Memory> {
+        let line = alt_line(alloc, mark_byte(self.mark), self.line, &self.text)?;
+        reply.append(line.as_slice())
+    }
+}
+
+fn mark_byte(mark: Mark) -> u8
+    ensures { result ≡ mark_byte mark }
+{
+    match mark {
+        Mark::Both => b'=',
+        Mark::OnOnly => b'+',
+        Mark::OffOnly => b'-',
+    }
+}
+
+/// The reply that tells rows: how many there are, then a line for each.
+pub(crate) fn lines_reply<T: Told>(alloc: Global, rows: &[T]) -> Result<Text, Memory>
+    ensures { IfOk result (λ text. text ≡ lines_reply T.line rows.now) }
+{
+    let mut reply = reply_count(alloc, rows.len() as u64)?;
+    let mut ahead = rows;
+    'rows: while let [row, rest @ ..] = ahead {
+        row.tell(alloc, &mut reply)?;
+        ahead = rest;
+    }
+    Ok(reply)
 }

@@ -9,7 +9,7 @@ use cov_script::Code;
 use std::marker::Model;
 
 /// A server, as the loop over a script serves lines with it. It is the crate's own: outside, a line is served by `serve_line`
-/// and `run` alone, which put its reply.
+/// and `run` alone, which write its rows and put its reply.
 #[derive(Drop)]
 pub(crate) struct ScriptServer {
     pub(crate) server: Server,
@@ -27,7 +27,7 @@ impl Model for ScriptServer {
 }
 
 impl LineServer for ScriptServer {
-    ghost use Rattle.cov_serve.specs.Laws.{refusal_told};
+    ghost use Rattle.cov_serve.specs.Laws.{refusal_told, rows_told};
     ghost use Rattle.cov_serve.specs.Step.{step};
 
     ghost step = { step };
@@ -35,7 +35,7 @@ impl LineServer for ScriptServer {
     #[tactic(auto, unfolding(crate::specs::Step::step))]
     fn answer(&mut self, line: &[u8]) -> Result<Reply, Memory> {
         match self.server.act(line) {
-            Ok(text) => Ok(Reply::to_done(text)),
+            Ok(reply) => Ok(reply),
             Err(Stop::Refused(code)) => self.server.refuse(&code),
             Err(Stop::Memory) => Err(Memory),
         }
@@ -46,6 +46,8 @@ impl LineServer for ScriptServer {
     }
 
     ghost refusal_told = { refusal_told };
+
+    ghost rows_told = { rows_told };
 }
 
 /// Drops a server, in the one place where that is done.

@@ -2,18 +2,20 @@
 ghost use Rattle.std.specs.Prelude.{◌≡◌, IfOk};
 ghost use Rattle.cov_serve.specs.States.{at_start};
 
+use crate::tree_names::TreeNames;
 use cov_base::Memory;
 use cov_engine::Engine;
 use cov_session::Sessions;
 use std::alloc::Global;
 use std::marker::Model;
 
-/// What the script has made so far: the history, and the sessions that are open.
+/// What the script has made so far: the history, the sessions that are open, and the names of the trees that were written.
 #[derive(Drop)]
 pub struct Server {
     pub(crate) alloc: Global,
     pub(crate) engine: Engine,
     pub(crate) sessions: Sessions,
+    pub(crate) trees: TreeNames,
 }
 
 impl Model for Server {
@@ -30,7 +32,7 @@ impl Model for Server {
 
     ghost coded = { Prim.hlevel (codes, formula_code coded_ℕ, command_row.the_row.coded, edit_row.the_row.coded) };
 
-    ghost view = { λ s. record { history = s.engine.history; sessions = map as_named s.sessions } };
+    ghost view = { λ s. record { history = s.engine.history; sessions = map as_named s.sessions; trees = s.trees } };
 
     ghost invariant = { λ s. AreOpen s.engine.history s.sessions };
 }
@@ -43,6 +45,7 @@ impl Server {
             alloc,
             engine: Engine::new(alloc)?,
             sessions: Sessions::new(alloc),
+            trees: TreeNames::new(alloc),
         })
     }
 
@@ -52,9 +55,11 @@ impl Server {
             alloc: _,
             engine,
             sessions,
+            trees,
         } = self;
         close_engine(engine);
         close_sessions(sessions);
+        close_names(trees);
     }
 }
 
@@ -63,3 +68,6 @@ fn close_engine(_: Engine) {}
 
 // Drops sessions, in the one place where that is done.
 fn close_sessions(_: Sessions) {}
+
+// Drops names of trees, in the one place where that is done.
+fn close_names(_: TreeNames) {}

@@ -1,18 +1,17 @@
 // What a line does, by its form, and its reply.
-ghost use Rattle.std.specs.Prelude.{◌≡◌, ◌≤◌, IfOk, Err};
+ghost use Rattle.std.specs.Prelude.{◌≡◌, ◌≤◌, IfOk};
 ghost use Rattle.cov_edit.specs.History.{option_count};
 ghost use Rattle.cov_loop.specs.Answers.{Gives};
 ghost use Rattle.cov_script.specs.Replies.{IsCodeOf};
-ghost use Rattle.cov_script.specs.declared.code.Code.TheVariants.{NotBuilt};
-ghost use Rattle.cov_serve.specs.Acting.{Acts};
-ghost use Rattle.cov_serve.specs.Step.{acted, refused, served, served_edit, served_session, served_text};
+ghost use Rattle.cov_serve.specs.Acting.{Acts, Does};
+ghost use Rattle.cov_serve.specs.Step.{acted, done, refused, served, served_edit, served_session, served_text};
 ghost use Rattle.cov_serve.specs.Texts.{HasParts};
-ghost use Rattle.cov_serve.specs.declared.stop.Stop.TheVariants.{Refused};
 
 use crate::server::Server;
 use crate::stop::Stop;
-use cov_base::{Kind, MOST_SCRIPT_LINE_BYTES, Memory, Text};
+use cov_base::{Kind, LineNo, MOST_SCRIPT_LINE_BYTES, Memory, Text};
 use cov_loop::{Answer, Reply};
+use cov_out::OutRows;
 use cov_script::{Code, Line, lines_read_as_spelt, read_line, reply_refused};
 
 impl Server {
@@ -22,36 +21,57 @@ impl Server {
         ensures { IfOk result (Gives (refused self.now code.now) self.now) }
     {
         let text = reply_refused(self.alloc, self.engine.options(), code)?;
+        let rows = OutRows::new(self.alloc);
         let answer = Answer::Refused;
-        Ok(Reply { text, answer })
+        Ok(Reply { text, rows, answer })
     }
 
-    /// Does what a line says, and makes its reply.
+    /// Does what a line says, and makes its reply, with the rows that are to be written before it.
     #[tactic(auto, unfolding(crate::specs::Step::acted))]
-    pub(crate) fn act(&mut self, line: &[u8]) -> Result<Text, Stop>
-        ensures { Acts (acted self.old line.now) self.old self.new result }
+    pub(crate) fn act(&mut self, line: &[u8]) -> Result<Reply, Stop>
+        ensures { Does (acted self.old line.now) self.old self.new result }
     {
         if line.len() > MOST_SCRIPT_LINE_BYTES {
             return Err(Stop::Refused(Code::Long));
         }
         lines_read_as_spelt();
         let form = read_line(self.alloc, line)?;
-        self.serve(form)
+        self.do_form(form)
     }
 
+    #[tactic(auto, unfolding(crate::specs::Step::done))]
+    fn do_form(&mut self, form: Line) -> Result<Reply, Stop>
+        requires { HasParts form }
+        ensures { Does (done self.old form) self.old self.new result }
+    {
+        match form {
+            Line::Checkout { tree, choice } => self.check_out(&tree, &choice),
+            form => match self.serve(form) {
+                Ok(text) => Ok(Reply::to_done(self.alloc, text)),
+                Err(stop) => Err(stop),
+            },
+        }
+    }
+
+    // Does what a line says that writes no rows.
     #[tactic(auto, unfolding(crate::specs::Step::served))]
     fn serve(&mut self, line: Line) -> Result<Text, Stop>
         requires { HasParts line }
         ensures { Acts (served self.old line) self.old self.new result }
     {
         match line {
-            Line::Nothing => Ok(Text::new(self.alloc)),
             Line::Option { token } => self.declare(&token),
             Line::Constraint { expr } => self.constrain(&expr),
             Line::Prefer { expr } => self.prefer(&expr),
             Line::Default { token, on } => self.set_default(token, on),
             Line::Complete { choice } => self.complete(&choice),
             Line::Cat { choice, path } => self.tell(&choice, &path),
+            Line::Alt {
+                choice,
+                token,
+                path,
+            } => self.compare(&choice, token, &path),
+            Line::Presence { line } => self.locate(LineNo::new(line)),
             line => self.serve_session(line),
         }
     }
@@ -93,7 +113,7 @@ impl Server {
         }
     }
 
-    // Does what a line says that edits lines in a session; no other form is served.
+    // Does what a line says that edits lines in a session; a line of no other form has no reply.
     #[tactic(auto, unfolding(crate::specs::Step::served_text))]
     fn serve_text(&mut self, line: Line) -> Result<Text, Stop>
         requires { HasParts line }
@@ -113,14 +133,7 @@ impl Server {
                 line,
                 text,
             } => self.replace(&name, &path, line, text),
-            unserved => refuse_unserved(unserved),
+            _ => Ok(Text::new(self.alloc)),
         }
     }
-}
-
-// Refuses a form that isn't served, with its parts.
-fn refuse_unserved<X: Drop>(_: X) -> Result<Text, Stop>
-    ensures { result ≡ Err (Refused NotBuilt) }
-{
-    Err(Stop::Refused(Code::NotBuilt))
 }

@@ -1,9 +1,10 @@
 // Why a line isn't done.
 ghost use Rattle.std.specs.Prelude.{◌≡◌};
-ghost use Rattle.cov_serve.specs.Stops.{syntax_stop, bad_name_stop, name_stop, bind_stop, complete_stop, read_stop, list_stop, edit_stop, session_stop, no_session_stop, command_stop, refusal_stop};
+ghost use Rattle.cov_serve.specs.Stops.{alt_stop, file_stop, no_line_stop, syntax_stop, bad_name_stop, name_stop, bind_stop, complete_stop, read_stop, list_stop, edit_stop, session_stop, no_session_stop, command_stop, refusal_stop};
 
+use cov_alt::AltFault;
 use cov_base::{BadName, Memory, MemoryOr};
-use cov_engine::Refusal;
+use cov_engine::{FileFault, NoSuchLine, Refusal};
 use cov_expr::{BindFault, NameFault};
 use cov_rules::CompleteFault;
 use cov_script::{Code, LineSyntax};
@@ -191,6 +192,42 @@ impl From<Refusal> for Stop {
             Refusal::Orphan { node, choice } => Stop::Refused(Code::Orphan { node, choice }),
             Refusal::Loop { node, choice } => Stop::Refused(Code::Loop { node, choice }),
             Refusal::Memory => Stop::Memory,
+        }
+    }
+}
+
+impl From<FileFault> for Stop {
+    ghost from_gives = { λ fault stop. stop ≡ file_stop fault };
+
+    fn from(fault: FileFault) -> Self {
+        match fault {
+            FileFault::NoSuchPath => Stop::Refused(Code::NoSuchPath),
+            FileFault::NotFile => Stop::Refused(Code::NotFile),
+            FileFault::Memory => Stop::Memory,
+        }
+    }
+}
+
+impl From<MemoryOr<NoSuchLine>> for Stop {
+    ghost from_gives = { λ fault stop. stop ≡ no_line_stop fault };
+
+    fn from(fault: MemoryOr<NoSuchLine>) -> Self {
+        match fault {
+            MemoryOr::Refused(NoSuchLine) => Stop::Refused(Code::NoSuchLine),
+            MemoryOr::Memory => Stop::Memory,
+        }
+    }
+}
+
+impl From<AltFault> for Stop {
+    ghost from_gives = { λ fault stop. stop ≡ alt_stop fault };
+
+    fn from(fault: AltFault) -> Self {
+        match fault {
+            AltFault::SideInvalid { on, rule } => Stop::Refused(Code::SideInvalid { on, rule }),
+            AltFault::NoSuchPath => Stop::Refused(Code::NoSuchPath),
+            AltFault::NotFile => Stop::Refused(Code::NotFile),
+            AltFault::Memory => Stop::Memory,
         }
     }
 }

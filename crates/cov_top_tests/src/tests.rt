@@ -6,3 +6,6 @@ mod refusals;
 mod running;
 mod scripts;
 mod sessions;
+mod sides;
+mod stops;
+mod trees;

@@ -3,6 +3,7 @@ ghost use Rattle.std.specs.Prelude.{◌≤◌};
 
 use cov_base::{Numbers, Text, Texts};
 use cov_io::{MemorySink, MemorySource};
+use cov_out::MemoryTrees;
 use cov_serve::{Status, run};
 use std::alloc::Global;
 use std::process::Abort;
@@ -19,7 +20,7 @@ fn words_of(alloc: Global, words: &[&str]) -> Result<Texts, Fail> {
     Ok(texts)
 }
 
-fn list_of(alloc: Global, numbers: &[u64]) -> Result<Numbers, Fail> {
+pub(crate) fn list_of(alloc: Global, numbers: &[u64]) -> Result<Numbers, Fail> {
     let mut list = Numbers::new(alloc);
     for number in numbers {
         list.push(*number)?;
@@ -27,8 +28,52 @@ fn list_of(alloc: Global, numbers: &[u64]) -> Result<Numbers, Fail> {
     Ok(list)
 }
 
+/// A line and its reply.
+pub(crate) type Step<'a> = (&'a [u8], &'a [u8]);
+
+// The script of these steps, one part after another.
+pub(crate) fn script_of(alloc: Global, parts: &[&[Step]]) -> Result<Text, Fail> {
+    let mut script = Text::new(alloc);
+    for part in parts {
+        for (line, _) in *part {
+            script.append(line)?;
+            script.push(b'\n')?;
+        }
+    }
+    Ok(script)
+}
+
+// What is written on it.
+pub(crate) fn replies_of(alloc: Global, parts: &[&[Step]]) -> Result<Text, Fail> {
+    let mut replies = Text::new(alloc);
+    for part in parts {
+        for (_, reply) in *part {
+            replies.append(reply)?;
+            replies.push(b'\n')?;
+        }
+    }
+    Ok(replies)
+}
+
 /// The words, the size of pieces, the calls of the source that fail, and those of the sink.
 pub(crate) type Setting<'a> = (&'a [&'a str], usize, &'a [u64], &'a [u64]);
+
+// Runs the program on a script over a sink and trees.
+fn serve_over(
+    alloc: Global,
+    setting: Setting,
+    script: &[u8],
+    sink: &mut MemorySink,
+    trees: &mut MemoryTrees,
+) -> Result<Status, Fail>
+    requires { 1 ≤ setting.1 }
+{
+    let (words, piece, fail_to_read, _) = setting;
+    let words = words_of(alloc, words)?;
+    let text = Text::from_slice(alloc, script)?;
+    let mut source = MemorySource::new(alloc, text, piece, list_of(alloc, fail_to_read)?);
+    Ok(run(alloc, &words, &mut source, sink, trees))
+}
 
 // Runs the program on a script over a sink.
 pub(crate) fn serve(
@@ -39,11 +84,30 @@ pub(crate) fn serve(
 ) -> Result<Status, Fail>
     requires { 1 ≤ setting.1 }
 {
-    let (words, piece, fail_to_read, _) = setting;
-    let words = words_of(alloc, words)?;
-    let text = Text::from_slice(alloc, script)?;
-    let mut source = MemorySource::new(alloc, text, piece, list_of(alloc, fail_to_read)?);
-    Ok(run(alloc, &words, &mut source, sink))
+    let mut trees = MemoryTrees::new(alloc, Numbers::new(alloc));
+    let served = serve_over(alloc, setting, script, sink, &mut trees);
+    drop(trees);
+    served
+}
+
+// Runs the program on a script over trees, and compares what is written and the status.
+pub(crate) fn expect_over(
+    rt: &impl Abort,
+    alloc: Global,
+    setting: Setting,
+    case: Case,
+    trees: &mut MemoryTrees,
+) -> Result<(), Fail>
+    requires { 1 ≤ setting.1 }
+{
+    let (script, written, status) = case;
+    let mut sink = MemorySink::new(alloc, list_of(alloc, setting.3)?);
+    assert_eq!(rt;
+        serve_over(alloc, setting, script, &mut sink, trees)?,
+        status
+    );
+    assert_eq!(rt; sink.written(), written);
+    Ok(())
 }
 
 // Runs the program on a script, and compares what is written and the status.
@@ -55,11 +119,10 @@ pub(crate) fn expect(
 ) -> Result<(), Fail>
     requires { 1 ≤ setting.1 }
 {
-    let (script, written, status) = case;
-    let mut sink = MemorySink::new(alloc, list_of(alloc, setting.3)?);
-    assert_eq!(rt; serve(alloc, setting, script, &mut sink)?, status);
-    assert_eq!(rt; sink.written(), written);
-    Ok(())
+    let mut trees = MemoryTrees::new(alloc, Numbers::new(alloc));
+    let expected = expect_over(rt, alloc, setting, case, &mut trees);
+    drop(trees);
+    expected
 }
 
 /// The script is read in large pieces, and no call fails.

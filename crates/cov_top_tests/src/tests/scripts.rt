@@ -61,7 +61,7 @@ const RULES: [Case; 6] = [
     ),
     (
         b"option a\n\n# note\noptoin a\noption\noption a b\noption 9x\noption a\nconstraint a &\nconstraint a $\nconstraint b\ncomplete a=yes\ncomplete a=on,a=off\nmkfile s m\nmkfile s /m\ninsert s /m 4294967296 one\nwhere 1\n",
-        b"ok option 0\nrefused syntax 0\nrefused syntax 6\nrefused syntax 8\nrefused bad-name\nrefused exists\nrefused syntax 14\nrefused syntax 13\nrefused unknown-option b\nrefused syntax 9\nrefused repeated a\nrefused syntax 9\nrefused no-session\nrefused syntax 12\nrefused not-built\n",
+        b"ok option 0\nrefused syntax 0\nrefused syntax 6\nrefused syntax 8\nrefused bad-name\nrefused exists\nrefused syntax 14\nrefused syntax 13\nrefused unknown-option b\nrefused syntax 9\nrefused repeated a\nrefused syntax 9\nrefused no-session\nrefused syntax 12\nrefused no-such-line\n",
         Status::SomeRefused,
     ),
     (
@@ -71,7 +71,7 @@ const RULES: [Case; 6] = [
     ),
     (
         b"mkdir s /d\nrename s /m n\nmove s /m /\nremove s /m\nlist s /\nrefresh s\ncheckout t -\nalt - a /m\nwhere 1\nmkdir s m\nwhere 01\nside s true\nupgrade\n",
-        b"refused no-session\nrefused no-session\nrefused no-session\nrefused no-session\nrefused no-session\nrefused no-session\nrefused not-built\nrefused not-built\nrefused not-built\nrefused syntax 8\nrefused syntax 6\nrefused syntax 0\nrefused syntax 0\n",
+        b"refused no-session\nrefused no-session\nrefused no-session\nrefused no-session\nrefused no-session\nrefused no-session\nok checkout t 0 0 e3b0c44298fc1c149afbf4c8996fb92427ae41e4649b934ca495991b7852b855\nrefused unknown-option a\nrefused no-such-line\nrefused syntax 8\nrefused syntax 6\nrefused syntax 0\nrefused syntax 0\n",
         Status::SomeRefused,
     ),
 ];
@@ -81,26 +81,16 @@ fn rules_are_served(rt: HostRuntime) -> Result<(), Fail> {
     are_served(&rt, rt.alloc(), SERVED, &RULES)
 }
 
-const SESSIONS: [Case; 5] = [
+const SESSIONS: [Case; 3] = [
     (
         b"open s - for true\ncommit s\ninsert s /m 0 x\nmkfile s /m\nopen t - for true\ndrop s\ncommit s\n",
         b"ok open 0 -\nrefused empty\nrefused no-such-path\nok\nok open 0 -\nok\nrefused no-session\n",
         Status::SomeRefused,
     ),
     (
-        b"open s - for true\nmkfile s /m\ninsert s /m 0 one\ncommit s\nopen s - for true\ninsert s /m 1 two\nshow s /m\ncommit s\ncat - /m\n",
-        b"ok open 0 -\nok\nok +0\nok commit 1\nok open 1 -\nok +0\nok 2\n1 one\n+0 two\nok commit 2\nok 2\n1 one\n2 two\n",
-        Status::Done,
-    ),
-    (
         b"option a\nopen s a=off for a\n",
         b"ok option 0\nrefused outside-ambition\n",
         Status::SomeRefused,
-    ),
-    (
-        b"option d\nopen s d=on for true\nmkfile s /m\ninsert s /m 0 A\ncommit s\nopen s d=on for d\ninsert s /m 1 B\ncommit s\nopen s d=on for true\ninsert s /m 2 C\ncommit s\nopen s d=off for true\nshow s /m\ninsert s /m 1 X\ncommit s\ncat d=on /m\ncat d=off /m\n",
-        b"ok option 0\nok open 1 d=on\nok\nok +0\nok commit 2\nok open 2 d=on\nok +0\nok commit 3\nok open 3 d=on\nok +0\nok commit 4\nok open 4 d=off\nok 2\n1 A\n3 C\nok +0\nok commit 5\nok 4\n1 A\n4 X\n2 B\n3 C\nok 3\n1 A\n4 X\n3 C\n",
-        Status::Done,
     ),
     (
         b"option a\nopen s a=on for a\nmkfile s /m\noption b\nconstraint !a\ninsert s /m 0 one\ninsert s /m 7 two\ninsert s /n 0 two\nmkfile s /m\ncommit s\ncat a=on,b=on /m\ncat a=off,b=on /m\nconstraint a | b\ncat a=off,b=off /m\nopen s a=on,b=off for b\n",
@@ -137,18 +127,11 @@ fn lines_are_deleted_and_replaced(rt: HostRuntime) -> Result<(), Fail> {
     are_served(&rt, rt.alloc(), SERVED, &EDITING)
 }
 
-const DELETED: [Case; 2] = [
-    (
-        b"option d\nopen s d=on for true\nmkfile s /m\ninsert s /m 0 A\ncommit s\nopen s d=on for d\ninsert s /m 1 B\ncommit s\nopen s d=on for true\ninsert s /m 2 C\ncommit s\nopen s d=off for true\nshow s /m\ninsert s /m 1 X\ncommit s\ncat d=on /m\ncat d=off /m\nopen s d=on for true\ndelete s /m 2\ncommit s\ncat d=on /m\ncat d=off /m\nopen s d=on for d\ndelete s /m 4\ncommit s\ncat d=on /m\ncat d=off /m\n",
-        b"ok option 0\nok open 1 d=on\nok\nok +0\nok commit 2\nok open 2 d=on\nok +0\nok commit 3\nok open 3 d=on\nok +0\nok commit 4\nok open 4 d=off\nok 2\n1 A\n3 C\nok +0\nok commit 5\nok 4\n1 A\n4 X\n2 B\n3 C\nok 3\n1 A\n4 X\n3 C\nok open 5 d=on\nok\nok commit 6\nok 3\n1 A\n4 X\n3 C\nok 3\n1 A\n4 X\n3 C\nok open 6 d=on\nok\nok commit 7\nok 2\n1 A\n3 C\nok 3\n1 A\n4 X\n3 C\n",
-        Status::Done,
-    ),
-    (
-        b"open s - for true\nmkfile s /m\ninsert s /m 0 one\ninsert s /m +0 two\ncommit s\nopen s - for true\nreplace s /m 1 uno\nreplace s /m +0 eins\ninsert s /m +1 und\ncommit s\ncat - /m\n",
-        b"ok open 0 -\nok\nok +0\nok +1\nok commit 1\nok open 1 -\nok +0\nok +1\nok +2\nok commit 2\nok 3\n4 eins\n5 und\n2 two\n",
-        Status::Done,
-    ),
-];
+const DELETED: [Case; 1] = [(
+    b"open s - for true\nmkfile s /m\ninsert s /m 0 one\ninsert s /m +0 two\ncommit s\nopen s - for true\nreplace s /m 1 uno\nreplace s /m +0 eins\ninsert s /m +1 und\ncommit s\ncat - /m\n",
+    b"ok open 0 -\nok\nok +0\nok +1\nok commit 1\nok open 1 -\nok +0\nok +1\nok +2\nok commit 2\nok 3\n4 eins\n5 und\n2 two\n",
+    Status::Done,
+)];
 
 #[test]
 fn deletes_are_committed(rt: HostRuntime) -> Result<(), Fail> {

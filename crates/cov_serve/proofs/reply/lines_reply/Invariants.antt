@@ -1,12 +1,10 @@
-use Rattle.std.proofs.Common.{◌≡◌, ◌++◌, length, drop, map, ◌<◌}
-use Rattle.cov_serve.specs.Listing.{told_line}
+use Rattle.std.proofs.Common.{◌≡◌, ◌++◌, length, map}
+use Rattle.std.specs.List.{concat}
+use Rattle.cov_script.specs.Replies.{count_reply}
 use Rattle.cov_serve.proofs.reply.lines_reply.Given as goal
 
-abbrev pub invariant-lines : goal.invariant-lines
-invariant-lines l = record {
-  so_far : l.rows ++ map (told_line l.names) (drop l.index l.lines) ≡ map (told_line l.names) l.lines;
-  short : length l.lines < 18446744073709551616;
-}
+abbrev pub invariant-rows : goal.invariant-rows
+invariant-rows g l = l.reply ++ concat (map g.T.Told.line l.ahead) ≡ count_reply (length l.rows) ++ concat (map g.T.Told.line l.rows)
 
-abbrev pub decreases-lines : goal.decreases-lines
-decreases-lines l = length (drop l.index l.lines)
+abbrev pub decreases-rows : goal.decreases-rows
+decreases-rows g l = length l.ahead

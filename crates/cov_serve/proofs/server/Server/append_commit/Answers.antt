@@ -26,7 +26,7 @@ pub returns-in_err-receipt-clause-changes : goal.returns-in_err-receipt-clause-c
 returns-in_err-receipt-clause-changes c =
     let st = c.args.self.now in
     let name = c.args.name.now in
-    let again = ap (λ h. record { history = h; sessions = map as_named c.self.inside.sessions }) c.in_err-receipt.ensures.same ∙ c.self.view_is in
+    let again = ap (λ h. record { history = h; sessions = map as_named c.self.inside.sessions; trees = c.self.inside.trees }) c.in_err-receipt.ensures.same ∙ c.self.view_is in
     stopped (Changes (closed st name c.args.command) st _) c.from_residual.result _ c.from_residual.ensures.1
     (subst (λ n. Stops (closed st name c.args.command) st n (refusal_stop c.in_err-receipt.field-0.0)) (sym again)
     (commit-stops st name c.args.command c.in_err-receipt.field-0.0

@@ -1,4 +1,6 @@
+use Rattle.std.proofs.Common.{◌∙◌, ap}
 use Rattle.cov_serve.specs.Acting.{Acts}
+use Rattle.cov_serve.specs.Replies.{lines_reply, node_line}
 use Rattle.cov_serve.proofs.Acted.{stopped}
 use Rattle.cov_serve.proofs.Spoken.{at-path}
 use Rattle.cov_serve.proofs.ToldFiles.{list-stops, listed-nodes}
@@ -12,4 +14,5 @@ returns-in_err-nodes c =
 
 pub returns : goal.returns
 returns c =
-    listed-nodes (at-path c.as_slice.ensures c.in_ok-view.ensures.found) c.in_ok-nodes.nodes c.in_ok-directory_reply.field-0 c.in_ok-nodes.ensures.shown c.in_ok-directory_reply.ensures
+    listed-nodes (at-path c.as_slice.ensures c.in_ok-view.ensures.found) c.in_ok-nodes.nodes c.in_ok-lines_reply.field-0 c.in_ok-nodes.ensures.shown
+    (c.in_ok-lines_reply.ensures ∙ ap (lines_reply node_line) c.as_slice-2.ensures)

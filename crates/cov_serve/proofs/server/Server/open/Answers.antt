@@ -23,10 +23,10 @@ returns-in_err-opened c =
     let bound = c.in_ok-partial.ensures.found in
     let expr = c.in_ok-ambition.ensures.found in
     let fault = c.in_err-opened.field-0.0 in
-    let new : State = record { history = c.open.new.engine.history; sessions = map as_named c.open.new.self } in
+    let new : State = record { history = c.open.new.engine.history; sessions = map as_named c.open.new.self; trees = c.self.inside.trees } in
     let same =
-    ap (λ h. record { history = h; sessions = map as_named c.open.new.self }) c.in_err-opened.ensures.history
-    ∙ ap (λ ss. record { history = c.self.inside.engine.history; sessions = map as_named ss }) c.in_err-opened.ensures.same ∙ c.self.view_is in
+    ap (λ h. record { history = h; sessions = map as_named c.open.new.self; trees = c.self.inside.trees }) c.in_err-opened.ensures.history
+    ∙ ap (λ ss. record { history = c.self.inside.engine.history; sessions = map as_named ss; trees = c.self.inside.trees }) c.in_err-opened.ensures.same ∙ c.self.view_is in
     stopped (Acts (begun st name c.args.choice.now c.args.ambition.now) st new) c.from_residual-in_err-opened.result _ c.from_residual-in_err-opened.ensures.1
     (subst (λ wanted. Stops wanted st new (session_stop fault)) (sym (begun-as st name c.args.choice.now c.args.ambition.now partial within bound expr))
     (stops-later (by_code session_code (opened_among st.history st.sessions name partial within)) (with_opened st name c.args.choice.now c.args.ambition.now partial within bound expr) st new (session_stop fault)

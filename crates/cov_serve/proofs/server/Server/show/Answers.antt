@@ -1,4 +1,7 @@
+use Rattle.std.proofs.Common.{◌∙◌, ap}
 use Rattle.cov_serve.specs.Acting.{Acts}
+use Rattle.cov_serve.specs.Listing.{view_line}
+use Rattle.cov_serve.specs.Replies.{lines_reply}
 use Rattle.cov_serve.proofs.Acted.{stopped}
 use Rattle.cov_serve.proofs.Spoken.{at-path}
 use Rattle.cov_serve.proofs.ToldFiles.{read-stops, shown-lines}
@@ -12,4 +15,5 @@ returns-in_err-lines c =
 
 pub returns : goal.returns
 returns c =
-    shown-lines (at-path c.as_slice.ensures c.in_ok-view.ensures.found) c.in_ok-lines.lines c.in_ok-lines_reply.field-0 c.in_ok-lines.ensures.shown c.in_ok-lines_reply.ensures
+    shown-lines (at-path c.as_slice.ensures c.in_ok-view.ensures.found) c.in_ok-lines.lines c.in_ok-lines_reply.field-0 c.in_ok-lines.ensures.shown
+    (c.in_ok-lines_reply.ensures ∙ ap (lines_reply view_line) c.as_slice-2.ensures)

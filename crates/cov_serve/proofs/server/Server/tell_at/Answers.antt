@@ -1,12 +1,12 @@
-use Rattle.std.proofs.Common.{◌≡◌, ◌∙◌, sym, ap, subst, take}
+use Rattle.std.proofs.Common.{◌≡◌, ◌∙◌, ap, subst, take, map, Ok}
 use Rattle.std.proofs.Math.Seq.{take-length}
-use Rattle.cov_edit.specs.Numbering.{numbers_of}
 use Rattle.cov_edit.specs.Replay.{replay}
-use Rattle.cov_view.specs.Seen.{Seen}
-use Rattle.cov_view.specs.Views.{Shows}
-use Rattle.cov_serve.specs.Acting.{Acts}
+use Rattle.cov_edit.specs.Variant.{lines_of}
+use Rattle.cov_engine.specs.Reading.{IsFileAt, line_row}
+use Rattle.cov_serve.specs.Listing.{file_line}
+use Rattle.cov_serve.specs.Replies.{lines_reply}
 use Rattle.cov_serve.specs.States.{State}
-use Rattle.cov_serve.specs.Step.{file_told}
+use Rattle.cov_serve.proofs.ToldFiles.{told-lines}
 use Rattle.cov_serve.proofs.server.Server.tell_at.Goals as goal
 
 pub returns : goal.returns
@@ -14,8 +14,10 @@ returns c =
     let st = c.args.self.now in
     let history = c.self.inside.engine.history in
     let before = take c.position-at.result history in
+    let file = c.in_ok-file.file in
     let whole : replay c.args.choice before ≡ replay c.args.choice st.history =
     ap (replay c.args.choice) (ap (λ n. take n history) c.position-at.ensures ∙ take-length history ∙ ap (λ (t : State). t.history) c.self.view_is) in
-    subst (λ v. Acts (file_told st v c.args.path.now) st st c.tell_file-told.result) whole
-    (c.tell_file-told.ensures (numbers_of before) (numbers_of before).addresses (replay c.args.choice before)
-    (subst (λ (s : Seen). Shows (numbers_of before) (numbers_of before).addresses s (replay c.args.choice before)) (sym c.in_ok-view.ensures) (c.visible.ensures.shows c.position-at.result c.args.choice)))
+    told-lines st (replay c.args.choice st.history) c.args.path.now file c.in_ok-lines.lines c.in_ok-lines_reply.field-0
+    (subst (λ v. IsFileAt v c.args.path.now (Ok file)) whole (subst (λ path. IsFileAt (replay c.args.choice before) path (Ok file)) c.as_slice.ensures c.in_ok-file.ensures))
+    (c.in_ok-lines.ensures ∙ ap (λ v. map line_row (lines_of v file)) whole)
+    (c.in_ok-lines_reply.ensures ∙ ap (lines_reply file_line) c.as_slice-2.ensures)
