@@ -30,10 +30,13 @@ def seconds(program, files):
 
 
 def instructions(program, files):
-    """The instructions of a run less those of one that says `drop` in the place of the last `commit`, which isn't the first since
-    the files were made."""
-    commit, drop = (counted(store(files) + session(1, 'commit') + session(0, last), program)[0] for last in ('commit', 'drop'))
-    return commit - drop
+    """The instructions of a run less those of one that says `drop` in the place of the `commit` of a session: the first since the
+    files were made, and the one after it."""
+    counts = []
+    for before in ([], session(1, 'commit')):
+        commit, drop = (counted(store(files) + before + session(0, last), program)[0] for last in ('commit', 'drop'))
+        counts.append(commit - drop)
+    return counts
 
 
 def main():
@@ -42,8 +45,9 @@ def main():
     for files in SIZES:
         commit, drop = seconds(program, files)
         counts.append(instructions(program, files))
-        print('%d files: %d instructions more than drop; commit %.1f us, drop %.1f us' % (files, counts[-1], 1e6 * commit, 1e6 * drop))
-    print('ratio of the instructions %.2f' % (counts[1] / counts[0]))
+        print('%d files: %d instructions more than drop for the first commit, %d for the next; commit %.1f us, drop %.1f us'
+              % (files, *counts[-1], 1e6 * commit, 1e6 * drop))
+    print('ratio of the instructions %.2f for the first commit, %.2f for the next' % tuple(more / few for few, more in zip(*counts)))
 
 
 if __name__ == '__main__':

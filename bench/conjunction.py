@@ -5,24 +5,28 @@ import subprocess
 import sys
 import tempfile
 
+from timing import peak_of
+
 TOP = os.path.dirname(os.path.dirname(os.path.abspath(__file__)))
 REPETITIONS = 15
 
 
 def run(words):
-    """Processor seconds, peak MB and what was printed."""
+    """Processor seconds and what was printed."""
     with tempfile.TemporaryFile() as out:
         child = os.posix_spawn(words[0], words, os.environ, file_actions=[(os.POSIX_SPAWN_DUP2, out.fileno(), 1)])
         _, status, usage = os.wait4(child, 0)
         out.seek(0)
         assert status == 0
-        return usage.ru_utime + usage.ru_stime, usage.ru_maxrss / 1024, out.read()
+        return usage.ru_utime + usage.ru_stime, out.read()
 
 
 def compare(ours, peer, window, first):
-    rounds = [(run([ours, window]), run([peer, window, first])) for _ in range(REPETITIONS)]
-    assert len({printed for pair in rounds for _, _, printed in pair}) == 1
-    (time, peak), (peer_time, peer_peak) = ((min(r[0] for r in runs), max(r[1] for r in runs)) for runs in zip(*rounds))
+    commands = [ours, window], [peer, window, first]
+    rounds = [[run(command) for command in commands] for _ in range(REPETITIONS)]
+    assert len({printed for pair in rounds for _, printed in pair}) == 1
+    time, peer_time = (min(taken for taken, _ in runs) for runs in zip(*rounds))
+    peak, peer_peak = (peak_of(command) / 1024 for command in commands)
     print('| %s | 2^%s | %.3f s | %.3f s | %.2f | %.1f MB | %.1f MB | %.2f |'
           % (window, first, time, peer_time, time / peer_time, peak, peer_peak, peak / peer_peak))
 

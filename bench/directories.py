@@ -21,7 +21,7 @@ def renamed(last):
 def is_renamed(program):
     """Whether the files are in the directory of the new name where the option is on, and in that of the old one elsewhere."""
     shown = ['cat phone=%s /%s/f%d' % (side, name, i) for side, name in (('on', 'e'), ('off', 'd0')) for i in range(FILES)]
-    return served(renamed('commit') + shown, program)[2].endswith(b'\nok commit 3\n' + b'ok 0\n' * len(shown))
+    return served(renamed('commit') + shown, program)[1].endswith(b'\nok commit 3\n' + b'ok 0\n' * len(shown))
 
 
 def main():

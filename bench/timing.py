@@ -1,6 +1,8 @@
-"""Runs `covstore run` on a script, and tells its processor time or counts its instructions; or asks a run one line after another."""
+"""Runs `covstore run` on a script, or another program, and tells its time or counts its instructions; or asks a run one line after
+another."""
 import contextlib
 import os
+import pathlib
 import re
 import subprocess
 import sys
@@ -24,16 +26,80 @@ def as_script(lines, source):
     source.seek(0)
 
 
-def served(lines, program=COVSTORE):
-    """The processor seconds, the peak of memory in KB and the output of a run on these lines, all accepted."""
+class Clock:
+    """What the commands take that it ran: seconds elapsed and of the processor."""
+
+    def __init__(self):
+        self.elapsed = self.processor = 0
+
+    def run(self, *command, source=None, out=None):
+        """Runs a command that ends well, with another file than this script's as its input or output."""
+        files = [(os.POSIX_SPAWN_DUP2, file.fileno(), place) for place, file in enumerate((source, out)) if file]
+        start = time.perf_counter()
+        child = os.posix_spawnp(command[0], command, os.environ, file_actions=files)
+        _, status, usage = os.wait4(child, 0)
+        self.elapsed += time.perf_counter() - start
+        assert status == 0
+        self.processor += usage.ru_utime + usage.ru_stime
+
+
+def clocked(lines, program=COVSTORE):
+    """The clock and the output of a run on these lines, all accepted."""
+    clock = Clock()
     with tempfile.TemporaryFile() as source, tempfile.TemporaryFile() as out:
         as_script(lines, source)
-        files = [(os.POSIX_SPAWN_DUP2, source.fileno(), 0), (os.POSIX_SPAWN_DUP2, out.fileno(), 1)]
-        child = os.posix_spawn(program, [program, 'run'], os.environ, file_actions=files)
-        _, status, usage = os.wait4(child, 0)
-        assert status == 0
+        clock.run(program, 'run', source=source, out=out)
         out.seek(0)
-        return usage.ru_utime + usage.ru_stime, usage.ru_maxrss, out.read()
+        return clock, out.read()
+
+
+def served(lines, program=COVSTORE):
+    """The processor seconds and the output of a run on these lines, all accepted."""
+    clock, out = clocked(lines, program)
+    return clock.processor, out
+
+
+def peak_of(command, source=None):
+    """The peak of memory of a command in KB, as Debian's `time` tells it. What os.wait4 tells is never less than the memory that this
+    script had when it began the command."""
+    with tempfile.NamedTemporaryFile() as told:
+        command = ['/usr/bin/time', '--format=%M', '--output=' + told.name, *command]
+        subprocess.run(command, stdin=source, stdout=subprocess.DEVNULL, check=True)
+        return int(told.read())
+
+
+def peak_served(lines, program=COVSTORE):
+    """The peak of memory in KB of a run on these lines, all accepted."""
+    with tempfile.TemporaryFile() as source:
+        as_script(lines, source)
+        return peak_of([program, 'run'], source)
+
+
+def least(rounds):
+    """Each kind of time with the least of each clock over the rounds, in seconds."""
+    for kind in ('elapsed', 'processor'):
+        yield kind, [min(getattr(clock, kind) for clock in clocks) for clocks in zip(*rounds)]
+
+
+def tell_each(rounds, count):
+    """Prints a row of the table in README.md for each kind of time, from the clocks of a run, of one that does a thing `count` times
+    more, and of `count` runs of another program."""
+    for kind, (once, often, others) in least(rounds):
+        each, other = (often - once) / count, others / count
+        print('| %s | %.3f s | %.2f ms | %.2f ms | %.2f |' % (kind, once, 1000 * each, 1000 * other, each / other))
+
+
+@contextlib.contextmanager
+def elsewhere():
+    """Meanwhile the current folder is a new one, which is removed with all in it."""
+    with tempfile.TemporaryDirectory() as folder, contextlib.chdir(folder):
+        yield
+
+
+def tree(top):
+    """The paths below a folder, each with a file's bytes, or None for a folder."""
+    paths = pathlib.Path(top).rglob('*')
+    return {os.fsencode(path.relative_to(top)): None if path.is_dir() else path.read_bytes() for path in paths}
 
 
 @contextlib.contextmanager

@@ -1,0 +1,130 @@
+#!/usr/bin/env python3
+"""Times `cat` of `covstore run` over a file of 100,000 lines beside Debian's unifdef on the same lines in blocks of `#if`."""
+import itertools
+import os
+import re
+import statistics
+import sys
+import tempfile
+
+from generated import Random, in_c
+from timing import Clock, as_script, ask, build, clocked, elsewhere, started
+
+OPTIONS, LINES, BLOCKS, DEEPEST, SESSION, ASKED = 20, 100000, 500, 3, 16000, 10
+ON = ['o%d' % option for option in range(0, OPTIONS, 2)]
+
+
+def directives(random):
+    """The directives of the file, each with the conditions under which what follows is shown."""
+    left, blocks = BLOCKS, []
+    while left or blocks:
+        if blocks and (not left or len(blocks) == DEEPEST or random.below(2)):
+            condition, has_else = blocks.pop()
+            directive = '#endif'
+            if not has_else and not random.below(4):
+                directive = '#else'
+                blocks.append(('!(%s)' % condition, True))
+        else:
+            a, b, left = random.below(OPTIONS), random.below(OPTIONS), left - 1
+            forms = ('o%d' % a, '!o%d' % a, 'o%d & o%d' % (a, b), 'o%d | !o%d' % (a, b), '!(o%d & o%d)' % (a, b))
+            blocks.append((forms[random.below(len(forms))], False))
+            directive = '#if ' + in_c(blocks[-1][0])
+        yield directive, [condition for condition, _ in blocks]
+
+
+def parts():
+    """The file in parts: a directive, none for the first part; the conditions; and the lines. About half of the lines are in no block."""
+    random = Random()
+    heads = [('', [])] + list(directives(random))
+    sizes = [4 + random.below(8)] + [(1 + random.below(8)) * (1 if conditions else 5) for _, conditions in heads[1:]]
+    whole = sum(sizes)
+    counts = [LINES * size // whole for size in sizes]
+    counts[-1] += LINES - sum(counts)
+    ends = list(itertools.accumulate(counts))
+    return [(*head, ['text %d of the file with some words' % line for line in range(first, end)])
+            for head, first, end in zip(heads, [0] + ends, ends)]
+
+
+def conditional(file):
+    return [line for directive, _, lines in file for line in ([directive] if directive else []) + lines]
+
+
+def choice_within(conditions):
+    """Bindings that meet the conditions, or None where nothing does."""
+    expression = ' and '.join('(%s)' % condition for condition in conditions)
+    test = compile(expression.replace('!', ' not ').replace('&', 'and').replace('|', 'or').strip(), '', 'eval')
+    names = sorted(set(re.findall('o[0-9]+', expression)))
+    for values in itertools.product((False, True), repeat=len(names)):
+        if eval(test, dict(zip(names, values))):
+            return as_choice(dict(zip(names, values)))
+    return None
+
+
+def as_choice(values):
+    return ','.join('%s=%s' % (name, 'on' if is_on else 'off') for name, is_on in values.items())
+
+
+def session(choice, ambition, anchor, lines):
+    places = [str(anchor)] + ['+%d' % line for line in range(len(lines) - 1)]
+    inserts = ['insert s /file %s %s' % pair for pair in zip(places, lines)]
+    return ['open s %s for %s' % (choice, ambition)] + inserts + ['commit s']
+
+
+def history(file):
+    """The lines in no block come first, in sessions of SESSION lines, and then those of each part in a block, the last part first."""
+    names = ['o%d' % option for option in range(OPTIONS)]
+    lines = ['option ' + name for name in names] + ['default %s off' % name for name in names]
+    lines += ['open s - for true', 'mkfile s /file', 'commit s']
+    everywhere, within = [], []
+    for _, conditions, texts in file:
+        if conditions and texts:
+            within.append((conditions, len(everywhere), texts))
+        elif not conditions:
+            everywhere += texts
+    for first in range(0, len(everywhere), SESSION):
+        lines += session('-', 'true', first, everywhere[first:first + SESSION])
+    for conditions, anchor, texts in reversed(within):
+        choice = choice_within(conditions)
+        if choice:
+            lines += session(choice, ' & '.join('(%s)' % condition for condition in conditions), anchor, texts)
+    return lines
+
+
+def asked(program, lines, cat):
+    """The processor seconds of each of the `cat`s that come after a first one in a run."""
+    with started(program) as child:
+        for line in lines + [cat]:
+            ask(child, line)
+        return [ask(child, cat) for _ in range(ASKED)]
+
+
+def main():
+    program, file = build(), parts()
+    lines = history(file)
+    names = ['o%d' % option for option in range(OPTIONS)]
+    cat = 'cat %s /file' % as_choice({name: name in ON for name in names})
+    unifdef = ['unifdef', '-t', '-x2'] + ['-D%s=%d' % (name, name in ON) for name in names] + ['file.c']
+    with elsewhere():
+        once, told = clocked(lines + [cat], program)
+    with elsewhere():
+        each = statistics.median(asked(program, lines, cat))
+    others = []
+    with elsewhere(), tempfile.TemporaryFile() as out:
+        with open('file.c', 'wb') as source:
+            as_script(conditional(file), source)
+        for _ in range(ASKED):
+            out.truncate(0)
+            out.seek(0)
+            others.append(Clock())
+            others[-1].run(*unifdef, out=out)
+        out.seek(0)
+        expected = out.read().splitlines()
+    reply = told.splitlines()[-len(expected) - 1:]
+    assert reply[0] == b'ok %d' % len(expected) and [line.partition(b' ')[2] for line in reply[1:]] == expected
+    other = statistics.median(clock.processor for clock in others)
+    print('%d lines of %d are shown; load average %.1f' % (len(expected), LINES, os.getloadavg()[0]))
+    print('| %.3f s | %.2f ms | %.2f ms | %.2f |' % (once.processor, 1000 * each, 1000 * other, each / other))
+
+
+if __name__ == '__main__':
+    sys.exit(main())
