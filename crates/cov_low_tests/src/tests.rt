@@ -3,6 +3,7 @@ mod edits;
 mod entries;
 mod files;
 mod listings;
+mod records;
 mod rules;
 mod trees;
 mod view;

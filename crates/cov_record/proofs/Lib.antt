@@ -1,0 +1,11 @@
+pub mod Bytes
+pub mod CallerLemmas
+pub mod Examples
+pub mod Forests
+pub mod Fronts
+pub mod Lengths
+pub mod Many
+pub mod Parts
+pub mod Records
+pub mod Runs
+pub mod Signs

@@ -1,0 +1,163 @@
+-- Commands in bytes, both ways.
+use Rattle.std.proofs.Common.{◌≡◌, ℕ, zero, suc, ◌+◌, ◌<◌, nat_lt, List, [], ◌∷◌, ◌++◌, length, map, drop, get_or, Some, None, refl, sym, ap, subst, ◌∙◌, arith, append_assoc}
+use Rattle.std.specs.Prelude.{Result, Ok, Err, IfOk, IsErrOf}
+use Rattle.cov_base.specs.Spelling.{is_option_name}
+use Rattle.cov_base.specs.declared.limits.TheConstants.{CHOICE_WIDTH}
+use Rattle.cov_base.specs.declared.error.MemoryOr.{MemoryOr}
+use Rattle.cov_base.specs.declared.error.MemoryOr.TheVariants.{Refused}
+use Rattle.cov_record.specs.declared.fault.NotARecord.{NotARecord}
+use Rattle.std.specs.Int.{w32, to_be_bytes}
+use Rattle.std.proofs.lemmas.Option.{none-some, same_Some}
+use Rattle.std.proofs.lemmas.Bool.{and_from, and_parts, le-leb, leb-true, lt-ltb, ltb-true}
+use Rattle.std.specs.List.{list_all}
+use Rattle.std.proofs.lemmas.List.{append-nil}
+use Rattle.cov_edit.specs.EditFits.{fits_edit}
+use Rattle.cov_edit.specs.Fits.{fits_expr}
+use Rattle.cov_edit.specs.declared.command.Command.{Command}
+use Rattle.cov_edit.specs.declared.command.Command.TheVariants as commands
+use Rattle.cov_record.specs.FitsRecord.{FitsRecord}
+use Rattle.cov_record.specs.Laws.{IsRecordOf, IsNoRecord, OneRecord, OneCommand, OneHistory}
+use Rattle.cov_record.specs.Payload.{bit, choice_spelling, expression_spelling, name_spelling, edits_spelling, payload}
+use Rattle.cov_record.specs.Reading.{Front, given, alone, GivesAlone, front_u8, front_u32, front_bit, front_choice, front_option_name, front_expression, front_counted, front_rest, front_ambition, front_commit, front_option, front_constraint, front_prefer, front_default, command_of, front_command}
+use Rattle.cov_record.proofs.Fronts.{pair_of, given_some, given_true, behind_some, behind_at}
+use Rattle.cov_record.proofs.Bytes.{u8_forth, u32_back, u32_forth, spelt_back, spelt_forth}
+use Rattle.cov_record.proofs.Forests.{expression_back, expression_forth}
+use Rattle.cov_record.proofs.Parts.{bit_back, bit_forth, choice_back, choice_forth, each_fits, all_fit, edits_back, edits_forth}
+
+pub command_back : (c : Command) (r : List ℕ) → FitsRecord c → front_command (payload c ++ r) ≡ Some (c, r)
+command_back (commands.Option name) r h = behind_at (front_option_name (name_spelling name ++ r)) _ _ name r (spelt_back is_option_name name r h.0) refl
+command_back (commands.Constraint e) r h = behind_at (front_expression (expression_spelling e ++ r)) _ _ e r (expression_back e r h.0) refl
+command_back (commands.Prefer e) r h = behind_at (front_expression (expression_spelling e ++ r)) _ _ e r (expression_back e r h.0) refl
+command_back (commands.Default o on) r h =
+    behind_at (given (nat_lt o CHOICE_WIDTH) o (bit on ∷ r)) _ _ o (bit on ∷ r) (given_true (nat_lt o CHOICE_WIDTH) o (bit on ∷ r) (lt-ltb o CHOICE_WIDTH (omega (arith, leb-true (o + 1) CHOICE_WIDTH h.0))))
+    (behind_at (front_bit (bit on ∷ r)) _ _ on r (bit_back on r tt) refl)
+command_back (commands.Commit base choice ambition es) r h =
+    let last = edits_spelling es ++ r in
+    let third = expression_spelling ambition ++ last in
+    let second = choice_spelling choice ++ third in
+    let own = and_parts (fits_expr ambition) (list_all fits_edit es) h.0 in
+    ap (λ bs. front_command (5 ∷ bs))
+    (append_assoc (to_be_bytes w32 base) (choice_spelling choice ++ (expression_spelling ambition ++ edits_spelling es)) r
+    ∙ ap (λ bs. to_be_bytes w32 base ++ bs) (append_assoc (choice_spelling choice) (expression_spelling ambition ++ edits_spelling es) r
+    ∙ ap (λ bs. choice_spelling choice ++ bs) (append_assoc (expression_spelling ambition) (edits_spelling es) r)))
+    ∙ behind_at (front_u32 (to_be_bytes w32 base ++ second)) _ _ base second (u32_back base second h.1.0)
+    (behind_at (front_choice second) _ _ choice third (choice_back choice third h.1.1)
+    (behind_at (front_expression third) _ _ ambition last (expression_back ambition last own.0)
+    (behind_at (front_counted last) _ _ es r (edits_back es r h.1.2 (each_fits es own.1 h.1.3)) refl)))
+
+-- bytes are those of a command, and then others
+abbrev Begins : List ℕ → Command → List ℕ → Type 0
+Begins bs c r = FitsRecord c × (bs ≡ payload c ++ r)
+
+same_command : (c x : Command) (s r bs : List ℕ) → Begins bs c s → ◌≡◌ {A = Front Command} (Some (c, s)) (Some (x, r)) → Begins bs x r
+same_command c x s r bs w h = let p = pair_of c x s r h in (subst FitsRecord p.0 w.0, w.1 ∙ (λ i. payload (p.0 i) ++ p.1 i))
+
+option_forth : (bs : List ℕ) (x : Command) (r : List ℕ) → front_option bs ≡ Some (x, r) → Begins (1 ∷ bs) x r
+option_forth bs x r h =
+    let a = behind_some (front_option_name bs) _ x r h in
+    let n = spelt_forth is_option_name bs a.0 a.1 a.2 in
+    same_command (commands.Option a.0) x a.1 r (1 ∷ bs) ((n.0, tt), ap (λ bs. 1 ∷ bs) n.1) a.3
+
+constraint_forth : (bs : List ℕ) (x : Command) (r : List ℕ) → front_constraint bs ≡ Some (x, r) → Begins (2 ∷ bs) x r
+constraint_forth bs x r h =
+    let a = behind_some (front_expression bs) _ x r h in
+    let e = expression_forth bs a.0 a.1 a.2 in
+    same_command (commands.Constraint a.0) x a.1 r (2 ∷ bs) ((e.0, tt), ap (λ bs. 2 ∷ bs) e.1) a.3
+
+prefer_forth : (bs : List ℕ) (x : Command) (r : List ℕ) → front_prefer bs ≡ Some (x, r) → Begins (3 ∷ bs) x r
+prefer_forth bs x r h =
+    let a = behind_some (front_expression bs) _ x r h in
+    let e = expression_forth bs a.0 a.1 a.2 in
+    same_command (commands.Prefer a.0) x a.1 r (3 ∷ bs) ((e.0, tt), ap (λ bs. 3 ∷ bs) e.1) a.3
+
+default_forth : (bs : List ℕ) (x : Command) (r : List ℕ) → front_default bs ≡ Some (x, r) → Begins (4 ∷ bs) x r
+default_forth bs x r h =
+    let a = behind_some (front_u8 bs) _ x r h in
+    let b = behind_some (given (nat_lt a.0 CHOICE_WIDTH) a.0 a.1) _ x r a.3 in
+    let g = given_some (nat_lt a.0 CHOICE_WIDTH) a.0 b.0 a.1 b.1 b.2 in
+    let d = behind_some (front_bit b.1) _ x r b.3 in
+    let w = bit_forth b.1 d.0 d.1 d.2 in
+    let k = ltb-true a.0 CHOICE_WIDTH g.0 in
+    same_command (commands.Default b.0 d.0) x d.1 r (4 ∷ bs)
+    ((le-leb (b.0 + 1) CHOICE_WIDTH (omega (arith, subst (λ o. o < CHOICE_WIDTH) g.1 k)), tt), ap (λ bs. 4 ∷ bs) (u8_forth bs a.0 a.1 a.2 ∙ (λ i. g.1 i ∷ g.2 i) ∙ ap (λ bs. b.0 ∷ bs) w.1)) d.3
+
+commit_forth : (bs : List ℕ) (x : Command) (r : List ℕ) → front_commit bs ≡ Some (x, r) → Begins (5 ∷ bs) x r
+commit_forth bs x r h =
+    let a = behind_some (front_u32 bs) _ x r h in
+    let b = behind_some (front_choice a.1) (front_ambition a.0) x r a.3 in
+    let d = behind_some (front_expression b.1) (front_rest a.0 b.0) x r b.3 in
+    let f = behind_some (front_counted d.1) _ x r d.3 in
+    let u = u32_forth bs a.0 a.1 a.2 in
+    let c = choice_forth a.1 b.0 b.1 b.2 in
+    let e = expression_forth b.1 d.0 d.1 d.2 in
+    let w = edits_forth d.1 f.0 f.1 f.2 in
+    let fit = all_fit f.0 w.1 in
+    same_command (commands.Commit a.0 b.0 d.0 f.0) x f.1 r (5 ∷ bs) (
+      ((and_from (fits_expr d.0) (list_all fits_edit f.0) e.0 fit.0), (u.0, c.0, w.0, fit.1)),
+      ap (λ bs. 5 ∷ bs)
+          (u.1 ∙ ap (λ bs. to_be_bytes w32 a.0 ++ bs) (c.1 ∙ ap (λ bs. choice_spelling b.0 ++ bs) (e.1 ∙ ap (λ bs. expression_spelling d.0 ++ bs) w.2
+          ∙ sym (append_assoc (expression_spelling d.0) (edits_spelling f.0) f.1))
+          ∙ sym (append_assoc (choice_spelling b.0) (expression_spelling d.0 ++ edits_spelling f.0) f.1))
+          ∙ sym (append_assoc (to_be_bytes w32 a.0) (choice_spelling b.0 ++ (expression_spelling d.0 ++ edits_spelling f.0)) f.1)),
+    ) f.3
+
+command_of_forth : (tag : ℕ) (bs : List ℕ) (x : Command) (r : List ℕ) → command_of tag bs ≡ Some (x, r) → Begins (tag ∷ bs) x r
+command_of_forth zero bs x r h = absurd (none-some (x, r) h)
+command_of_forth (suc zero) bs x r h = option_forth bs x r h
+command_of_forth (suc (suc zero)) bs x r h = constraint_forth bs x r h
+command_of_forth (suc (suc (suc zero))) bs x r h = prefer_forth bs x r h
+command_of_forth (suc (suc (suc (suc zero)))) bs x r h = default_forth bs x r h
+command_of_forth (suc (suc (suc (suc (suc zero))))) bs x r h = commit_forth bs x r h
+command_of_forth (suc (suc (suc (suc (suc (suc n)))))) bs x r h = absurd (none-some (x, r) h)
+
+pub command_forth : (bs : List ℕ) (x : Command) (r : List ℕ) → front_command bs ≡ Some (x, r) → FitsRecord x × (bs ≡ payload x ++ r)
+command_forth bs x r h =
+    let a = behind_some (front_u8 bs) command_of x r h in
+    let w = command_of_forth a.0 a.1 x r a.3 in
+    (w.0, u8_forth bs a.0 a.1 a.2 ∙ w.1)
+
+pub one_record : OneRecord
+one_record a b r s ha hb e = pair_of a b r s (sym (command_back a r ha) ∙ ap front_command e ∙ command_back b s hb)
+
+-- a command's record is read as the command
+pub record_back : (c : Command) (bs : List ℕ) → IsRecordOf bs c → alone (front_command bs) ≡ Some c
+record_back c bs h = ap (λ f. alone f) (ap front_command (h.1 ∙ sym (append-nil (payload c))) ∙ command_back c [] h.0)
+
+-- what is read alone is the record of the command
+pub record_forth : (f : Front Command) (bs : List ℕ) (c : Command) → front_command bs ≡ f → alone f ≡ Some c → IsRecordOf bs c
+record_forth None bs c e h = absurd (none-some c h)
+record_forth (Some p) bs c e h = at p.0 p.1 e h
+  where
+    at : (x : Command) (r : List ℕ) → front_command bs ≡ Some (x, r) → alone {X = Command} (Some (x, r)) ≡ Some c → IsRecordOf bs c
+    at x (b ∷ r) e h = absurd (none-some c h)
+    at x [] e h =
+        let w = command_forth bs x [] e in
+        let p = same_Some x c h in
+        (subst FitsRecord p w.0, w.1 ∙ append-nil (payload x) ∙ ap payload p)
+
+pub no_record : (bs : List ℕ) → alone (front_command bs) ≡ None → IsNoRecord bs
+no_record bs h c w = none-some c (sym h ∙ record_back c bs w)
+
+-- what decoding gives
+pub decoded : (bs : List ℕ) (result : Result Command (MemoryOr NotARecord)) → GivesAlone (front_command bs) result → IfOk result (λ c. IsRecordOf bs c)
+decoded bs (Ok c) h = record_forth (front_command bs) bs c refl h
+decoded bs (Err e) h = tt
+
+pub undecoded : (bs : List ℕ) (result : Result Command (MemoryOr NotARecord)) → GivesAlone (front_command bs) result → IsErrOf result (Refused (record {})) → IsNoRecord bs
+undecoded bs result h e = no_record bs (subst (GivesAlone (front_command bs)) e h)
+
+pub one_command : OneCommand
+one_command bs a b ha hb = (one_record a b [] [] ha.0 hb.0 (ap (λ bs. bs ++ []) (sym ha.1 ∙ hb.1))).0
+
+cons_head : (x y : List ℕ) (xs ys : List (List ℕ)) → x ∷ xs ≡ y ∷ ys → (x ≡ y) × (xs ≡ ys)
+cons_head x y xs ys h = (ap (λ l. get_or l 0 []) h, ap (drop 1) h)
+
+pub one_history : OneHistory
+one_history [] [] ha hb h = refl
+one_history [] (b ∷ bs) ha hb h = absurd (omega (arith, ap length h))
+one_history (a ∷ as') [] ha hb h = absurd (omega (arith, ap length h))
+one_history (a ∷ as') (b ∷ bs) ha hb h =
+    let p = cons_head (payload a) (payload b) (map payload as') (map payload bs) h in
+    let head = one_command (payload a) a b (ha.0, refl) (hb.0, p.0) in
+    let tail = one_history as' bs ha.1 hb.1 p.1 in
+    λ i. head i ∷ tail i
