@@ -1,2 +1,4 @@
+mod file;
 mod folder;
 mod in_memory;
+mod journal;

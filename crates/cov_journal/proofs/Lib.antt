@@ -1,0 +1,8 @@
+pub mod Anew
+pub mod Appending
+pub mod CallerLemmas
+mod Examples
+pub mod Moments
+mod Reading
+pub mod Records
+pub mod Uniqueness

@@ -1,0 +1,16 @@
+//! A journal of records on a disk, each behind a gate that is opened last.
+#![tactic(auto)]
+
+mod damage;
+mod framed;
+mod front;
+mod journal;
+pub mod laws;
+mod opening;
+mod reader;
+mod writing;
+
+pub use damage::Damage;
+pub use journal::Journal;
+pub use opening::OpenFault;
+pub use reader::{Next, ReadRecordFault, Reader};
