@@ -44,10 +44,10 @@ last-changed (s ∷ rows) r file f h same = at (same_node s.node file) (λ k. la
     at true ih k = absurd (cc)
     at false ih k = ap (λ rs. s ∷ rs) (ih k)
 
-abbrev row_pair : FileRow → ℕ × List ℕ
+abbrev pub row_pair : FileRow → ℕ × List ℕ
 row_pair r = (r.line, r.text)
 
-pairs : (xs : List Line) → map row_pair (map line_row xs) ≡ map by_number xs
+pub pairs : (xs : List Line) → map row_pair (map line_row xs) ≡ map by_number xs
 pairs [] = refl
 pairs (x ∷ xs) = ap (λ ps. by_number x ∷ ps) (pairs xs)
 
@@ -67,7 +67,7 @@ old-line count (lines.Old x) h = let le : x ≤ count = h in grind (arith, nat_t
 old-line count (lines.New i) h = let le : count + 1 + i ≤ count = h in absurd (omega (arith, le))
 
 -- lines with the numbers of a variant's are made
-lines-made : (numbers : Numbers) (v : Variant) (file : ℕ) (ls : List ViewLine) → AllByRecursion (λ l. line_of l.address ≤ length numbers.addresses) v.lines
+pub lines-made : (numbers : Numbers) (v : Variant) (file : ℕ) (ls : List ViewLine) → AllByRecursion (λ l. line_of l.address ≤ length numbers.addresses) v.lines
     → map by_number (lines_of v file) ≡ map (line_by_number numbers) ls → AllByRecursion (λ l. is_made_line (length numbers.addresses) 0 l.line ≡ true) ls
 lines-made numbers v file ls low e =
     all-map (λ l. line_number (length numbers.addresses) l.line ≤ length numbers.addresses) (λ l. is_made_line (length numbers.addresses) 0 l.line ≡ true)
@@ -81,7 +81,7 @@ all-one : (P : ViewRow → Type 0) (rows : List ViewRow) (r : ViewRow) → AllBy
 all-one P [] r h p = (p, tt)
 all-one P (s ∷ rows) r h p = (h.0, all-one P rows r h.1 p)
 
-abbrev view_line : FileRow → ViewLine
+abbrev pub view_line : FileRow → ViewLine
 view_line r = record { line = lines.Old r.line; text = r.text }
 
 -- a row that is last gets the lines that are shown
@@ -93,7 +93,7 @@ file-last file rows r (s ∷ shown) h same =
     ∙ file-last file rows (with_lines_by (λ l. l ++ view_line s ∷ []) r) shown h same
     ∙ ap (λ l. rows ++ with_lines_by (λ x. l) r ∷ []) (append_assoc r.lines (view_line s ∷ []) (map view_line shown))
 
-by-row : (numbers : Numbers) (shown : List FileRow) → map (line_by_number numbers) (map view_line shown) ≡ map row_pair shown
+pub by-row : (numbers : Numbers) (shown : List FileRow) → map (line_by_number numbers) (map view_line shown) ≡ map row_pair shown
 by-row numbers [] = refl
 by-row numbers (s ∷ shown) = ap (λ ps. row_pair s ∷ ps) (by-row numbers shown)
 

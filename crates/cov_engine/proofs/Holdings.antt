@@ -89,6 +89,16 @@ rows-old ts c at rows (r ∷ rs) h =
     plain kinds.File all = all
     plain kinds.Dir all = all
 
+-- rows of which no file is stored are shown without lines
+pub bare-rows : (ts : List Triple) (c : List Bool) (at : ℕ) (rows : List ViewRow) (rs : List Row) → fold (with_node ts c at no_files) rows rs ≡ rows ++ map bare_row rs
+bare-rows ts c at rows [] = sym (append-nil rows)
+bare-rows ts c at rows (r ∷ rs) =
+    ap (λ ss. fold (with_node ts c at no_files) ss rs) (plain r.kind) ∙ bare-rows ts c at (rows ++ bare_row r ∷ []) rs ∙ append_assoc rows (bare_row r ∷ []) (map bare_row rs)
+  where
+    plain : (k : Kind) → with_lines ts c at k r.node None (rows ++ bare_row r ∷ []) ≡ rows ++ bare_row r ∷ []
+    plain kinds.File = refl
+    plain kinds.Dir = refl
+
 pub rows-told : (ts : List Triple) (c : List Bool) (at : ℕ) (rs : List Row) → map old_row (fold (with_node ts c at no_files) [] rs) ≡ rs
 rows-told ts c at rs = nodes-rows no_numbers ts c at no_files [] rs
 

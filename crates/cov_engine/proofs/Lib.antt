@@ -15,10 +15,13 @@ pub mod Marks
 pub mod LinesRead
 pub mod MidCommit
 pub mod Named
+pub mod NamedFiles
+pub mod NamedView
 pub mod Nodes
 pub mod Noting
 pub mod Planned
 pub mod Readied
+pub mod Refused
 pub mod Rooms
 pub mod Rising
 pub mod RowPlans
@@ -27,6 +30,7 @@ pub mod Showing
 pub mod Started
 pub mod States
 pub mod StoredFiles
+pub mod Trying
 pub mod Views
 pub mod Visibilities
 pub mod Wholes

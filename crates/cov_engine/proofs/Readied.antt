@@ -1,8 +1,7 @@
 -- What is ready for a command, staged, installed or given up.
-use Rattle.std.proofs.Common.{◌≡◌, ℕ, ◌+◌, ◌-◌, ◌<◌, ◌≤◌, ◌^◌, Bool, true, false, nat_le, List, [], Option, ◌∷◌, ◌++◌, length, map, take, Some, None, Result, Ok, Err, OnErr, IfOk, append-nil, refl, sym, ap, subst, ◌∙◌, arith}
+use Rattle.std.proofs.Common.{◌≡◌, ℕ, ◌+◌, ◌-◌, ◌<◌, ◌≤◌, ◌^◌, Bool, true, List, [], Option, ◌∷◌, ◌++◌, length, map, take, None, Result, Ok, Err, OnErr, IfOk, append-nil, refl, sym, ap, subst, ◌∙◌, arith}
 use Rattle.std.specs.List.{AllByRecursion}
 use Rattle.std.proofs.lemmas.List.{take-map, length-map, take-append-le, take_all}
-use Rattle.std.proofs.lemmas.Bool.Decides.{nat_tests}
 use Rattle.cov_base.proofs.CallerLemmas.{length-with_lines, all-map}
 use Rattle.cov_dd.specs.declared.triple.Triple.{Triple}
 use Rattle.cov_base.specs.declared.limits.TheConstants.{LIMITS}
@@ -16,7 +15,7 @@ use Rattle.cov_edit.specs.History.{options_of, option_count, text_bytes, command
 use Rattle.cov_edit.specs.Numbering.{Numbers, nodes_made, anchors_of, no_numbers, numbers_after, numbers_of, line_count}
 use Rattle.cov_edit.proofs.CallerLemmas.{numbers_from-append}
 use Rattle.cov_rules.specs.Installing.{RulesValue, Standing, expressions, reach_of}
-use Rattle.cov_view.specs.Refusals.{when, first_of}
+use Rattle.cov_view.specs.Refusals.{first_of}
 use Rattle.cov_view.proofs.CallerLemmas.{none-when}
 use Rattle.cov_engine.specs.declared.counts.Counts.{Counts}
 use Rattle.cov_engine.specs.declared.file_part.FilePart.{FilePart}
@@ -37,13 +36,13 @@ use Rattle.cov_engine.specs.Holdings.{IsFileOf, IsHeldBy}
 use Rattle.cov_engine.specs.Parts.{part_node, count_below, files_in}
 use Rattle.cov_edit.specs.Touched.{AreRising}
 use Rattle.cov_history.specs.FileNodes.{files_made, files_of}
-use Rattle.cov_history.specs.Sessions.{IsGood, MayCome, session_of}
+use Rattle.cov_history.specs.Sessions.{IsGood, session_of}
 use Rattle.cov_engine.specs.States.{AreCountsOf, IsStateOf}
 use Rattle.cov_engine.specs.Overtakers.{IsOvertaker}
 use Rattle.cov_history.specs.Overtaking.{overtaken}
-use Rattle.cov_history.specs.Verdict.{IsLegal, as_overtaken, verdict, refusals_of, size_refusals, has_no_edits}
+use Rattle.cov_history.specs.Verdict.{IsLegal, as_overtaken, verdict, refusals_of, size_refusals}
 use Rattle.cov_history.specs.FileOfLine.{new_file_of_line}
-use Rattle.cov_engine.specs.Staging.{contents, sizes_of, sizes_refusal, new_files, AreNear, AreLow, HasRoom}
+use Rattle.cov_engine.specs.Staging.{contents, sizes_of, new_files, AreNear, AreLow, HasRoom}
 use Rattle.cov_engine.specs.Staged.{IsCommitPlan, IsStaged}
 use Rattle.cov_edit.specs.History.{is_valid_in}
 use Rattle.cov_dd.specs.Diagrams.{Extends}
@@ -52,7 +51,7 @@ use Rattle.cov_tree.proofs.CallerLemmas.{plans_grow}
 use Rattle.cov_engine.specs.Carrying.{ArePlanned, CanCarryOutAll, AreInstalled}
 use Rattle.cov_dd.specs.Diagrams.{value_in, Stands}
 use Rattle.cov_engine.specs.Ready.{IsNext, IsInBounds, AreCountsWith, IsCommitReady, IsStagedReady, IsReady, edits_in}
-use Rattle.cov_history.proofs.CallerLemmas.{files-commit, files-rise, made-within, edits-accepted, good-passes, new-files_of_lines-count}
+use Rattle.cov_history.proofs.CallerLemmas.{files-commit, files-rise, made-within, edits-accepted, new-files_of_lines-count}
 use Rattle.cov_history.specs.BadChoices.{unsound_refusal}
 use Rattle.cov_engine.specs.declared.ready.Ready.{Ready}
 use Rattle.cov_engine.specs.declared.ready.Ready.TheVariants as ready
@@ -61,39 +60,10 @@ use Rattle.cov_engine.proofs.StoredFiles.{same-nodes}
 use Rattle.cov_engine.proofs.Rising.{count-front}
 use Rattle.cov_engine.proofs.Rooms.{staged-nodes}
 use Rattle.cov_engine.proofs.RowPlans.{entries-room, makes-room}
+use Rattle.cov_engine.proofs.Refused.{commit-good, commit-sizes, commit-verdict}
 use Rattle.cov_engine.proofs.Ruling.{rules-same}
+use Rattle.cov_engine.specs.Refusing.{choice_refusals, commit_refusals, early_refusal, edit_refusals}
 use Rattle.cov_engine.proofs.Installed.{declared-less, lines-few, nodes-few, edits-few, bytes-few, edits-near, edits-low, accepted-sizes, staged-rise, staged-plans, row-later, held-committed, files-contents}
-
--- the refusal by sizes that are counted is that by the history's
-sized-as : (history : List Command) (counts : Counts) (es : List Edit) → AreCountsOf history counts → sizes_refusal counts es ≡ first_of (size_refusals history es ++ when (has_no_edits es) refusals.Empty ∷ [])
-sized-as history counts es are = rw (are.lines, are.nodes, are.bytes) refl
-
--- refusals before others, or the others
-others-behind : {F : Type 0} (os ps : List (Option F)) → first_of (os ++ ps) ≡ first_of (first_of os ∷ ps)
-others-behind [] ps = refl
-others-behind (None ∷ os) ps = others-behind os ps
-others-behind (Some f ∷ os) ps = refl
-
--- the verdict on the commit of a good session is that of its sizes, or else of what overtakes it, or else of a variant left unsound
-good-verdict : (history : List Command) (counts : Counts) (base : ℕ) (choice : List Bool) (ambition : Formula ℕ) (es : List Edit)
-    → AreCountsOf history counts → IsGood history (session_of base choice ambition es) → length history < LIMITS.commands
-    → first_of (sizes_refusal counts es ∷ as_overtaken (overtaken history base ambition es) ∷ unsound_refusal history ambition (commands.Commit base choice ambition es) ∷ [])
-    ≡ verdict history (commands.Commit base choice ambition es)
-good-verdict history counts base choice ambition es are good h =
-    ap (λ o. first_of (o ∷ lasts)) (sized-as history counts es are)
-    ∙ sym (others-behind (size_refusals history es ++ when (has_no_edits es) refusals.Empty ∷ []) lasts)
-    ∙ ap (λ b. first_of (when b refusals.Full ∷ (size_refusals history es ++ when (has_no_edits es) refusals.Empty ∷ lasts))) (sym not-full)
-    ∙ sym (good-passes history (session_of base choice ambition es) good)
-  where
-    lasts : List (Option Refusal)
-    lasts = as_overtaken (overtaken history base ambition es) ∷ unsound_refusal history ambition (commands.Commit base choice ambition es) ∷ []
-
-    not-full : nat_le LIMITS.commands (length history) ≡ false
-    not-full = grind (arith, nat_tests, h)
-
--- a commit that isn't refused by its sizes, with another that overtakes it, or none
-refused-late : (o : Option Refusal) (p found : Option ℕ) (later : List (Option Refusal)) → o ≡ None → found ≡ p → first_of (o ∷ as_overtaken p ∷ later) ≡ first_of (as_overtaken found ∷ later)
-refused-late o p found later e f = ap (λ q. first_of (q ∷ as_overtaken p ∷ later)) e ∙ ap (λ q. first_of (as_overtaken q ∷ later)) (sym f)
 
 -- what is found among the commits is what overtakes in the history
 overtaken-found : (history : List Command) (names : List (List ℕ)) (ts : List Triple) (standing : Standing) (counts : Counts) (commits : List CommitMark) (file_of_line : List ℕ) (entries : Dated) (stored : List FilePart) (valid base : ℕ)
@@ -104,19 +74,22 @@ overtaken-found history names ts standing counts commits file_of_line entries st
     held.marks
     (λ c. ap (λ a. value_in ts a c) is ∙ state.rules.holds.conjunction.value c ∙ ap (λ fs. is_valid fs c) state.rules.constraints)
 
--- a command that may come, and that is a commit
-module _ (history : List Command) (k : Command) (base : ℕ) (choice : List Bool) (ambition : Formula ℕ) (es : List Edit) (is : k ≡ commands.Commit base choice ambition es) (may : MayCome history k) where
+-- a command that isn't refused early, and that is a commit
+module _ (history : List Command) (k : Command) (base : ℕ) (choice : List Bool) (ambition : Formula ℕ) (es : List Edit) (is : k ≡ commands.Commit base choice ambition es) (passes : early_refusal history k ≡ None) where
+  commit-passes : first_of (commit_refusals history base choice ambition es) ≡ None
+  commit-passes = ap (early_refusal history) (sym is) ∙ passes
+
   good : IsGood history (session_of base choice ambition es)
-  good = subst (MayCome history) is may
+  good = commit-good history base choice ambition es commit-passes
 
   pub reach-declared : reach ambition ≤ option_count history
   reach-declared = let own = good.in_reach in let all = declared-less base history in omega (arith, own, all)
 
-  -- a commit that isn't refused for its sizes is within the limits
-  pub in-bounds : (counts : Counts) → AreCountsOf history counts → IsLegal history → sizes_refusal counts es ≡ None → IsInBounds history es
-  in-bounds counts are legal passes =
-      let others : List (Option Refusal) = when (has_no_edits es) refusals.Empty ∷ [] in
-      let sized : first_of (size_refusals history es ++ others) ≡ None = sym (sized-as history counts es are) ∙ passes in
+  -- it is within the limits
+  pub in-bounds : IsLegal history → IsInBounds history es
+  in-bounds legal =
+      let others : List (Option Refusal) = choice_refusals (take base history) choice ambition ++ edit_refusals (take base history) choice es in
+      let sized : first_of (size_refusals history es ++ others) ≡ None = commit-sizes history base choice ambition es commit-passes in
       record {
         near = edits-near history base choice es (nodes-few history es others sized) good.accepted;
         low = edits-low history base choice ambition es (lines-few history es others sized) good legal;
@@ -126,25 +99,15 @@ module _ (history : List Command) (k : Command) (base : ℕ) (choice : List Bool
         bytes = bytes-few history es others sized;
       }
 
-  module _ (counts : Counts) (are : AreCountsOf history counts) (few : length history < LIMITS.commands) where
-    abbrev unsound : Option Refusal
-    unsound = unsound_refusal history ambition (commands.Commit base choice ambition es)
-
-    sized-or-late : verdict history k ≡ first_of (sizes_refusal counts es ∷ as_overtaken (overtaken history base ambition es) ∷ unsound ∷ [])
-    sized-or-late = ap (verdict history) is ∙ sym (good-verdict history counts base choice ambition es are good few)
-
-    -- the verdict on a commit that its sizes refuse
-    pub sized-verdict : (r : Refusal) → sizes_refusal counts es ≡ Some r → verdict history k ≡ Some r
-    sized-verdict r sized = sized-or-late ∙ ap (λ o. first_of (o ∷ as_overtaken (overtaken history base ambition es) ∷ unsound ∷ [])) sized
-
-    -- the verdict on another is that of what is found to overtake it, or else of a variant left unsound
-    pub late-verdict : (names : List (List ℕ)) (ts : List Triple) (standing : Standing) (commits : List CommitMark) (file_of_line : List ℕ) (entries : Dated) (stored : List FilePart) (valid : ℕ) (found : Option ℕ)
-        → IsStateOf history names ts standing counts → IsHeldBy history ts commits file_of_line entries stored → valid ≡ standing.conjunction → sizes_refusal counts es ≡ None
-        → IsOvertaker ts valid commits base ambition es found → verdict history k ≡ first_of (as_overtaken found ∷ unsound ∷ [])
-    late-verdict names ts standing commits file_of_line entries stored valid found state held conjunction sized first =
-        sized-or-late
-        ∙ refused-late (sizes_refusal counts es) (overtaken history base ambition es) found (unsound ∷ []) sized
-        (overtaken-found history names ts standing counts commits file_of_line entries stored valid base ambition es found state held reach-declared conjunction first)
+  -- the verdict on it is that of what is found to overtake it, or else of a variant left unsound
+  pub late-verdict : (names : List (List ℕ)) (ts : List Triple) (standing : Standing) (counts : Counts) (commits : List CommitMark) (file_of_line : List ℕ) (entries : Dated) (stored : List FilePart) (valid : ℕ) (found : Option ℕ)
+      → length history < LIMITS.commands → IsStateOf history names ts standing counts → IsHeldBy history ts commits file_of_line entries stored → valid ≡ standing.conjunction
+      → IsOvertaker ts valid commits base ambition es found → verdict history k ≡ first_of (as_overtaken found ∷ unsound_refusal history ambition (commands.Commit base choice ambition es) ∷ [])
+  late-verdict names ts standing counts commits file_of_line entries stored valid found few state held conjunction first =
+      ap (verdict history) is
+      ∙ commit-verdict history base choice ambition es few commit-passes
+      ∙ ap (λ o. first_of (as_overtaken o ∷ unsound_refusal history ambition (commands.Commit base choice ambition es) ∷ []))
+      (sym (overtaken-found history names ts standing counts commits file_of_line entries stored valid base ambition es found state held reach-declared conjunction first))
 
   -- what is staged for a commit is what its command wants
   module _ (os : ℕ) (ts : List Triple) (rules : RulesValue) (spare : ℕ) (commits : List CommitMark) (file_of_line : List ℕ) (entries : Dated) (stored : List FilePart) where

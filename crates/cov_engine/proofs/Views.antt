@@ -35,14 +35,14 @@ use Rattle.cov_engine.proofs.Fresh.{once-fresh}
 use Rattle.cov_engine.proofs.FileLines.{all-unmapped, Shown, IsStored, stored-lines}
 use Rattle.cov_engine.proofs.Rising.{part-some, part-has}
 
-line-below : (t : List (List ℕ)) (a : List ℕ) → IsTable t → IsLineOf t (length t) a → line_of a ≤ length t
+pub line-below : (t : List (List ℕ)) (a : List ℕ) → IsTable t → IsLineOf t (length t) a → line_of a ≤ length t
 line-below t a table line =
     let own : line_of a ≡ suc line.0 = ap line_of line.2 ∙ line_of-in t line.0 table line.1 in
     let less : line.0 < length t = line.1 in
     omega (arith, own, less)
 
 -- no line of a replay has a greater number than the history's last
-lines-below : (c : List Bool) (history : List Command) → AllByRecursion (λ l. line_of l.address ≤ length (numbers_of history).addresses) (replay c history).lines
+pub lines-below : (c : List Bool) (history : List Command) → AllByRecursion (λ l. line_of l.address ≤ length (numbers_of history).addresses) (replay c history).lines
 lines-below c history =
     all-map (λ l. IsLineOf (numbers_of history).addresses (length (numbers_of history).addresses) l.address) (λ l. line_of l.address ≤ length (numbers_of history).addresses)
     (λ l line. line-below (numbers_of history).addresses l.address (holding-stands history).0 line) (replay c history).lines (replay-stands c history).1
@@ -52,7 +52,7 @@ old-node count (nodes.Old x) h = let le : x ≤ count = h in grind (arith, nat_t
 old-node count (nodes.New i) h = let le : count + 1 + i ≤ count = h in absurd (omega (arith, le))
 
 -- rows with the numbers of a variant's name what is made
-rows-made : (ns : Numbers) (rows : List ViewRow) (v : Variant) → v.rows ≡ map (row_by_number ns) rows → NamesOnlyMade ns.nodes v
+pub rows-made : (ns : Numbers) (rows : List ViewRow) (v : Variant) → v.rows ≡ map (row_by_number ns) rows → NamesOnlyMade ns.nodes v
     → AllByRecursion (λ r. (is_made_node ns.nodes 0 r.node && is_made_node ns.nodes 0 r.parent) ≡ true) rows
 rows-made ns rows v e named =
     all-both (λ r. node_number ns.nodes r.node ≤ ns.nodes) (λ r. node_number ns.nodes r.parent ≤ ns.nodes) (λ r. (is_made_node ns.nodes 0 r.node && is_made_node ns.nodes 0 r.parent) ≡ true)

@@ -8,10 +8,12 @@ pub mod Overtakers
 pub mod Parts
 pub mod Reading
 pub mod Ready
+pub mod Refusing
 pub mod RowPlans
 pub mod Ruling
 pub mod Showing
 pub mod States
+pub mod Trying
 pub mod Carrying
 pub mod Visibility
 pub mod Visible

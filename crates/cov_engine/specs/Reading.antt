@@ -1,9 +1,9 @@
 -- What is read of one variant: the file at a path, and the lines of a file.
-use Rattle.std.specs.Prelude.{◌≡◌, ℕ, Bool, true, false, List, [], map, Option, Some, None, Result, Ok, Err}
+use Rattle.std.specs.Prelude.{◌≡◌, ℕ, Bool, true, false, List, [], Option, Some, None, Result, Ok, Err}
 use Rattle.cov_base.specs.Addresses.{line_of}
 use Rattle.cov_base.specs.Rows.{Row}
 use Rattle.cov_dd.specs.declared.triple.Triple.{Triple}
-use Rattle.cov_edit.specs.Variant.{Variant, Line, lines_of}
+use Rattle.cov_edit.specs.Variant.{Variant, Line}
 use Rattle.cov_file.specs.Dated.{rows_at}
 use Rattle.cov_file.specs.declared.row.FileRow.{FileRow}
 use Rattle.cov_view.specs.Paths.{path_node}

@@ -1,5 +1,5 @@
 -- What a commit adds to what is kept.
-use Rattle.std.specs.Prelude.{◌≡◌, ℕ, suc, ◌^◌, ◌<◌, ◌≤◌, Bool, true, false, ◌&&◌, ◌||◌, nat_eq, List, [], ◌∷◌, length, map, Option, None, if◌then◌else◌, ◌++◌}
+use Rattle.std.specs.Prelude.{◌≡◌, ℕ, suc, ◌^◌, ◌<◌, ◌≤◌, Bool, true, false, ◌&&◌, ◌||◌, nat_eq, List, [], ◌∷◌, length, map, Option, None, if◌then◌else◌}
 use Rattle.std.specs.List.{AllByRecursion}
 use Rattle.cov_base.specs.declared.number.NodeRef.{NodeRef}
 use Rattle.cov_base.specs.declared.limits.TheConstants.{LIMITS}
@@ -9,12 +9,11 @@ use Rattle.cov_edit.specs.declared.edit.Edit.{Edit}
 use Rattle.cov_edit.specs.declared.edit.Edit.TheVariants as edits
 use Rattle.cov_edit.specs.History.{text_bytes}
 use Rattle.cov_edit.specs.Numbering.{node_number, line_number, nodes_made, anchors_of}
-use Rattle.cov_view.specs.Refusals.{when, first_of}
+use Rattle.cov_view.specs.Refusals.{first_of}
 use Rattle.cov_history.specs.FileNodes.{files_made}
-use Rattle.cov_history.specs.Verdict.{has_no_edits, refusals_by_size}
+use Rattle.cov_history.specs.Verdict.{refusals_by_size}
 use Rattle.cov_engine.specs.declared.counts.Counts.{Counts}
 use Rattle.cov_history.specs.declared.refusal.Refusal.{Refusal}
-use Rattle.cov_history.specs.declared.refusal.Refusal.TheVariants as refusals
 use Rattle.cov_engine.specs.declared.file_part.FilePart.{FilePart}
 use Rattle.cov_engine.specs.declared.sizes.Sizes.{Sizes}
 
@@ -22,9 +21,9 @@ use Rattle.cov_engine.specs.declared.sizes.Sizes.{Sizes}
 abbrev pub sizes_of : List Edit → Sizes
 sizes_of es = record { lines = length (anchors_of 0 es); nodes = nodes_made es; bytes = text_bytes es }
 
--- the refusal of edits that are too many, make too much or are none, so much being there already
+-- the refusal of edits that are too many or make too much, so much being there already
 abbrev pub sizes_refusal : Counts → List Edit → Option Refusal
-sizes_refusal counts es = first_of (refusals_by_size LIMITS counts.lines counts.nodes counts.bytes es ++ when (has_no_edits es) refusals.Empty ∷ [])
+sizes_refusal counts es = first_of (refusals_by_size LIMITS counts.lines counts.nodes counts.bytes es)
 
 -- a file but for its room
 pub record Contents : Type 0 where

@@ -14,7 +14,6 @@ ghost use Rattle.cov_history.specs.Files.{file_dated};
 ghost use Rattle.cov_engine.specs.Holdings.{IsHeldBy};
 ghost use Rattle.cov_history.specs.Kept.{kept_of};
 ghost use Rattle.cov_history.specs.Completing.{completed_in};
-ghost use Rattle.cov_history.specs.Sessions.{MayCome};
 ghost use Rattle.cov_engine.specs.Reading.{IsFileAt, line_row};
 ghost use Rattle.cov_engine.specs.States.{AreCountsOf, IsStateOf, receipt_number};
 ghost use Rattle.cov_history.specs.Verdict.{IsLegal, verdict, RefusedBy};
@@ -248,11 +247,10 @@ impl Engine {
         reading::has_node(&self.state.visible, node, choice, at)
     }
 
-    /// Makes everything ready for a command, so that its installation can't fail. A refusal hands the engine back. Every
-    /// node keeps its value, refused or not. A commit takes for each edit at most time in the lines of its file; one that changes
-    /// rows takes time in all of them besides, and one on an older base may look at the commits since.
+    /// Makes everything ready for a command, so that its installation can't fail. A refusal, the first of the verdict on it,
+    /// hands the engine back. Every node keeps its value, refused or not. A commit takes time in all rows, and for each edit at
+    /// most in the lines of its file; one on an older base looks at the commands since.
     pub fn prepare(self, command: Command) -> Result<Prepared, (Engine, Refusal)>
-        requires { MayCome self.history command }
         ensures prepared { IfOk result (λ prepared. (prepared.history ≡ self.history) × (prepared.command ≡ command)) }
         ensures accepted { OnOk result (verdict self.history command ≡ None) }
         ensures extends { IfOk result (λ prepared. Extends self.table prepared.table) }
@@ -271,7 +269,6 @@ impl Engine {
     /// Appends a command, unless the history refuses it; then it is as before. Every node keeps its value, refused or not. It
     /// takes the time of `prepare`.
     pub fn append(&mut self, command: Command) -> Result<Receipt, Refusal>
-        requires { MayCome self.old.history command }
         ensures appended { OnOk result (self.new.history ≡ self.old.history ++ command ∷ []) }
         ensures accepted { OnOk result (verdict self.old.history command ≡ None) }
         ensures position { IfOk result (λ receipt. receipt.position ≡ length self.old.history + 1) }

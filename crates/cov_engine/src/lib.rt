@@ -18,12 +18,14 @@ mod planning;
 mod prepared;
 mod reading;
 mod ready;
+mod refusing;
 mod row_planning;
 mod rule;
 mod sizes;
 mod staging;
 mod state;
 mod store;
+mod trial;
 mod visible;
 
 pub use counts::Counts;

@@ -64,21 +64,14 @@ fn with_edit(sizes: Sizes, edit: &Edit) -> Sizes
     }
 }
 
-/// The refusal of edits that are too many, make too much or are none, where so much is there already.
+/// The refusal of edits that are too many or make too much, where so much is there already.
 pub(crate) fn refusal(counts: Counts, edits: &Edits) -> Option<Refusal>
     ensures { result ≡ sizes_refusal counts edits.now }
 {
     if edits.len() > LIMITS.edits {
         return Some(Refusal::TooManyEdits);
     }
-    let sizes = measure(edits.as_slice());
-    match refusal_of_sizes(counts, sizes) {
-        Some(refusal) => Some(refusal),
-        None => match edits.is_empty() {
-            true => Some(Refusal::Empty),
-            false => None,
-        },
-    }
+    refusal_of_sizes(counts, measure(edits.as_slice()))
 }
 
 fn refusal_of_sizes(counts: Counts, sizes: Sizes) -> Option<Refusal>

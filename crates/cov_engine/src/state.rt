@@ -7,7 +7,7 @@ ghost use Rattle.cov_history.specs.BadChoices.{unsound_refusal};
 ghost use Rattle.cov_engine.specs.Staged.{IsCommitPlan};
 ghost use Rattle.cov_edit.specs.History.{option_count};
 ghost use Rattle.cov_engine.specs.Holdings.{IsHeldBy};
-ghost use Rattle.cov_history.specs.Sessions.{MayCome};
+ghost use Rattle.cov_engine.specs.Refusing.{early_refusal};
 ghost use Rattle.cov_engine.specs.States.{IsStateOf, name_refusal};
 ghost use Rattle.cov_engine.specs.Ready.{IsReady, IsInBounds, IsStagedReady};
 ghost use Rattle.cov_history.specs.Verdict.{verdict, RefusedBy};
@@ -17,11 +17,12 @@ use crate::evidence::refusal_left;
 use crate::overtaking::overtaken;
 use crate::planning::{Site, plan_edits};
 use crate::ready::{Ready, stage_commit};
+use crate::refusing::early_refusal;
 use crate::row_planning::plan_rows;
 use crate::rule::rule_ready;
 use crate::sizes::{measure, with_sizes};
 use crate::store::{CommitMark, Store};
-use crate::{Counts, Refusal, Visible, sizes};
+use crate::{Counts, Refusal, Visible};
 use cov_base::{LIMITS, Memory, OptionName, Position};
 use cov_edit::{Command, Commands, Edits, touched};
 use cov_expr::{Expr, Options};
@@ -45,7 +46,6 @@ pub(crate) struct EngineState {
 pub(crate) fn make_ready(state: &mut EngineState, command: &Command) -> Result<Ready, Refusal>
     requires state { IsStateOf state.old.commands.commands state.old.options.names state.old.visible.table state.old.rules.standing state.old.counts }
     requires held { IsHeldBy state.old.commands.commands state.old.visible.table state.old.store.commits.items state.old.store.file_of_line.items state.old.visible.entries state.old.visible.files }
-    requires may_come { MayCome state.old.commands.commands command.now }
     ensures history { state.new.commands.commands ≡ state.old.commands.commands }
     ensures extends { Extends state.old.visible.table state.new.visible.table }
     ensures state { IsStateOf state.new.commands.commands state.new.options.names state.new.visible.table state.new.rules.standing state.new.counts }
@@ -59,17 +59,40 @@ pub(crate) fn make_ready(state: &mut EngineState, command: &Command) -> Result<R
     if state.commands.len() >= LIMITS.commands {
         return Err(Refusal::Full);
     }
+    match early_refusal(state, command) {
+        Ok(Some(refusal)) => Err(refusal),
+        Ok(None) => with_room(state, command),
+        Err(Memory) => Err(Refusal::Memory),
+    }
+}
+
+// Makes everything ready for a command that isn't refused early, where the history isn't full.
+fn with_room(state: &mut EngineState, command: &Command) -> Result<Ready, Refusal>
+    requires state { IsStateOf state.old.commands.commands state.old.options.names state.old.visible.table state.old.rules.standing state.old.counts }
+    requires held { IsHeldBy state.old.commands.commands state.old.visible.table state.old.store.commits.items state.old.store.file_of_line.items state.old.visible.entries state.old.visible.files }
+    requires passes { early_refusal state.old.commands.commands command.now ≡ None }
+    requires few { length state.old.commands.commands < LIMITS.commands }
+    ensures history { state.new.commands.commands ≡ state.old.commands.commands }
+    ensures extends { Extends state.old.visible.table state.new.visible.table }
+    ensures state { IsStateOf state.new.commands.commands state.new.options.names state.new.visible.table state.new.rules.standing state.new.counts }
+    ensures room { OnOk result (0 < state.new.commands.spare) }
+    ensures accepted { OnOk result (verdict state.old.commands.commands command.now ≡ None) }
+    ensures ready { IfOk result (IsReady state.new.commands.commands command.now state.new.options.spare state.new.visible.table state.new.rules
+        state.new.store.commits.spare state.new.store.commits.items state.new.store.file_of_line.items state.new.visible.entries state.new.visible.files) }
+    ensures refused { IfErr result (λ refusal. RefusedBy refusal (verdict state.old.commands.commands command.now)) }
+    ensures held { OnErr result (IsHeldBy state.new.commands.commands state.new.visible.table state.new.store.commits.items state.new.store.file_of_line.items state.new.visible.entries state.new.visible.files) }
+{
     match state.commands.reserve() {
         Ok(()) => ready_for(state, command),
         Err(_) => Err(Refusal::Memory),
     }
 }
 
-// Makes ready what a command adds, where there is room for one more.
+// Makes ready what a command adds that isn't refused early, where there is room for one more.
 fn ready_for(state: &mut EngineState, command: &Command) -> Result<Ready, Refusal>
     requires state { IsStateOf state.old.commands.commands state.old.options.names state.old.visible.table state.old.rules.standing state.old.counts }
     requires held { IsHeldBy state.old.commands.commands state.old.visible.table state.old.store.commits.items state.old.store.file_of_line.items state.old.visible.entries state.old.visible.files }
-    requires may_come { MayCome state.old.commands.commands command.now }
+    requires passes { early_refusal state.old.commands.commands command.now ≡ None }
     requires few { length state.old.commands.commands < LIMITS.commands }
     ensures commands { state.new.commands ≡ state.old.commands }
     ensures extends { Extends state.old.visible.table state.new.visible.table }
@@ -88,20 +111,17 @@ fn ready_for(state: &mut EngineState, command: &Command) -> Result<Ready, Refusa
             ambition,
             edits,
             ..
-        } => match sizes::refusal(state.counts, edits) {
-            Some(refusal) => Err(refusal),
-            None => match overtaken(
-                &mut state.visible.table,
-                state.rules.conjunction(),
-                &state.store.commits,
-                *base,
-                ambition,
-                edits,
-            ) {
-                Ok(Some(position)) => Err(Refusal::Overtaken { position }),
-                Ok(None) => commit_ready(state, ambition, edits),
-                Err(Memory) => Err(Refusal::Memory),
-            },
+        } => match overtaken(
+            &mut state.visible.table,
+            state.rules.conjunction(),
+            &state.store.commits,
+            *base,
+            ambition,
+            edits,
+        ) {
+            Ok(Some(position)) => Err(Refusal::Overtaken { position }),
+            Ok(None) => commit_ready(state, ambition, edits),
+            Err(Memory) => Err(Refusal::Memory),
         },
         _ => rule_ready(alloc, &mut state.rules, &mut state.visible.table, command),
     }

@@ -9,7 +9,7 @@ ghost use Rattle.cov_base.specs.declared.number.NodeRef.TheVariants.{Old};
 ghost use Rattle.cov_file.specs.Dated.{rows_at as file_rows_at};
 ghost use Rattle.cov_tree.specs.Dated.{rows_at};
 ghost use Rattle.cov_view.specs.Seen.{kind_in};
-ghost use Rattle.cov_engine.specs.Showing.{with_row, with_node, AreFresh};
+ghost use Rattle.cov_engine.specs.Showing.{bare_row, with_row, with_node, AreFresh};
 ghost use Rattle.cov_edit.specs.Touched.{AreRising};
 ghost use Rattle.cov_engine.specs.Parts.{part_node};
 ghost use Rattle.cov_engine.specs.Visibility.{item_of, stored_file_of};
@@ -73,6 +73,7 @@ pub(crate) fn view_of_rows(
     rows: &[NodeRow],
 ) -> Result<View, Memory>
     requires { AreOnce rows.now }
+    ensures view { IfOk result (λ view. view ≡ record { rows = map bare_row rows.now; nodes_made = 0; lines_made = 0 }) }
     ensures old { IfOk result (λ view. AreOld view.rows) }
     ensures rows { IfOk result (λ view. map old_row view.rows ≡ rows.now) }
 {
@@ -129,8 +130,8 @@ fn add_node(
     }
 }
 
-// Adds the lines of a file that are seen.
-fn add_lines(
+/// Adds the lines of a file that are seen.
+pub(crate) fn add_lines(
     view: &mut View,
     table: &Table,
     node: NodeNo,

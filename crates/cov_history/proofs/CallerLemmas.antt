@@ -15,7 +15,7 @@ pub use Rattle.cov_history.proofs.RowsRising.{fault-as_stands, replay-few, repla
 pub use Rattle.cov_history.proofs.Seen.{seen-cons}
 pub use Rattle.cov_history.proofs.Sessions.{edit-accepted, good-passes, rest-accepted}
 pub use Rattle.cov_history.proofs.Shown.{replay-stands}
-pub use Rattle.cov_history.proofs.Sound.{legal-sound, lines-sound}
+pub use Rattle.cov_history.proofs.Sound.{legal-sound, lines-sound, rules-low}
 pub use Rattle.cov_history.proofs.Standing.{all-mapped, holding-stands}
 pub use Rattle.cov_history.proofs.Unread.{commit-front, commit-unread, replay-unread}
 pub use Rattle.cov_history.proofs.Whole.{holding-whole, file_of_line-has, file_of_line-more, files_of_lines-stay, new-files_of_lines-count}

@@ -61,14 +61,14 @@ rule-low history e h =
     grind (arith, nat_tests, named)
 
 -- expressions that have only the options that a history declares
-abbrev AreLow : List Command → List (Formula ℕ) → Type 0
+abbrev pub AreLow : List Command → List (Formula ℕ) → Type 0
 AreLow history es = AllByRecursion (λ e. reach e ≤ option_count history) es
 
 low-next : (before : List Command) (k : Command) (later : List Command) → AreLow ((before ++ k ∷ []) ++ later) (constraints_of later) → AreLow (before ++ k ∷ later) (constraints_of later)
 low-next before k later h = subst (λ history. AreLow history (constraints_of later)) (append_assoc before (k ∷ []) later) h
 
 -- so do all constraints of a legal history
-rules-low : (before later : List Command) → IsLegalFrom before later → AreLow (before ++ later) (constraints_of later)
+pub rules-low : (before later : List Command) → IsLegalFrom before later → AreLow (before ++ later) (constraints_of later)
 rules-low before [] legal = tt
 rules-low before (commands.Option name ∷ later) legal = low-next before (commands.Option name) later (rules-low (before ++ commands.Option name ∷ []) later legal.2)
 rules-low before (commands.Constraint e ∷ later) legal =

@@ -1,7 +1,7 @@
 // How options and rules are declared.
 ghost use Rattle.std.specs.Prelude.{◌≡◌, ◌∷◌, [], false, IfOk};
 ghost use Rattle.cov_engine.specs.States.{receipt_number};
-ghost use Rattle.cov_history.specs.Sessions.{MayCome, has_commit};
+ghost use Rattle.cov_history.specs.Sessions.{has_commit};
 ghost use Rattle.cov_serve.specs.Acting.{Acts, Changes};
 ghost use Rattle.cov_serve.specs.Step.{appended, declared, constrained, preferred, defaulted};
 
@@ -55,8 +55,7 @@ impl Server {
 
     // Appends a command that declares something, unless the history refuses it.
     fn append(&mut self, command: Command) -> Result<Receipt, Stop>
-        requires may { MayCome self.old.history command }
-        requires declares { has_commit (command ∷ []) ≡ false }
+        requires { has_commit (command ∷ []) ≡ false }
         ensures appended { Changes (appended self.old command) self.old self.new result }
         ensures number { IfOk result (λ receipt. receipt.number ≡ receipt_number self.old.history command) }
     {

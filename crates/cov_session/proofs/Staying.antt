@@ -16,6 +16,7 @@ use Rattle.cov_view.specs.Seen.{Seen}
 use Rattle.cov_view.specs.Views.{Shows}
 use Rattle.cov_history.specs.Laws.{GoodSessionsStay}
 use Rattle.cov_history.specs.Sessions.{IsGood}
+use Rattle.cov_engine.proofs.CallerLemmas.{all-valid}
 use Rattle.cov_session.specs.Laws.{OpenSessionsStay}
 use Rattle.cov_session.specs.Open.{IsOpen}
 use Rattle.cov_session.specs.Opening.{new_session}
@@ -30,24 +31,6 @@ open-stays stays history later s here =
       nodes = here.nodes;
       lines = here.lines;
     }
-
-full-prefix : (c : List Bool) (es : List (Formula ℕ)) → length es ≤ position_or_len (λ f. not (value f c)) es → is_valid es c ≡ true
-full-prefix c [] h = refl
-full-prefix c (e ∷ es) h = at (value e c) h (λ k. full-prefix c es k)
-  where
-    at : (b : Bool) → suc (length es) ≤ cond (not (not b)) (1 + position_or_len (λ f. not (value f c)) es) 0
-        → (length es ≤ position_or_len (λ f. not (value f c)) es → is_valid es c ≡ true) → (b && is_valid es c) ≡ true
-    at true k rest = rest (omega (arith, k))
-    at false k rest = absurd (omega (arith, k))
-
--- where no constraint is false, the choice is valid
-all-valid : (es : List (Formula ℕ)) (c : List Bool) → first_false es c ≡ None → is_valid es c ≡ true
-all-valid es c h = full-prefix c es (at (nat_lt (position_or_len (λ f. not (value f c)) es) (length es)) refl h)
-  where
-    at : (b : Bool) → nat_lt (position_or_len (λ f. not (value f c)) es) (length es) ≡ b
-        → option_map (λ n. n + 1) (cond b (Some (position_or_len (λ f. not (value f c)) es)) None) ≡ None → length es ≤ position_or_len (λ f. not (value f c)) es
-    at true e k = absurd (cc)
-    at false e k = grind (arith, nat_tests, e)
 
 -- a session that begins is open
 pub open-first : (history : List Command) (name : List ℕ) (base : ℕ) (c : List Bool) (ambition : Formula ℕ) (es : List Edit) (view : Seen)

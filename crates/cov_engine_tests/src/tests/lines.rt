@@ -2,7 +2,6 @@
 ghost use Rattle.std.specs.Prelude.{◌≡◌, ◌++◌, [], ◌∷◌, true, codes, IfOk, OnOk};
 ghost use Rattle.cov_base.specs.Spelling.{is_line_text};
 ghost use Rattle.cov_edit.specs.EditFits.{has_line_text};
-ghost use Rattle.cov_history.specs.Sessions.{MayCome};
 ghost use Rattle.cov_engine_tests.specs.Lines.{ambition_of, file_m, line_in, file_with, line_after, without, commit_of, with_X, without_X};
 
 use crate::tests::steps::{append, close, declare_d};
@@ -39,7 +38,6 @@ pub(crate) fn commit(
     for_d: bool,
     edits: Edits,
 ) -> Result<(), Fail>
-    requires { MayCome engine.old.history (commit_of base choice for_d edits) }
     ensures { OnOk result (engine.new.history ≡ engine.old.history ++ commit_of base choice for_d edits ∷ []) }
 {
     let ambition = ambition(for_d)?;
@@ -121,7 +119,6 @@ pub(crate) fn insert(
     text: &[u8],
 ) -> Result<(), Fail>
     requires text { is_line_text text.now ≡ true }
-    requires may_come { MayCome engine.old.history (commit_of base choice for_d (line_after after text.now)) }
     ensures { OnOk result (engine.new.history ≡ engine.old.history ++ commit_of base choice for_d (line_after after text.now) ∷ []) }
 {
     let edit = insertion(alloc, NodeRef::Old(NodeNo::new(1)), after, text)?;
@@ -131,7 +128,6 @@ pub(crate) fn insert(
 
 // Takes a line out of the file 1, from the variant of the choice with d.
 fn delete(alloc: Global, engine: &mut Engine, base: u32, for_d: bool, line: u32) -> Result<(), Fail>
-    requires { MayCome engine.old.history (commit_of base (true ∷ []) for_d (without line)) }
     ensures { OnOk result (engine.new.history ≡ engine.old.history ++ commit_of base (true ∷ []) for_d (without line) ∷ []) }
 {
     let edit = Edit::Delete {

@@ -1,6 +1,5 @@
 //! Lines that are put into a file on older bases, beside commits of another file.
 ghost use Rattle.std.specs.Prelude.{◌≡◌, [], ◌∷◌, false, codes, IfOk, OnOk};
-ghost use Rattle.cov_history.specs.Sessions.{MayCome};
 ghost use Rattle.cov_engine_tests.specs.Lines.{commit_of, file_n, line_after, with_X, with_Y};
 
 use crate::tests::lines::{ambition, commit, insert, insert_lines, insertion, one};
@@ -36,9 +35,7 @@ fn insert_beside(alloc: Global, engine: &mut Engine) -> Result<(), Fail>
 }
 
 // The position of what overtakes a line that is put into the file m on a base.
-fn overtaker(alloc: Global, engine: &mut Engine, base: u32) -> Result<Option<u32>, Fail>
-    requires { MayCome engine.old.history (commit_of base (false ∷ []) false (line_after 1 (codes "Z"))) }
-{
+fn overtaker(alloc: Global, engine: &mut Engine, base: u32) -> Result<Option<u32>, Fail> {
     let edit = insertion(alloc, NodeRef::Old(NodeNo::new(1)), 1, b"Z")?;
     let edits = one(alloc, edit)?;
     let ambition = ambition(false)?;
@@ -69,7 +66,6 @@ fn check_overtaken(
     position: Option<u32>,
 ) -> Result<(), Fail>
     requires history { engine.old.history ≡ [] }
-    requires may_come { MayCome with_Y (commit_of base (false ∷ []) false (line_after 1 (codes "Z"))) }
 {
     insert_lines(alloc, engine)?;
     insert_beside(alloc, engine)?;

@@ -1,6 +1,5 @@
 // What tests do with an engine.
 ghost use Rattle.std.specs.Prelude.{◌≡◌, ◌++◌, [], ◌∷◌, IfOk, OnOk};
-ghost use Rattle.cov_history.specs.Sessions.{MayCome};
 ghost use Rattle.cov_engine_tests.specs.Lines.{of_d};
 
 use cov_base::OptionName;
@@ -11,7 +10,6 @@ use std::test::Fail;
 
 /// Appends a command.
 pub(crate) fn append(engine: &mut Engine, command: Command) -> Result<Receipt, Fail>
-    requires { MayCome engine.old.history command }
     ensures { OnOk result (engine.new.history ≡ engine.old.history ++ command ∷ []) }
 {
     match engine.append(command) {

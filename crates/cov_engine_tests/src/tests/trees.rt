@@ -4,7 +4,6 @@ ghost use Rattle.cov_base.specs.Spelling.{is_line_text};
 ghost use Rattle.cov_base.specs.declared.number.NodeRef.TheVariants as nodes;
 ghost use Rattle.cov_edit.specs.EditFits.{has_line_text};
 ghost use Rattle.cov_edit.specs.declared.edit.Edit.TheVariants as edits;
-ghost use Rattle.cov_history.specs.Sessions.{MayCome};
 ghost use Rattle.cov_engine_tests.specs.Trees.{ambition_in, commit_in, of_option, file_in_root, dir_in_root, line_of, renaming, moving, removing, of_both, begun, renamed, grown, file_for_d, directories};
 
 use crate::tests::steps::{append, close};
@@ -63,7 +62,6 @@ fn commit(
     within: Option<OptionId>,
     edits: Edits,
 ) -> Result<(), Fail>
-    requires { MayCome engine.old.history (commit_in base choice within edits) }
     ensures { OnOk result (engine.new.history ≡ engine.old.history ++ commit_in base choice within edits ∷ []) }
 {
     let command = command(base, choice, within, edits)?;
@@ -71,8 +69,8 @@ fn commit(
     Ok(())
 }
 
-// Edits with one more.
-fn also(edits: Edits, edit: Edit) -> Result<Edits, Fail>
+/// Edits with one more.
+pub(crate) fn also(edits: Edits, edit: Edit) -> Result<Edits, Fail>
     requires { has_line_text edit ≡ true }
     ensures { IfOk result (λ all. all ≡ edits ++ edit ∷ []) }
 {
@@ -443,7 +441,6 @@ fn make_directories(alloc: Global, engine: &mut Engine) -> Result<(), Fail>
 
 // What refuses a commit for all variants from the one without p.
 fn refusal_of(engine: &mut Engine, edits: Edits) -> Result<Refusal, Fail>
-    requires { MayCome engine.old.history (commit_in 3 (false ∷ []) None edits) }
     ensures { OnOk result (engine.new.history ≡ engine.old.history) }
 {
     let command = command(3, Choice::new(0, 1), None, edits)?;

@@ -12,8 +12,9 @@ use Rattle.cov_history.specs.BadChoices.{unsound_refusal}
 use Rattle.cov_history.specs.Verdict.{verdict, as_overtaken, RefusedBy}
 use Rattle.cov_engine.proofs.Holdings.{held-grown}
 use Rattle.cov_engine.proofs.Marking.{marks-within, marks-rising}
-use Rattle.cov_engine.proofs.Readied.{on-any, reach-declared, in-bounds, sized-verdict, late-verdict, all-staged}
-use Rattle.cov_engine.proofs.Ruling.{RuleOf, rule-of, all-ready, refused-by, rule-accepted, rule-refused}
+use Rattle.cov_engine.proofs.Readied.{on-any, reach-declared, in-bounds, late-verdict, all-staged}
+use Rattle.cov_engine.proofs.Refused.{early-may}
+use Rattle.cov_engine.proofs.Ruling.{RuleOf, rule-of, all-ready, rule-accepted, rule-refused}
 use Rattle.cov_engine.proofs.States.{state-grown}
 use Rattle.cov_engine.proofs.state.ready_for.Goals as goal
 
@@ -38,18 +39,11 @@ commit_ready-requires-clause-held c =
     c.requires.held c.overtaken.ensures.extends)
 
 pub commit_ready-requires-clause-reach : goal.commit_ready-requires-clause-reach
-commit_ready-requires-clause-reach c = reach-declared c.args.state.now.commands.commands c.args.command.now c.in-Commit.base c.in-Commit.choice c.in-Commit.ambition c.in-Commit.edits c.in-Commit.is c.requires.may_come
+commit_ready-requires-clause-reach c = reach-declared c.args.state.now.commands.commands c.args.command.now c.in-Commit.base c.in-Commit.choice c.in-Commit.ambition c.in-Commit.edits c.in-Commit.is c.requires.passes
 
 pub commit_ready-requires-clause-fits : goal.commit_ready-requires-clause-fits
 commit_ready-requires-clause-fits c =
-    in-bounds c.args.state.now.commands.commands c.args.command.now c.in-Commit.base c.in-Commit.choice c.in-Commit.ambition c.in-Commit.edits c.in-Commit.is c.requires.may_come c.args.state.now.counts c.requires.state.counted c.requires.state.legal
-    (sym c.refusal.ensures ∙ c.in-None.is)
-
-pub returns-in-Some-clause-refused : goal.returns-in-Some-clause-refused
-returns-in-Some-clause-refused c =
-    refused-by c.in-Some.refusal (verdict c.args.state.now.commands.commands c.args.command.now)
-    (sized-verdict c.args.state.now.commands.commands c.args.command.now c.in-Commit.base c.in-Commit.choice c.in-Commit.ambition c.in-Commit.edits c.in-Commit.is c.requires.may_come
-    c.args.state.now.counts c.requires.state.counted c.requires.few c.in-Some.refusal (sym c.refusal.ensures ∙ c.in-Some.is))
+    in-bounds c.args.state.now.commands.commands c.args.command.now c.in-Commit.base c.in-Commit.choice c.in-Commit.ambition c.in-Commit.edits c.in-Commit.is c.requires.passes c.requires.state.legal
 
 pub returns-in-Ok-Some-clause-state : goal.returns-in-Ok-Some-clause-state
 returns-in-Ok-Some-clause-state c =
@@ -58,10 +52,10 @@ returns-in-Ok-Some-clause-state c =
 
 pub returns-in-Ok-Some-clause-refused : goal.returns-in-Ok-Some-clause-refused
 returns-in-Ok-Some-clause-refused c =
-    late-verdict c.args.state.now.commands.commands c.args.command.now c.in-Commit.base c.in-Commit.choice c.in-Commit.ambition c.in-Commit.edits c.in-Commit.is c.requires.may_come
-    c.args.state.now.counts c.requires.state.counted c.requires.few c.args.state.now.options.names c.args.state.now.visible.table c.args.state.now.rules.standing c.args.state.now.store.commits.items
-    c.args.state.now.store.file_of_line.items c.args.state.now.visible.entries c.args.state.now.visible.files c.conjunction.result c.in-Ok-Some.field-0 c.requires.state c.requires.held c.conjunction.ensures
-    (sym c.refusal.ensures ∙ c.in-None.is) c.in-Ok-Some.ensures.first
+    late-verdict c.args.state.now.commands.commands c.args.command.now c.in-Commit.base c.in-Commit.choice c.in-Commit.ambition c.in-Commit.edits c.in-Commit.is c.requires.passes
+    c.args.state.now.options.names c.args.state.now.visible.table c.args.state.now.rules.standing c.args.state.now.counts c.args.state.now.store.commits.items
+    c.args.state.now.store.file_of_line.items c.args.state.now.visible.entries c.args.state.now.visible.files c.conjunction.result c.in-Ok-Some.field-0 c.requires.few c.requires.state c.requires.held c.conjunction.ensures
+    c.in-Ok-Some.ensures.first
     ∙ ap (λ found. first_of (as_overtaken found ∷ unsound_refusal c.args.state.now.commands.commands c.in-Commit.ambition (commands.Commit c.in-Commit.base c.in-Commit.choice c.in-Commit.ambition c.in-Commit.edits) ∷ [])) c.in-Ok-Some.field-0-is
 
 pub returns-in-Ok-Some-clause-held : goal.returns-in-Ok-Some-clause-held
@@ -72,10 +66,10 @@ returns-in-Ok-Some-clause-held c =
 judged : (c : goal.After-commit_ready) → verdict c.args.state.now.commands.commands c.args.command.now
     ≡ unsound_refusal c.args.state.now.commands.commands c.in-Commit.ambition (commands.Commit c.in-Commit.base c.in-Commit.choice c.in-Commit.ambition c.in-Commit.edits)
 judged c =
-    late-verdict c.args.state.now.commands.commands c.args.command.now c.in-Commit.base c.in-Commit.choice c.in-Commit.ambition c.in-Commit.edits c.in-Commit.is c.requires.may_come
-    c.args.state.now.counts c.requires.state.counted c.requires.few c.args.state.now.options.names c.args.state.now.visible.table c.args.state.now.rules.standing c.args.state.now.store.commits.items
-    c.args.state.now.store.file_of_line.items c.args.state.now.visible.entries c.args.state.now.visible.files c.conjunction.result c.in-Ok-None.field-0 c.requires.state c.requires.held c.conjunction.ensures
-    (sym c.refusal.ensures ∙ c.in-None.is) c.in-Ok-None.ensures.first
+    late-verdict c.args.state.now.commands.commands c.args.command.now c.in-Commit.base c.in-Commit.choice c.in-Commit.ambition c.in-Commit.edits c.in-Commit.is c.requires.passes
+    c.args.state.now.options.names c.args.state.now.visible.table c.args.state.now.rules.standing c.args.state.now.counts c.args.state.now.store.commits.items
+    c.args.state.now.store.file_of_line.items c.args.state.now.visible.entries c.args.state.now.visible.files c.conjunction.result c.in-Ok-None.field-0 c.requires.few c.requires.state c.requires.held c.conjunction.ensures
+    c.in-Ok-None.ensures.first
     ∙ ap (λ found. first_of (as_overtaken found ∷ unsound_refusal c.args.state.now.commands.commands c.in-Commit.ambition (commands.Commit c.in-Commit.base c.in-Commit.choice c.in-Commit.ambition c.in-Commit.edits) ∷ [])) c.in-Ok-None.field-0-is
     ∙ first-one _
 
@@ -88,7 +82,7 @@ returns-in-Ok-None-clause-accepted c = on_ok_weaker c.commit_ready.result (λ so
 pub returns-in-Ok-None-clause-ready : goal.returns-in-Ok-None-clause-ready
 returns-in-Ok-None-clause-ready c =
     subst (λ (ks : Recorded). IfOk c.commit_ready.result (IsReady ks.commands c.args.command.now c.commit_ready.new.state.options.spare c.commit_ready.new.state.visible.table c.commit_ready.new.state.rules c.commit_ready.new.state.store.commits.spare c.commit_ready.new.state.store.commits.items c.commit_ready.new.state.store.file_of_line.items c.commit_ready.new.state.visible.entries c.commit_ready.new.state.visible.files)) (sym c.commit_ready.ensures.commands)
-    (all-staged c.args.state.now.commands.commands c.args.command.now c.in-Commit.base c.in-Commit.choice c.in-Commit.ambition c.in-Commit.edits c.in-Commit.is c.requires.may_come c.commit_ready.new.state.options.spare c.commit_ready.new.state.visible.table c.commit_ready.new.state.rules c.commit_ready.new.state.store.commits.spare c.commit_ready.new.state.store.commits.items c.commit_ready.new.state.store.file_of_line.items c.commit_ready.new.state.visible.entries c.commit_ready.new.state.visible.files c.commit_ready.result
+    (all-staged c.args.state.now.commands.commands c.args.command.now c.in-Commit.base c.in-Commit.choice c.in-Commit.ambition c.in-Commit.edits c.in-Commit.is c.requires.passes c.commit_ready.new.state.options.spare c.commit_ready.new.state.visible.table c.commit_ready.new.state.rules c.commit_ready.new.state.store.commits.spare c.commit_ready.new.state.store.commits.items c.commit_ready.new.state.store.file_of_line.items c.commit_ready.new.state.visible.entries c.commit_ready.new.state.visible.files c.commit_ready.result
     (subst (λ (ks : Recorded). IfOk c.commit_ready.result (IsStagedReady ks.commands c.commit_ready.new.state.visible.table c.in-Commit.ambition c.in-Commit.edits c.commit_ready.new.state.store.commits.spare c.commit_ready.new.state.store.commits.items c.commit_ready.new.state.store.file_of_line.items c.commit_ready.new.state.visible.entries c.commit_ready.new.state.visible.files)) c.commit_ready.ensures.commands c.commit_ready.ensures.ready))
 
 pub returns-in-Ok-None-clause-refused : goal.returns-in-Ok-None-clause-refused
@@ -118,9 +112,9 @@ returns-in_default c =
       extends = c.rule_ready.ensures.extends;
       state = state-grown history c.args.state.now.options.names ts c.rule_ready.new.table standing c.rule_ready.new.rules.standing c.args.state.now.counts
           c.requires.state c.rule_ready.ensures.extends c.rule_ready.ensures.same;
-      accepted = on_ok_weaker c.rule_ready.result (λ accepted. rule-accepted history ts standing c.requires.state.rules c.requires.few k of.rule of.is c.requires.may_come (accepted of.rule of.is)) c.rule_ready.ensures.accepted;
+      accepted = on_ok_weaker c.rule_ready.result (λ accepted. rule-accepted history ts standing c.requires.state.rules c.requires.few k of.rule of.is (early-may history k c.requires.passes) (accepted of.rule of.is)) c.rule_ready.ensures.accepted;
       ready = all-ready history k c.args.state.now.options.spare c.rule_ready.new.table c.rule_ready.new.rules _ c.args.state.now.store.commits.items c.args.state.now.store.file_of_line.items c.args.state.now.visible.entries c.args.state.now.visible.files
           grown c.rule_ready.result c.rule_ready.ensures.ready;
-      refused = IfErr-weaker c.rule_ready.result _ _ (λ r refused. rule-refused history ts standing c.requires.state.rules c.requires.few k of.rule of.is c.requires.may_come r (refused of.rule of.is)) c.rule_ready.ensures.refused;
+      refused = IfErr-weaker c.rule_ready.result _ _ (λ r refused. rule-refused history ts standing c.requires.state.rules c.requires.few k of.rule of.is (early-may history k c.requires.passes) r (refused of.rule of.is)) c.rule_ready.ensures.refused;
       held = on-any c.rule_ready.result _ grown;
     }

@@ -1,21 +1,14 @@
-use Rattle.std.proofs.Common.{◌≡◌, ◌∙◌, sym, ap, subst, Some, map, option_map}
-use Rattle.cov_history.specs.Sessions.{commit_of}
+use Rattle.std.proofs.Common.{◌∙◌, sym, ap, subst, map}
 use Rattle.cov_history.specs.Verdict.{RefusedBy, verdict}
-use Rattle.cov_session.specs.Named.{named}
-use Rattle.cov_session.specs.Open.{NamedSession, as_named}
+use Rattle.cov_session.specs.Open.{as_named}
 use Rattle.cov_serve.specs.Acting.{Changes, Stops}
 use Rattle.cov_serve.specs.States.{State}
 use Rattle.cov_serve.specs.Step.{closed}
 use Rattle.cov_serve.specs.Stops.{refusal_stop}
 use Rattle.cov_serve.proofs.Acted.{stopped}
-use Rattle.cov_serve.proofs.Growing.{commit-may, stay-open}
+use Rattle.cov_serve.proofs.Growing.{stay-open}
 use Rattle.cov_serve.proofs.RefusalCodes.{commit-stops}
 use Rattle.cov_serve.proofs.server.Server.append_commit.Goals as goal
-
-pub append-requires : goal.append-requires
-append-requires c =
-    commit-may c.self.inside.engine.history c.args.name.now c.self.inside.sessions c.args.command
-    (subst (λ (st : State). option_map (λ (s : NamedSession). commit_of s.session) (named st.sessions c.args.name.now) ≡ Some c.args.command) (sym c.self.view_is) c.requires.commit) c.self.invariant
 
 pub invariant_of-self-2 : goal.invariant_of-self-2
 invariant_of-self-2 c =

@@ -1,0 +1,212 @@
+-- The refusals that come first, and what is known of a command that none of them refuses.
+use Rattle.std.proofs.Common.{◌≡◌, refl, ap, sym, ◌∙◌, ℕ, zero, suc, ◌+◌, ◌<◌, ◌≤◌, Bool, true, false, cond, ◌&&◌, ◌||◌, not, nat_eq, nat_le, nat_lt, List, [], ◌∷◌, ◌++◌, length, take, drop, Option, Some, None, option_map, arith}
+use Rattle.std.specs.List.{position_or_len, AllByRecursion}
+use Rattle.std.proofs.Math.Nat.{max-le}
+use Rattle.std.proofs.lemmas.Bool.{not-false, or_parts}
+use Rattle.std.proofs.lemmas.Bool.Decides.{nat_tests}
+use Rattle.cov_base.specs.declared.limits.TheConstants.{LIMITS}
+use Rattle.cov_expr.specs.Formula.{Formula, value, reach}
+use Rattle.cov_expr.specs.Validity.{is_valid, first_false}
+use Rattle.cov_edit.specs.declared.edit.Edit.{Edit}
+use Rattle.cov_edit.specs.declared.command.Command.{Command}
+use Rattle.cov_edit.specs.declared.command.Command.TheVariants as commands
+use Rattle.cov_edit.specs.History.{option_count, constraints_of, first_false_in}
+use Rattle.cov_edit.specs.Numbering.{numbers_of}
+use Rattle.cov_edit.specs.Replay.{replay}
+use Rattle.cov_view.specs.Refusals.{when, first_of, first_refused}
+use Rattle.cov_view.specs.declared.fault.EditFault.{EditFault}
+use Rattle.cov_view.proofs.CallerLemmas.{first-not_when, first-one, first-when, none-behind, none-first, none-when}
+use Rattle.cov_history.specs.BadChoices.{unsound_refusal}
+use Rattle.cov_history.specs.Overtaking.{overtaken}
+use Rattle.cov_history.specs.Sessions.{IsGood, MayCome, session_of}
+use Rattle.cov_history.specs.Verdict.{IsLegal, as_bad_record, as_invalid, as_overtaken, has_no_edits, refusals_of, size_refusals, verdict}
+use Rattle.cov_history.specs.declared.refusal.Refusal.{Refusal}
+use Rattle.cov_history.specs.declared.refusal.Refusal.TheVariants as refusals
+use Rattle.cov_history.proofs.CallerLemmas.{legal-take, rules-low}
+use Rattle.cov_rules.specs.Installing.{reach_of}
+use Rattle.cov_engine.specs.Refusing.{base_refusals, choice_refusals, commit_refusals, early_refusal, early_refusals, edit_refusals, undeclared}
+use Rattle.cov_engine.specs.Staging.{sizes_refusal}
+use Rattle.cov_engine.specs.States.{AreCountsOf}
+use Rattle.cov_engine.specs.declared.counts.Counts.{Counts}
+
+module _ {F : Type 0} where
+  -- refusals before others, or the others
+  pub others-behind : (os ps : List (Option F)) → first_of (os ++ ps) ≡ first_of (first_of os ∷ ps)
+  others-behind [] ps = refl
+  others-behind (None ∷ os) ps = others-behind os ps
+  others-behind (Some f ∷ os) ps = refl
+
+  -- the first of refusals comes before the others
+  pub first-some : (os ps : List (Option F)) (f : F) → first_of os ≡ Some f → first_of (os ++ ps) ≡ Some f
+  first-some os ps f h = others-behind os ps ∙ ap (λ o. first_of (o ∷ ps)) h
+
+  -- where there is none of them, the others decide
+  pub first-others : (os ps : List (Option F)) → first_of os ≡ None → first_of (os ++ ps) ≡ first_of ps
+  first-others os ps h = others-behind os ps ∙ ap (λ o. first_of (o ∷ ps)) h
+
+-- the refusal by sizes that are counted is that by the history's
+pub sized-as : (history : List Command) (counts : Counts) (es : List Edit) → AreCountsOf history counts → sizes_refusal counts es ≡ first_of (size_refusals history es)
+sized-as history counts es are = rw (are.lines, are.nodes, are.bytes) refl
+
+full-prefix : (c : List Bool) (es : List (Formula ℕ)) → length es ≤ position_or_len (λ f. not (value f c)) es → is_valid es c ≡ true
+full-prefix c [] h = refl
+full-prefix c (e ∷ es) h = at (value e c) h (λ k. full-prefix c es k)
+  where
+    at : (b : Bool) → suc (length es) ≤ cond (not (not b)) (1 + position_or_len (λ f. not (value f c)) es) 0
+        → (length es ≤ position_or_len (λ f. not (value f c)) es → is_valid es c ≡ true) → (b && is_valid es c) ≡ true
+    at true k rest = rest (omega (arith, k))
+    at false k rest = absurd (omega (arith, k))
+
+-- where no constraint is false, the choice is valid
+pub all-valid : (es : List (Formula ℕ)) (c : List Bool) → first_false es c ≡ None → is_valid es c ≡ true
+all-valid es c h = full-prefix c es (at (nat_lt (position_or_len (λ f. not (value f c)) es) (length es)) refl h)
+  where
+    at : (b : Bool) → nat_lt (position_or_len (λ f. not (value f c)) es) (length es) ≡ b
+        → option_map (λ n. n + 1) (cond b (Some (position_or_len (λ f. not (value f c)) es)) None) ≡ None → length es ≤ position_or_len (λ f. not (value f c)) es
+    at true e k = absurd (cc)
+    at false e k = grind (arith, nat_tests, e)
+
+no-invalid : (o : Option ℕ) → as_invalid o ≡ None → o ≡ None
+no-invalid None h = refl
+no-invalid (Some rule) h = absurd (cc)
+
+no-bad_record : (o : Option (ℕ × EditFault)) → as_bad_record o ≡ None → o ≡ None
+no-bad_record None h = refl
+no-bad_record (Some refused) h = absurd (cc)
+
+-- what is known of the place of a refused edit is its refusal
+pub as-found : (o : Option (ℕ × EditFault)) (found : Option ℕ) → found ≡ option_map (λ (refused : ℕ × EditFault). refused.0) o → as_bad_record o ≡ option_map refusals.BadRecord found
+as-found None found h = ap (option_map refusals.BadRecord) (sym h)
+as-found (Some refused) found h = ap (option_map refusals.BadRecord) (sym h)
+
+declared : (n m : ℕ) (rs : List (Option Refusal)) → first_of (undeclared n m ∷ rs) ≡ None → m ≤ n
+declared n m rs h = let within = (none-when (nat_lt n m) refusals.BadOption rs h).0 in grind (arith, nat_tests, within)
+
+module _ (history : List Command) (base : ℕ) (choice : List Bool) (ambition : Formula ℕ) (es : List Edit) (passes : first_of (commit_refusals history base choice ambition es) ≡ None) where
+  abbrev before : List Command
+  before = take base history
+
+  abbrev behind : List (Option Refusal)
+  behind = choice_refusals before choice ambition ++ edit_refusals before choice es
+
+  abbrev other_count : Bool
+  other_count = not (nat_eq (length choice) (option_count before))
+
+  abbrev beyond : Bool
+  beyond = nat_lt (option_count before) (reach ambition)
+
+  -- no size refuses it, nor what comes behind
+  pub commit-sizes : first_of (size_refusals history es ++ behind) ≡ None
+  commit-sizes = none-behind (base_refusals history base choice ambition) (size_refusals history es ++ behind) passes
+
+  -- the session of a commit that isn't refused early is a good one
+  pub commit-good : IsGood history (session_of base choice ambition es)
+  commit-good =
+      let at_base = none-when (nat_lt (length history) base) refusals.BadBase (when (other_count || beyond) refusals.BadOption ∷ (size_refusals history es ++ behind)) passes in
+      let options = none-when (other_count || beyond) refusals.BadOption (size_refusals history es ++ behind) at_base.1 in
+      let parts = or_parts other_count beyond options.0 in
+      let invalid = none-first (as_invalid (first_false_in before choice)) (when (not (value ambition choice)) refusals.OutsideAmbition ∷ edit_refusals before choice es) (none-behind (size_refusals history es) behind commit-sizes) in
+      let outside = none-when (not (value ambition choice)) refusals.OutsideAmbition (edit_refusals before choice es) invalid.1 in
+      let empty = none-when (has_no_edits es) refusals.Empty (as_bad_record (first_refused (numbers_of before) (replay choice before) es) ∷ []) outside.1 in
+      let bad = none-first (as_bad_record (first_refused (numbers_of before) (replay choice before) es)) [] empty.1 in
+      let within : nat_lt (length history) base ≡ false = at_base.0 in
+      let counted : nat_eq (length choice) (option_count before) ≡ true = not-false _ parts.0 in
+      let reached : nat_lt (option_count before) (reach ambition) ≡ false = parts.1 in
+      record {
+        within = grind (arith, nat_tests, within);
+        of_all_options = grind (arith, nat_tests, counted);
+        valid = all-valid (constraints_of before) choice (no-invalid (first_false_in before choice) invalid.0);
+        in_ambition = not-false _ outside.0;
+        in_reach = grind (arith, nat_tests, reached);
+        accepted = no-bad_record (first_refused (numbers_of before) (replay choice before) es) bad.0;
+      }
+
+-- a command that isn't refused early may come
+pub early-may : (history : List Command) (k : Command) → early_refusal history k ≡ None → MayCome history k
+early-may history (commands.Option name) passes = tt
+early-may history (commands.Constraint expr) passes = declared (option_count history) (reach expr) [] passes
+early-may history (commands.Prefer expr) passes = declared (option_count history) (reach expr) [] passes
+early-may history (commands.Default option on) passes = let within = declared (option_count history) (option + 1) [] passes in omega (arith, within)
+early-may history (commands.Commit base choice ambition es) passes = commit-good history base choice ambition es passes
+
+not-full : (history : List Command) (rs : List (Option Refusal)) → length history < LIMITS.commands → first_of (when (nat_le LIMITS.commands (length history)) refusals.Full ∷ rs) ≡ first_of rs
+not-full history rs few = first-not_when (nat_le LIMITS.commands (length history)) refusals.Full rs (grind (arith, nat_tests, few))
+
+-- the verdict on a command that is refused early
+pub early-verdict : (history : List Command) (k : Command) (r : Refusal) → length history < LIMITS.commands → early_refusal history k ≡ Some r → verdict history k ≡ Some r
+early-verdict history k r few refused = not-full history (refusals_of history k) few ∙ by k refused
+  where
+    by : (k : Command) → early_refusal history k ≡ Some r → first_of (refusals_of history k) ≡ Some r
+    by (commands.Option name) refused = absurd (cc)
+    by (commands.Constraint expr) refused = first-some (early_refusals history (commands.Constraint expr)) _ r refused
+    by (commands.Prefer expr) refused = first-some (early_refusals history (commands.Prefer expr)) _ r refused
+    by (commands.Default option on) refused = first-some (early_refusals history (commands.Default option on)) _ r refused
+    by (commands.Commit base choice ambition es) refused =
+        first-some (commit_refusals history base choice ambition es) (as_overtaken (overtaken history base ambition es) ∷ unsound_refusal history ambition (commands.Commit base choice ambition es) ∷ []) r refused
+
+-- the verdict on a commit that isn't refused early
+pub commit-verdict : (history : List Command) (base : ℕ) (choice : List Bool) (ambition : Formula ℕ) (es : List Edit) → length history < LIMITS.commands → first_of (commit_refusals history base choice ambition es) ≡ None
+    → verdict history (commands.Commit base choice ambition es)
+    ≡ first_of (as_overtaken (overtaken history base ambition es) ∷ unsound_refusal history ambition (commands.Commit base choice ambition es) ∷ [])
+commit-verdict history base choice ambition es few passes =
+    not-full history (refusals_of history (commands.Commit base choice ambition es)) few
+    ∙ first-others (commit_refusals history base choice ambition es) (as_overtaken (overtaken history base ambition es) ∷ unsound_refusal history ambition (commands.Commit base choice ambition es) ∷ []) passes
+
+-- the options that are declared up to a position, and after it
+pub options-split : (base : ℕ) (history : List Command) → option_count history ≡ option_count (take base history) + option_count (drop base history)
+options-split zero history = omega arith
+options-split (suc n) [] = omega arith
+options-split (suc n) (commands.Option name ∷ history) = let rest = options-split n history in omega (arith, rest)
+options-split (suc n) (commands.Constraint expr ∷ history) = options-split n history
+options-split (suc n) (commands.Prefer expr ∷ history) = options-split n history
+options-split (suc n) (commands.Default option on ∷ history) = options-split n history
+options-split (suc n) (commands.Commit base choice ambition es ∷ history) = options-split n history
+
+-- the constraints up to a position have only options that are declared there
+pub rules-within : (history : List Command) (base : ℕ) → IsLegal history → reach_of (constraints_of (take base history)) ≤ option_count (take base history)
+rules-within history base legal = most (constraints_of (take base history)) (rules-low [] (take base history) (legal-take base [] history legal))
+  where
+    most : (es : List (Formula ℕ)) → AllByRecursion (λ e. reach e ≤ option_count (take base history)) es → reach_of es ≤ option_count (take base history)
+    most [] h = omega arith
+    most (e ∷ es) h = max-le h.0 (most es h.1)
+
+-- the refusal of a commit by its base
+module _ (history : List Command) (base : ℕ) (choice : List Bool) (ambition : Formula ℕ) where
+  pub base-beyond : length history < base → Some refusals.BadBase ≡ first_of (base_refusals history base choice ambition)
+  base-beyond h = sym (first-when (nat_lt (length history) base) refusals.BadBase _ (grind (arith, nat_tests, h)))
+
+  pub base-options : base ≤ length history → (other : Bool) → not (nat_eq (length choice) (option_count (take base history))) ≡ other
+      → first_of (when (other || nat_lt (option_count (take base history)) (reach ambition)) refusals.BadOption ∷ []) ≡ first_of (base_refusals history base choice ambition)
+  base-options h other is =
+      ap (λ b. first_of (when (b || nat_lt (option_count (take base history)) (reach ambition)) refusals.BadOption ∷ [])) (sym is)
+      ∙ sym (first-not_when (nat_lt (length history) base) refusals.BadBase _ (grind (arith, nat_tests, h)))
+
+-- the refusal of a commit by its choice
+module _ (before : List Command) (choice : List Bool) (ambition : Formula ℕ) where
+  pub choice-invalid : (rule : ℕ) → first_false_in before choice ≡ Some rule → Some (refusals.Invalid rule) ≡ first_of (choice_refusals before choice ambition)
+  choice-invalid rule h = ap (λ o. first_of (as_invalid o ∷ when (not (value ambition choice)) refusals.OutsideAmbition ∷ [])) (sym h)
+
+  pub choice-valid : (inside : Bool) → first_false_in before choice ≡ None → value ambition choice ≡ inside → when (not inside) refusals.OutsideAmbition ≡ first_of (choice_refusals before choice ambition)
+  choice-valid inside h is =
+      sym (first-one (when (not inside) refusals.OutsideAmbition))
+      ∙ (λ i. first_of (as_invalid (sym h i) ∷ when (not (sym is i)) refusals.OutsideAmbition ∷ []))
+
+-- the refusal of a commit by its edits
+module _ (before : List Command) (choice : List Bool) (es : List Edit) where
+  pub edits-none : length es ≡ 0 → Some refusals.Empty ≡ first_of (edit_refusals before choice es)
+  edits-none h = by es h
+    where
+      by : (fs : List Edit) → length fs ≡ 0 → Some refusals.Empty ≡ first_of (edit_refusals before choice fs)
+      by [] h = refl
+      by (f ∷ fs) h = absurd (omega (arith, h))
+
+  pub edits-found : 0 < length es → (found : Option ℕ) → found ≡ option_map (λ (refused : ℕ × EditFault). refused.0) (first_refused (numbers_of before) (replay choice before) es)
+      → option_map refusals.BadRecord found ≡ first_of (edit_refusals before choice es)
+  edits-found h found is = by es h found is
+    where
+      by : (fs : List Edit) → 0 < length fs → (found : Option ℕ) → found ≡ option_map (λ (refused : ℕ × EditFault). refused.0) (first_refused (numbers_of before) (replay choice before) fs)
+          → option_map refusals.BadRecord found ≡ first_of (edit_refusals before choice fs)
+      by [] h found is = absurd (omega (arith, h))
+      by (f ∷ fs) h found is =
+          sym (as-found (first_refused (numbers_of before) (replay choice before) (f ∷ fs)) found is)
+          ∙ sym (first-one (as_bad_record (first_refused (numbers_of before) (replay choice before) (f ∷ fs))))

@@ -1,0 +1,45 @@
+-- What is seen of the files that edits name, and the first edit that it refuses.
+use Rattle.std.specs.Prelude.{◌≡◌, ℕ, Bool, List, map, Option, Some, None, option_map}
+use Rattle.std.specs.List.{fold}
+use Rattle.cov_base.specs.Addresses.{IsTable}
+use Rattle.cov_base.specs.declared.number.Kind.{Kind}
+use Rattle.cov_base.specs.declared.number.Kind.TheVariants as kinds
+use Rattle.cov_base.specs.declared.number.NodeRef.TheVariants as nodes
+use Rattle.cov_dd.specs.declared.triple.Triple.{Triple}
+use Rattle.cov_edit.specs.declared.edit.Edit.{Edit}
+use Rattle.cov_edit.specs.Numbering.{Numbers}
+use Rattle.cov_edit.specs.Variant.{Variant}
+use Rattle.cov_tree.specs.Dated.{rows_at}
+use Rattle.cov_view.specs.declared.fault.EditFault.{EditFault}
+use Rattle.cov_view.specs.declared.row.ViewRow.{ViewRow}
+use Rattle.cov_view.specs.Refusals.{first_refused}
+use Rattle.cov_view.specs.Seen.{Seen, kind_in}
+use Rattle.cov_view.specs.Views.{FaultBy, Shows}
+use Rattle.cov_engine.specs.Parts.{part_of}
+use Rattle.cov_engine.specs.Reading.{stored_rows}
+use Rattle.cov_engine.specs.Showing.{bare_row, with_row}
+use Rattle.cov_engine.specs.declared.file_part.FilePart.{FilePart}
+use Rattle.cov_engine.specs.declared.visible.Visible.{Visible}
+
+module _ (ts : List Triple) (c : List Bool) (at : ℕ) (stored : List FilePart) where
+  -- the rows with the lines of a node that are seen, if it is a file
+  abbrev pub with_lines_of : Option Kind → List ViewRow → ℕ → List ViewRow
+  with_lines_of (Some kinds.File) rows node = fold (with_row node) rows (stored_rows ts c at (part_of stored node))
+  with_lines_of (Some kinds.Dir) rows node = rows
+  with_lines_of None rows node = rows
+
+  -- the same, if it is a file among them
+  abbrev pub with_named : List ViewRow → ℕ → List ViewRow
+  with_named rows node = with_lines_of (kind_in rows (nodes.Old node)) rows node
+
+-- what is shown on a choice at a position of the files with these nodes: the rows of all entries, and the lines of these files alone
+abbrev pub named : Visible → List Bool → ℕ → List ℕ → Seen
+named v c at ns = record { rows = fold (with_named v.table c at v.files) (map bare_row (rows_at v.table c at v.entries)) ns; nodes_made = 0; lines_made = 0 }
+
+-- an edit is refused with a fault, which isn't want of memory, and this is its place
+abbrev pub IsRefusedAt : ℕ → EditFault → Option ℕ → Type 0
+IsRefusedAt index fault found = (found ≡ Some index) × ((refused : Option EditFault) → FaultBy fault refused → refused ≡ Some fault)
+
+-- the place of the first edit that each variant refuses which a view shows, if there is one
+abbrev pub IsFirstRefused : Seen → List Edit → Option ℕ → Type 0
+IsFirstRefused s es found = (ns : Numbers) (v : Variant) → IsTable ns.addresses → Shows ns ns.addresses s v → found ≡ option_map (λ refused. refused.0) (first_refused ns v es)
