@@ -1,0 +1,7 @@
+mod Applies
+mod Framing
+mod Given
+mod Legal
+mod Opens
+mod Replays
+mod Standing

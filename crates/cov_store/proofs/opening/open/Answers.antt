@@ -1,0 +1,37 @@
+use Rattle.cov_store.specs.Stands.{StandsFor}
+use Rattle.cov_store.proofs.Opens.{kept_on, opened_faulty, opened_stands, same_where_refused, stands_since, stored_now}
+use Rattle.cov_store.proofs.opening.open.Goals as goal
+
+pub returns-in-Ok-clause-opened : goal.returns-in-Ok-clause-opened
+returns-in-Ok-clause-opened g c =
+    opened_stands (g.D.Disk.contents c.args.disk.now) (g.D.Disk.contents c.open.new.disk) c.in-Ok.ensures.contents c.begin.result c.begin.ensures.replays
+
+pub returns-in-Ok-clause-faulty : goal.returns-in-Ok-clause-faulty
+returns-in-Ok-clause-faulty g c =
+    opened_faulty (g.D.Disk.contents c.args.disk.now) (g.D.Disk.contents c.open.new.disk) c.in-Ok.ensures.contents c.begin.result c.begin.ensures.replays
+
+pub returns-in-Ok-clause-kept : goal.returns-in-Ok-clause-kept
+returns-in-Ok-clause-kept g c =
+    same_where_refused (g.D.Disk.contents c.args.disk.now) (g.D.Disk.contents c.open.new.disk) (g.D.Disk.contents c.begin.new.disk) c.begin.result c.in-Ok.ensures.contents c.begin.ensures.same c.begin.ensures.replays
+
+pub returns-in-Ok-clause-stored : goal.returns-in-Ok-clause-stored
+returns-in-Ok-clause-stored g c =
+    stored_now g.D.Disk.contents g.D.Disk.images g.D.Disk.moment g.D.Disk.images_since g.met.D.Disk.as_read g.met.D.Disk.told g.met.D.Disk.counts_now
+    c.open.new.disk c.begin.new.disk c.begin.result c.in-Ok.ensures.only c.begin.ensures.images c.begin.ensures.replays
+
+pub returns-in-Ok-clause-any_moment : goal.returns-in-Ok-clause-any_moment
+returns-in-Ok-clause-any_moment g c history all =
+    kept_on g.D.Disk.contents g.D.Disk.images g.D.Disk.moment g.D.Disk.images_since g.met.D.Disk.as_read g.met.D.Disk.told g.met.D.Disk.counts_now
+    c.args.disk.now c.open.new.disk c.begin.new.disk (λ image. StandsFor image history)
+    (stands_since g.D.Disk.contents g.D.Disk.images g.D.Disk.moment g.D.Disk.images_since g.met.D.Disk.as_read g.met.D.Disk.told g.met.D.Disk.counts_now
+    c.args.disk.now c.open.new.disk history all c.open.ensures.any_moment) c.begin.ensures.images
+
+pub returns-in-Err-NotAStore-clause-any_moment : goal.returns-in-Err-NotAStore-clause-any_moment
+returns-in-Err-NotAStore-clause-any_moment g c history all =
+    stands_since g.D.Disk.contents g.D.Disk.images g.D.Disk.moment g.D.Disk.images_since g.met.D.Disk.as_read g.met.D.Disk.told g.met.D.Disk.counts_now
+    c.args.disk.now c.open.new.disk history all c.open.ensures.any_moment
+
+pub returns-in-Err-DiskFault-clause-any_moment : goal.returns-in-Err-DiskFault-clause-any_moment
+returns-in-Err-DiskFault-clause-any_moment g c history all =
+    stands_since g.D.Disk.contents g.D.Disk.images g.D.Disk.moment g.D.Disk.images_since g.met.D.Disk.as_read g.met.D.Disk.told g.met.D.Disk.counts_now
+    c.args.disk.now c.open.new.disk history all c.open.ensures.any_moment

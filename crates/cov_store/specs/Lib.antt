@@ -1,0 +1,6 @@
+pub mod Applying
+pub mod Damages
+pub mod Laws
+pub mod Opening
+pub mod Replaying
+pub mod Stands

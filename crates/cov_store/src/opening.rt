@@ -1,0 +1,55 @@
+// Opening a disk as a store.
+ghost use Rattle.std.specs.Prelude.{◌≡◌, ◌≤◌, [], List, ℕ, IfErr, IfOk, IfSome};
+ghost use Rattle.cov_disk.specs.Images.{LeavesOnly};
+ghost use Rattle.cov_edit.specs.declared.command.Command.{Command};
+ghost use Rattle.cov_journal.specs.Gates.{HasGate};
+ghost use Rattle.cov_journal.specs.Moments.{KeepsImages};
+ghost use Rattle.cov_store.specs.Opening.{IsFaultOf, HasReason, IsOfVerdict, OnRefused};
+ghost use Rattle.cov_store.specs.Replaying.{StandsBehind, Replays};
+ghost use Rattle.cov_store.specs.Stands.{StandsFor, IsStored, gate_of};
+
+use crate::replaying::replay_all;
+use crate::{Store, StoreFault};
+use cov_base::Memory;
+use cov_disk::Disk;
+use cov_engine::Engine;
+use cov_journal::{OpenFault, Reader};
+use std::alloc::Global;
+
+/// Opens a disk as a store.
+pub(crate) fn open<D: Disk>(alloc: Global, disk: &mut D) -> Result<Store, StoreFault>
+    ensures opened { IfOk result (λ store. IfSome (D.contents disk.old) (λ image. StandsFor image store.history)) }
+    ensures faulty { IfErr result (λ fault. IfSome (D.contents disk.old) (λ image. IsFaultOf image fault)) }
+    ensures cause { IfErr result (HasReason (D.faults disk.old) (D.faults disk.new)) }
+    ensures verdict { IfErr result IsOfVerdict }
+    ensures written { IfOk result (λ store. IfSome (D.contents disk.new) (λ image. IsStored image store.history)) }
+    ensures gate { IfOk result (λ store. HasGate (D.contents disk.new) (gate_of store.history)) }
+    ensures kept { IfErr result (λ fault. IfSome (D.contents disk.old) (λ image. OnRefused fault (D.contents disk.new ≡ D.contents disk.old))) }
+    ensures stored { IfOk result (λ store. (image : List ℕ) → D.images disk.new image → IsStored image store.history) }
+    ensures any_moment { (history : List Command) → ((image : List ℕ) → D.images disk.old image → StandsFor image history) →
+        LeavesOnly D.moment D.images_since disk.old disk.new (λ image. StandsFor image history) }
+    ensures later { D.faults disk.old ≤ D.faults disk.new }
+{
+    match Reader::open(alloc, disk) {
+        Ok(reader) => begin(alloc, disk, reader),
+        Err(OpenFault::NotAStore) => Err(StoreFault::NotAStore),
+        Err(OpenFault::DiskFault) => Err(StoreFault::DiskFault),
+        Err(OpenFault::Memory) => Err(StoreFault::Memory),
+    }
+}
+
+// Begins with the empty history.
+fn begin<D: Disk>(alloc: Global, disk: &mut D, reader: Reader) -> Result<Store, StoreFault>
+    requires behind { StandsBehind (D.contents disk.old) reader [] }
+    ensures replays { Replays (D.contents disk.old) result }
+    ensures reason { IfErr result (HasReason (D.faults disk.old) (D.faults disk.new)) }
+    ensures verdict { IfErr result IsOfVerdict }
+    ensures same { D.contents disk.new ≡ D.contents disk.old }
+    ensures images { KeepsImages D.images D.moment D.images_since disk.old disk.new }
+    ensures later { D.faults disk.old ≤ D.faults disk.new }
+{
+    match Engine::new(alloc) {
+        Ok(engine) => replay_all(alloc, disk, engine, reader),
+        Err(Memory) => Err(StoreFault::Memory),
+    }
+}
