@@ -1,19 +1,17 @@
 -- A disk that is opened.
-use Rattle.std.proofs.Common.{◌≡◌, inl, inr, ⊎_elim, ℕ, ◌<◌, ◌≤◌, List, [], ◌∷◌, ◌++◌, length, get_or, take, drop, Option, Some, None, IfSome, IsSome, Result, Ok, Err, IfOk, IfErr, refl, sym, ◌∙◌, ap, subst, arith}
-use Rattle.std.proofs.lemmas.List.{drop_at, take-append-drop}
+use Rattle.std.proofs.Common.{◌≡◌, inl, inr, ⊎_elim, ℕ, ◌<◌, ◌≤◌, List, [], ◌∷◌, ◌++◌, length, get_or, drop, Option, Some, None, IfSome, IsSome, Result, Ok, Err, IfOk, IfErr, refl, sym, ◌∙◌, ap, subst, arith}
+use Rattle.std.proofs.lemmas.List.{drop_at}
 use Rattle.cov_disk.specs.Images.{Told, Only, LeavesOnly}
 use Rattle.cov_edit.specs.History.{options_of}
 use Rattle.cov_edit.specs.declared.command.Command.{Command}
 use Rattle.cov_engine.specs.States.{EngineValue}
-use Rattle.cov_journal.specs.Gates.{HasGate}
 use Rattle.cov_journal.specs.Journal.{header, no_digest, records, stored, Holds, IsWritten}
 use Rattle.cov_journal.specs.Moments.{KeepsImages}
-use Rattle.cov_journal.specs.Places.{Place}
-use Rattle.cov_journal.specs.Reading.{HasGiven, IsOpened}
+use Rattle.cov_journal.specs.Reading.{IsOpened}
 use Rattle.cov_journal.proofs.CallerLemmas.{holds_none, joined, one_journal, only_has, weakened}
 use Rattle.cov_store.specs.Damages.{HasDamage, IsDamagedAfter}
 use Rattle.cov_store.specs.Opening.{GivesHistory, HasReason, IsFaultOf, OnRefused, TellsDamage}
-use Rattle.cov_store.specs.Replaying.{IsFoundIn, Replays, StandsBehind}
+use Rattle.cov_store.specs.Replaying.{IsFoundIn, Replays}
 use Rattle.cov_store.specs.Stands.{payloads, IsStored, StandsFor}
 use Rattle.cov_store.specs.declared.damage.StoreDamage.{StoreDamage}
 use Rattle.cov_store.specs.declared.damage.StoreFault.{StoreFault}
@@ -25,19 +23,6 @@ told_before : (step : List ℕ → List ℕ → Type 0) (P Q : List ℕ → Type
 told_before step P Q to None new told q = tt
 told_before step P Q to (Some d) None told q = absurd told
 told_before step P Q to (Some d) (Some c) told q = to d c told q
-
--- behind the header of a disk that is opened a reader stands behind the empty history
-opened_bytes : (d c : List ℕ) → IsOpened d c → c ≡ header ++ drop 12 c
-opened_bytes d c (inl large) = sym (take-append-drop 12 c) ∙ ap (λ l. l ++ drop 12 c) (ap (take 12) large.2 ∙ large.1)
-opened_bytes d c (inr small) = small.1 ∙ ap (λ l. header ++ l) (sym (ap (drop 12) small.1))
-
-behind_empty : (place : Place) → HasGiven place [] → (old new : Option (List ℕ)) → Told IsOpened old new → IfSome new (λ image. image ≡ stored [] (drop place.at image))
-behind_empty place given old None told = tt
-behind_empty place given None (Some c) told = absurd told
-behind_empty place given (Some d) (Some c) told = opened_bytes d c told ∙ ap (λ n. header ++ drop n c) (sym given.fits.place)
-
-pub stands_first : (place : Place) (old new : Option (List ℕ)) → HasGiven place [] → HasGate new place.at → Told IsOpened old new → StandsBehind new place []
-stands_first place old new given gate told = record { legal = tt; fits = tt; given = given; gate = gate; bytes = behind_empty place given old new told }
 
 -- the image from before stands for what is stored
 stood : (history : List Command) (d c : List ℕ) → IsOpened d c → IsStored c history → StandsFor d history

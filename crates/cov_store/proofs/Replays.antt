@@ -1,6 +1,6 @@
 -- One record after another is read.
-use Rattle.std.proofs.Common.{◌≡◌, ◌≢◌, ℕ, ◌+◌, ◌<◌, ◌≤◌, List, [], ◌∷◌, ◌++◌, length, get_or, drop, Option, Some, None, IfSome, Result, Ok, Err, refl, sym, ◌∙◌, ap, subst, arith, IfErr}
-use Rattle.std.proofs.lemmas.List.{drop_more, length_push, length-map}
+use Rattle.std.proofs.Common.{◌≡◌, ◌≢◌, ℕ, ◌+◌, ◌<◌, List, [], ◌∷◌, ◌++◌, length, get_or, drop, Option, Some, None, IfSome, Result, Ok, Err, refl, sym, ◌∙◌, ap, subst, arith, IfErr}
+use Rattle.std.proofs.lemmas.List.{drop_more, length_push}
 use Rattle.cov_edit.specs.declared.command.Command.{Command}
 use Rattle.cov_expr.specs.Options.{Declared}
 use Rattle.cov_history.specs.Verdict.{verdict, RefusedBy}
@@ -26,7 +26,7 @@ use Rattle.cov_store.specs.declared.damage.StoreFault.{StoreFault}
 use Rattle.cov_store.specs.declared.damage.StoreFault.TheVariants as faults
 use Rattle.cov_store.specs.declared.replaying.Step.{Step}
 use Rattle.cov_store.specs.declared.replaying.Step.TheVariants as steps
-use Rattle.cov_store.proofs.Legal.{fits-push, legal-few, legal-push, payloads-push}
+use Rattle.cov_store.proofs.Legal.{fits-push, legal-push, payloads-push}
 
 pub some_all : (o : Option (List ℕ)) (P : List ℕ → Type 0) → ((b : List ℕ) → P b) → IfSome o P
 some_all None P all = tt
@@ -36,22 +36,12 @@ pub some_both : (o : Option (List ℕ)) (P Q R : List ℕ → Type 0) → ((b : 
 some_both None P Q R to p q = tt
 some_both (Some b) P Q R to p q = to b p q
 
-pub given-few : (o : Option (List ℕ)) (place : Place) (history : List Command) → StandsBehind o place history → place.given ≤ 1048576
-given-few o place history s = omega (arith, s.given.given, length-map history payload, legal-few history s.legal)
-
 -- damage that is told is a reason, if its cause is none of memory
 pub damage_reason : (old new : ℕ) (history : List Command) (cause : StoreDamage) (r : StoreFault) → IsNoWant cause → IsDamaged history cause r → HasReason old new r
 damage_reason old new history cause faults.NotAStore why told = absurd told
 damage_reason old new history cause (faults.Damaged number what options) why told = subst IsNoWant (sym told.0) why
 damage_reason old new history cause faults.DiskFault why told = absurd told
 damage_reason old new history cause faults.Memory why told = absurd told
-
--- a reason is one for a run that began earlier
-pub reason_later : (before mid now : ℕ) (fault : StoreFault) → before ≤ mid → HasReason mid now fault → HasReason before now fault
-reason_later before mid now faults.NotAStore le h = tt
-reason_later before mid now (faults.Damaged number cause options) le h = h
-reason_later before mid now faults.DiskFault le h = omega (arith, le, h)
-reason_later before mid now faults.Memory le h = tt
 
 -- what a reader reads behind the records of a history
 module _ (o : Option (List ℕ)) (before : Place) (history : List Command) (s : StandsBehind o before history) where
@@ -175,27 +165,6 @@ module _ (o : Option (List ℕ)) (before : Place) (history : List Command) (s : 
   stop_reason old new (reads.Damaged number found.Digest) r is stop = damage_reason old new history damages.Digest r tt stop
   stop_reason old new reads.DiskFault r is stop = subst (HasReason old new) (sym stop) is
   stop_reason old new reads.Memory r is stop = subst (HasReason old new) (sym stop) tt
-
--- a refusal is a reason, and want of memory is told as such
-pub refused_reason : (old new : ℕ) (history : List Command) (refusal : Refusal) (r : StoreFault) → IsRefused history refusal r → HasReason old new r
-refused_reason old new history refusals.Memory r told = subst (HasReason old new) (sym told) tt
-refused_reason old new history refusals.Full r told = damage_reason old new history (damages.Refused refusals.Full) r tt told
-refused_reason old new history refusals.Exists r told = damage_reason old new history (damages.Refused refusals.Exists) r tt told
-refused_reason old new history refusals.NoVariantLeft r told = damage_reason old new history (damages.Refused refusals.NoVariantLeft) r tt told
-refused_reason old new history refusals.BadBase r told = damage_reason old new history (damages.Refused refusals.BadBase) r tt told
-refused_reason old new history refusals.BadOption r told = damage_reason old new history (damages.Refused refusals.BadOption) r tt told
-refused_reason old new history refusals.TooManyEdits r told = damage_reason old new history (damages.Refused refusals.TooManyEdits) r tt told
-refused_reason old new history refusals.TooManyLines r told = damage_reason old new history (damages.Refused refusals.TooManyLines) r tt told
-refused_reason old new history refusals.TooManyNodes r told = damage_reason old new history (damages.Refused refusals.TooManyNodes) r tt told
-refused_reason old new history refusals.TooManyBytes r told = damage_reason old new history (damages.Refused refusals.TooManyBytes) r tt told
-refused_reason old new history (refusals.Invalid rule) r told = damage_reason old new history (damages.Refused (refusals.Invalid rule)) r tt told
-refused_reason old new history refusals.OutsideAmbition r told = damage_reason old new history (damages.Refused refusals.OutsideAmbition) r tt told
-refused_reason old new history refusals.Empty r told = damage_reason old new history (damages.Refused refusals.Empty) r tt told
-refused_reason old new history (refusals.BadRecord edit) r told = damage_reason old new history (damages.Refused (refusals.BadRecord edit)) r tt told
-refused_reason old new history (refusals.Overtaken position) r told = damage_reason old new history (damages.Refused (refusals.Overtaken position)) r tt told
-refused_reason old new history (refusals.Clash low high choice) r told = damage_reason old new history (damages.Refused (refusals.Clash low high choice)) r tt told
-refused_reason old new history (refusals.Orphan node choice) r told = damage_reason old new history (damages.Refused (refusals.Orphan node choice)) r tt told
-refused_reason old new history (refusals.Loop node choice) r told = damage_reason old new history (damages.Refused (refusals.Loop node choice)) r tt told
 
 refused_damage : (history : List Command) (p : List ℕ) (c : Command) (refusal : Refusal) (r : StoreFault) → IsRecordOf p c → verdict history c ≡ Some refusal → IsDamaged history (damages.Refused refusal) r → IsUnread history p r
 refused_damage history p c refusal faults.NotAStore is by told = absurd told

@@ -28,9 +28,6 @@ other_digest before behind x p b =
 refused_alike : (r s : Refusal) (o : Option Refusal) → o ≡ Some r → o ≡ Some s → r ≡ s
 refused_alike r s o e f = cc
 
-same_refused : (r s : Refusal) → r ≡ s → (let a : StoreDamage = damages.Refused r in a) ≡ damages.Refused s
-same_refused r s e = ap damages.Refused e
-
 -- a record has one cause of damage at most
 cause_one : (history : List Command) (before behind : List ℕ) (a b : StoreDamage) → HasCause history before behind a → HasCause history before behind b → a ≡ b
 cause_one h before r damages.Cut damages.Cut x y = refl
