@@ -1,11 +1,11 @@
-//! The program: its words, its standard input and output, and the folder that trees are written below.
+//! The program: its words, its standard input and output, the file of the store, and the folder that trees are written below.
 #![tactic(auto)]
 
 use cov_base::{Memory, Text, Texts};
+use cov_disk::FileDisk;
 use cov_io::{StdSink, StdSource};
-use cov_loop::Status;
 use cov_out::FolderTrees;
-use cov_serve::run;
+use cov_serve::{Status, run};
 use std::alloc::Global;
 use std::env::{self, Args};
 use std::io::ErrorKind;
@@ -22,8 +22,16 @@ fn main(rt: HostRuntime) -> ExitCode {
 fn serve(rt: &HostRuntime, words: &Texts) -> Status {
     let mut script = StdSource::new(rt.stdin());
     let mut out = StdSink::new(rt.stdout());
+    let mut disk = FileDisk::new(rt);
     let mut trees = FolderTrees::new(rt);
-    run(rt.alloc(), words, &mut script, &mut out, &mut trees)
+    run(
+        rt.alloc(),
+        words,
+        &mut script,
+        &mut out,
+        &mut disk,
+        &mut trees,
+    )
 }
 
 // The words after the program's name. Words that can't be told are of no form, and so is no word.

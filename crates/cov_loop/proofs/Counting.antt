@@ -28,6 +28,7 @@ pub counted_then : {before mid now : Progress} {old between new : Counts} → Co
 counted_then {before} {mid} {now} {old} {between} {new} first next = record {
   source_later = omega (arith, first.source_later, next.source_later);
   sink_later = omega (arith, first.sink_later, next.sink_later);
+  disk_later = omega (arith, first.disk_later, next.disk_later);
   trees_later = omega (arith, first.trees_later, next.trees_later);
   taken = omega (arith, first.taken, next.taken);
   ended = tracks_then before.ended mid.ended now.ended old.ends between.ends new.ends first.ended next.ended;

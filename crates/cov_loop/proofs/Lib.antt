@@ -2,6 +2,8 @@ pub mod Appending
 pub mod CallerLemmas
 pub mod Counting
 pub mod Examples
+pub mod Kept
 pub mod LoopInvariant
+pub mod Moments
 pub mod Outcomes
 pub mod Turning

@@ -1,13 +1,18 @@
--- The loop's invariant: it is kept by one line more, and at the end of the script or at a stop it gives what was written, the state and the status.
-use Rattle.std.proofs.Common.{◌≡◌, ◌≢◌, ◌∙◌, refl, sym, ap, subst, ℕ, ◌⊎◌, inl, inr, ◌+◌, ◌≤◌, arith, Bool, true, false, ◌||◌, List, [], ◌∷◌, ◌++◌, length, length-append, append-nil, append_assoc, Option, Some, None}
+-- The loop's invariant: it is kept by one line more, and at the end of the script or at a stop it gives what was written, the state and the ending.
+use Rattle.std.proofs.Common.{◌≡◌, ◌≢◌, ◌∙◌, refl, sym, ap, subst, ℕ, ◌⊎◌, inl, inr, ◌+◌, ◌≤◌, arith, Bool, true, false, ◌||◌, List, [], ◌∷◌, ◌++◌, length, length-append, append-nil, append_assoc, Option, Some, None, IfSome}
+use Rattle.std.proofs.lemmas.List.{append_cancel_left}
 use Rattle.cov_base.specs.Lines.{lines_of}
+use Rattle.cov_disk.specs.Images.{LeavesOnly}
 use Rattle.cov_io.specs.Progress.{Progress}
-use Rattle.cov_io.specs.Devices.{AppendsAll, AppendsSome}
+use Rattle.cov_io.specs.Devices.{AppendsSome}
 use Rattle.cov_loop.specs.Answers.{is_refusal, kind_of}
+use Rattle.cov_loop.specs.Keeping.{AreAll, KeepsAnswered, Reaches}
 use Rattle.cov_loop.specs.Outcome.{Outcome, answers, followed_by}
-use Rattle.cov_loop.specs.Turns.{EndsWith, Ends, GoesOn, HasRows, HasState, IsWhole, Output, RowsComeFirst, ServesFirst, StopsAmid, WritesAll, ahead_of, status_at_end}
+use Rattle.cov_loop.specs.Turns.{EndsWith, Ends, GoesOn, HasRows, HasStored, IsWhole, Output, RowsComeFirst, ServesFirst, StopsAmid, WritesAll, ahead_of, ending_at_end}
 use Rattle.cov_loop.specs.declared.answer.Answer.{Answer}
 use Rattle.cov_loop.proofs.Appending.{all_some, all_then, all_then_some, same_all, told_all}
+use Rattle.cov_loop.proofs.Kept.{keeps_later, reaches_later}
+use Rattle.cov_loop.proofs.Moments.{joined, weakened}
 use Rattle.cov_loop.proofs.Outcomes.{answers_append, answers_last, cut_twice, nothing_next}
 use Rattle.cov_out.specs.declared.row.OutRow.{OutRow}
 
@@ -168,6 +173,40 @@ stopped {S} {step} {start} {text} {state} {was} {ahead} {old} {mid} new so_far t
           (told_all first.reply bytes old.bytes mid.bytes so_far.written.bytes wrote) (told_all first.rows rows old.rows mid.rows so_far.written.rows grew)));
     }
 
+-- what one turn more may leave
+pub moments_on : {S D : Type 0} (step : S → List ℕ → Outcome S) (stored : S → List ℕ → Type 0) (moment : D → ℕ) (images_since : D → ℕ → List ℕ → Type 0) (first mid new : D)
+    {start : S} {text : List ℕ} {state : S} {was : Bool} {ahead : Option (List ℕ)} {old now : Output}
+    → GoesOn step start text state was ahead old now
+    → LeavesOnly moment images_since first mid (Reaches step stored start (lines_of text))
+    → ((t : List ℕ) → ahead ≡ Some t → LeavesOnly moment images_since mid new (Reaches step stored state (lines_of t)))
+    → LeavesOnly moment images_since first new (Reaches step stored start (lines_of text))
+moments_on step stored moment images_since first mid new {start} {text} {state} so_far before turn =
+    joined moment images_since first mid new (Reaches step stored start (lines_of text)) before
+    (weakened moment images_since mid new (Reaches step stored state (lines_of so_far.rest)) (Reaches step stored start (lines_of text))
+    (reaches_later step stored start state (lines_of text) so_far.served (lines_of so_far.rest) so_far.lines so_far.state_is) (turn so_far.rest so_far.ahead_is))
+
+-- the run stopped within a line, and each image has every command that is answered
+pub keeps_on : {S : Type 0} (step : S → List ℕ → Outcome S) (stored : S → List ℕ → Type 0) (count : S → ℕ)
+    → ((s : S) (line : List ℕ) → count s ≤ count (step s line).state)
+    → (before bytes : List ℕ) (new : Output) (images : List ℕ → Type 0)
+    {start : S} {text : List ℕ} {state : S} {was : Bool} {ahead : Option (List ℕ)} {old mid : Output}
+    → GoesOn step start text state was ahead old mid
+    → old.bytes ≡ Some before → new.bytes ≡ Some (before ++ bytes)
+    → ((t : List ℕ) → ahead ≡ Some t → StopsAmid step state t mid new)
+    → ((t sent part : List ℕ) → ahead ≡ Some t → mid.bytes ≡ Some sent → new.bytes ≡ Some (sent ++ part) → AreAll (KeepsAnswered step stored count state (lines_of t) part) images)
+    → AreAll (KeepsAnswered step stored count start (lines_of text) bytes) images
+keeps_on {S} step stored count rise before bytes new images {start} {text} {state} {was} {ahead} {old} {mid} so_far told now turn keeps =
+    let replies : List ℕ = (answers step start so_far.served).reply in
+    let sent : mid.bytes ≡ Some (before ++ replies) = told_all replies before old.bytes mid.bytes so_far.written.bytes told in
+    let amid : StopsAmid step state so_far.rest mid new = turn so_far.rest so_far.ahead_is in
+    let part : AppendsSome (answers step state (lines_of so_far.rest)).reply (Some (before ++ replies)) new.bytes = rw sent at amid.bytes in
+    let same : before ++ bytes ≡ (before ++ replies) ++ part.0 = cc in
+    let all : bytes ≡ replies ++ part.0 = append_cancel_left before bytes (replies ++ part.0) (same ∙ append_assoc before replies part.0) in
+    λ image here.
+    subst (λ xs. KeepsAnswered step stored count start (lines_of text) xs image) (sym all)
+    (keeps_later step stored count rise start state (lines_of text) so_far.served (lines_of so_far.rest) so_far.lines so_far.state_is part.0 image
+    (keeps so_far.rest (before ++ replies) part.0 so_far.ahead_is sent part.3 image here))
+
 -- where nothing is ahead, nothing is left
 pub left_is_empty : (progress : Progress) (left : Option (List ℕ)) → ahead_of progress left ≡ Some [] → left ≡ Some []
 left_is_empty progress None e = absurd (cc)
@@ -176,15 +215,16 @@ left_is_empty progress (Some bytes) e =
     ap Some (nothing_next progress.ahead bytes none)
 
 pub ends_whole : {S : Type 0} (was : Bool) (outcome : Outcome S) (before : List ℕ) (left written : Option (List ℕ))
-    → EndsWith was outcome before left written → IsWhole (status_at_end was) outcome before left written
+    → EndsWith was outcome before left written → IsWhole (ending_at_end was) outcome before left written
 ends_whole true outcome before left written h = h
 ends_whole false outcome before left written h = h
 
 pub has_rows : {S : Type 0} (was : Bool) (outcome : Outcome S) (before : List OutRow) (grown : Option (List OutRow))
-    → grown ≡ Some (before ++ outcome.rows) → HasRows (status_at_end was) outcome before grown
+    → grown ≡ Some (before ++ outcome.rows) → HasRows (ending_at_end was) outcome before grown
 has_rows true outcome before grown h = h
 has_rows false outcome before grown h = h
 
-pub has_state : {S : Type 0} (was : Bool) (outcome : Outcome S) (state : S) → state ≡ outcome.state → HasState (status_at_end was) outcome state
-has_state true outcome state h = h
-has_state false outcome state h = h
+pub has_stored : {S : Type 0} (was : Bool) (stored : S → List ℕ → Type 0) (outcome : Outcome S) (contents : Option (List ℕ))
+    → IfSome contents (stored outcome.state) → HasStored (ending_at_end was) stored outcome contents
+has_stored true stored outcome contents h = h
+has_stored false stored outcome contents h = h

@@ -37,7 +37,7 @@ answers_last step s ls line =
     let first = answers step s ls in
     answers_append step s ls (line ∷ []) ∙ ap (followed_by first) (followed_none step (step first.state line))
 
-nothing_first : {X : Type 0} (xs ys : List X) → xs ++ ys ≡ [] → xs ≡ []
+pub nothing_first : {X : Type 0} (xs ys : List X) → xs ++ ys ≡ [] → xs ≡ []
 nothing_first [] ys e = refl
 nothing_first (x ∷ xs) ys e = absurd (cc)
 

@@ -1,5 +1,5 @@
 -- One turn after another.
-use Rattle.std.proofs.Common.{◌≡◌, ◌∙◌, refl, sym, ap, subst, ℕ, ◌⊎◌, inl, inr, ◌+◌, ◌<◌, ◌≤◌, arith, List, [], ◌∷◌, ◌++◌, length, length-append, append-nil, Option, Some, None, Result, Ok, Err, IfOk, OnOk, OnErr}
+use Rattle.std.proofs.Common.{◌≡◌, ◌∙◌, refl, sym, ap, subst, ℕ, ◌⊎◌, inl, inr, ◌+◌, ◌<◌, ◌≤◌, arith, List, [], ◌∷◌, ◌++◌, length, length-append, append-nil, Option, Some, None, Result, Ok, Err, IfOk, IfErr, OnOk, OnErr}
 use Rattle.std.proofs.lemmas.List.{nil_from_length}
 use Rattle.cov_base.specs.Lines.{lines_of}
 use Rattle.cov_base.specs.declared.limits.TheConstants.{MOST_SCRIPT_LINE_BYTES}
@@ -7,11 +7,13 @@ use Rattle.cov_io.specs.Devices.{AppendsAll, AppendsSome}
 use Rattle.cov_io.specs.Items.{GivesTold}
 use Rattle.cov_io.specs.Progress.{Progress}
 use Rattle.cov_io.specs.declared.reading.Item.TheVariants as items
-use Rattle.cov_loop.specs.Answers.{IsServed}
+use Rattle.cov_loop.specs.Answers.{IsServed, StopsLine}
+use Rattle.cov_loop.specs.Counts.{Counts}
 use Rattle.cov_loop.specs.Outcome.{Outcome, answers}
-use Rattle.cov_loop.specs.Turns.{Output, RowsComeFirst, StopsAmid, Turns, ahead_of, turn_of}
+use Rattle.cov_loop.specs.Turns.{Output, RowsComeFirst, StopsAmid, StopsTurn, Turns, ahead_of, turn_of}
 use Rattle.cov_loop.specs.declared.answer.Answer.{Answer}
-use Rattle.cov_loop.specs.declared.status.Status.{Status}
+use Rattle.cov_loop.specs.declared.ending.Ending.{Ending}
+use Rattle.cov_loop.specs.declared.ending.Ending.TheVariants as endings
 use Rattle.cov_loop.proofs.Appending.{same_some, some_more}
 use Rattle.cov_loop.proofs.Outcomes.{silent}
 use Rattle.cov_out.specs.declared.row.OutRow.{OutRow}
@@ -21,8 +23,8 @@ abbrev pub TellsRows : {S : Type 0} → (S → List ℕ → Outcome S) → Type 
 TellsRows {S} step = (state : S) (line : List ℕ) → (step state line).reply ≡ [] → (step state line).rows ≡ []
 
 -- what was written of an outcome, by the answer
-pub record Serves {S : Type 0} (outcome : Outcome S) (next : S) (old new : Output) (r : Result Answer Status) : Type 0 where
-  pub served : IfOk r (IsServed outcome next)
+pub record Serves {S : Type 0} (outcome : Outcome S) (old new : Output) (r : Result (S × Answer) Ending) : Type 0 where
+  pub served : IfOk r (λ next. IsServed outcome next.0 next.1)
   pub all : OnOk r (AppendsAll outcome.reply old.bytes new.bytes)
   pub some : OnErr r (AppendsSome outcome.reply old.bytes new.bytes)
   pub rows_all : OnOk r (AppendsAll outcome.rows old.rows new.rows)
@@ -69,13 +71,14 @@ module _ {S : Type 0} (step : S → List ℕ → Outcome S) (told : TellsRows st
   }
 
 -- a line was served that is the first of a text
-first_served : {S : Type 0} (step : S → List ℕ → Outcome S) (told : TellsRows step) (state : S) (text line rest : List ℕ) (old new : Output) (next : S) (r : Result Answer Status)
+first_served : {S : Type 0} (step : S → List ℕ → Outcome S) (told : TellsRows step) (state : S) (text line rest : List ℕ) (ahead : Option (List ℕ)) (old new : Output) (r : Result (S × Answer) Ending)
     → lines_of text ≡ line ∷ lines_of rest
-    → Serves (step state line) next old new r
-    → Turns step state text next (Some rest) old new (turn_of r)
-first_served step told state text line rest old new next (Ok answer) lines serves =
-    record { line = line; rest = rest; lines = lines; ahead_is = refl; served = serves.served; written = record { bytes = serves.all; rows = serves.rows_all } }
-first_served {S} step told state text line rest old new next (Err status) lines serves =
+    → ahead ≡ Some rest
+    → Serves (step state line) old new r
+    → Turns step state text ahead old new (turn_of r)
+first_served step told state text line rest ahead old new (Ok next) lines is serves =
+    record { line = line; rest = rest; lines = lines; ahead_is = is; served = serves.served; written = record { bytes = serves.all; rows = serves.rows_all } }
+first_served {S} step told state text line rest ahead old new (Err ending) lines is serves =
     let o : Outcome S = step state line in
     let later : Outcome S = answers step o.state (lines_of rest) in
     record {
@@ -88,29 +91,60 @@ first_served {S} step told state text line rest old new next (Err status) lines 
           (elim serves.rows_first [ inl all ↦ inl (rw grew at all) | inr same ↦ inr (same ∙ wrote) ]));
     }
 
--- the next line that a reader gives was served
-pub line_turn : {S : Type 0} (step : S → List ℕ → Outcome S) (told : TellsRows step) (state : S) (text line : List ℕ) (was now : Progress) (left later : Option (List ℕ)) (old new : Output) (next : S) (r : Result Answer Status)
+-- a line is the first of a text, and the rest is ahead
+pub record IsFirst (text line : List ℕ) (ahead : Option (List ℕ)) : Type 0 where
+  pub rest : List ℕ
+  pub lines : lines_of text ≡ line ∷ lines_of rest
+  pub ahead_is : ahead ≡ Some rest
+
+-- the next line that a reader gives
+pub next_line : (text line : List ℕ) (was now : Progress) (left later : Option (List ℕ))
     → GivesTold was now left later (items.Line line)
     → ahead_of was left ≡ Some text
-    → Serves (step state line) next old new r
-    → Turns step state text next (ahead_of now later) old new (turn_of r)
-line_turn step told state text line was now None later old new next r given ahead serves = absurd (cc)
-line_turn step told state text line was now (Some left) None old new next r given ahead serves = absurd given
-line_turn step told state text line was now (Some left) (Some later) old new next r given ahead serves =
+    → IsFirst text line (ahead_of now later)
+next_line text line was now None later given ahead = absurd (cc)
+next_line text line was now (Some left) None given ahead = absurd given
+next_line text line was now (Some left) (Some later) given ahead =
     let here : was.ahead ++ left ≡ text = cc in
-    first_served step told state text line (now.ahead ++ later) old new next r (rw (← here) given.0) serves
+    record { rest = now.ahead ++ later; lines = rw (← here) given.0; ahead_is = refl }
 
--- a line that a reader skipped was served
-pub long_turn : {S : Type 0} (step : S → List ℕ → Outcome S) (told : TellsRows step) (state : S) (text : List ℕ) (was now : Progress) (left later : Option (List ℕ)) (old new : Output) (next : S) (r : Result Answer Status)
+-- a line that is longer than those that are served, and the first of a text
+pub record IsLongFirst (text : List ℕ) (ahead : Option (List ℕ)) : Type 0 where
+  pub line : List ℕ
+  pub long : MOST_SCRIPT_LINE_BYTES < length line
+  pub is : IsFirst text line ahead
+
+-- a line that a reader skipped
+pub next_long : (text : List ℕ) (was now : Progress) (left later : Option (List ℕ))
     → GivesTold was now left later items.Long
     → ahead_of was left ≡ Some text
-    → ((line : List ℕ) → MOST_SCRIPT_LINE_BYTES < length line → Serves (step state line) next old new r)
-    → Turns step state text next (ahead_of now later) old new (turn_of r)
-long_turn step told state text was now None later old new next r given ahead serves = absurd (cc)
-long_turn step told state text was now (Some left) None old new next r given ahead serves = absurd given
-long_turn step told state text was now (Some left) (Some later) old new next r given ahead serves =
+    → IsLongFirst text (ahead_of now later)
+next_long text was now None later given ahead = absurd (cc)
+next_long text was now (Some left) None given ahead = absurd given
+next_long text was now (Some left) (Some later) given ahead =
     let here : was.ahead ++ left ≡ text = cc in
-    first_served step told state text given.0 (now.ahead ++ later) old new next r (rw (← here) given.1) (serves given.0 given.2)
+    record { line = given.0; long = given.2; is = record { rest = now.ahead ++ later; lines = rw (← here) given.1; ahead_is = refl } }
+
+-- the first line of a text was served
+pub line_turn : {S : Type 0} (step : S → List ℕ → Outcome S) (told : TellsRows step) (state : S) (text line : List ℕ) (ahead : Option (List ℕ)) (old new : Output) (r : Result (S × Answer) Ending)
+    → IsFirst text line ahead
+    → Serves (step state line) old new r
+    → Turns step state text ahead old new (turn_of r)
+line_turn step told state text line ahead old new r first serves = first_served step told state text line first.rest ahead old new r first.lines first.ahead_is serves
+
+-- what stops a line stops the turn
+pub turn_stopped : {S : Type 0} (progress : Progress) (old new : Counts) (r : Result (S × Answer) Ending)
+    → IfErr r (λ ending. StopsLine ending old.sink new.sink old.disk new.disk old.trees new.trees)
+    → IfErr (turn_of r) (λ ending. StopsTurn ending progress old new)
+turn_stopped progress old new (Ok next) stops = tt
+turn_stopped progress old new (Err endings.Done) stops = absurd stops
+turn_stopped progress old new (Err endings.SomeRefused) stops = absurd stops
+turn_stopped progress old new (Err endings.NoMemory) stops = tt
+turn_stopped progress old new (Err endings.ReadFault) stops = absurd stops
+turn_stopped progress old new (Err endings.WriteFault) stops = stops
+turn_stopped progress old new (Err endings.DiskFault) stops = stops
+turn_stopped progress old new (Err endings.TreesFault) stops = stops
+turn_stopped progress old new (Err endings.TooMuch) stops = absurd stops
 
 -- nothing was written of a text, the run having stopped before a line was served
 pub fault_turn : {S : Type 0} (step : S → List ℕ → Outcome S) → TellsRows step → (state : S) (text : List ℕ) (all : Output) → StopsAmid step state text all all

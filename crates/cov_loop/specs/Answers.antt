@@ -5,8 +5,8 @@ use Rattle.cov_loop.specs.Outcome.{Outcome}
 use Rattle.cov_loop.specs.declared.answer.Answer.{Answer}
 use Rattle.cov_loop.specs.declared.answer.Answer.TheVariants.{Nothing, Refused, Accepted}
 use Rattle.cov_loop.specs.declared.answer.Reply.{Reply}
-use Rattle.cov_loop.specs.declared.status.Status.{Status}
-use Rattle.cov_loop.specs.declared.status.Status.TheVariants as statuses
+use Rattle.cov_loop.specs.declared.ending.Ending.{Ending}
+use Rattle.cov_loop.specs.declared.ending.Ending.TheVariants as endings
 
 -- the kind of a reply: there is none, or it refuses, or it accepts
 abbrev pub kind_of : List ℕ → Bool → Answer
@@ -35,9 +35,16 @@ pub record IsServed {S : Type 0} (outcome : Outcome S) (state : S) (answer : Ans
   pub state_is : state ≡ outcome.state
   pub answer_is : answer ≡ answer_of outcome
 
--- why a line ends the run, the counts of faults of the sink and of the trees being known before and after
-abbrev pub StopsLine : Status → ℕ → ℕ → ℕ → ℕ → Type 0
-StopsLine statuses.NoMemory sink sink' trees trees' = Unit {0}
-StopsLine statuses.WriteFault sink sink' trees trees' = Rose sink sink'
-StopsLine statuses.TreesFault sink sink' trees trees' = Rose trees trees'
-StopsLine _ sink sink' trees trees' = ⊥
+-- why a line isn't answered, the count of faults of the disk being known before and after
+abbrev pub StopsAnswer : Ending → ℕ → ℕ → Type 0
+StopsAnswer endings.NoMemory disk disk' = Unit {0}
+StopsAnswer endings.DiskFault disk disk' = Rose disk disk'
+StopsAnswer _ disk disk' = ⊥
+
+-- why a line ends the run, the counts of faults of the sink, the disk and the trees being known before and after
+abbrev pub StopsLine : Ending → ℕ → ℕ → ℕ → ℕ → ℕ → ℕ → Type 0
+StopsLine endings.NoMemory sink sink' disk disk' trees trees' = Unit {0}
+StopsLine endings.WriteFault sink sink' disk disk' trees trees' = Rose sink sink'
+StopsLine endings.DiskFault sink sink' disk disk' trees trees' = Rose disk disk'
+StopsLine endings.TreesFault sink sink' disk disk' trees trees' = Rose trees trees'
+StopsLine _ sink sink' disk disk' trees trees' = ⊥

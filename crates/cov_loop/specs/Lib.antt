@@ -1,5 +1,5 @@
 pub mod Answers
 pub mod Counts
+pub mod Keeping
 pub mod Outcome
-pub mod Statuses
 pub mod Turns

@@ -1,5 +1,5 @@
 -- What is done in one turn, and in several.
-use Rattle.std.specs.Prelude.{◌≡◌, ℕ, ◌+◌, ◌<◌, ◌≤◌, Bool, true, false, List, [], ◌∷◌, ◌++◌, length, Option, Some, Result, Ok, Err}
+use Rattle.std.specs.Prelude.{◌≡◌, ℕ, ◌+◌, ◌<◌, ◌≤◌, Bool, true, false, List, [], ◌∷◌, ◌++◌, length, Option, Some, IfSome, Result, Ok, Err}
 use Rattle.std.specs.Option.{option_map}
 use Rattle.cov_base.specs.Causes.{Rose}
 use Rattle.cov_base.specs.Lines.{lines_of}
@@ -12,8 +12,8 @@ use Rattle.cov_loop.specs.Answers.{IsServed}
 use Rattle.cov_loop.specs.Counts.{Counts}
 use Rattle.cov_loop.specs.Outcome.{Outcome, answers}
 use Rattle.cov_loop.specs.declared.answer.Answer.{Answer}
-use Rattle.cov_loop.specs.declared.status.Status.{Status}
-use Rattle.cov_loop.specs.declared.status.Status.TheVariants as statuses
+use Rattle.cov_loop.specs.declared.ending.Ending.{Ending}
+use Rattle.cov_loop.specs.declared.ending.Ending.TheVariants as endings
 use Rattle.cov_loop.specs.declared.turn.Turn.{Turn}
 use Rattle.cov_loop.specs.declared.turn.Turn.TheVariants.{Ended, Served}
 use Rattle.cov_out.specs.declared.row.OutRow.{OutRow}
@@ -38,21 +38,21 @@ pub record RowsComeFirst {S : Type 0} (step : S → List ℕ → Outcome S) (sta
 abbrev pub ahead_of : Progress → Option (List ℕ) → Option (List ℕ)
 ahead_of progress left = option_map (λ bytes. progress.ahead ++ bytes) left
 
--- a line that was served, or the status with which it ends the run, as a turn
-abbrev pub turn_of : Result Answer Status → Result Turn Status
-turn_of (Ok answer) = Ok (Served answer)
-turn_of (Err status) = Err status
+-- a line that was served, or how it ends the run, as a turn
+abbrev pub turn_of : {S : Type 0} → Result (S × Answer) Ending → Result (S × Turn) Ending
+turn_of (Ok next) = Ok (next.0, Served next.1)
+turn_of (Err ending) = Err ending
 
--- the status of each fault
-abbrev pub status_of : LineFault → Status
-status_of faults.ReadFault = statuses.ReadFault
-status_of faults.TooMuch = statuses.TooMuch
-status_of faults.Memory = statuses.NoMemory
+-- how each fault ends the run
+abbrev pub ending_of : LineFault → Ending
+ending_of faults.ReadFault = endings.ReadFault
+ending_of faults.TooMuch = endings.TooMuch
+ending_of faults.Memory = endings.NoMemory
 
--- the status at the end of a script
-abbrev pub status_at_end : Bool → Status
-status_at_end true = statuses.SomeRefused
-status_at_end false = statuses.Done
+-- how a script ends
+abbrev pub ending_at_end : Bool → Ending
+ending_at_end true = endings.SomeRefused
+ending_at_end false = endings.Done
 
 -- what was written of bytes and of rows, each if it is told
 pub record Output : Type 0 where
@@ -92,18 +92,23 @@ pub record StopsAmid {S : Type 0} (step : S → List ℕ → Outcome S) (state :
       → RowsComeFirst step state (lines_of text) bytes rows new.bytes new.rows
 
 -- what one turn does with a text that is ahead, and the state after it
-abbrev pub Turns : {S : Type 0} → (S → List ℕ → Outcome S) → S → List ℕ → S → Option (List ℕ) → Output → Output → Result Turn Status → Type 0
-Turns step state text next ahead old new (Ok Ended) = Ends state text next ahead old new
-Turns step state text next ahead old new (Ok (Served answer)) = ServesFirst step state text next answer ahead old new
-Turns step state text next ahead old new (Err status) = StopsAmid step state text old new
+abbrev pub Turned : {S : Type 0} → (S → List ℕ → Outcome S) → S → List ℕ → S → Option (List ℕ) → Output → Output → Turn → Type 0
+Turned step state text next ahead old new Ended = Ends state text next ahead old new
+Turned step state text next ahead old new (Served answer) = ServesFirst step state text next answer ahead old new
+
+-- what one turn does with a text that is ahead, or a stop within it
+abbrev pub Turns : {S : Type 0} → (S → List ℕ → Outcome S) → S → List ℕ → Option (List ℕ) → Output → Output → Result (S × Turn) Ending → Type 0
+Turns step state text ahead old new (Ok next) = Turned step state text next.0 ahead old new next.1
+Turns step state text ahead old new (Err ending) = StopsAmid step state text old new
 
 -- why a turn ends the run
-abbrev pub StopsTurn : Status → Progress → Counts → Counts → Type 0
-StopsTurn statuses.NoMemory progress old new = Unit {0}
-StopsTurn statuses.ReadFault progress old new = Rose old.source new.source
-StopsTurn statuses.WriteFault progress old new = Rose old.sink new.sink
-StopsTurn statuses.TreesFault progress old new = Rose old.trees new.trees
-StopsTurn statuses.TooMuch progress old new = IsTooMuch progress
+abbrev pub StopsTurn : Ending → Progress → Counts → Counts → Type 0
+StopsTurn endings.NoMemory progress old new = Unit {0}
+StopsTurn endings.ReadFault progress old new = Rose old.source new.source
+StopsTurn endings.WriteFault progress old new = Rose old.sink new.sink
+StopsTurn endings.DiskFault progress old new = Rose old.disk new.disk
+StopsTurn endings.TreesFault progress old new = Rose old.trees new.trees
+StopsTurn endings.TooMuch progress old new = IsTooMuch progress
 StopsTurn _ progress old new = ⊥
 
 -- fewer turns can follow
@@ -121,39 +126,39 @@ pub record GoesOn {S : Type 0} (step : S → List ℕ → Outcome S) (start : S)
   pub refused_is : refused ≡ (answers step start served).is_refused
   pub written : WritesAll (answers step start served) old new
 
--- the whole of an outcome is written, the text is read to its end, and the status says whether a line was refused
+-- the whole of an outcome is written, the text is read to its end, and the ending says whether a line was refused
 abbrev pub EndsWith : {S : Type 0} → Bool → Outcome S → List ℕ → Option (List ℕ) → Option (List ℕ) → Type 0
 EndsWith refused outcome before left written = (outcome.is_refused ≡ refused) × (left ≡ Some []) × (written ≡ Some (before ++ outcome.reply))
 
--- with status 0 or 1 a run has served its whole script
-abbrev pub IsWhole : {S : Type 0} → Status → Outcome S → List ℕ → Option (List ℕ) → Option (List ℕ) → Type 0
-IsWhole statuses.Done outcome before left written = EndsWith false outcome before left written
-IsWhole statuses.SomeRefused outcome before left written = EndsWith true outcome before left written
+-- a run that comes to the end has served its whole script
+abbrev pub IsWhole : {S : Type 0} → Ending → Outcome S → List ℕ → Option (List ℕ) → Option (List ℕ) → Type 0
+IsWhole endings.Done outcome before left written = EndsWith false outcome before left written
+IsWhole endings.SomeRefused outcome before left written = EndsWith true outcome before left written
 IsWhole _ outcome before left written = Unit {0}
 
--- with status 0 or 1 a run has written all rows of its script
-abbrev pub HasRows : {S : Type 0} → Status → Outcome S → List OutRow → Option (List OutRow) → Type 0
-HasRows statuses.Done outcome before grown = grown ≡ Some (before ++ outcome.rows)
-HasRows statuses.SomeRefused outcome before grown = grown ≡ Some (before ++ outcome.rows)
+-- a run that comes to the end has written all rows of its script
+abbrev pub HasRows : {S : Type 0} → Ending → Outcome S → List OutRow → Option (List OutRow) → Type 0
+HasRows endings.Done outcome before grown = grown ≡ Some (before ++ outcome.rows)
+HasRows endings.SomeRefused outcome before grown = grown ≡ Some (before ++ outcome.rows)
 HasRows _ outcome before grown = Unit {0}
 
--- with status 0 or 1 a run leaves the state that its whole script gives
-abbrev pub HasState : {S : Type 0} → Status → Outcome S → S → Type 0
-HasState statuses.Done outcome state = state ≡ outcome.state
-HasState statuses.SomeRefused outcome state = state ≡ outcome.state
-HasState _ outcome state = Unit {0}
+-- where a run comes to the end, bytes that are told are stored for the state that its whole script gives
+abbrev pub HasStored : {S : Type 0} → Ending → (S → List ℕ → Type 0) → Outcome S → Option (List ℕ) → Type 0
+HasStored endings.Done stored outcome contents = IfSome contents (stored outcome.state)
+HasStored endings.SomeRefused stored outcome contents = IfSome contents (stored outcome.state)
+HasStored _ stored outcome contents = Unit {0}
 
 -- too many bytes were taken since the start and no read answered 0
 abbrev pub TooMuchSince : Progress → Counts → Counts → Type 0
 TooMuchSince start old new = (TOO_MANY_SCRIPT_BYTES + old.given ≤ start.taken + new.given) × (start.ended ≡ false) × (new.ends ≡ old.ends)
 
 -- why the serving of a script ends as it does
-abbrev pub StopsScript : Status → Progress → Counts → Counts → Type 0
-StopsScript statuses.Done start old new = Unit {0}
-StopsScript statuses.SomeRefused start old new = Unit {0}
-StopsScript statuses.NoMemory start old new = Unit {0}
-StopsScript statuses.ReadFault start old new = Rose old.source new.source
-StopsScript statuses.WriteFault start old new = Rose old.sink new.sink
-StopsScript statuses.TreesFault start old new = Rose old.trees new.trees
-StopsScript statuses.TooMuch start old new = TooMuchSince start old new
-StopsScript statuses.Usage start old new = ⊥
+abbrev pub StopsScript : Ending → Progress → Counts → Counts → Type 0
+StopsScript endings.Done start old new = Unit {0}
+StopsScript endings.SomeRefused start old new = Unit {0}
+StopsScript endings.NoMemory start old new = Unit {0}
+StopsScript endings.ReadFault start old new = Rose old.source new.source
+StopsScript endings.WriteFault start old new = Rose old.sink new.sink
+StopsScript endings.DiskFault start old new = Rose old.disk new.disk
+StopsScript endings.TreesFault start old new = Rose old.trees new.trees
+StopsScript endings.TooMuch start old new = TooMuchSince start old new

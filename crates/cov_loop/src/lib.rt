@@ -1,15 +1,16 @@
-//! One line of a script after another: each is answered, its rows of trees are written, its reply is put, and the run ends with a status.
+//! One line of a script after another: each is answered and what it adds is stored, its rows of trees are written, its reply is put, and
+//! the run ends.
 #![tactic(auto)]
 
 mod answer;
+mod ending;
 mod line;
 mod line_server;
 mod rows;
-mod status;
 mod turn;
 
 pub use answer::{Answer, Reply};
+pub use ending::Ending;
 pub use line::serve_line;
 pub use line_server::LineServer;
-pub use status::Status;
 pub use turn::serve_all;

@@ -1,17 +1,20 @@
 // One line after another, to the end of a script.
-ghost use Rattle.std.specs.Prelude.{◌≡◌, ◌||◌, List, ℕ, Some, IfOk, IfErr};
+ghost use Rattle.std.specs.Prelude.{◌≡◌, ◌||◌, ◌≤◌, ◌++◌, List, ℕ, Some, IfOk, IfErr, IfSome, OnErr};
 ghost use Rattle.cov_base.specs.Lines.{lines_of};
+ghost use Rattle.cov_disk.specs.Images.{LeavesOnly};
 ghost use Rattle.cov_io.specs.Progress.{CountsGiven};
 ghost use Rattle.cov_loop.specs.Answers.{is_refusal};
 ghost use Rattle.cov_loop.specs.Counts.{Counted, Later, counts};
+ghost use Rattle.cov_loop.specs.Keeping.{AreAll, KeepsAnswered, Reaches};
 ghost use Rattle.cov_loop.specs.Outcome.{answers};
-ghost use Rattle.cov_loop.specs.Turns.{Falls, HasRows, HasState, IsWhole, RowsComeFirst, StopsScript, StopsTurn, Turns, WritesFront, ahead_of, output, status_at_end, status_of, turn_of};
+ghost use Rattle.cov_loop.specs.Turns.{Falls, HasRows, HasStored, IsWhole, RowsComeFirst, StopsScript, StopsTurn, Turns, WritesFront, ahead_of, ending_at_end, ending_of, output, turn_of};
 ghost use Rattle.cov_out.specs.declared.row.OutRow.{OutRow};
 
 use crate::answer::Answer;
+use crate::ending::Ending;
 use crate::line::{serve_line, serve_long};
 use crate::line_server::LineServer;
-use crate::status::Status;
+use cov_disk::Disk;
 use cov_io::{Item, LineFault, Lines, Sink, Source};
 use cov_out::Trees;
 
@@ -25,92 +28,129 @@ pub(crate) enum Turn {
 }
 
 // Serves the next line, if there is one.
-fn serve_next<V: LineServer, S: Source, K: Sink, T: Trees>(
-    server: &mut V,
+fn serve_next<V: LineServer, S: Source, K: Sink, D: Disk, T: Trees>(
+    server: V,
     lines: &mut Lines,
     script: &mut S,
     out: &mut K,
+    disk: &mut D,
     trees: &mut T,
-) -> Result<Turn, Status>
+) -> Result<(V, Turn), Ending>
+    requires gate { IfSome (D.contents disk.old) (V.gate server) }
     ensures told { (text : List ℕ) → ahead_of lines.old (S.left script.old) ≡ Some text →
-        Turns V.step server.old text server.new (ahead_of lines.new (S.left script.new))
+        Turns V.step server text (ahead_of lines.new (S.left script.new))
         (output (K.written out.old) (T.rows trees.old)) (output (K.written out.new) (T.rows trees.new)) result }
+    ensures gate { IfOk result (λ next. IfSome (D.contents disk.new) (V.gate next.0)) }
+    ensures stored { IfSome (D.contents disk.old) (V.stored server) → IfOk result (λ next. IfSome (D.contents disk.new) (V.stored next.0)) }
+    ensures any_moment { (text : List ℕ) → ahead_of lines.old (S.left script.old) ≡ Some text → AreAll (V.stored server) (D.images disk.old) →
+        LeavesOnly D.moment D.images_since disk.old disk.new (Reaches V.step V.stored server (lines_of text)) }
+    ensures durable { AreAll (V.stored server) (D.images disk.old) → IfOk result (λ next. AreAll (V.stored next.0) (D.images disk.new)) }
+    ensures acknowledged { (text before bytes : List ℕ) → ahead_of lines.old (S.left script.old) ≡ Some text → AreAll (V.stored server) (D.images disk.old) →
+        K.written out.old ≡ Some before → K.written out.new ≡ Some (before ++ bytes) →
+        OnErr result (AreAll (KeepsAnswered V.step V.stored V.count server (lines_of text) bytes) (D.images disk.new)) }
     ensures counted { Counted lines.old lines.new
-        (counts (S.faults script.old) (K.faults out.old) (T.faults trees.old) (S.given script.old) (S.ends script.old))
-        (counts (S.faults script.new) (K.faults out.new) (T.faults trees.new) (S.given script.new) (S.ends script.new)) }
+        (counts (S.faults script.old) (K.faults out.old) (D.faults disk.old) (T.faults trees.old) (S.given script.old) (S.ends script.old))
+        (counts (S.faults script.new) (K.faults out.new) (D.faults disk.new) (T.faults trees.new) (S.given script.new) (S.ends script.new)) }
     ensures left { CountsGiven (S.left script.old) (S.left script.new) (S.given script.old) (S.given script.new) }
-    ensures stopped { IfErr result (λ status. StopsTurn status lines.new
-        (counts (S.faults script.old) (K.faults out.old) (T.faults trees.old) (S.given script.old) (S.ends script.old))
-        (counts (S.faults script.new) (K.faults out.new) (T.faults trees.new) (S.given script.new) (S.ends script.new))) }
-    ensures falls { IfOk result (Falls lines.old lines.new) }
+    ensures stopped { IfErr result (λ ending. StopsTurn ending lines.new
+        (counts (S.faults script.old) (K.faults out.old) (D.faults disk.old) (T.faults trees.old) (S.given script.old) (S.ends script.old))
+        (counts (S.faults script.new) (K.faults out.new) (D.faults disk.new) (T.faults trees.new) (S.given script.new) (S.ends script.new))) }
+    ensures falls { IfOk result (λ next. Falls lines.old lines.new next.1) }
 {
     match lines.next(script) {
-        Ok(Item::End) => Ok(Turn::Ended),
-        Ok(Item::Line(line)) => as_turn(serve_line(server, line.as_slice(), out, trees)),
+        Ok(Item::End) => Ok((server, Turn::Ended)),
+        Ok(Item::Line(line)) => as_turn(serve_line(server, line.as_slice(), out, disk, trees)),
         Ok(Item::Long) => as_turn(serve_long(server, out, trees)),
-        Err(fault) => Err(status_of(fault)),
+        Err(fault) => {
+            server.close();
+            Err(ending_of(fault))
+        }
     }
 }
 
-fn as_turn(served: Result<Answer, Status>) -> Result<Turn, Status>
+fn as_turn<V: LineServer>(served: Result<(V, Answer), Ending>) -> Result<(V, Turn), Ending>
     ensures { result ≡ turn_of served }
 {
     match served {
-        Ok(answer) => Ok(Turn::Served(answer)),
-        Err(status) => Err(status),
+        Ok((next, answer)) => Ok((next, Turn::Served(answer))),
+        Err(ending) => Err(ending),
     }
 }
 
-fn status_of(fault: LineFault) -> Status
-    ensures { result ≡ status_of fault }
+fn ending_of(fault: LineFault) -> Ending
+    ensures { result ≡ ending_of fault }
 {
     match fault {
-        LineFault::ReadFault => Status::ReadFault,
-        LineFault::TooMuch => Status::TooMuch,
-        LineFault::Memory => Status::NoMemory,
+        LineFault::ReadFault => Ending::ReadFault,
+        LineFault::TooMuch => Ending::TooMuch,
+        LineFault::Memory => Ending::NoMemory,
     }
 }
 
-/// Serves the lines that are ahead, to the end of the script or to the first failing call.
-pub fn serve_all<V: LineServer, S: Source, K: Sink, T: Trees>(
-    server: &mut V,
+/// Serves the lines that are ahead, to the end of the script or to the first failing call. The server is given up.
+pub fn serve_all<V: LineServer, S: Source, K: Sink, D: Disk, T: Trees>(
+    server: V,
     lines: &mut Lines,
     script: &mut S,
     out: &mut K,
+    disk: &mut D,
     trees: &mut T,
-) -> Status
+) -> Ending
+    requires gate { IfSome (D.contents disk.old) (V.gate server) }
     ensures prefix { (text before : List ℕ) →
         ahead_of lines.old (S.left script.old) ≡ Some text → K.written out.old ≡ Some before →
-        WritesFront before (answers V.step server.old (lines_of text)).reply (K.written out.new) }
+        WritesFront before (answers V.step server (lines_of text)).reply (K.written out.new) }
     ensures whole { (text before : List ℕ) →
         ahead_of lines.old (S.left script.old) ≡ Some text → K.written out.old ≡ Some before →
-        IsWhole result (answers V.step server.old (lines_of text)) before (S.left script.new) (K.written out.new) }
-    ensures state { (text before : List ℕ) →
-        ahead_of lines.old (S.left script.old) ≡ Some text → K.written out.old ≡ Some before →
-        HasState result (answers V.step server.old (lines_of text)) server.new }
+        IsWhole result (answers V.step server (lines_of text)) before (S.left script.new) (K.written out.new) }
     ensures rows_prefix { (text : List ℕ) (before : List OutRow) →
         ahead_of lines.old (S.left script.old) ≡ Some text → T.rows trees.old ≡ Some before →
-        WritesFront before (answers V.step server.old (lines_of text)).rows (T.rows trees.new) }
+        WritesFront before (answers V.step server (lines_of text)).rows (T.rows trees.new) }
     ensures rows_whole { (text : List ℕ) (before : List OutRow) →
         ahead_of lines.old (S.left script.old) ≡ Some text → T.rows trees.old ≡ Some before →
-        HasRows result (answers V.step server.old (lines_of text)) before (T.rows trees.new) }
+        HasRows result (answers V.step server (lines_of text)) before (T.rows trees.new) }
     ensures rows_first { (text before : List ℕ) (rows : List OutRow) →
         ahead_of lines.old (S.left script.old) ≡ Some text → K.written out.old ≡ Some before → T.rows trees.old ≡ Some rows →
-        RowsComeFirst V.step server.old (lines_of text) before rows (K.written out.new) (T.rows trees.new) }
+        RowsComeFirst V.step server (lines_of text) before rows (K.written out.new) (T.rows trees.new) }
+
+    // At the end of the script, what a read of the disk gives is stored for the state that the whole script gives.
+    ensures stored { (text : List ℕ) →
+        ahead_of lines.old (S.left script.old) ≡ Some text → IfSome (D.contents disk.old) (V.stored server) →
+        HasStored result V.stored (answers V.step server (lines_of text)) (D.contents disk.new) }
+
+    // A crash at any moment leaves what is stored for the state after the first few lines, and at the return these have each command
+    // whose whole reply is written.
+    ensures any_moment { (text : List ℕ) →
+        ahead_of lines.old (S.left script.old) ≡ Some text → AreAll (V.stored server) (D.images disk.old) →
+        LeavesOnly D.moment D.images_since disk.old disk.new (Reaches V.step V.stored server (lines_of text)) }
+    ensures acknowledged { (text before bytes : List ℕ) →
+        ahead_of lines.old (S.left script.old) ≡ Some text → AreAll (V.stored server) (D.images disk.old) →
+        K.written out.old ≡ Some before → K.written out.new ≡ Some (before ++ bytes) →
+        AreAll (KeepsAnswered V.step V.stored V.count server (lines_of text) bytes) (D.images disk.new) }
+
     ensures later { Later
-        (counts (S.faults script.old) (K.faults out.old) (T.faults trees.old) (S.given script.old) (S.ends script.old))
-        (counts (S.faults script.new) (K.faults out.new) (T.faults trees.new) (S.given script.new) (S.ends script.new)) }
+        (counts (S.faults script.old) (K.faults out.old) (D.faults disk.old) (T.faults trees.old) (S.given script.old) (S.ends script.old))
+        (counts (S.faults script.new) (K.faults out.new) (D.faults disk.new) (T.faults trees.new) (S.given script.new) (S.ends script.new)) }
     ensures left { CountsGiven (S.left script.old) (S.left script.new) (S.given script.old) (S.given script.new) }
     ensures stopped { StopsScript result lines.old
-        (counts (S.faults script.old) (K.faults out.old) (T.faults trees.old) (S.given script.old) (S.ends script.old))
-        (counts (S.faults script.new) (K.faults out.new) (T.faults trees.new) (S.given script.new) (S.ends script.new)) }
+        (counts (S.faults script.old) (K.faults out.old) (D.faults disk.old) (T.faults trees.old) (S.given script.old) (S.ends script.old))
+        (counts (S.faults script.new) (K.faults out.new) (D.faults disk.new) (T.faults trees.new) (S.given script.new) (S.ends script.new)) }
 {
+    let mut server = server;
     let mut refused = false;
     loop {
-        match serve_next(server, lines, script, out, trees) {
-            Ok(Turn::Served(answer)) => refused = either(refused, answer),
-            Ok(Turn::Ended) => return status_at_end(refused),
-            Err(status) => return status,
+        match serve_next(server, lines, script, out, disk, trees) {
+            Ok((next, turn)) => match turn {
+                Turn::Served(answer) => {
+                    server = next;
+                    refused = either(refused, answer);
+                }
+                Turn::Ended => {
+                    next.close();
+                    return ending_at_end(refused);
+                }
+            },
+            Err(ending) => return ending,
         }
     }
 }
@@ -122,11 +162,11 @@ fn either(refused: bool, answer: Answer) -> bool
     refused || matches!(answer, Answer::Refused)
 }
 
-fn status_at_end(refused: bool) -> Status
-    ensures { result ≡ status_at_end refused }
+fn ending_at_end(refused: bool) -> Ending
+    ensures { result ≡ ending_at_end refused }
 {
     match refused {
-        true => Status::SomeRefused,
-        false => Status::Done,
+        true => Ending::SomeRefused,
+        false => Ending::Done,
     }
 }

@@ -1,9 +1,6 @@
 -- How refusals are handed on.
-use Rattle.std.proofs.Common.{◌≡◌, refl, sym, ap, subst, ℕ, ◌<◌, Bool, true, nat_lt, List, length, Result, Ok, Err, arith}
-use Rattle.std.proofs.lemmas.Bool.Decides.{nat_tests}
-use Rattle.std.specs.Prelude.{if◌then◌else◌}
+use Rattle.std.proofs.Common.{◌≡◌, refl, sym, ap, subst, ℕ, Bool, List, Result, Ok, Err}
 use Rattle.std.specs.Result.{IsErrAnd}
-use Rattle.cov_base.specs.declared.limits.TheConstants.{MOST_SCRIPT_LINE_BYTES}
 use Rattle.cov_expr.specs.Binding.{bound, IsFaultOf}
 use Rattle.cov_expr.specs.declared.binding.BindFault.{BindFault}
 use Rattle.cov_expr.specs.declared.binding.BindFault.TheVariants as binds
@@ -14,12 +11,9 @@ use Rattle.cov_edit.specs.History.{options_of}
 use Rattle.cov_history.specs.Completing.{completed_in}
 use Rattle.cov_history.specs.Laws.{OpenOptionsAreDeclared}
 use Rattle.cov_serve.specs.Acting.{Stops}
-use Rattle.cov_serve.specs.Codes.{bind_code, syntax_code}
-use Rattle.cov_serve.specs.Finding.{Found, ◌>>=◌, as_found, by_code, completed_choice, found_choice, found_partial}
+use Rattle.cov_serve.specs.Codes.{bind_code}
+use Rattle.cov_serve.specs.Finding.{Found, ◌>>=◌, as_found, by_code, completed_choice, found_partial}
 use Rattle.cov_serve.specs.States.{State}
-use Rattle.cov_script.specs.Lines.{form_of}
-use Rattle.cov_script.specs.declared.code.Code.TheVariants.{Long}
-use Rattle.cov_serve.specs.Step.{acted, as_outcome, done, refused, step}
 use Rattle.cov_serve.specs.Stops.{bind_stop, complete_stop}
 use Rattle.cov_serve.proofs.Declared.{repeated_below}
 use Rattle.cov_serve.specs.declared.stop.Stop.{Stop}
@@ -35,14 +29,6 @@ pub stops-later : {X Y : Type 0} (wanted : Found X) (later : X → Found Y) (old
 stops-later wanted later old new stops.Memory h = tt
 stops-later wanted later old new (stops.Refused code) h = record { is = ap (λ found. found >>= later) h.is; same = h.same; told = h.told }
 
--- a line of too many bytes is refused, whatever it says
-pub long-refused : (st : State) (line : List ℕ) → MOST_SCRIPT_LINE_BYTES < length line → step st line ≡ refused st Long
-unfolding step acted
-long-refused st line long = ap (λ b. as_outcome st ((if b then Err Long else Ok line) >>= (λ short. by_code syntax_code (form_of short) >>= (λ form. done st form)))) (over long)
-  where
-    over : MOST_SCRIPT_LINE_BYTES < length line → nat_lt MOST_SCRIPT_LINE_BYTES (length line) ≡ true
-    over h = grind (arith, nat_tests, h)
-
 -- bindings that are no partial choice
 pub bind-stops : (st : State) (bindings : List (List ℕ × Bool)) (fault : BindFault) → IsFaultOf (bound (options_of st.history) bindings) fault
     → Stops (found_partial st.history bindings) st st (bind_stop fault)
@@ -56,8 +42,3 @@ pub complete-stops : OpenOptionsAreDeclared → (st : State) (partial : List (�
 complete-stops law st partial (completions.Invalid rule) h = record { is = ap as_found h; same = refl; told = tt }
 complete-stops law st partial (completions.Incomplete option) h = record { is = ap as_found h; same = refl; told = law st.history partial option h }
 complete-stops law st partial completions.Memory h = tt
-
--- bindings that are no partial choice, or one that the rules don't complete
-pub choice-stops : (st : State) (bindings : List (List ℕ × Bool)) (partial : List (ℕ × Bool)) (stop : Stop) → found_partial st.history bindings ≡ Ok partial
-    → Stops (completed_choice st.history partial) st st stop → Stops (found_choice st.history bindings) st st stop
-choice-stops st bindings partial stop found h = subst (λ f. Stops (f >>= completed_choice st.history) st st stop) (sym found) h

@@ -5,7 +5,7 @@ use Rattle.std.specs.Str.{is_utf8, chars}
 use Rattle.std.specs.Fmt.{digits}
 use lib.Utf8.{encode}
 use Rattle.cov_serve.specs.Isolation.{after, own_replies, own_script}
-use Rattle.cov_serve.specs.States.{at_start}
+use Rattle.cov_serve.specs.States.{starting}
 use Rattle.cov_serve.specs.Step.{step, acted, done, served, served_session, served_edit, served_text, begun, made_in, inserted, shown, listed_at, committed, node_at, told, file_told}
 
 -- two sessions on one base, of which one commits while the other edits
@@ -16,7 +16,7 @@ pub own_lines_alone : own_script (codes "s") script ≡ codes "mkfile s /m" ∷ 
 unfolding is_utf8 chars encode
 own_lines_alone = refl
 
-pub replies_among_others : own_replies (codes "s") (after at_start (codes "open s - for true" ∷ codes "open t - for true" ∷ [])) script
+pub replies_among_others : own_replies (codes "s") (after (starting []) (codes "open s - for true" ∷ codes "open t - for true" ∷ [])) script
     ≡ codes "ok\n" ∷ codes "ok +0\n" ∷ codes "refused no-such-path\n" ∷ codes "ok 1\nf m\n" ∷ []
 unfolding is_utf8 chars encode digits step acted done served served_session served_edit served_text begun made_in inserted shown listed_at committed node_at told file_told
 replies_among_others = refl

@@ -1,5 +1,5 @@
 -- How refusals of commands are told.
-use Rattle.std.proofs.Common.{◌≡◌, ℕ, Bool, true, false, List, [], ◌∷◌, length, Option, Some, None, option_map, Ok, refl, ap, subst, arith}
+use Rattle.std.proofs.Common.{◌≡◌, ℕ, Bool, true, false, List, [], ◌∷◌, length, Option, Some, None, option_map, refl, ap, subst, arith}
 use Rattle.std.specs.List.{AllByRecursion}
 use Rattle.cov_base.specs.Faults.{Fault, Clash, Orphan, Loop}
 use Rattle.cov_expr.specs.Formula.{Formula}
@@ -18,9 +18,8 @@ use Rattle.cov_serve.specs.Acting.{Stops}
 use Rattle.cov_serve.specs.Codes.{refusal_code}
 use Rattle.cov_serve.specs.Finding.{unless}
 use Rattle.cov_serve.specs.States.{State, with_command}
-use Rattle.cov_serve.specs.Step.{appended, closed, ended}
+use Rattle.cov_serve.specs.Step.{appended}
 use Rattle.cov_serve.specs.Stops.{refusal_stop}
-use Rattle.cov_serve.proofs.Acted.{stops-later}
 
 module _ (n : ℕ) where
   -- a refusal, if there is one, names no option beyond so many
@@ -74,6 +73,10 @@ told-all history (commands.Commit base choice ambition es) = let n : ℕ = optio
 refusal-told : (history : List Command) (k : Command) → Told (option_count history) (verdict history k)
 refusal-told history k = told-first (option_count history) (when_full history ∷ refusals_of history k) (told-when (option_count history) _ refusals.Full tt, told-all history k)
 
+-- a verdict's refusal names no option beyond those declared
+pub refusal-code : (history : List Command) (k : Command) (r : Refusal) → verdict history k ≡ Some r → IsCodeOf (option_count history) (refusal_code r)
+refusal-code history k r h = subst (Told (option_count history)) h (refusal-told history k)
+
 -- a command that is refused changes nothing
 pub refusal-stops : (st : State) (k : Command) (r : Refusal) → RefusedBy r (verdict st.history k) → Stops (appended st k) st st (refusal_stop r)
 refusal-stops st k refusals.Memory h = tt
@@ -82,7 +85,3 @@ refusal-stops st k r h = record {
   same = refl;
   told = subst (Told (option_count st.history)) h (refusal-told st.history k);
 }
-
--- nor does the session end, whose commit it is
-pub commit-stops : (st : State) (name : List ℕ) (k : Command) (r : Refusal) → RefusedBy r (verdict st.history k) → Stops (closed st name k) st st (refusal_stop r)
-commit-stops st name k r h = stops-later (appended st k) (λ next. Ok (ended next name)) st st (refusal_stop r) (refusal-stops st k r h)

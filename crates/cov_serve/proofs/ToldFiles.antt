@@ -23,12 +23,10 @@ use Rattle.cov_serve.specs.Acting.{Stops}
 use Rattle.cov_serve.specs.Finding.{◌>>=◌}
 use Rattle.cov_serve.specs.Seeing.{IsNodeAt}
 use Rattle.cov_serve.specs.Step.{file_told, listed_at, listed_in, shown, shown_in, told_in}
-use Rattle.cov_serve.specs.Stops.{file_stop, list_stop, read_stop}
+use Rattle.cov_serve.specs.Stops.{list_stop, read_stop}
 use Rattle.cov_session.specs.Open.{NamedSession, table_of}
 use Rattle.cov_serve.specs.Listing.{file_line, view_line}
 use Rattle.cov_engine.specs.Reading.{IsFileAt, line_row}
-use Rattle.cov_engine.specs.declared.reading.FileFault.{FileFault}
-use Rattle.cov_engine.specs.declared.reading.FileFault.TheVariants as files
 use Rattle.cov_file.specs.declared.row.FileRow.{FileRow}
 use Rattle.cov_serve.specs.Replies.{directory_reply, file_reply, lines_reply, seen_reply}
 use Rattle.cov_serve.specs.States.{State}
@@ -135,14 +133,3 @@ told-lines st v path node rows text found lines is =
     ap (λ o. ok_or o NoSuchPath >>= told_in st v) found.0
     ∙ ap (λ b. if b then Err NotFile else Ok (st, file_reply (map by_number (lines_of v node)))) found.1
     ∙ ap (λ t. Ok (st, t)) (sym (is ∙ ap (lines_reply file_line) lines ∙ by-row (lines_of v node)))
-
--- a path that leads to no file is refused
-pub told-stops : (st : State) (v : Variant) (path : List (List ℕ)) (fault : FileFault) → IsFileAt v path (Err fault) → Stops (file_told st v path) st st (file_stop fault)
-unfolding file_told
-told-stops st v path files.NoSuchPath none = record { is = ap (λ o. ok_or o NoSuchPath >>= told_in st v) none; same = refl; told = tt }
-told-stops st v path files.NotFile dir = record {
-  is = ap (λ o. ok_or o NoSuchPath >>= told_in st v) dir.1 ∙ ap (λ b. if b then Err NotFile else Ok (st, file_reply (map by_number (lines_of v dir.0)))) dir.2;
-  same = refl;
-  told = tt;
-}
-told-stops st v path files.Memory none = tt

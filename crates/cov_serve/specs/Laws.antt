@@ -1,8 +1,9 @@
 -- Laws of the model's step.
-use Rattle.std.specs.Prelude.{◌≡◌, ◌≢◌, ℕ, Bool, true, false, nat_lt, List, [], ◌∷◌, length, Ok, Err, if◌then◌else◌}
+use Rattle.std.specs.Prelude.{◌≡◌, ◌≢◌, ℕ, ◌<◌, Bool, true, false, nat_lt, List, [], ◌∷◌, length, Ok, Err, if◌then◌else◌}
 use Rattle.cov_base.specs.declared.limits.TheConstants.{MOST_SCRIPT_LINE_BYTES}
-use Rattle.std.proofs.Common.{ap, refl}
+use Rattle.std.proofs.Common.{ap, arith, refl}
 use Rattle.std.proofs.lemmas.Bool.{false≢true}
+use Rattle.std.proofs.lemmas.Bool.Decides.{nat_tests}
 use Rattle.cov_edit.specs.Replay.{replay}
 use Rattle.cov_script.specs.declared.line.Line.{Line}
 use Rattle.cov_script.specs.declared.line.Line.TheVariants as lines
@@ -13,15 +14,14 @@ use Rattle.cov_script.specs.declared.code.Code.TheVariants.{Long, TreeTaken}
 use Rattle.cov_serve.specs.Codes.{syntax_code}
 use Rattle.cov_serve.specs.Finding.{Found, ◌>>=◌, by_code, completed_choice, found_partial}
 use Rattle.cov_serve.specs.States.{State}
-use Rattle.cov_serve.specs.Step.{Act, Done, acted, as_outcome, checked_out, done, is_taken, plainly, served, step, written}
+use Rattle.cov_serve.specs.Step.{Act, Done, acted, as_outcome, checked_out, done, is_taken, plainly, refused, served, step, written}
 
 -- whether there is no reply
-no_reply : List ℕ → Bool
+abbrev pub no_reply : List ℕ → Bool
 no_reply [] = true
 no_reply (b ∷ bs) = false
 
 told_so : (st : State) (act : Found Done) → (as_outcome st act).is_refused ≡ true → (as_outcome st act).reply ≢ []
-unfolding no_reply
 told_so st (Ok done) h = λ e. false≢true h
 told_so st (Err code) h = λ e. false≢true (ap no_reply e)
 
@@ -44,7 +44,6 @@ later_told (Ok x) later all = all x
 later_told (Err code) later all = tt
 
 written_told : (st : State) (tree : List ℕ) (rows : List TreeRow) → IsTold (Ok (written st tree rows))
-unfolding no_reply
 written_told st tree rows = λ h. absurd (false≢true (ap no_reply h))
 
 checkout_told : (st : State) (tree : List ℕ) (bindings : List (List ℕ × Bool)) → IsTold (checked_out st tree bindings)
@@ -78,3 +77,11 @@ rows_told st line h =
     rows_of st (acted st line)
     (later_told (if nat_lt MOST_SCRIPT_LINE_BYTES (length line) then Err Long else Ok line) (λ short. by_code syntax_code (form_of short) >>= (λ form. done st form))
     (λ short. later_told (by_code syntax_code (form_of short)) (λ form. done st form) (form_told st))) h
+
+-- a line of too many bytes is refused, whatever it says
+pub long_refused : (st : State) (line : List ℕ) → MOST_SCRIPT_LINE_BYTES < length line → step st line ≡ refused st Long
+unfolding step acted
+long_refused st line long = ap (λ b. as_outcome st ((if b then Err Long else Ok line) >>= (λ short. by_code syntax_code (form_of short) >>= (λ form. done st form)))) (over long)
+  where
+    over : MOST_SCRIPT_LINE_BYTES < length line → nat_lt MOST_SCRIPT_LINE_BYTES (length line) ≡ true
+    over h = grind (arith, nat_tests, h)

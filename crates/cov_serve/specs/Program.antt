@@ -1,23 +1,76 @@
 -- What a run of the program promises.
-use Rattle.std.specs.Prelude.{ℕ, Bool, false, List, [], ◌∷◌, codes}
+use Rattle.std.specs.Prelude.{◌≡◌, ◌⊎◌, ℕ, Bool, true, false, List, [], ◌∷◌, ◌++◌, length, Option, Some, None, IfSome, codes}
+use Rattle.std.specs.Fmt.{decimal}
 use Rattle.std.specs.Str.{bytes_eq}
 use Rattle.cov_base.specs.Causes.{Rose}
+use Rattle.cov_edit.specs.History.{options_of}
+use Rattle.cov_edit.specs.declared.command.Command.{Command}
+use Rattle.cov_io.specs.Devices.{AppendsAll, AppendsSome}
 use Rattle.cov_io.specs.Progress.{Progress}
-use Rattle.cov_loop.specs.declared.status.Status.{Status}
-use Rattle.cov_loop.specs.declared.status.Status.TheVariants.{Done, SomeRefused, Usage, WriteFault}
+use Rattle.cov_journal.specs.Reading.{IsNoStore}
+use Rattle.cov_loop.specs.Counts.{Counts}
+use Rattle.cov_loop.specs.Turns.{TooMuchSince}
+use Rattle.cov_script.specs.Replies.{code_text, IsCodeOf}
+use Rattle.cov_serve.specs.Codes.{refusal_code}
+use Rattle.cov_serve.specs.declared.status.Status.{Status}
+use Rattle.cov_serve.specs.declared.status.Status.TheVariants as statuses
+use Rattle.cov_store.specs.Damages.{HasDamage}
+use Rattle.cov_store.specs.Stands.{StandsFor}
+use Rattle.cov_store.specs.declared.damage.StoreDamage.{StoreDamage}
+use Rattle.cov_store.specs.declared.damage.StoreDamage.TheVariants as damages
+use Rattle.cov_store.specs.declared.damage.StoreFault.{StoreFault}
+use Rattle.cov_store.specs.declared.damage.StoreFault.TheVariants as faults
 
 -- the words with which a script is served
 abbrev pub run_words : List (List ℕ)
 run_words = codes "run" ∷ []
 
--- whether words are these
-abbrev pub is_run_words : List (List ℕ) → Bool
-is_run_words (word ∷ []) = bytes_eq word (codes "run")
-is_run_words words = false
+-- the words with which a store is checked
+abbrev pub check_words : List (List ℕ)
+check_words = codes "check" ∷ []
+
+-- whether words are one alone, and which
+abbrev pub is_lone : List ℕ → List (List ℕ) → Bool
+is_lone wanted (word ∷ []) = bytes_eq word wanted
+is_lone wanted words = false
+
+-- words that open the disk
+abbrev pub OpensDisk : List (List ℕ) → Type 0
+OpensDisk words = (words ≡ run_words) ⊎ (words ≡ check_words)
 
 -- what is written where the words are of no form
 abbrev pub usage_line : List ℕ
-usage_line = codes "usage: covstore run\n"
+usage_line = codes "usage: covstore run | check\n"
+
+-- what is written where a store is whole
+abbrev pub check_line : List Command → List ℕ
+check_line history = codes "ok " ++ (decimal (length history) ++ codes " records\n")
+
+-- the words that tell what is wrong with a record
+abbrev pub cause_text : List (List ℕ) → StoreDamage → List ℕ
+cause_text names damages.Cut = codes "cut"
+cause_text names damages.Digest = codes "digest"
+cause_text names damages.NotARecord = codes "record"
+cause_text names (damages.Refused refusal) = codes "refused " ++ code_text names (refusal_code refusal)
+
+-- what is written where a disk holds no store
+abbrev pub not_a_store_line : List ℕ
+not_a_store_line = codes "not-a-store\n"
+
+-- what is written where the record with a number is damaged, these options being declared before it
+abbrev pub damaged_line : List (List ℕ) → ℕ → StoreDamage → List ℕ
+damaged_line names number cause = codes "damaged " ++ (decimal number ++ (codes " " ++ (cause_text names cause ++ codes "\n")))
+
+-- a read of the disk gives an image that stands for a history
+abbrev pub ReadsAs : Option (List ℕ) → List Command → Type 0
+ReadsAs None history = ⊥
+ReadsAs (Some image) history = StandsFor image history
+
+-- the line that is written for an image that is no store, or has damage
+abbrev pub OpeningLine : List ℕ → List ℕ → Type 0
+OpeningLine image line =
+    (IsNoStore image × (line ≡ not_a_store_line))
+    ⊎ ((number : ℕ) × (cause : StoreDamage) × (damage : HasDamage image number cause) × (line ≡ damaged_line (options_of damage.history) number cause))
 
 -- a reader of lines that has taken nothing
 abbrev pub at_first : Progress
@@ -25,12 +78,98 @@ at_first = record { ahead = []; taken = 0; ended = false }
 
 -- a run that served its whole script
 abbrev pub EndsServed : Status → Type 0
-EndsServed Done = Unit {0}
-EndsServed SomeRefused = Unit {0}
+EndsServed statuses.Done = Unit {0}
+EndsServed statuses.SomeRefused = Unit {0}
 EndsServed status = ⊥
 
--- why a run of words of no form ends as it does
-abbrev pub StopsUsage : Status → ℕ → ℕ → Type 0
-StopsUsage Usage old new = Unit {0}
-StopsUsage WriteFault old new = Rose old new
-StopsUsage status old new = ⊥
+-- what holds with the status of a run that served its whole script, by whether a line was refused
+abbrev pub OnServed : Status → (Bool → Type 0) → Type 0
+OnServed statuses.Done P = P false
+OnServed statuses.SomeRefused P = P true
+OnServed status P = Unit {0}
+
+-- what holds with the status of a disk that is no store or has damage
+abbrev pub OnUnopened : Status → Type 0 → Type 0
+OnUnopened statuses.NotAStore P = P
+OnUnopened (statuses.Damaged number cause) P = P
+OnUnopened status P = Unit {0}
+
+-- a run ends with the status that its last line has, unless the sink fails or memory is wanting
+abbrev pub EndsWithLine : Status → ℕ → ℕ → Status → Type 0
+EndsWithLine wanted sink sink' statuses.NoMemory = Unit {0}
+EndsWithLine wanted sink sink' statuses.WriteFault = Rose sink sink'
+EndsWithLine wanted sink sink' status = status ≡ wanted
+
+-- the last line of a run is put, whole where the run ends with its status
+pub record PutsLast (wanted : Status) (line : List ℕ) (old new : Option (List ℕ)) (sink sink' : ℕ) (status : Status) : Type 0 where
+  pub front : AppendsSome line old new
+  pub whole : status ≡ wanted → AppendsAll line old new
+  pub ends : EndsWithLine wanted sink sink' status
+
+-- nothing is put
+pub record PutsNone (wanted : Status) (old new : Option (List ℕ)) (status : Status) : Type 0 where
+  pub is : status ≡ wanted
+  pub same : new ≡ old
+
+-- it is told why a store isn't opened
+abbrev pub TellsFault : StoreFault → Option (List ℕ) → Option (List ℕ) → ℕ → ℕ → Status → Type 0
+TellsFault faults.NotAStore old new sink sink' status = PutsLast statuses.NotAStore not_a_store_line old new sink sink' status
+TellsFault (faults.Damaged number cause options) old new sink sink' status =
+    PutsLast (statuses.Damaged number cause) (damaged_line options.names number cause) old new sink sink' status
+TellsFault faults.DiskFault old new sink sink' status = PutsNone statuses.DiskFault old new status
+TellsFault faults.Memory old new sink sink' status = PutsNone statuses.NoMemory old new status
+
+-- a refusal can be told with so many options
+abbrev pub IsCauseOf : ℕ → StoreDamage → Type 0
+IsCauseOf count (damages.Refused refusal) = IsCodeOf count (refusal_code refusal)
+IsCauseOf count cause = Unit {0}
+
+-- what is to be told can be told
+abbrev pub CanBeTold : StoreFault → Type 0
+CanBeTold (faults.Damaged number cause options) = IsCauseOf (length options.names) cause
+CanBeTold fault = Unit {0}
+
+-- or unless the disk fails, too
+abbrev pub EndsTold : Status → ℕ → ℕ → ℕ → ℕ → Status → Type 0
+EndsTold wanted sink sink' disk disk' statuses.NoMemory = Unit {0}
+EndsTold wanted sink sink' disk disk' statuses.WriteFault = Rose sink sink'
+EndsTold wanted sink sink' disk disk' statuses.DiskFault = Rose disk disk'
+EndsTold wanted sink sink' disk disk' status = status ≡ wanted
+
+-- why a disk that stands for a history isn't opened
+abbrev pub StopsOpening : ℕ → ℕ → Status → Type 0
+StopsOpening disk disk' statuses.NoMemory = Unit {0}
+StopsOpening disk disk' statuses.DiskFault = Rose disk disk'
+StopsOpening disk disk' status = ⊥
+
+-- why a disk isn't opened, whatever it holds
+abbrev pub StopsUnopened : Option (List ℕ) → ℕ → ℕ → ℕ → ℕ → Status → Type 0
+StopsUnopened contents sink sink' disk disk' statuses.NoMemory = Unit {0}
+StopsUnopened contents sink sink' disk disk' statuses.WriteFault = Rose sink sink'
+StopsUnopened contents sink sink' disk disk' statuses.DiskFault = Rose disk disk'
+StopsUnopened contents sink sink' disk disk' statuses.NotAStore = IfSome contents IsNoStore
+StopsUnopened contents sink sink' disk disk' (statuses.Damaged number cause) = IfSome contents (λ image. HasDamage image number cause)
+StopsUnopened contents sink sink' disk disk' status = ⊥
+
+-- why the run of a script over a disk that stands for a history ends as it does
+abbrev pub StopsServing : Counts → Counts → Status → Type 0
+StopsServing old new statuses.Done = Unit {0}
+StopsServing old new statuses.SomeRefused = Unit {0}
+StopsServing old new statuses.NoMemory = Unit {0}
+StopsServing old new statuses.ReadFault = Rose old.source new.source
+StopsServing old new statuses.WriteFault = Rose old.sink new.sink
+StopsServing old new statuses.DiskFault = Rose old.disk new.disk
+StopsServing old new statuses.TreesFault = Rose old.trees new.trees
+StopsServing old new statuses.TooMuch = TooMuchSince at_first old new
+StopsServing old new status = ⊥
+
+-- why the run of a script ends as it does, whatever the disk holds
+abbrev pub StopsRun : Option (List ℕ) → Counts → Counts → Status → Type 0
+StopsRun contents old new statuses.NotAStore = IfSome contents IsNoStore
+StopsRun contents old new (statuses.Damaged number cause) = IfSome contents (λ image. HasDamage image number cause)
+StopsRun contents old new status = StopsServing old new status
+
+-- why the check of a disk ends as it does, whatever it holds
+abbrev pub StopsCheck : Option (List ℕ) → ℕ → ℕ → ℕ → ℕ → Status → Type 0
+StopsCheck contents sink sink' disk disk' statuses.Done = Unit {0}
+StopsCheck contents sink sink' disk disk' status = StopsUnopened contents sink sink' disk disk' status

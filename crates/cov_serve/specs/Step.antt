@@ -45,7 +45,7 @@ use Rattle.cov_serve.specs.Codes.{alt_code, syntax_code, refusal_code, session_c
 use Rattle.cov_serve.specs.Editing.{directory_of, last_name, ref_in, line_ref}
 use Rattle.cov_serve.specs.Finding.{Found, by_code, unless, ◌>>=◌, completed_choice, found_option, found_expression, found_partial, found_choice}
 use Rattle.cov_serve.specs.Replies.{directory_reply, edit_reply, file_reply, lines_reply, marked_line, presence_reply, seen_reply}
-use Rattle.cov_serve.specs.States.{State, at_start, with_command, with_sessions, with_tree}
+use Rattle.cov_serve.specs.States.{State, starting, with_command, with_sessions, with_tree}
 use Rattle.cov_serve.specs.Written.{rows_in, tree_reply}
 
 -- what a line does that writes no rows: the state after it with its reply, or the code by which it is refused
@@ -347,6 +347,6 @@ as_outcome st (Err code) = refused st code
 unfoldable pub step : State → List ℕ → Outcome State
 step st line = as_outcome st (acted st line)
 
--- what a whole script does
-abbrev pub model : List ℕ → Outcome State
-model script = answers step at_start (script_lines script)
+-- what a whole script does to a history
+abbrev pub model : List Command → List ℕ → Outcome State
+model history script = answers step (starting history) (script_lines script)

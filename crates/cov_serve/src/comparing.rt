@@ -3,13 +3,13 @@ ghost use Rattle.cov_serve.specs.Acting.{Acts};
 ghost use Rattle.cov_serve.specs.Step.{compared};
 
 use crate::reply::lines_reply;
-use crate::server::Server;
+use crate::state::ServerState;
 use crate::stop::Stop;
 use cov_alt::alt;
 use cov_base::{Path, Text};
 use cov_expr::RawChoice;
 
-impl Server {
+impl ServerState {
     /// Tells the lines of a file with an option on and with it off, in the variant of the choice to which the rules complete bindings.
     #[tactic(auto, unfolding(crate::specs::Step::compared))]
     pub(crate) fn compare(

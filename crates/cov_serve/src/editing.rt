@@ -8,13 +8,13 @@ ghost use Rattle.cov_serve.specs.Acting.{Acts};
 ghost use Rattle.cov_serve.specs.Editing.{line_ref};
 ghost use Rattle.cov_serve.specs.Step.{deleted, edited, exchanged, inserted, made, made_in, moved, removed, renamed, replaced};
 
-use crate::server::Server;
+use crate::state::ServerState;
 use crate::stop::Stop;
 use cov_base::{Kind, LineNo, LineRef, Name, NodeRef, Path, Text};
 use cov_edit::Edit;
 use cov_script::{LineField, reply_new_line, reply_plain};
 
-impl Server {
+impl ServerState {
     /// Makes a directory or file at a path.
     pub(crate) fn make_node(&mut self, kind: Kind, name: &Name, path: &Path) -> Result<Text, Stop>
         requires { 0 < length path.now }

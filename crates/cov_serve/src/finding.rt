@@ -6,14 +6,14 @@ ghost use Rattle.cov_edit.specs.History.{first_false_in, option_count};
 ghost use Rattle.cov_serve.specs.Acting.{Finds};
 ghost use Rattle.cov_serve.specs.Finding.{completed_choice, found_choice, found_expression, found_option, found_partial};
 
-use crate::server::Server;
+use crate::state::ServerState;
 use crate::stop::Stop;
 use cov_base::{Choice, OptionId, Text};
 use cov_expr::{Expr, Partial, RawChoice, RawExpr};
 use cov_history::laws::open_options_are_declared;
 use cov_script::Code;
 
-impl Server {
+impl ServerState {
     /// The option that has a name.
     pub(crate) fn find_option(&self, name: Text) -> Result<OptionId, Stop>
         ensures found { Finds (found_option self.now.history name) self.now result }

@@ -1,11 +1,14 @@
 //! Serves the lines of a script, one after another, and is the whole program but for its real devices.
 #![tactic(auto)]
 
+mod adding;
+mod answering;
 mod comparing;
 mod declaring;
 mod editing;
 mod ending;
 mod finding;
+mod handled;
 pub mod laws;
 mod line;
 mod locating;
@@ -16,12 +19,16 @@ mod script_server;
 mod seeing;
 mod server;
 mod serving;
+mod state;
+mod status;
 mod stop;
+mod store_opening;
 mod telling;
 mod tree_names;
 mod writing;
 
-pub use cov_loop::{Answer, Status};
+pub use cov_loop::Answer;
 pub use line::serve_line;
 pub use program::run;
 pub use server::Server;
+pub use status::Status;

@@ -1,39 +1,63 @@
-// One line: what it does, the rows that it writes and its reply.
-ghost use Rattle.std.specs.Prelude.{◌≡◌, ◌⊎◌, ◌≤◌, IfOk, OnOk, OnErr, IfErr};
+// One line: what it does, what it stores, the rows that it writes and its reply.
+ghost use Rattle.std.specs.Prelude.{◌≡◌, ◌⊎◌, ◌≤◌, ◌++◌, List, ℕ, Some, IfOk, OnOk, OnErr, IfErr, IfSome};
+ghost use Rattle.cov_disk.specs.Images.{LeavesOnly};
 ghost use Rattle.cov_io.specs.Devices.{AppendsAll, AppendsSome};
-ghost use Rattle.cov_loop.specs.Answers.{IsServed, StopsLine};
+ghost use Rattle.cov_journal.specs.Gates.{HasGate};
+ghost use Rattle.cov_loop.specs.Answers.{IsServed};
+ghost use Rattle.cov_loop.specs.Keeping.{AreAll, IsEither};
+ghost use Rattle.cov_serve.specs.Statuses.{StopsLine};
 ghost use Rattle.cov_serve.specs.Step.{step};
+ghost use Rattle.cov_serve.specs.Storing.{stored};
+ghost use Rattle.cov_store.specs.Stands.{gate_of};
 
-use crate::script_server::{ScriptServer, close};
+use crate::script_server::ScriptServer;
 use crate::server::Server;
+use crate::status::Status;
+use cov_disk::Disk;
 use cov_io::Sink;
-use cov_loop::{Answer, Status};
+use cov_loop::Answer;
 use cov_out::Trees;
 
-/// Serves one line: writes its rows of trees, one call each, and then puts its reply in one call. At an `Err` the server is gone and
-/// the run ends.
-pub fn serve_line<K: Sink, T: Trees>(
+/// Serves one line: stores the command that it adds on the disk, writes its rows of trees, one call each, and then puts its reply in one
+/// call. At an `Err` the server is gone and the run ends.
+pub fn serve_line<K: Sink, D: Disk, T: Trees>(
     server: Server,
     line: &[u8],
     out: &mut K,
+    disk: &mut D,
     trees: &mut T,
 ) -> Result<(Server, Answer), Status>
+    requires gate { HasGate (D.contents disk.old) (gate_of server.history) }
     ensures served { IfOk result (λ next. IsServed (step server line.now) next.0 next.1) }
     ensures all { OnOk result (AppendsAll (step server line.now).reply (K.written out.old) (K.written out.new)) }
     ensures some { OnErr result (AppendsSome (step server line.now).reply (K.written out.old) (K.written out.new)) }
     ensures rows_all { OnOk result (AppendsAll (step server line.now).rows (T.rows trees.old) (T.rows trees.new)) }
     ensures rows_some { OnErr result (AppendsSome (step server line.now).rows (T.rows trees.old) (T.rows trees.new)) }
     ensures rows_first { OnErr result (AppendsAll (step server line.now).rows (T.rows trees.old) (T.rows trees.new) ⊎ (out.new ≡ out.old)) }
-    ensures stopped { IfErr result (λ status. StopsLine status (K.faults out.old) (K.faults out.new) (T.faults trees.old) (T.faults trees.new)) }
+
+    // What a read of the disk gives is the store of the history after the line, if it was that of the history before.
+    ensures gate { IfOk result (λ next. HasGate (D.contents disk.new) (gate_of next.0.history)) }
+    ensures stored { IfSome (D.contents disk.old) (stored server) → IfOk result (λ next. IfSome (D.contents disk.new) (stored next.0)) }
+
+    // A crash at any moment leaves the store of the history before the line or after it, and once the whole reply is written, after it.
+    ensures any_moment { AreAll (stored server) (D.images disk.old) →
+        LeavesOnly D.moment D.images_since disk.old disk.new (IsEither (stored server) (stored (step server line.now).state)) }
+    ensures durable { AreAll (stored server) (D.images disk.old) → IfOk result (λ next. AreAll (stored next.0) (D.images disk.new)) }
+    ensures acknowledged { (before : List ℕ) → AreAll (stored server) (D.images disk.old) →
+        K.written out.old ≡ Some before → K.written out.new ≡ Some (before ++ (step server line.now).reply) →
+        AreAll (stored (step server line.now).state) (D.images disk.new) }
+
+    ensures stopped { IfErr result (λ status. StopsLine status (K.faults out.old) (K.faults out.new) (D.faults disk.old) (D.faults disk.new) (T.faults trees.old) (T.faults trees.new)) }
     ensures later { K.faults out.old ≤ K.faults out.new }
+    ensures disk_later { D.faults disk.old ≤ D.faults disk.new }
     ensures trees_later { T.faults trees.old ≤ T.faults trees.new }
 {
-    let mut lent = ScriptServer { server };
-    match cov_loop::serve_line(&mut lent, line, out, trees) {
-        Ok(answer) => Ok((lent.server, answer)),
-        Err(status) => {
-            close(lent);
-            Err(status)
+    let served = cov_loop::serve_line(ScriptServer { server }, line, out, disk, trees);
+    match served {
+        Ok((next, answer)) => {
+            let ScriptServer { server } = next;
+            Ok((server, answer))
         }
+        Err(ending) => Err(Status::from(ending)),
     }
 }

@@ -5,7 +5,7 @@ ghost use Rattle.cov_serve.specs.Acting.{Acts};
 ghost use Rattle.cov_serve.specs.Replies.{entry_line, presence_reply, target_of};
 ghost use Rattle.cov_serve.specs.Step.{located};
 
-use crate::server::Server;
+use crate::state::ServerState;
 use crate::stop::Stop;
 use cov_base::{LineNo, Memory, Text, Texts};
 use cov_expr::Options;
@@ -13,7 +13,7 @@ use cov_script::{Target, reply_where, where_line, whole};
 use cov_vis::{Child, Listing, ListingEntry};
 use std::alloc::Global;
 
-impl Server {
+impl ServerState {
     /// Tells the one reduced listing of the choices on which a line is, its file there or not.
     #[tactic(auto, unfolding(crate::specs::Step::located))]
     pub(crate) fn locate(&self, line: LineNo) -> Result<Text, Stop>

@@ -3,13 +3,13 @@ ghost use Rattle.std.specs.Prelude.{◌≡◌};
 ghost use Rattle.cov_serve.specs.Acting.{Acts};
 ghost use Rattle.cov_serve.specs.Step.{begun, rebegun};
 
-use crate::server::Server;
+use crate::state::ServerState;
 use crate::stop::Stop;
 use cov_base::{Name, Text};
 use cov_expr::{RawChoice, RawExpr};
 use cov_script::{reply_open, reply_refresh};
 
-impl Server {
+impl ServerState {
     /// Opens a session by a name that no open one has.
     #[tactic(auto, unfolding(crate::specs::Step::begun))]
     pub(crate) fn open(

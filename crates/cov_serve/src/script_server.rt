@@ -2,9 +2,9 @@
 ghost use Rattle.std.specs.Prelude.{◌≡◌};
 
 use crate::server::Server;
-use crate::stop::Stop;
 use cov_base::Memory;
-use cov_loop::{LineServer, Reply};
+use cov_disk::Disk;
+use cov_loop::{Ending, LineServer, Reply};
 use cov_script::Code;
 use std::marker::Model;
 
@@ -27,31 +27,49 @@ impl Model for ScriptServer {
 }
 
 impl LineServer for ScriptServer {
+    ghost use Rattle.cov_serve.specs.Growth.{commands_told, counts_rise, long_kept, stored_told};
     ghost use Rattle.cov_serve.specs.Laws.{refusal_told, rows_told};
     ghost use Rattle.cov_serve.specs.Step.{step};
+    ghost use Rattle.cov_serve.specs.Storing.{count, gated, stored};
 
     ghost step = { step };
 
-    #[tactic(auto, unfolding(crate::specs::Step::step))]
-    fn answer(&mut self, line: &[u8]) -> Result<Reply, Memory> {
-        match self.server.act(line) {
-            Ok(reply) => Ok(reply),
-            Err(Stop::Refused(code)) => self.server.refuse(&code),
-            Err(Stop::Memory) => Err(Memory),
+    ghost stored = { stored };
+
+    ghost gate = { gated };
+
+    ghost count = { count };
+
+    fn answer<D: Disk>(self, line: &[u8], disk: &mut D) -> Result<(Self, Reply), Ending> {
+        let ScriptServer { server } = self;
+        match server.answer(line, disk) {
+            Ok((server, reply)) => Ok((ScriptServer { server }, reply)),
+            Err(ending) => Err(ending),
         }
     }
 
-    fn answer_long(&mut self) -> Result<Reply, Memory> {
-        self.server.refuse(&Code::Long)
+    fn answer_long(self) -> Result<(Self, Reply), Memory> {
+        let ScriptServer { server } = self;
+        match server.refuse(&Code::Long) {
+            Ok((server, reply)) => Ok((ScriptServer { server }, reply)),
+            Err(_) => Err(Memory),
+        }
+    }
+
+    fn close(self) {
+        let ScriptServer { server } = self;
+        server.close();
     }
 
     ghost refusal_told = { refusal_told };
 
     ghost rows_told = { rows_told };
-}
 
-/// Drops a server, in the one place where that is done.
-pub(crate) fn close(server: ScriptServer) {
-    let ScriptServer { server } = server;
-    server.close();
+    ghost long_kept = { long_kept };
+
+    ghost commands_told = { commands_told };
+
+    ghost stored_told = { stored_told };
+
+    ghost counts_rise = { counts_rise };
 }

@@ -6,13 +6,13 @@ ghost use Rattle.cov_serve.specs.Seeing.{IsNamed, IsNodeAt};
 ghost use Rattle.cov_session.specs.Named.{named};
 ghost use Rattle.cov_serve.specs.Step.{node_at};
 
-use crate::server::Server;
+use crate::state::ServerState;
 use crate::stop::Stop;
 use cov_base::{Name, NodeRef};
 use cov_script::Code;
 use cov_view::View;
 
-impl Server {
+impl ServerState {
     // What the session of a name sees.
     fn view_of(&self, name: &Name) -> Result<&View, Stop>
         ensures found { IfOk result (λ view. IsNamed self.now name.now view.now) }

@@ -1,73 +1,95 @@
-// The state of a run.
-ghost use Rattle.std.specs.Prelude.{◌≡◌, IfOk};
-ghost use Rattle.cov_serve.specs.States.{at_start};
+// The server of a run, and how it is opened.
+ghost use Rattle.std.specs.Prelude.{◌≡◌, ◌≤◌, List, ℕ, length, IfOk, IfErr, IfSome};
+ghost use Rattle.cov_disk.specs.Images.{LeavesOnly};
+ghost use Rattle.cov_edit.specs.declared.command.Command.{Command};
+ghost use Rattle.cov_journal.specs.Gates.{HasGate};
+ghost use Rattle.cov_journal.specs.Reading.{IsNoStore};
+ghost use Rattle.cov_serve.specs.Opening.{Begins, TellsDamage, TellsNoStore};
+ghost use Rattle.cov_serve.specs.States.{starting};
+ghost use Rattle.cov_store.specs.Damages.{HasDamage};
+ghost use Rattle.cov_store.specs.Opening.{IsFaultOf, HasReason, IsOfVerdict, OnRefused};
+ghost use Rattle.cov_store.specs.Stands.{StandsFor, IsStored, gate_of};
+ghost use Rattle.cov_store.specs.declared.damage.StoreDamage.{StoreDamage};
 
-use crate::tree_names::TreeNames;
-use cov_base::Memory;
-use cov_engine::Engine;
-use cov_session::Sessions;
+use crate::state::ServerState;
+use cov_base::Position;
+use cov_disk::Disk;
+use cov_journal::Journal;
+use cov_store::{Store, StoreFault};
 use std::alloc::Global;
 use std::marker::Model;
 
-/// What the script has made so far: the history, the sessions that are open, and the names of the trees that were written.
+/// What serves the lines of a script: what the script has made so far, and the journal that goes on behind the history.
 #[derive(Drop)]
 pub struct Server {
-    pub(crate) alloc: Global,
-    pub(crate) engine: Engine,
-    pub(crate) sessions: Sessions,
-    pub(crate) trees: TreeNames,
+    pub(crate) state: ServerState,
+    pub(crate) journal: Journal,
 }
 
 impl Model for Server {
-    ghost use Rattle.std.specs.Prelude.{map};
-    ghost use Rattle.std.specs.Coded.{codes, coded_ℕ};
-    ghost use Rattle.cov_expr.specs.Formula.{formula_code};
-    ghost use Rattle.cov_edit.specs.contracts.command.Command as command_row;
-    ghost use Rattle.cov_edit.specs.contracts.edit.Edit as edit_row;
-    ghost use Rattle.cov_session.specs.Calls.{AreOpen};
-    ghost use Rattle.cov_session.specs.Open.{as_named};
     ghost use Rattle.cov_serve.specs.States.{State};
+    ghost use Rattle.cov_serve.specs.contracts.state.ServerState as state_row;
+    ghost use Rattle.cov_store.specs.Stands.{IsJournalOf};
 
     ghost Value = { State };
 
-    ghost coded = { Prim.hlevel (codes, formula_code coded_ℕ, command_row.the_row.coded, edit_row.the_row.coded) };
+    ghost coded = { state_row.the_row.coded };
 
-    ghost view = { λ s. record { history = s.engine.history; sessions = map as_named s.sessions; trees = s.trees } };
+    ghost view = { λ s. s.state };
 
-    ghost invariant = { λ s. AreOpen s.engine.history s.sessions };
+    ghost invariant = { λ s. IsJournalOf s.journal s.state.history };
 }
 
 impl Server {
-    pub fn new(alloc: Global) -> Result<Server, Memory>
-        ensures { IfOk result (λ server. server ≡ at_start) }
+    /// Opens the store of a disk, as `Store::open` does. The run begins with its history, no session and no name of a tree.
+    pub fn open<D: Disk>(alloc: Global, disk: &mut D) -> Result<Server, StoreFault>
+        ensures stands { (history : List Command) → IfSome (D.contents disk.old) (λ image. StandsFor image history →
+            Begins history (D.faults disk.old) (D.faults disk.new) result) }
+        ensures damage { (number : ℕ) (cause : StoreDamage) → IfSome (D.contents disk.old) (λ image. (damage : HasDamage image number cause) →
+            TellsDamage damage.history number cause (D.faults disk.old) (D.faults disk.new) result) }
+        ensures no_store { IfSome (D.contents disk.old) (λ image. IsNoStore image →
+            TellsNoStore (D.faults disk.old) (D.faults disk.new) result) }
+        ensures begins { IfOk result (λ server. server ≡ starting server.history) }
+        ensures opened { IfOk result (λ server. IfSome (D.contents disk.old) (λ image. StandsFor image server.history)) }
+        ensures faulty { IfErr result (λ fault. IfSome (D.contents disk.old) (λ image. IsFaultOf image fault)) }
+        ensures cause { IfErr result (HasReason (D.faults disk.old) (D.faults disk.new)) }
+        ensures verdict { IfErr result IsOfVerdict }
+        ensures written { IfOk result (λ server. IfSome (D.contents disk.new) (λ image. IsStored image server.history)) }
+        ensures gate { IfOk result (λ server. HasGate (D.contents disk.new) (gate_of server.history)) }
+        ensures kept { IfErr result (λ fault. IfSome (D.contents disk.old) (λ image. OnRefused fault (D.contents disk.new ≡ D.contents disk.old))) }
+        ensures stored { IfOk result (λ server. (image : List ℕ) → D.images disk.new image → IsStored image server.history) }
+        ensures any_moment { (history : List Command) → ((image : List ℕ) → D.images disk.old image → StandsFor image history) →
+            LeavesOnly D.moment D.images_since disk.old disk.new (λ image. StandsFor image history) }
+        ensures later { D.faults disk.old ≤ D.faults disk.new }
     {
-        Ok(Server {
-            alloc,
-            engine: Engine::new(alloc)?,
-            sessions: Sessions::new(alloc),
-            trees: TreeNames::new(alloc),
-        })
+        match Store::open(alloc, disk) {
+            Ok(store) => Ok(Server::of_store(alloc, store)),
+            Err(fault) => Err(fault),
+        }
+    }
+
+    fn of_store(alloc: Global, store: Store) -> Server
+        ensures { result ≡ starting store.history }
+    {
+        let (engine, journal) = store.into_parts();
+        let state = ServerState::new(alloc, engine);
+        Server { state, journal }
+    }
+
+    /// How many commands the history has. Takes no memory.
+    pub(crate) fn position(&self) -> Position
+        ensures { result ≡ length self.now.history }
+    {
+        self.state.engine.position()
     }
 
     /// Drops a server, in the one place where that is done.
     pub(crate) fn close(self) {
-        let Server {
-            alloc: _,
-            engine,
-            sessions,
-            trees,
-        } = self;
-        close_engine(engine);
-        close_sessions(sessions);
-        close_names(trees);
+        let Server { state, journal } = self;
+        state.close();
+        close_journal(journal);
     }
 }
 
-// Drops an engine, in the one place where that is done.
-fn close_engine(_: Engine) {}
-
-// Drops sessions, in the one place where that is done.
-fn close_sessions(_: Sessions) {}
-
-// Drops names of trees, in the one place where that is done.
-fn close_names(_: TreeNames) {}
+/// Drops a journal, in the one place where that is done.
+pub(crate) fn close_journal(_: Journal) {}

@@ -4,13 +4,13 @@ ghost use Rattle.cov_serve.specs.Acting.{Acts};
 ghost use Rattle.cov_serve.specs.Step.{completed, file_told, listed_at, shown, told};
 
 use crate::reply::lines_reply;
-use crate::server::Server;
+use crate::state::ServerState;
 use crate::stop::Stop;
 use cov_base::{Choice, Name, Path, Text};
 use cov_expr::RawChoice;
 use cov_script::reply_complete;
 
-impl Server {
+impl ServerState {
     /// Tells the choice to which the rules complete bindings.
     #[tactic(auto, unfolding(crate::specs::Step::completed))]
     pub(crate) fn complete(&mut self, choice: &RawChoice) -> Result<Text, Stop>

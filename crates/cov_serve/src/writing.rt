@@ -6,7 +6,7 @@ ghost use Rattle.cov_serve.specs.Acting.{Does};
 ghost use Rattle.cov_serve.specs.Step.{checked_out};
 ghost use Rattle.cov_serve.specs.Written.{IsTold, bytes_if_file, row_in, rows_in};
 
-use crate::server::Server;
+use crate::state::ServerState;
 use crate::stop::Stop;
 use cov_base::{Choice, Kind, Memory, Name, Text};
 use cov_engine::Engine;
@@ -17,7 +17,7 @@ use cov_script::{Code, reply_checkout};
 use cov_view::{TreeRow, TreeRows, View, digest, dirs_in, files_in};
 use std::alloc::Global;
 
-impl Server {
+impl ServerState {
     /// Makes the tree of the variant of the choice to which the rules complete bindings, and uses its name. Nothing is written
     /// yet: the reply has the rows that are to come before it.
     #[tactic(auto, unfolding(crate::specs::Step::checked_out))]

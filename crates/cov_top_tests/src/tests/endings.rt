@@ -1,6 +1,5 @@
 // Words of no form, and devices that fail.
-use crate::tests::running::{Case, expect};
-use cov_serve::Status;
+use crate::tests::running::{Case, READ_FAULT, USAGE, WRITE_FAULT, expect};
 use std::test::Fail;
 
 #[test]
@@ -15,14 +14,14 @@ fn other_words_are_told_the_words(rt: HostRuntime) -> Result<(), Fail> {
         &["Run"],
     ];
     for words in others {
-        let case: Case = (b"option a\n", b"usage: covstore run\n", Status::Usage);
+        let case: Case = (b"option a\n", b"usage: covstore run | check\n", USAGE);
         expect(&rt, rt.alloc(), (words, 1, &[1], &[]), case)?;
     }
     expect(
         &rt,
         rt.alloc(),
         (&[], 1, &[], &[1]),
-        (b"", b"", Status::WriteFault),
+        (b"", b"", WRITE_FAULT),
     )
 }
 
@@ -35,18 +34,18 @@ fn the_first_failing_call_ends_the_run(rt: HostRuntime) -> Result<(), Fail> {
         &rt,
         alloc,
         (&["run"], 64, &[], &[2]),
-        (script, first, Status::WriteFault),
+        (script, first, WRITE_FAULT),
     )?;
     expect(
         &rt,
         alloc,
         (&["run"], 64, &[1], &[]),
-        (script, b"", Status::ReadFault),
+        (script, b"", READ_FAULT),
     )?;
     expect(
         &rt,
         alloc,
         (&["run"], 9, &[2], &[]),
-        (script, first, Status::ReadFault),
+        (script, first, READ_FAULT),
     )
 }

@@ -1,8 +1,7 @@
 // Sessions whose lines come in two random orders: what each is told before it is committed is the same in both.
-use crate::tests::running::{SERVED, serve};
+use crate::tests::running::{SERVED, SOME_REFUSED, serve};
 use cov_base::{Memory, Numbers, Text};
 use cov_io::MemorySink;
-use cov_serve::Status;
 use std::alloc::{AllocError, Global};
 use std::process::Abort;
 use std::test::Fail;
@@ -207,7 +206,7 @@ fn check_told(
     told: &mut Text,
 ) -> Result<(), Fail> {
     let status = serve(alloc, SERVED, order.script.as_bytes(), sink)?;
-    assert_eq!(rt; status, Status::SomeRefused);
+    assert_eq!(rt; status, SOME_REFUSED);
     hear_all(told, order.tellers.as_slice(), sink.written())?;
     assert_eq!(rt; told.as_slice(), TOLD.as_bytes());
     Ok(())

@@ -1,6 +1,5 @@
 // Scripts that reach limits.
-use crate::tests::running::{SERVED, expect};
-use cov_serve::Status;
+use crate::tests::running::{DONE, SERVED, SOME_REFUSED, expect};
 use std::fmt::Write;
 use std::test::Fail;
 
@@ -22,7 +21,7 @@ fn sessions_are_limited(rt: HostRuntime) -> Result<(), Fail> {
     written.push_str(
         "refused too-many-bytes\nok +4096\nrefused too-many-bytes\nrefused too-many-bytes\nrefused no-such-line\nrefused too-many-bytes\nok +4097\nok\nrefused too-many-bytes\n",
     )?;
-    let case = (script.as_bytes(), written.as_bytes(), Status::SomeRefused);
+    let case = (script.as_bytes(), written.as_bytes(), SOME_REFUSED);
     expect(&rt, alloc, SERVED, case)
 }
 
@@ -43,7 +42,7 @@ fn replacements_are_limited(rt: HostRuntime) -> Result<(), Fail> {
     written.push_str(
         "ok +8191\nrefused too-many-edits\nrefused too-many-edits\nrefused no-such-path\nok\nrefused too-many-edits\nok 1\n+8191 y\n",
     )?;
-    let case = (script.as_bytes(), written.as_bytes(), Status::SomeRefused);
+    let case = (script.as_bytes(), written.as_bytes(), SOME_REFUSED);
     expect(&rt, alloc, SERVED, case)
 }
 
@@ -64,7 +63,7 @@ fn open_sessions_are_limited(rt: HostRuntime) -> Result<(), Fail> {
     }
     script.push_str(MORE.0)?;
     written.push_str(MORE.1)?;
-    let case = (script.as_bytes(), written.as_bytes(), Status::SomeRefused);
+    let case = (script.as_bytes(), written.as_bytes(), SOME_REFUSED);
     expect(&rt, alloc, SERVED, case)
 }
 
@@ -79,17 +78,17 @@ fn limits_are_kept(rt: HostRuntime) -> Result<(), Fail> {
     }
     script.push_str("option o64\noption o3\n")?;
     written.push_str("refused full\nrefused full\n")?;
-    let case = (script.as_bytes(), written.as_bytes(), Status::SomeRefused);
+    let case = (script.as_bytes(), written.as_bytes(), SOME_REFUSED);
     expect(&rt, alloc, SERVED, case)?;
 
     let longest = [b'#'; 8192];
-    expect(&rt, alloc, SERVED, (&longest, b"", Status::Done))?;
+    expect(&rt, alloc, SERVED, (&longest, b"", DONE))?;
     let too_long = [b'#'; 8193];
     expect(
         &rt,
         alloc,
         SERVED,
-        (&too_long, b"refused long\n", Status::SomeRefused),
+        (&too_long, b"refused long\n", SOME_REFUSED),
     )
 }
 
@@ -117,7 +116,7 @@ fn rules_are_limited(rt: HostRuntime) -> Result<(), Fail> {
     written.push_str(
         "refused unknown-option b\nrefused syntax 9\nrefused unknown-option b\nrefused invalid 1\n",
     )?;
-    let case = (script.as_bytes(), written.as_bytes(), Status::SomeRefused);
+    let case = (script.as_bytes(), written.as_bytes(), SOME_REFUSED);
     expect(&rt, alloc, SERVED, case)
 }
 
@@ -141,6 +140,6 @@ fn long_expressions_are_refused(rt: HostRuntime) -> Result<(), Fail> {
         &rt,
         alloc,
         SERVED,
-        (script.as_bytes(), written, Status::SomeRefused),
+        (script.as_bytes(), written, SOME_REFUSED),
     )
 }

@@ -1,6 +1,5 @@
 // Each refusal of a line that names a path, and what the session shows after it.
-use crate::tests::running::{SERVED, expect};
-use cov_serve::Status;
+use crate::tests::running::{SERVED, SOME_REFUSED, expect};
 use std::fmt::Write;
 use std::test::Fail;
 
@@ -111,6 +110,6 @@ fn refused_lines_change_nothing(rt: HostRuntime) -> Result<(), Fail> {
     }
     script.push_str(ENDED.0)?;
     written.push_str(ENDED.1)?;
-    let case = (script.as_bytes(), written.as_bytes(), Status::SomeRefused);
+    let case = (script.as_bytes(), written.as_bytes(), SOME_REFUSED);
     expect(&rt, alloc, SERVED, case)
 }

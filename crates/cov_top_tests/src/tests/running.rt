@@ -2,15 +2,28 @@
 ghost use Rattle.std.specs.Prelude.{◌≤◌};
 
 use cov_base::{Numbers, Text, Texts};
+use cov_disk::MemoryDisk;
 use cov_io::{MemorySink, MemorySource};
 use cov_out::MemoryTrees;
-use cov_serve::{Status, run};
+use cov_serve::run;
 use std::alloc::Global;
 use std::process::Abort;
 use std::test::Fail;
 
-/// A script, what is written, and the status.
-pub(crate) type Case<'a> = (&'a [u8], &'a [u8], Status);
+pub(crate) const DONE: u8 = 0;
+
+pub(crate) const SOME_REFUSED: u8 = 1;
+
+pub(crate) const USAGE: u8 = 2;
+
+pub(crate) const READ_FAULT: u8 = 4;
+
+pub(crate) const WRITE_FAULT: u8 = 5;
+
+pub(crate) const TREES_FAULT: u8 = 7;
+
+/// A script, what is written, and the exit status.
+pub(crate) type Case<'a> = (&'a [u8], &'a [u8], u8);
 
 fn words_of(alloc: Global, words: &[&str]) -> Result<Texts, Fail> {
     let mut texts = Texts::new(alloc);
@@ -58,6 +71,20 @@ pub(crate) fn replies_of(alloc: Global, parts: &[&[Step]]) -> Result<Text, Fail>
 /// The words, the size of pieces, the calls of the source that fail, and those of the sink.
 pub(crate) type Setting<'a> = (&'a [&'a str], usize, &'a [u64], &'a [u64]);
 
+// Runs the program over a disk that is empty.
+fn run_anew(
+    alloc: Global,
+    words: &Texts,
+    source: &mut MemorySource,
+    sink: &mut MemorySink,
+    trees: &mut MemoryTrees,
+) -> u8 {
+    let mut disk = MemoryDisk::new(alloc, Text::new(alloc), Numbers::new(alloc), None);
+    let status = run(alloc, words, source, sink, &mut disk, trees).code();
+    drop(disk);
+    status
+}
+
 // Runs the program on a script over a sink and trees.
 fn serve_over(
     alloc: Global,
@@ -65,14 +92,14 @@ fn serve_over(
     script: &[u8],
     sink: &mut MemorySink,
     trees: &mut MemoryTrees,
-) -> Result<Status, Fail>
+) -> Result<u8, Fail>
     requires { 1 ≤ setting.1 }
 {
     let (words, piece, fail_to_read, _) = setting;
     let words = words_of(alloc, words)?;
     let text = Text::from_slice(alloc, script)?;
     let mut source = MemorySource::new(alloc, text, piece, list_of(alloc, fail_to_read)?);
-    Ok(run(alloc, &words, &mut source, sink, trees))
+    Ok(run_anew(alloc, &words, &mut source, sink, trees))
 }
 
 // Runs the program on a script over a sink.
@@ -81,7 +108,7 @@ pub(crate) fn serve(
     setting: Setting,
     script: &[u8],
     sink: &mut MemorySink,
-) -> Result<Status, Fail>
+) -> Result<u8, Fail>
     requires { 1 ≤ setting.1 }
 {
     let mut trees = MemoryTrees::new(alloc, Numbers::new(alloc));
@@ -102,10 +129,8 @@ pub(crate) fn expect_over(
 {
     let (script, written, status) = case;
     let mut sink = MemorySink::new(alloc, list_of(alloc, setting.3)?);
-    assert_eq!(rt;
-        serve_over(alloc, setting, script, &mut sink, trees)?,
-        status
-    );
+    let ended = serve_over(alloc, setting, script, &mut sink, trees)?;
+    assert_eq!(rt; ended, status);
     assert_eq!(rt; sink.written(), written);
     Ok(())
 }

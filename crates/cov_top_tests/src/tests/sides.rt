@@ -1,6 +1,5 @@
 // The lines of a file with an option on and with it off, and on which choices a line is.
-use crate::tests::running::{SERVED, Step, expect, replies_of, script_of};
-use cov_serve::Status;
+use crate::tests::running::{DONE, SERVED, SOME_REFUSED, Step, expect, replies_of, script_of};
 use std::test::Fail;
 
 // A line whose anchor is absent from a variant, and the newest of two behind one anchor.
@@ -262,12 +261,12 @@ const LOCATED: [Step; 59] = [
 ];
 
 // Parts of a script, and the status of a run on them.
-const CASES: [(&[&[Step]], Status); 5] = [
-    (&[&ANCHORED, &DELETED], Status::Done),
-    (&[&ANCHORED, &CONSTRAINED], Status::SomeRefused),
-    (&[&COMPARED], Status::SomeRefused),
-    (&[&REFUSED], Status::SomeRefused),
-    (&[&LOCATED], Status::SomeRefused),
+const CASES: [(&[&[Step]], u8); 5] = [
+    (&[&ANCHORED, &DELETED], DONE),
+    (&[&ANCHORED, &CONSTRAINED], SOME_REFUSED),
+    (&[&COMPARED], SOME_REFUSED),
+    (&[&REFUSED], SOME_REFUSED),
+    (&[&LOCATED], SOME_REFUSED),
 ];
 
 #[test]

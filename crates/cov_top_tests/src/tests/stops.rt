@@ -1,7 +1,8 @@
 // Each device of a run that fails once, at each of its calls.
-use crate::tests::running::{Step, replies_of, script_of};
+use crate::tests::running::{
+    READ_FAULT, SOME_REFUSED, Step, TREES_FAULT, WRITE_FAULT, replies_of, script_of,
+};
 use crate::tests::trees::{Row, expect_rows};
-use cov_serve::Status;
 use std::alloc::Global;
 use std::process::Abort;
 use std::test::Fail;
@@ -52,7 +53,7 @@ fn check_front(
     alloc: Global,
     failing: Failing,
     front: (usize, usize),
-    status: Status,
+    status: u8,
 ) -> Result<(), Fail> {
     let (reads, puts, calls) = failing;
     let (replies, rows) = front;
@@ -72,21 +73,15 @@ fn a_read_fails(rt: HostRuntime) -> Result<(), Fail> {
     for (replies, (step, rows_before)) in STEPS.iter().zip(&ROWS_BEFORE).enumerate() {
         for _ in 0..=step.0.len() {
             call = call.saturating_add(1);
-            check_front(
-                &rt,
-                alloc,
-                (&[call], &[], &[]),
-                (replies, rows),
-                Status::ReadFault,
-            )?;
+            check_front(&rt, alloc, (&[call], &[], &[]), (replies, rows), READ_FAULT)?;
         }
         rows = *rows_before;
     }
     call = call.saturating_add(1);
     let whole = (STEPS.len(), ROWS.len());
-    check_front(&rt, alloc, (&[call], &[], &[]), whole, Status::ReadFault)?;
+    check_front(&rt, alloc, (&[call], &[], &[]), whole, READ_FAULT)?;
     call = call.saturating_add(1);
-    check_front(&rt, alloc, (&[call], &[], &[]), whole, Status::SomeRefused)
+    check_front(&rt, alloc, (&[call], &[], &[]), whole, SOME_REFUSED)
 }
 
 // The rows of a checkout stand where its reply can't be written.
@@ -101,7 +96,7 @@ fn a_put_fails(rt: HostRuntime) -> Result<(), Fail> {
             alloc,
             (&[], &[call], &[]),
             (replies, *rows),
-            Status::WriteFault,
+            WRITE_FAULT,
         )?;
     }
     Ok(())
@@ -120,9 +115,9 @@ fn a_call_of_the_trees_fails(rt: HostRuntime) -> Result<(), Fail> {
             alloc,
             (&[], &[], &[call]),
             (replies, rows),
-            Status::TreesFault,
+            TREES_FAULT,
         )?;
     }
-    let first: (&[u8], &[u8], Status) = (b"checkout t -\n", b"", Status::TreesFault);
+    let first: (&[u8], &[u8], u8) = (b"checkout t -\n", b"", TREES_FAULT);
     expect_rows(&rt, alloc, (&["run"], 1, &[], &[]), &[1], first, &[])
 }

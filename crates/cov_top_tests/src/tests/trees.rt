@@ -2,11 +2,10 @@
 ghost use Rattle.std.specs.Prelude.{◌≤◌};
 
 use crate::tests::running::{
-    Case, SERVED, Setting, Step, expect_over, list_of, replies_of, script_of,
+    Case, DONE, SERVED, SOME_REFUSED, Setting, Step, expect_over, list_of, replies_of, script_of,
 };
 use cov_base::Text;
 use cov_out::{MemoryTrees, OutRow, OutRows};
-use cov_serve::Status;
 use std::alloc::Global;
 use std::process::Abort;
 use std::test::Fail;
@@ -284,13 +283,13 @@ const BYTES: [Step; 5] = [
 const BYTES_ROWS: [Row; 2] = [(b"t", None), (b"t/m", Some(b"\xff\xfe\0 \r\n"))];
 
 // Steps, the status of a run on them, and the rows that it writes.
-const CASES: [(&[Step], Status, &[Row]); 6] = [
-    (&PLAIN, Status::Done, &PLAIN_ROWS),
-    (&TWICE, Status::SomeRefused, &TWICE_ROWS),
-    (&TAKEN, Status::SomeRefused, &TAKEN_ROWS),
-    (&UNUSUAL, Status::SomeRefused, &UNUSUAL_ROWS),
-    (&EDITED, Status::SomeRefused, &EDITED_ROWS),
-    (&BYTES, Status::Done, &BYTES_ROWS),
+const CASES: [(&[Step], u8, &[Row]); 6] = [
+    (&PLAIN, DONE, &PLAIN_ROWS),
+    (&TWICE, SOME_REFUSED, &TWICE_ROWS),
+    (&TAKEN, SOME_REFUSED, &TAKEN_ROWS),
+    (&UNUSUAL, SOME_REFUSED, &UNUSUAL_ROWS),
+    (&EDITED, SOME_REFUSED, &EDITED_ROWS),
+    (&BYTES, DONE, &BYTES_ROWS),
 ];
 
 #[test]

@@ -1,4 +1,4 @@
-use Rattle.std.proofs.Common.{sym, ap, ◌∙◌, take, drop}
+use Rattle.std.proofs.Common.{take, drop}
 use Rattle.std.proofs.lemmas.List.{take-append-drop}
 use Rattle.cov_loop.proofs.Appending.{all_then_some, failing, same_some}
 use Rattle.cov_loop.proofs.rows.put_rows.Goals as goal

@@ -1,0 +1,6 @@
+mod crashes;
+mod faults;
+mod plain;
+mod rows;
+mod running;
+mod stores;

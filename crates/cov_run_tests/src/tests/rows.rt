@@ -1,0 +1,212 @@
+// Words of no form, disks that can't be opened, and faults of a short script.
+use crate::tests::running::{
+    Case, Device, End, Fails, NONE_FAILS, Stored, UNASKED, end_from, failing,
+};
+use crate::tests::stores::{EMPTY, NEW, OPTION};
+use cov_base::Memory;
+use std::alloc::Global;
+use std::process::Abort;
+use std::test::Fail;
+
+/// Each device but the sink fails at its first call.
+const UNTOUCHED: Fails = Fails {
+    source: 1,
+    sink: 0,
+    disk: 1,
+    trees: 1,
+};
+
+/// Words of no form.
+const WORDS: [&[&str]; 8] = [
+    &[],
+    &["run", "x"],
+    &["check", "x"],
+    &["demo", "07"],
+    &["demo", "-1"],
+    &["--help"],
+    &["--version"],
+    &["Run"],
+];
+
+#[test]
+fn other_words_are_told_the_words(rt: HostRuntime) -> Result<(), Fail> {
+    for words in &WORDS {
+        let case = Case {
+            words,
+            script: b"option a\n",
+            replies: b"usage: covstore run | check\n",
+            rows: &[],
+        };
+        let end = end_from(rt.alloc(), &case, UNTOUCHED, &EMPTY, &EMPTY)?;
+        assert_eq!(rt; end, (case.end(2), true));
+    }
+    Ok(())
+}
+
+/// Disks that can't be opened: so many bytes of the store of an option, what stands behind them, and what is told.
+const DISKS: [(usize, &[u8], &[u8]); 14] = [
+    (0, b"hello hello hello he", b"not-a-store\n"),
+    (14, b"", b"damaged 1 cut\n"),
+    (52, b"", b"damaged 1 cut\n"),
+    (51, b"\xdc\0", b"damaged 1 digest\n"),
+    (
+        0,
+        b"COVSTORE\0\0\0\x01\x01\0\0\0\x01\x09\xdd\x88\xefN\x7f\xae\xb4Y\xc3\xbc\xd3\x07\xe8\x06\xee\x91*\xc2X\xfc\xf9\x15g\x16\xf0\xb5\x17G\x91\xbb\xb0\xfb\0",
+        b"damaged 1 record\n",
+    ),
+    (
+        52,
+        b"\x01\0\0\0\x03\x01\x01a\x13\x11ym1\x86\x01\xc56\xdc\x85\x88'\x9c\xbb\xdes\x09\x15X\x17-h\x8cA9rVS\xdc1\xb1\0",
+        b"damaged 2 refused exists\n",
+    ),
+    (
+        52,
+        b"\x01\0\0\0\x16\x05\0\0\0\x01\x01\x01\x02\0\0\0\0\x01\x01\0\0\0\0\0\0\x01x\xb7P\xf1\xfb\xecx\xd4\x10\xac\xe3R\x0b2\x86\xb8M\x96\xee\xef,\xfb\xbe\xde\xd5\xf2\xc65\xb2x7\xebC\x01\0\0\0\x15\x05\0\0\0\x02\x01\0\x01\0\0\0\x01\x01\0\0\0\0\0\0\x01x\xc7\x98n\xf8\xe2h\xe7l\xfes\x15\x07\xfc\x08\x80\xf9\xf7k\xa4c\x8aogE,\xaaE\xd5CL\xb0\xa3\0",
+        b"damaged 3 refused clash 1 2 in a=on\n",
+    ),
+    (
+        52,
+        b"\x01\0\0\0\x15\x05\0\0\0\x02\x01\x01\x01\0\0\0\x01\x01\0\0\0\0\0\0\x01x5Y\xe5\x9a\x93\x94\xa7,\x90\xcb\x9d\xea`\x96\x91$\x9cD\xf54\xcc\x88\xcd8i\xea\x8c\x99\x97&\xec6\0",
+        b"damaged 2 refused bad-base\n",
+    ),
+    (
+        52,
+        b"\x01\0\0\0\x14\x05\0\0\0\x01\0\x01\0\0\0\x01\x01\0\0\0\0\0\0\x01x\x93_\xa5\0\x89\xf8\x10\xf1\xdej\xc3\x9d\xe1\x08HJ\x13\xbf\xd7\x17\x89_X\x19\xf9)\xf3A!\x88\x92`\0",
+        b"damaged 2 refused bad-option\n",
+    ),
+    (
+        52,
+        b"\x01\0\0\0\x22\x05\0\0\0\x01\x01\x01\x01\0\0\0\x02\x01\0\0\0\0\0\0\x01x\x02\0\0\0\0\x07\0\0\0\0\0\0\x004\x82\xf7:\x03$m\x83;<\xc4\xea)\x8d\x189\xff\x0aF\xf7f\xdd\xd1\xde\xe2\xec\xfc\xb5\x80\x11f&\0",
+        b"damaged 2 refused bad-record 1\n",
+    ),
+    (
+        52,
+        b"\x01\0\0\0\x03\x02\x02\0\xac\xd5\xe1s\xecXz\xde\x7f_u\xf4\x99\xa5?\xa7\xd3=T\x8c\x94\xfef\x0dxG=\xf870Mv\x01\0\0\0\x15\x05\0\0\0\x02\x01\0\x01\0\0\0\x01\x01\0\0\0\0\0\0\x01x\xfd\xac\xfc\xa9\x8ct\x9b\xd2)\x84j<\xad55\x98&\x98\xa4\xe98\x9b\x14\xb6\x97\xb2 \x1b\xc9^/d\0",
+        b"damaged 3 refused invalid 1\n",
+    ),
+    (
+        52,
+        b"\x01\0\0\0\x03\x02\x02\0\xac\xd5\xe1s\xecXz\xde\x7f_u\xf4\x99\xa5?\xa7\xd3=T\x8c\x94\xfef\x0dxG=\xf870Mv\x01\0\0\0\x04\x02\x03\x02\0u\xb5\xf9\xd5\xa2)f\xf3d\x8cbg\xe1\xde\xb1\xe7\x16E\xabTx9CQ25e\xec\x06TBl\0",
+        b"damaged 3 refused no-variant-left\n",
+    ),
+    (
+        52,
+        b"\x01\0\0\0\x17\x05\0\0\0\x01\x01\x01\x03\x02\0\0\0\0\x01\x01\0\0\0\0\0\0\x01x\x9d\xd5J\xa7\xefy\xff\x0f0t\xf5D\xf2NZQm\xb3=\xae\xa2A\x9b\xfa5x\xec_g\x90\xb94\0",
+        b"damaged 2 refused outside-ambition\n",
+    ),
+    (
+        52,
+        b"\x01\0\0\0\x0c\x05\0\0\0\x01\x01\x01\x01\0\0\0\0\x04\x11~B\x94\x8c\xf4e\xf0\x1aT\x09\x82\x87\xb6\xcf\xc1T9yJ\xc4\xf3\xf1\x89\x92\xc9]\xe0;\x97f\0",
+        b"damaged 2 refused empty\n",
+    ),
+];
+
+// The status of a disk that can't be opened.
+fn code_of(told: &[u8]) -> u8 {
+    if told == b"not-a-store\n".as_slice() {
+        8
+    } else {
+        9
+    }
+}
+
+fn check_words(
+    rt: &impl Abort,
+    alloc: Global,
+    words: &'static [&'static str],
+    disk: &Stored,
+    replies: &'static [u8],
+) -> Result<(), Memory> {
+    let case = Case {
+        words,
+        script: b"checkout t -",
+        replies,
+        rows: &[],
+    };
+    let end = end_from(alloc, &case, UNASKED, disk, disk)?;
+    assert_eq!(rt; end, (case.end(code_of(replies)), true));
+    Ok(())
+}
+
+#[test]
+fn what_cant_be_opened_is_told_and_kept(rt: HostRuntime) -> Result<(), Fail> {
+    for (count, behind, told) in &DISKS {
+        let disk = Stored {
+            whole: &OPTION,
+            count: *count,
+            behind,
+        };
+        check_words(&rt, rt.alloc(), &["run"], &disk, told)?;
+        check_words(&rt, rt.alloc(), &["check"], &disk, told)?;
+    }
+    Ok(())
+}
+
+/// At most 13 bytes, whatever they are, are made anew.
+const SHORT: [(usize, &[u8]); 4] = [(12, b""), (13, b""), (0, b"hello hello h"), (3, b"\x01")];
+
+#[test]
+fn few_bytes_are_made_anew(rt: HostRuntime) -> Result<(), Fail> {
+    for (count, behind) in &SHORT {
+        let disk = Stored {
+            whole: &OPTION,
+            count: *count,
+            behind,
+        };
+        let case = Case {
+            words: &["run"],
+            script: b"",
+            replies: b"",
+            rows: &[],
+        };
+        let end = end_from(rt.alloc(), &case, NONE_FAILS, &disk, &NEW)?;
+        assert_eq!(rt; end, (case.end(0), true));
+    }
+    Ok(())
+}
+
+/// Two options and a checkout.
+const SHORT_SCRIPT: Case = Case {
+    words: &["run"],
+    script: b"option a\noption b\ncheckout t -\n",
+    replies: b"ok option 0\nok option 1\nrefused incomplete a\n",
+    rows: &[],
+};
+
+/// What stands behind `option a` once `option b` is stored.
+const OPTIONS: Stored = Stored {
+    whole: &OPTION,
+    count: 52,
+    behind: b"\x01\0\0\0\x03\x01\x01b\x0e\xb44\xfd\xd5\xdf\x87\x03\xf6\xe4\xfeE\xc9n\x14/W\xf6PG,Y\x9a\xc7JX\xf9J\x80#\xe7\xf9\0",
+};
+
+// The tree of no file; its digest is that of no bytes.
+const CHECKOUT: Case = Case {
+    words: &["run"],
+    script: b"checkout t -\n",
+    replies: b"ok checkout t 0 0 e3b0c44298fc1c149afbf4c8996fb92427ae41e4649b934ca495991b7852b855\n",
+    rows: &[],
+};
+
+/// Which call fails, the status, how many bytes are written, and what is on the disk.
+const FAULTS: [(Case, Device, u64, u8, usize, Stored); 5] = [
+    (SHORT_SCRIPT, Device::Sink, 2, 5, 12, OPTIONS),
+    (SHORT_SCRIPT, Device::Source, 1, 4, 0, NEW),
+    (SHORT_SCRIPT, Device::Disk, 1, 6, 0, EMPTY),
+    (CHECKOUT, Device::Trees, 1, 7, 0, NEW),
+    (SHORT_SCRIPT, Device::Sink, 0, 1, 45, OPTIONS),
+];
+
+#[test]
+fn faults_are_told(rt: HostRuntime) -> Result<(), Fail> {
+    for (case, device, call, code, written, after) in &FAULTS {
+        let end = end_from(rt.alloc(), case, failing(*device, *call), &EMPTY, after)?;
+        let wanted = End {
+            code: *code,
+            written: Some(*written),
+            rows: Some(0),
+        };
+        assert_eq!(rt; end, (wanted, true));
+    }
+    Ok(())
+}

@@ -1,0 +1,95 @@
+-- How a run over a disk comes to its end.
+use Rattle.std.proofs.Common.{◌≡◌, ◌∙◌, ◌⊎◌, inl, inr, ⊎_elim, refl, sym, ap, subst, arith, ℕ, ◌≤◌, List, [], ◌++◌, Option, Some, length, length-append}
+use Rattle.std.proofs.lemmas.List.{nil_from_length}
+use Rattle.cov_base.specs.Causes.{Rose}
+use Rattle.cov_disk.specs.Images.{LeavesOnly}
+use Rattle.cov_edit.specs.declared.command.Command.{Command}
+use Rattle.std.specs.Option.{option_map}
+use Rattle.cov_io.specs.Progress.{Progress}
+use Rattle.cov_loop.specs.Counts.{Counts, counts}
+use Rattle.cov_loop.specs.Turns.{ahead_of}
+use Rattle.cov_serve.specs.Program.{EndsTold, StopsOpening, StopsRun, StopsServing, StopsUnopened, at_first}
+use Rattle.cov_serve.specs.States.{State, starting}
+use Rattle.cov_serve.specs.declared.status.Status.{Status}
+use Rattle.cov_serve.specs.declared.status.Status.TheVariants as statuses
+
+-- the state before the first line
+pub begun : (server : State) (history : List Command) → server ≡ starting server.history → server.history ≡ history → server ≡ starting history
+begun server history begins same = begins ∙ ap starting same
+
+-- the bytes that are ahead of a reader of lines that has taken nothing
+pub ahead_first : (lines : Progress) (left : Option (List ℕ)) (text : List ℕ) → lines ≡ at_first → left ≡ Some text → ahead_of lines left ≡ Some text
+ahead_first lines left text is e = subst (λ p. ahead_of p left ≡ Some text) (sym is) (ap (option_map (λ (bytes : List ℕ). [] ++ bytes)) e)
+
+-- nothing was written
+pub none_more : (before bytes : List ℕ) (old new : Option (List ℕ)) → new ≡ old → old ≡ Some before → new ≡ Some (before ++ bytes) → bytes ≡ []
+none_more before bytes old new same was is =
+    let e : before ≡ before ++ bytes = cc in
+    nil_from_length bytes (omega (arith, ap length e, length-append before bytes))
+
+-- each image has what follows
+pub leaves_weaker : {D : Type 0} (moment : D → ℕ) (images_since : D → ℕ → List ℕ → Type 0) (old new : D) (P Q : List ℕ → Type 0) → ((c : List ℕ) → P c → Q c)
+    → LeavesOnly moment images_since old new P → LeavesOnly moment images_since old new Q
+leaves_weaker moment images_since old new P Q to run = record {
+  later = run.later;
+  each = λ c since. to c (run.each c since);
+  before = λ t c le since. ⊎_elim (λ past. inl past) (λ p. inr (to c p)) (run.before t c le since);
+}
+
+module _ (source sink disk trees given ends : ℕ) where
+  -- the disk may have failed before
+  pub serving_later : (disk1 : ℕ) (new : Counts) (status : Status) → disk ≤ disk1 → StopsServing (counts source sink disk1 trees given ends) new status → StopsServing (counts source sink disk trees given ends) new status
+  serving_later disk1 new statuses.DiskFault le h = omega (arith, le, h)
+  serving_later disk1 new statuses.NotAStore le h = h
+  serving_later disk1 new (statuses.Damaged number cause) le h = h
+  serving_later disk1 new statuses.Done le h = h
+  serving_later disk1 new statuses.SomeRefused le h = h
+  serving_later disk1 new statuses.Usage le h = h
+  serving_later disk1 new statuses.NoMemory le h = h
+  serving_later disk1 new statuses.ReadFault le h = h
+  serving_later disk1 new statuses.WriteFault le h = h
+  serving_later disk1 new statuses.TreesFault le h = h
+  serving_later disk1 new statuses.TooMuch le h = h
+
+  -- a store that isn't opened
+  pub unopened_run : (contents : Option (List ℕ)) (sink' disk' : ℕ) (status : Status) → StopsUnopened contents sink sink' disk disk' status
+      → StopsRun contents (counts source sink disk trees given ends) (counts source sink' disk' trees given ends) status
+  unopened_run contents sink' disk' statuses.NoMemory h = h
+  unopened_run contents sink' disk' statuses.WriteFault h = h
+  unopened_run contents sink' disk' statuses.DiskFault h = h
+  unopened_run contents sink' disk' statuses.NotAStore h = h
+  unopened_run contents sink' disk' (statuses.Damaged number cause) h = h
+  unopened_run contents sink' disk' statuses.Done h = absurd h
+  unopened_run contents sink' disk' statuses.SomeRefused h = absurd h
+  unopened_run contents sink' disk' statuses.Usage h = absurd h
+  unopened_run contents sink' disk' statuses.ReadFault h = absurd h
+  unopened_run contents sink' disk' statuses.TreesFault h = absurd h
+  unopened_run contents sink' disk' statuses.TooMuch h = absurd h
+
+  pub opening_run : (sink' disk' : ℕ) (status : Status) → StopsOpening disk disk' status → StopsServing (counts source sink disk trees given ends) (counts source sink' disk' trees given ends) status
+  opening_run sink' disk' statuses.NoMemory h = h
+  opening_run sink' disk' statuses.DiskFault h = h
+  opening_run sink' disk' statuses.WriteFault h = absurd h
+  opening_run sink' disk' statuses.NotAStore h = absurd h
+  opening_run sink' disk' (statuses.Damaged number cause) h = absurd h
+  opening_run sink' disk' statuses.Done h = absurd h
+  opening_run sink' disk' statuses.SomeRefused h = absurd h
+  opening_run sink' disk' statuses.Usage h = absurd h
+  opening_run sink' disk' statuses.ReadFault h = absurd h
+  opening_run sink' disk' statuses.TreesFault h = absurd h
+  opening_run sink' disk' statuses.TooMuch h = absurd h
+
+-- where neither sink nor disk fails, the status is the one wanted, unless memory is wanting
+pub told_unless : (wanted : Status) (sink sink' disk disk' : ℕ) (status : Status) → EndsTold wanted sink sink' disk disk' status → (Rose sink sink' → ⊥) → (Rose disk disk' → ⊥)
+    → (status ≡ wanted) ⊎ (status ≡ statuses.NoMemory)
+told_unless wanted sink sink' disk disk' statuses.NoMemory e no_sink no_disk = inr refl
+told_unless wanted sink sink' disk disk' statuses.WriteFault e no_sink no_disk = absurd (no_sink e)
+told_unless wanted sink sink' disk disk' statuses.DiskFault e no_sink no_disk = absurd (no_disk e)
+told_unless wanted sink sink' disk disk' statuses.NotAStore e no_sink no_disk = inl e
+told_unless wanted sink sink' disk disk' (statuses.Damaged number cause) e no_sink no_disk = inl e
+told_unless wanted sink sink' disk disk' statuses.Done e no_sink no_disk = inl e
+told_unless wanted sink sink' disk disk' statuses.SomeRefused e no_sink no_disk = inl e
+told_unless wanted sink sink' disk disk' statuses.Usage e no_sink no_disk = inl e
+told_unless wanted sink sink' disk disk' statuses.ReadFault e no_sink no_disk = inl e
+told_unless wanted sink sink' disk disk' statuses.TreesFault e no_sink no_disk = inl e
+told_unless wanted sink sink' disk disk' statuses.TooMuch e no_sink no_disk = inl e

@@ -1,0 +1,44 @@
+use Rattle.std.proofs.Common.{◌≡◌, ◌∙◌, sym, ap, subst, length, map, arith}
+use Rattle.cov_edit.specs.History.{option_count}
+use Rattle.cov_session.specs.Calls.{IsFaultOf, opened_among}
+use Rattle.cov_session.specs.Open.{as_named}
+use Rattle.cov_session.specs.Opening.{NamesDeclared}
+use Rattle.cov_serve.specs.Acting.{Acts, Stops}
+use Rattle.cov_serve.specs.Codes.{session_code}
+use Rattle.cov_serve.specs.Finding.{by_code}
+use Rattle.cov_serve.specs.States.{State}
+use Rattle.cov_serve.specs.Step.{begun}
+use Rattle.cov_serve.specs.Stops.{session_stop}
+use Rattle.cov_serve.proofs.Acted.{stopped, stops-later}
+use Rattle.cov_serve.proofs.Opened.{among-whole, begun-as, with_opened}
+use Rattle.cov_serve.proofs.SessionFaults.{fault-stops}
+use Rattle.cov_serve.proofs.state.ServerState.open.Goals as goal
+
+pub returns-in_err-opened : goal.returns-in_err-opened
+returns-in_err-opened c =
+    let st = c.args.self.now in
+    let name = c.args.name in
+    let partial = c.in_ok-partial.partial in
+    let within = c.in_ok-ambition.ambition in
+    let bound = c.in_ok-partial.ensures.found in
+    let expr = c.in_ok-ambition.ensures.found in
+    let fault = c.in_err-opened.field-0.0 in
+    let new : State = record { history = c.open.new.engine.history; sessions = map as_named c.open.new.self; trees = c.self.inside.trees } in
+    let same =
+    ap (λ h. record { history = h; sessions = map as_named c.open.new.self; trees = c.self.inside.trees }) c.in_err-opened.ensures.history
+    ∙ ap (λ ss. record { history = c.self.inside.engine.history; sessions = map as_named ss; trees = c.self.inside.trees }) c.in_err-opened.ensures.same ∙ c.self.view_is in
+    stopped (Acts (begun st name c.args.choice.now c.args.ambition.now) st new) c.from_residual-in_err-opened.result _ c.from_residual-in_err-opened.ensures.1
+    (subst (λ wanted. Stops wanted st new (session_stop fault)) (sym (begun-as st name c.args.choice.now c.args.ambition.now partial within bound expr))
+    (stops-later (by_code session_code (opened_among st.history st.sessions name partial within)) (with_opened st name c.args.choice.now c.args.ambition.now partial within bound expr) st new (session_stop fault)
+    (fault-stops (opened_among st.history st.sessions name partial within) st new fault same
+    (subst (λ (t : State). IsFaultOf (opened_among t.history t.sessions name partial within) fault) c.self.view_is c.in_err-opened.ensures.refused)
+    (subst (λ (t : State). NamesDeclared (option_count t.history) fault) c.self.view_is c.in_err-opened.ensures.declared))))
+
+pub reply_open-requires : goal.reply_open-requires
+reply_open-requires c =
+    let history = c.self.inside.engine.history in
+    let made = c.in_ok-opened.ensures.opened in
+    let whole : length c.in_ok-opened.opened.choice ≡ option_count history =
+    ap length made.choice ∙ among-whole history made.session (map as_named c.self.inside.sessions) c.args.name c.in_ok-partial.partial c.in_ok-ambition.ambition made.made in
+    let names : length c.options-options.result.now.names ≡ option_count history = ap length c.options-options.ensures ∙ ap option_count c.in_ok-opened.ensures.history in
+    omega (arith, whole, names)

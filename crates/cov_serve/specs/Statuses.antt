@@ -1,0 +1,40 @@
+-- How the program ends.
+use Rattle.std.specs.Prelude.{ℕ}
+use Rattle.cov_base.specs.Causes.{Rose}
+use Rattle.cov_loop.specs.declared.ending.Ending.{Ending}
+use Rattle.cov_loop.specs.declared.ending.Ending.TheVariants as endings
+use Rattle.cov_serve.specs.declared.status.Status.{Status}
+use Rattle.cov_serve.specs.declared.status.Status.TheVariants.{Done, SomeRefused, Usage, NoMemory, ReadFault, WriteFault, DiskFault, TreesFault, NotAStore, Damaged, TooMuch}
+
+-- the exit status of each ending
+abbrev pub code_of : Status → ℕ
+code_of Done = 0
+code_of SomeRefused = 1
+code_of Usage = 2
+code_of NoMemory = 3
+code_of ReadFault = 4
+code_of WriteFault = 5
+code_of DiskFault = 6
+code_of TreesFault = 7
+code_of NotAStore = 8
+code_of (Damaged number cause) = 9
+code_of TooMuch = 10
+
+-- how a run ends whose lines were served to such an ending
+abbrev pub status_of : Ending → Status
+status_of endings.Done = Done
+status_of endings.SomeRefused = SomeRefused
+status_of endings.NoMemory = NoMemory
+status_of endings.ReadFault = ReadFault
+status_of endings.WriteFault = WriteFault
+status_of endings.DiskFault = DiskFault
+status_of endings.TreesFault = TreesFault
+status_of endings.TooMuch = TooMuch
+
+-- why a line ends the run, the counts of faults of the sink, the disk and the trees being known before and after
+abbrev pub StopsLine : Status → ℕ → ℕ → ℕ → ℕ → ℕ → ℕ → Type 0
+StopsLine NoMemory sink sink' disk disk' trees trees' = Unit {0}
+StopsLine WriteFault sink sink' disk disk' trees trees' = Rose sink sink'
+StopsLine DiskFault sink sink' disk disk' trees trees' = Rose disk disk'
+StopsLine TreesFault sink sink' disk disk' trees trees' = Rose trees trees'
+StopsLine _ sink sink' disk disk' trees trees' = ⊥

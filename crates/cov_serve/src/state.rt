@@ -1,0 +1,76 @@
+// What a run has made so far.
+ghost use Rattle.std.specs.Prelude.{◌≡◌};
+ghost use Rattle.cov_serve.specs.States.{starting};
+
+use crate::tree_names::TreeNames;
+use cov_engine::Engine;
+use cov_session::Sessions;
+use std::alloc::Global;
+use std::marker::Model;
+
+/// What the script has made so far: the history, the sessions that are open, and the names of the trees that were written.
+#[derive(Drop)]
+pub(crate) struct ServerState {
+    pub(crate) alloc: Global,
+    pub(crate) engine: Engine,
+    pub(crate) sessions: Sessions,
+    pub(crate) trees: TreeNames,
+}
+
+impl Model for ServerState {
+    ghost use Rattle.std.specs.Prelude.{map};
+    ghost use Rattle.std.specs.Coded.{codes, coded_ℕ};
+    ghost use Rattle.cov_expr.specs.Formula.{formula_code};
+    ghost use Rattle.cov_edit.specs.contracts.command.Command as command_row;
+    ghost use Rattle.cov_edit.specs.contracts.edit.Edit as edit_row;
+    ghost use Rattle.cov_session.specs.Calls.{AreOpen};
+    ghost use Rattle.cov_session.specs.Open.{as_named};
+    ghost use Rattle.cov_serve.specs.States.{State};
+
+    ghost Value = { State };
+
+    ghost coded = { Prim.hlevel (codes, formula_code coded_ℕ, command_row.the_row.coded, edit_row.the_row.coded) };
+
+    ghost view = { λ s. record { history = s.engine.history; sessions = map as_named s.sessions; trees = s.trees } };
+
+    ghost invariant = { λ s. AreOpen s.engine.history s.sessions };
+}
+
+impl ServerState {
+    /// The state of a run that begins with a history.
+    pub(crate) fn new(alloc: Global, engine: Engine) -> ServerState
+        ensures { result ≡ starting engine.history }
+    {
+        ServerState {
+            alloc,
+            engine,
+            sessions: Sessions::new(alloc),
+            trees: TreeNames::new(alloc),
+        }
+    }
+
+    /// Drops a state, in the one place where that is done.
+    pub(crate) fn close(self) {
+        let ServerState {
+            alloc: _,
+            engine,
+            sessions,
+            trees,
+        } = self;
+        close_engine(engine);
+        close_made(sessions, trees);
+    }
+}
+
+// Drops an engine, in the one place where that is done.
+fn close_engine(_: Engine) {}
+
+/// Drops what is made beside the history, in the one place where that is done.
+pub(crate) fn close_made(sessions: Sessions, trees: TreeNames) {
+    close_sessions(sessions);
+    close_names(trees);
+}
+
+fn close_sessions(_: Sessions) {}
+
+fn close_names(_: TreeNames) {}
