@@ -6,7 +6,8 @@ import sys
 import tempfile
 import time
 
-TOP = os.path.dirname(os.path.dirname(os.path.abspath(__file__)))
+from timing import COVSTORE, elsewhere
+
 LINE = b'#' + b'x' * 78 + b'\n'
 REPETITIONS = 5
 
@@ -20,10 +21,10 @@ def seconds(command, path):
 
 
 def main():
-    store = [os.path.join(TOP, 'covstore'), 'run']
+    store = [COVSTORE, 'run']
     sed = ['sed', '-n', '/^#/!p']
-    subprocess.run(store, stdin=subprocess.DEVNULL, check=True)
-    with tempfile.NamedTemporaryFile() as script:
+    with elsewhere(), tempfile.NamedTemporaryFile() as script:
+        subprocess.run(store, stdin=subprocess.DEVNULL, check=True)
         for _ in range(100):
             script.write(LINE * 12500)
         script.flush()

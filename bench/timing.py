@@ -17,7 +17,8 @@ def build():
     """The built program: the script's argument, or else the one here, which is proved and built if that isn't done."""
     if len(sys.argv) > 1:
         return os.path.abspath(sys.argv[1])
-    subprocess.run([COVSTORE, 'run'], stdin=subprocess.DEVNULL, check=True)
+    with elsewhere():
+        subprocess.run([COVSTORE, 'run'], stdin=subprocess.DEVNULL, check=True)
     return os.path.join(TOP, 'crates', 'cov_cli', 'out', 'cov_cli')
 
 
@@ -44,7 +45,7 @@ class Clock:
 
 
 def clocked(lines, program=COVSTORE):
-    """The clock and the output of a run on these lines, all accepted."""
+    """The clock and the output of a run on these lines, all accepted, in the current folder, which keeps what it stores."""
     clock = Clock()
     with tempfile.TemporaryFile() as source, tempfile.TemporaryFile() as out:
         as_script(lines, source)
@@ -55,7 +56,8 @@ def clocked(lines, program=COVSTORE):
 
 def served(lines, program=COVSTORE):
     """The processor seconds and the output of a run on these lines, all accepted."""
-    clock, out = clocked(lines, program)
+    with elsewhere():
+        clock, out = clocked(lines, program)
     return clock.processor, out
 
 
@@ -70,7 +72,7 @@ def peak_of(command, source=None):
 
 def peak_served(lines, program=COVSTORE):
     """The peak of memory in KB of a run on these lines, all accepted."""
-    with tempfile.TemporaryFile() as source:
+    with elsewhere(), tempfile.TemporaryFile() as source:
         as_script(lines, source)
         return peak_of([program, 'run'], source)
 
@@ -105,7 +107,7 @@ def tree(top):
 @contextlib.contextmanager
 def started(program):
     """A run that is asked one line after another; at the end it has refused none."""
-    with subprocess.Popen([program, 'run'], stdin=subprocess.PIPE, stdout=subprocess.PIPE) as child:
+    with elsewhere(), subprocess.Popen([program, 'run'], stdin=subprocess.PIPE, stdout=subprocess.PIPE) as child:
         yield child
         child.stdin.close()
         assert child.wait() == 0
@@ -137,7 +139,8 @@ def counted(lines, program, name=None):
     with tempfile.TemporaryFile() as source, tempfile.NamedTemporaryFile() as counts:
         as_script(lines, source)
         command = ['valgrind', '--quiet', '--tool=callgrind', '--callgrind-out-file=' + counts.name, program, 'run']
-        subprocess.run(command, stdin=source, stdout=subprocess.DEVNULL, check=True)
+        with elsewhere():
+            subprocess.run(command, stdin=source, stdout=subprocess.DEVNULL, check=True)
         command = ['callgrind_annotate', '--inclusive=yes', '--threshold=100', counts.name]
         told = subprocess.run(command, stdout=subprocess.PIPE, check=True, text=True).stdout
     rows = [(int(count.replace(',', '')), of) for count, of in re.findall(r'^\s*([\d,]+) \([^)]*\)\s+(.*)$', told, re.M)]

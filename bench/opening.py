@@ -1,0 +1,63 @@
+#!/usr/bin/env python3
+"""Times the opening of a store of 100,000 commits, each of one line of 40 bytes, and tells its peak of memory. The store's bytes are
+made here, since the program takes far longer to make it: each session copies all lines of its variant."""
+import hashlib
+import os
+import struct
+import sys
+import tempfile
+
+from timing import Clock, build, elsewhere, least, peak_of
+
+COMMITS, FILES, TEXT, REPETITIONS = 100000, 100, 40, 3
+
+
+def node(number):
+    """A node, or a line, of before."""
+    return struct.pack('>BI', 0, number)
+
+
+def commit(base, edits):
+    """The record of a commit in the variant of no options, for all variants."""
+    return struct.pack('>BIBBI', 5, base, 0, 1, len(edits)) + b''.join(edits)
+
+
+def records():
+    names = [b'f%d' % number for number in range(FILES)]
+    yield commit(0, [struct.pack('>BB', 1, 0) + node(0) + bytes([len(name)]) + name for name in names])
+    for number in range(COMMITS):
+        text = (b'line %d ' % number).ljust(TEXT, b'x')
+        yield commit(number + 1, [struct.pack('>B', 2) + node(number % FILES + 1) + node(0) + struct.pack('>H', TEXT) + text])
+
+
+def store(path):
+    """Writes the store; its number of bytes."""
+    digest = bytes(32)
+    with open(path, 'wb') as file:
+        file.write(b'COVSTORE' + struct.pack('>I', 1))
+        for record in records():
+            digest = hashlib.sha256(digest + record).digest()
+            file.write(struct.pack('>BI', 1, len(record)) + record + digest)
+        file.write(bytes(1))
+        return file.tell()
+
+
+def main():
+    program, rounds = build(), []
+    with elsewhere():
+        size = store('store.cov')
+        for _ in range(REPETITIONS):
+            with tempfile.TemporaryFile() as out:
+                clock = Clock()
+                clock.run(program, 'check', out=out)
+                out.seek(0)
+                assert out.read() == b'ok %d records\n' % (COMMITS + 1)
+            rounds.append((clock,))
+        peak = peak_of([program, 'check'])
+    print('%d bytes of journal, %d of text; load average %.1f' % (size, COMMITS * TEXT, os.getloadavg()[0]))
+    for kind, (taken,) in least(rounds):
+        print('| %s | %.2f s | %.2f MB/s | %.0f MB |' % (kind, taken, size / taken / 1e6, peak / 1024))
+
+
+if __name__ == '__main__':
+    sys.exit(main())
