@@ -29,6 +29,8 @@ pub(crate) fn open<D: Disk>(alloc: Global, disk: &mut D) -> Result<Reader, OpenF
     ensures reader { IfOk result (λ reader. HasGiven reader []) }
     ensures contents { OnOk result (Told IsOpened (D.contents disk.old) (D.contents disk.new)) }
     ensures kept { IfSome (D.contents disk.old) (λ bytes. 13 < length bytes → D.contents disk.new ≡ Some bytes) }
+    ensures stays { (payloads : List (List ℕ)) → IfSome (D.contents disk.old) (λ bytes. Holds bytes payloads →
+        IfSome (D.contents disk.new) (λ now. Holds now payloads)) }
     ensures only { OnOk result (Only (D.contents disk.new) (D.images disk.new)) }
     ensures any_moment { (payloads : List (List ℕ)) → ((c : List ℕ) → D.images disk.old c → Holds c payloads) →
         LeavesOnly D.moment D.images_since disk.old disk.new (λ c. Holds c payloads) }

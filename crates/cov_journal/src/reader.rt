@@ -74,6 +74,8 @@ impl Reader {
         ensures reader { IfOk result (λ reader. HasGiven reader []) }
         ensures contents { OnOk result (Told IsOpened (D.contents disk.old) (D.contents disk.new)) }
         ensures kept { IfSome (D.contents disk.old) (λ bytes. 13 < length bytes → D.contents disk.new ≡ Some bytes) }
+        ensures stays { (payloads : List (List ℕ)) → IfSome (D.contents disk.old) (λ bytes. Holds bytes payloads →
+            IfSome (D.contents disk.new) (λ now. Holds now payloads)) }
         ensures gate { IfOk result (λ reader. HasGate (D.contents disk.new) reader.at) }
         ensures held { (payloads : List (List ℕ)) → IfSome (D.contents disk.old) (λ bytes. Holds bytes payloads) →
             OnOk result (IfSome (D.contents disk.new) (λ bytes. IsWritten bytes payloads)) }

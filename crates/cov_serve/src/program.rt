@@ -91,7 +91,7 @@ pub fn run<S: Source, K: Sink, D: Disk, T: Trees>(
         ReadsAs (D.contents disk.old) history → K.written out.old ≡ Some before → result ≡ Done →
         K.written out.new ≡ Some (before ++ check_line history) }
     ensures check_stands { (history : List Command) → words.now ≡ check_words →
-        ReadsAs (D.contents disk.old) history → result ≡ Done → IfSome (D.contents disk.new) (λ image. StandsFor image history) }
+        ReadsAs (D.contents disk.old) history → IfSome (D.contents disk.new) (λ image. StandsFor image history) }
     ensures check_moment { (history : List Command) → words.now ≡ check_words →
         ReadsAs (D.contents disk.old) history → AreAll (λ image. StandsFor image history) (D.images disk.old) →
         LeavesOnly D.moment D.images_since disk.old disk.new (λ image. StandsFor image history) }
@@ -300,7 +300,7 @@ fn check<K: Sink, D: Disk>(alloc: Global, out: &mut K, disk: &mut D) -> Status
     ensures whole { (history : List Command) (before : List ℕ) →
         ReadsAs (D.contents disk.old) history → K.written out.old ≡ Some before → result ≡ Done →
         K.written out.new ≡ Some (before ++ check_line history) }
-    ensures stands { (history : List Command) → ReadsAs (D.contents disk.old) history → result ≡ Done →
+    ensures stands { (history : List Command) → ReadsAs (D.contents disk.old) history →
         IfSome (D.contents disk.new) (λ image. StandsFor image history) }
     ensures any_moment { (history : List Command) →
         ReadsAs (D.contents disk.old) history → AreAll (λ image. StandsFor image history) (D.images disk.old) →

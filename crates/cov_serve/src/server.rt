@@ -57,6 +57,8 @@ impl Server {
         ensures written { IfOk result (λ server. IfSome (D.contents disk.new) (λ image. IsStored image server.history)) }
         ensures gate { IfOk result (λ server. HasGate (D.contents disk.new) (gate_of server.history)) }
         ensures kept { IfErr result (λ fault. IfSome (D.contents disk.old) (λ image. OnRefused fault (D.contents disk.new ≡ D.contents disk.old))) }
+        ensures stays { (history : List Command) → IfSome (D.contents disk.old) (λ image. StandsFor image history →
+            IfSome (D.contents disk.new) (λ now. StandsFor now history)) }
         ensures stored { IfOk result (λ server. (image : List ℕ) → D.images disk.new image → IsStored image server.history) }
         ensures any_moment { (history : List Command) → ((image : List ℕ) → D.images disk.old image → StandsFor image history) →
             LeavesOnly D.moment D.images_since disk.old disk.new (λ image. StandsFor image history) }

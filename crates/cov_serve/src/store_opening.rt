@@ -50,6 +50,8 @@ pub(crate) fn open_or_tell<K: Sink, D: Disk>(
     ensures stands { (history : List Command) → ReadsAs (D.contents disk.old) history → IfOk result (λ server. server.history ≡ history) }
     ensures stops { (history : List Command) → ReadsAs (D.contents disk.old) history →
         IfErr result (StopsOpening (D.faults disk.old) (D.faults disk.new)) }
+    ensures stays { (history : List Command) → ReadsAs (D.contents disk.old) history →
+        IfSome (D.contents disk.new) (λ image. StandsFor image history) }
     ensures unwritten { (history : List Command) → ReadsAs (D.contents disk.old) history → K.written out.new ≡ K.written out.old }
 
     // Where it is no store, or has damage.

@@ -149,3 +149,15 @@ pub tells : (o : Option (List ℕ)) (number : ℕ) (cause : StoreDamage) (before
 tells None number cause before now result opened faulty reason = tt
 tells (Some image) number cause before now (Ok store) opened faulty reason = tells_some image number cause before now (Ok store) opened faulty reason
 tells (Some image) number cause before now (Err fault) opened faulty reason = tells_some image number cause before now (Err fault) opened faulty reason
+
+-- what a disk stands for it stands for after calls by which it holds what it held
+pub stands_on : (old new : Option (List ℕ)) → ((ps : List (List ℕ)) → IfSome old (λ image. Holds image ps → IfSome new (λ now. Holds now ps))) → (history : List Command)
+    → IfSome old (λ image. StandsFor image history → IfSome new (λ now. StandsFor now history))
+stands_on None new held history = tt
+stands_on (Some image) None held history = λ s. tt
+stands_on (Some image) (Some now) held history = λ s. record { legal = s.legal; fits = s.fits; holds = held (payloads history) s.holds }
+
+-- and after those that leave what it reads
+pub stands_later : (old mid new : Option (List ℕ)) → ((ps : List (List ℕ)) → IfSome old (λ image. Holds image ps → IfSome mid (λ now. Holds now ps))) → new ≡ mid → (history : List Command)
+    → IfSome old (λ image. StandsFor image history → IfSome new (λ now. StandsFor now history))
+stands_later old mid new held same = stands_on old new (λ ps. subst (λ o. IfSome old (λ image. Holds image ps → IfSome o (λ now. Holds now ps))) (sym same) (held ps))

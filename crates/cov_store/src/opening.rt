@@ -25,6 +25,8 @@ pub(crate) fn open<D: Disk>(alloc: Global, disk: &mut D) -> Result<Store, StoreF
     ensures written { IfOk result (λ store. IfSome (D.contents disk.new) (λ image. IsStored image store.history)) }
     ensures gate { IfOk result (λ store. HasGate (D.contents disk.new) (gate_of store.history)) }
     ensures kept { IfErr result (λ fault. IfSome (D.contents disk.old) (λ image. OnRefused fault (D.contents disk.new ≡ D.contents disk.old))) }
+    ensures stays { (history : List Command) → IfSome (D.contents disk.old) (λ image. StandsFor image history →
+        IfSome (D.contents disk.new) (λ now. StandsFor now history)) }
     ensures stored { IfOk result (λ store. (image : List ℕ) → D.images disk.new image → IsStored image store.history) }
     ensures any_moment { (history : List Command) → ((image : List ℕ) → D.images disk.old image → StandsFor image history) →
         LeavesOnly D.moment D.images_since disk.old disk.new (λ image. StandsFor image history) }

@@ -1,4 +1,4 @@
-use Rattle.std.proofs.Common.{◌≡◌, ◌++◌, ⊎_elim, ap, subst, sym, Some, Err}
+use Rattle.std.proofs.Common.{◌≡◌, ◌++◌, ⊎_elim, ap, subst, sym, IfSome, Some, Err}
 use Rattle.cov_io.specs.Devices.{AppendsSome}
 use Rattle.cov_journal.specs.Reading.{IsNoStore}
 use Rattle.cov_serve.specs.Opening.{TellsDamage, TellsNoStore}
@@ -7,6 +7,7 @@ use Rattle.cov_serve.specs.Program.{damaged_line, not_a_store_line}
 use Rattle.cov_serve.specs.States.{starting}
 use Rattle.cov_store.specs.Damages.{HasDamage}
 use Rattle.cov_store.specs.Opening.{MayStop}
+use Rattle.cov_store.specs.Stands.{StandsFor}
 use Rattle.cov_serve.proofs.Unopened.{can_be_told, damage_front, damage_told, damage_whole, no_store_front, no_store_whole, nothing_put, reads_gives, stops, told_gives, writes_all, writes_some}
 use Rattle.cov_serve.proofs.store_opening.open_or_tell.Goals as goal
 
@@ -91,3 +92,11 @@ returns-in-Err-clause-told_damage g c image number cause e damage =
     (g.K.Sink.written c.args.out.now) (g.K.Sink.written c.tell_fault.new.out) image number cause damage c.in-Err.fault
     (told_gives (g.D.Disk.contents c.args.disk.now) image (λ i. (d : HasDamage i number cause) → TellsDamage d.history number cause before now (Err c.in-Err.fault)) e (c.in-Err.ensures.damage number cause) damage)
     c.tell_fault.ensures.told
+
+pub returns-in-Ok-clause-stays : goal.returns-in-Ok-clause-stays
+returns-in-Ok-clause-stays g c history reads =
+    reads_gives (g.D.Disk.contents c.args.disk.now) history (IfSome (g.D.Disk.contents c.open.new.disk) (λ image. StandsFor image history)) reads (c.open.ensures.stays history)
+
+pub returns-in-Err-clause-stays : goal.returns-in-Err-clause-stays
+returns-in-Err-clause-stays g c history reads =
+    reads_gives (g.D.Disk.contents c.args.disk.now) history (IfSome (g.D.Disk.contents c.open.new.disk) (λ image. StandsFor image history)) reads (c.open.ensures.stays history)

@@ -1,5 +1,5 @@
 use Rattle.cov_store.specs.Stands.{StandsFor}
-use Rattle.cov_store.proofs.Opens.{kept_on, opened_faulty, opened_stands, same_where_refused, stands_since, stored_now}
+use Rattle.cov_store.proofs.Opens.{kept_on, opened_faulty, opened_stands, same_where_refused, stands_later, stands_on, stands_since, stored_now}
 use Rattle.cov_store.proofs.opening.open.Goals as goal
 
 pub returns-in-Ok-clause-opened : goal.returns-in-Ok-clause-opened
@@ -35,3 +35,16 @@ pub returns-in-Err-DiskFault-clause-any_moment : goal.returns-in-Err-DiskFault-c
 returns-in-Err-DiskFault-clause-any_moment g c history all =
     stands_since g.D.Disk.contents g.D.Disk.images g.D.Disk.moment g.D.Disk.images_since g.met.D.Disk.as_read g.met.D.Disk.told g.met.D.Disk.counts_now
     c.args.disk.now c.open.new.disk history all c.open.ensures.any_moment
+
+pub returns-in-Ok-clause-stays : goal.returns-in-Ok-clause-stays
+returns-in-Ok-clause-stays g c =
+    stands_later (g.D.Disk.contents c.args.disk.now) (g.D.Disk.contents c.open.new.disk) (g.D.Disk.contents c.begin.new.disk) c.open.ensures.stays c.begin.ensures.same
+
+pub returns-in-Err-NotAStore-clause-stays : goal.returns-in-Err-NotAStore-clause-stays
+returns-in-Err-NotAStore-clause-stays g c = stands_on (g.D.Disk.contents c.args.disk.now) (g.D.Disk.contents c.open.new.disk) c.open.ensures.stays
+
+pub returns-in-Err-DiskFault-clause-stays : goal.returns-in-Err-DiskFault-clause-stays
+returns-in-Err-DiskFault-clause-stays g c = stands_on (g.D.Disk.contents c.args.disk.now) (g.D.Disk.contents c.open.new.disk) c.open.ensures.stays
+
+pub returns-in-Err-Memory-clause-stays : goal.returns-in-Err-Memory-clause-stays
+returns-in-Err-Memory-clause-stays g c = stands_on (g.D.Disk.contents c.args.disk.now) (g.D.Disk.contents c.open.new.disk) c.open.ensures.stays
