@@ -1,5 +1,6 @@
 // Lines of both sides.
-use cov_base::{LineNo, List, Text};
+use cov_base::{LineNo, List};
+use cov_line::SharedText;
 
 /// On which of the two sides of an option a line is.
 #[derive(Clone, Copy, Debug, PartialEq, Eq)]
@@ -14,7 +15,7 @@ pub enum Mark {
 pub struct AltLine {
     pub mark: Mark,
     pub line: LineNo,
-    pub text: Text,
+    pub text: SharedText,
 }
 
 /// Lines of a file, in order.

@@ -8,7 +8,7 @@ use crate::{AltLine, AltLines, Mark};
 use cov_base::{Choice, LineNo, Memory};
 use cov_dd::{Node, Table};
 use cov_engine::Engine;
-use cov_file::FileRow;
+use cov_line::FileRow;
 use std::alloc::Global;
 
 /// One side: its choice, and whether the file is in the variant of that choice.
@@ -56,7 +56,7 @@ fn add_marked(
 fn add(lines: &mut AltLines, row: &FileRow, mark: Mark) -> Result<(), Memory>
     ensures { OnOk result (lines.new ≡ with_mark lines.old row.now (Some mark)) }
 {
-    let text = row.text.copy()?;
+    let text = row.text.share()?;
     lines.push(AltLine {
         mark,
         line: row.line,

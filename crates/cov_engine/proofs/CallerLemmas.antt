@@ -1,3 +1,3 @@
 -- What a caller cites.
 pub use Rattle.cov_engine.proofs.Refused.{all-valid}
-pub use Rattle.cov_engine.proofs.Showing.{drop-at, drop-end}
+pub use Rattle.cov_view.proofs.CallerLemmas.{drop-at, drop-end}

@@ -16,12 +16,12 @@ use Rattle.cov_edit.specs.History.{option_count}
 use Rattle.cov_edit.specs.Numbering.{Numbers, line_number}
 use Rattle.cov_edit.specs.Variant.{Variant, Line, lines_of}
 use Rattle.cov_edit.specs.Replay.{replay}
-use Rattle.cov_file.specs.declared.row.FileRow.{FileRow}
+use Rattle.cov_line.specs.declared.row.FileRow.{FileRow}
 use Rattle.cov_file.specs.Dated.{DatedLine as FileLine, file_row_of, is_visible, rows_at}
 use Rattle.cov_view.specs.declared.line.ViewLine.{ViewLine}
 use Rattle.cov_view.specs.declared.row.ViewRow.{ViewRow}
 use Rattle.cov_view.specs.References.{is_dir_kind, same_node, is_made_line}
-use Rattle.cov_view.specs.Seen.{has_row, kind_in, at_row, with_lines_by}
+use Rattle.cov_view.specs.Seen.{has_row, kind_in, at_row, with_lines_by, with_row}
 use Rattle.cov_view.specs.Views.{ShowsLines, line_by_number, by_number}
 use Rattle.cov_view.proofs.CallerLemmas.{not_there}
 use Rattle.cov_base.specs.Rows.{Row}
@@ -30,7 +30,7 @@ use Rattle.cov_history.specs.Kept.{kept_of}
 use Rattle.cov_history.specs.Files.{DatedLine, ShownLine, as_shown, dated_as_shown, dated_shown, is_dated_seen, file_dated}
 use Rattle.cov_engine.specs.Nodes.{AreDated}
 use Rattle.cov_engine.specs.Reading.{line_row}
-use Rattle.cov_engine.specs.Showing.{bare_row, with_row, with_lines, with_node, AreFresh}
+use Rattle.cov_engine.specs.Showing.{bare_row, with_lines, with_node, AreFresh}
 use Rattle.cov_engine.specs.Parts.{part_of}
 use Rattle.cov_engine.specs.Holdings.{IsFileOf}
 use Rattle.cov_history.proofs.CallerLemmas.{all-mapped, file-shows}

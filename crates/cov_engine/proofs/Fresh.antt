@@ -9,13 +9,13 @@ use Rattle.cov_base.specs.declared.number.NodeRef.{NodeRef}
 use Rattle.cov_base.specs.declared.number.NodeRef.TheVariants as nodes
 use Rattle.cov_base.proofs.CallerLemmas.{all-both}
 use Rattle.cov_dd.specs.declared.triple.Triple.{Triple}
-use Rattle.cov_file.specs.declared.row.FileRow.{FileRow}
+use Rattle.cov_line.specs.declared.row.FileRow.{FileRow}
 use Rattle.cov_file.specs.Dated.{rows_at}
 use Rattle.cov_view.specs.declared.row.ViewRow.{ViewRow}
 use Rattle.cov_view.specs.References.{is_root, same_node}
-use Rattle.cov_view.specs.Seen.{row_at, kind_in}
+use Rattle.cov_view.specs.Seen.{row_at, kind_in, with_row}
 use Rattle.cov_engine.specs.declared.file_part.FilePart.{FilePart}
-use Rattle.cov_engine.specs.Showing.{bare_row, with_row, with_lines, with_node, AreFresh}
+use Rattle.cov_engine.specs.Showing.{bare_row, with_lines, with_node, AreFresh}
 use Rattle.cov_engine.specs.Parts.{part_of}
 use Rattle.cov_engine.proofs.Showing.{kind-still}
 

@@ -12,7 +12,7 @@ use Rattle.cov_view.specs.Soundness.{is_old_row, AreOld, old_row}
 use Rattle.cov_dd.specs.declared.triple.Triple.{Triple}
 use Rattle.cov_dd.specs.Diagrams.{Extends}
 use Rattle.cov_expr.specs.Formula.{value}
-use Rattle.cov_file.specs.declared.row.FileRow.{FileRow}
+use Rattle.cov_line.specs.declared.row.FileRow.{FileRow}
 use Rattle.cov_file.specs.Dated.{DatedLine as FileLine, vis_at, rows_at}
 use Rattle.cov_edit.specs.declared.command.Command.{Command}
 use Rattle.cov_edit.specs.declared.command.Command.TheVariants as commands
@@ -23,7 +23,7 @@ use Rattle.cov_edit.specs.Replay.{replay}
 use Rattle.cov_view.specs.declared.line.ViewLine.{ViewLine}
 use Rattle.cov_view.specs.declared.row.ViewRow.{ViewRow}
 use Rattle.cov_view.specs.References.{same_node}
-use Rattle.cov_view.specs.Seen.{at_row, with_lines_by}
+use Rattle.cov_view.specs.Seen.{at_row, with_lines_by, with_row}
 use Rattle.cov_view.specs.Views.{row_by_number}
 use Rattle.cov_engine.specs.declared.store.CommitMark.{CommitMark}
 use Rattle.cov_engine.specs.declared.file_part.FilePart.{FilePart}
@@ -31,7 +31,7 @@ use Rattle.cov_history.specs.Kept.{seen_at, Holding, held_by, kept_of}
 use Rattle.cov_history.specs.Files.{DatedLine, file_dated}
 use Rattle.cov_history.specs.FileOfLine.{AreFilesOfLines}
 use Rattle.cov_engine.specs.Nodes.{AreDated}
-use Rattle.cov_engine.specs.Showing.{bare_row, with_row, with_lines, with_node}
+use Rattle.cov_engine.specs.Showing.{bare_row, with_lines, with_node}
 use Rattle.cov_history.specs.FileNodes.{files_from, files_of}
 use Rattle.cov_engine.specs.Parts.{part_of, files_among}
 use Rattle.cov_engine.specs.Holdings.{IsFileOf, AreEntriesOf, IsHeldBy}

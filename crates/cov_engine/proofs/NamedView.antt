@@ -17,14 +17,14 @@ use Rattle.cov_edit.specs.Replay.{replay}
 use Rattle.cov_edit.specs.Touched.{has_number, touched, AreRising}
 use Rattle.cov_edit.specs.Variant.{Variant, line_address, lines_of}
 use Rattle.cov_edit.proofs.CallerLemmas.{touched-rising}
-use Rattle.cov_file.specs.declared.row.FileRow.{FileRow}
+use Rattle.cov_line.specs.declared.row.FileRow.{FileRow}
 use Rattle.cov_history.specs.Naming.{NamesOnlyMade}
 use Rattle.cov_history.specs.Verdict.{IsLegal}
 use Rattle.cov_history.proofs.CallerLemmas.{all-mapped, holding-stands, legal-named, legal-take, replay-once, replay-stands}
 use Rattle.cov_tree.specs.Dated.{rows_at}
 use Rattle.cov_view.specs.References.{is_dir_kind, is_made_line, is_made_node, same_node}
 use Rattle.cov_view.specs.Refusals.{first_refused}
-use Rattle.cov_view.specs.Seen.{Seen, row_at, with_lines_by}
+use Rattle.cov_view.specs.Seen.{Seen, row_at, with_lines_by, with_row}
 use Rattle.cov_view.specs.Views.{by_number, line_by_number, row_by_number, IsMade, Shows, ShowsLines}
 use Rattle.cov_view.specs.declared.line.ViewLine.{ViewLine}
 use Rattle.cov_view.specs.declared.row.ViewRow.{ViewRow}
@@ -34,7 +34,7 @@ use Rattle.cov_engine.specs.declared.visible.Visible.{Visible}
 use Rattle.cov_engine.specs.Holdings.{IsHeldBy}
 use Rattle.cov_engine.specs.Parts.{part_of}
 use Rattle.cov_engine.specs.Reading.{line_row, stored_rows}
-use Rattle.cov_engine.specs.Showing.{bare_row, with_row}
+use Rattle.cov_engine.specs.Showing.{bare_row}
 use Rattle.cov_engine.specs.Trying.{named, with_lines_of, with_named, IsFirstRefused}
 use Rattle.cov_engine.proofs.FileLines.{by-row, lines-made, pairs, row_pair, view_line}
 use Rattle.cov_engine.proofs.LinesRead.{lines-read}

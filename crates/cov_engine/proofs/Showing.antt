@@ -1,7 +1,6 @@
 -- What a view shows of kept rows and lines.
-use Rattle.std.proofs.Common.{◌≡◌, refl, ap, sym, ◌∙◌, ℕ, zero, suc, ◌+◌, Bool, true, false, cond, List, [], ◌∷◌, ◌++◌, drop, slice_get, option_map, Option, Some, None, nat_eq, arith}
+use Rattle.std.proofs.Common.{◌≡◌, refl, ap, ◌∙◌, ℕ, zero, suc, ◌+◌, Bool, true, false, cond, List, [], ◌∷◌, ◌++◌, option_map, Option, Some, None, nat_eq, arith}
 use Rattle.std.proofs.lemmas.Bool.Decides.{nat_tests}
-use Rattle.std.specs.List.{fold}
 use Rattle.cov_base.specs.declared.number.Kind.{Kind}
 use Rattle.cov_base.specs.declared.number.Kind.TheVariants as kinds
 use Rattle.cov_base.specs.declared.number.NodeRef.{NodeRef}
@@ -37,28 +36,6 @@ row_changed node file f (r ∷ rows) = one_changed (same_node r.node node) f r r
 pub kind-still : (node file : NodeRef) (f : List ViewLine → List ViewLine) (rows : List ViewRow) → kind_in (at_row node (with_lines_by f) rows) file ≡ kind_in rows file
 kind-still node file f rows = ap (λ k. cond (is_root file) (Some kinds.Dir) k) (row_changed node file f rows)
 
-head-same : {X : Type 0} (x y : X) (ys : List X) → Some y ≡ Some x → y ∷ ys ≡ x ∷ ys
-head-same x y ys h = cc
-
-drop-next : {X : Type 0} (xs : List X) (i : ℕ) (x : X) → slice_get xs i ≡ Some x → drop i xs ≡ x ∷ drop (suc i) xs
-drop-next [] zero x h = absurd (cc)
-drop-next [] (suc i) x h = absurd (cc)
-drop-next (y ∷ ys) zero x h = head-same x y ys h
-drop-next (y ∷ ys) (suc i) x h = drop-next ys i x h
-
--- from an index on, the item there comes first
-pub drop-at : {X : Type 0} (xs : List X) (i k : ℕ) (x : X) → slice_get xs i ≡ Some x → k ≡ i + 1 → drop i xs ≡ x ∷ drop k xs
-drop-at xs i k x h e = let same : suc i ≡ k = omega (arith, e) in drop-next xs i x h ∙ ap (λ m. x ∷ drop m xs) same
-
-pub drop-end : {X : Type 0} (xs : List X) (i : ℕ) → slice_get xs i ≡ None → drop i xs ≡ []
-drop-end [] zero h = refl
-drop-end [] (suc i) h = refl
-drop-end (y ∷ ys) zero h = absurd (cc)
-drop-end (y ∷ ys) (suc i) h = drop-end ys i h
-
-pub kind-after : (rows new : List ViewRow) (node : NodeRef) (f : List ViewLine → List ViewLine) (k : Option Kind) → new ≡ at_row node (with_lines_by f) rows → kind_in rows node ≡ k → kind_in new node ≡ k
-kind-after rows new node f k e h = ap (λ rs. kind_in rs node) e ∙ kind-still node node f rows ∙ h
-
 last-found : (rows : List ViewRow) (r : ViewRow) (node : NodeRef) → kind_at rows node ≡ None → same_node r.node node ≡ true → kind_at (rows ++ r ∷ []) node ≡ Some r.kind
 last-found [] r node h same = ap (λ b. option_map (λ (s : ViewRow). s.kind) (cond b (Some r) None)) same
 last-found (s ∷ rows) r node h same = at (same_node s.node node) (λ k. last-found rows r node k same) h
@@ -72,11 +49,3 @@ pub kind-added : (rows new : List ViewRow) (r : ViewRow) (node : ℕ) → kind_i
 kind-added rows new r zero h same e = absurd (cc)
 kind-added rows new r (suc n) h same e =
     ap (λ rs. kind_in rs (nodes.Old (suc n))) e ∙ last-found rows r (nodes.Old (suc n)) h (ap (λ m. same_node m (nodes.Old (suc n))) same ∙ (let e : nat_eq (suc n) (suc n) ≡ true = grind (arith, nat_tests) in e))
-
--- a fold from an index on goes one item further
-pub fold-next : {A B : Type 0} (f : B → A → B) (xs : List A) (i k : ℕ) (x : A) (b next all : B) → slice_get xs i ≡ Some x → k ≡ i + 1 → next ≡ f b x
-    → fold f b (drop i xs) ≡ all → fold f next (drop k xs) ≡ all
-fold-next f xs i k x b next all h e n whole = ap (λ m. fold f m (drop k xs)) n ∙ sym (ap (λ ys. fold f b ys) (drop-at xs i k x h e)) ∙ whole
-
-pub fold-end : {A B : Type 0} (f : B → A → B) (xs : List A) (i : ℕ) (b all : B) → slice_get xs i ≡ None → fold f b (drop i xs) ≡ all → b ≡ all
-fold-end f xs i b all h whole = sym (ap (λ ys. fold f b ys) (drop-end xs i h)) ∙ whole

@@ -5,18 +5,12 @@ use Rattle.cov_base.specs.Rows.{Row}
 use Rattle.cov_base.specs.declared.number.Kind.{Kind}
 use Rattle.cov_base.specs.declared.number.Kind.TheVariants as kinds
 use Rattle.cov_base.specs.declared.number.NodeRef.TheVariants as nodes
-use Rattle.cov_base.specs.declared.number.LineRef.TheVariants as lines
 use Rattle.cov_dd.specs.declared.triple.Triple.{Triple}
-use Rattle.cov_file.specs.declared.row.FileRow.{FileRow}
 use Rattle.cov_file.specs.Dated.{rows_at}
 use Rattle.cov_view.specs.declared.row.ViewRow.{ViewRow}
-use Rattle.cov_view.specs.Seen.{kind_in, at_row, with_lines_by}
+use Rattle.cov_view.specs.Seen.{kind_in, with_row}
 use Rattle.cov_engine.specs.Parts.{part_of}
 use Rattle.cov_engine.specs.declared.file_part.FilePart.{FilePart}
-
--- the rows with a line of a file more
-abbrev pub with_row : ℕ → List ViewRow → FileRow → List ViewRow
-with_row file rows r = at_row (nodes.Old file) (with_lines_by (λ shown. shown ++ record { line = lines.Old r.line; text = r.text } ∷ [])) rows
 
 -- a node's row as it is shown, without lines
 abbrev pub bare_row : Row → ViewRow

@@ -13,11 +13,11 @@ use Rattle.cov_tree.specs.Dated.{rows_at}
 use Rattle.cov_view.specs.declared.fault.EditFault.{EditFault}
 use Rattle.cov_view.specs.declared.row.ViewRow.{ViewRow}
 use Rattle.cov_view.specs.Refusals.{first_refused}
-use Rattle.cov_view.specs.Seen.{Seen, kind_in}
+use Rattle.cov_view.specs.Seen.{Seen, kind_in, with_row}
 use Rattle.cov_view.specs.Views.{FaultBy, Shows}
 use Rattle.cov_engine.specs.Parts.{part_of}
 use Rattle.cov_engine.specs.Reading.{stored_rows}
-use Rattle.cov_engine.specs.Showing.{bare_row, with_row}
+use Rattle.cov_engine.specs.Showing.{bare_row}
 use Rattle.cov_engine.specs.declared.file_part.FilePart.{FilePart}
 use Rattle.cov_engine.specs.declared.visible.Visible.{Visible}
 

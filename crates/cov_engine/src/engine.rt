@@ -29,7 +29,7 @@ use cov_base::{Choice, LineNo, Memory, MemoryOr, Name, NodeNo, Position};
 use cov_dd::{Node, Table};
 use cov_edit::{Command, Commands};
 use cov_expr::{Options, Partial};
-use cov_file::FileRows;
+use cov_line::FileRows;
 use cov_rules::{CompleteFault, Invalid, Rules};
 use cov_tree::Entries;
 use cov_view::View;

@@ -14,7 +14,7 @@ ghost use Rattle.cov_engine.specs.Reading.{IsFileAmong, stored_rows};
 
 use crate::Visible;
 use cov_base::{Choice, Kind, Memory, Name, NodeNo, Position};
-use cov_file::FileRows;
+use cov_line::FileRows;
 use cov_tree::NodeRow;
 use std::alloc::Global;
 

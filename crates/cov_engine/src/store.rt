@@ -8,8 +8,8 @@ ghost use Rattle.cov_base.specs.declared.number.Kind.TheVariants.{File};
 ghost use Rattle.cov_base.specs.declared.number.NodeRef.TheVariants.{Old};
 ghost use Rattle.cov_file.specs.Dated.{rows_at as file_rows_at};
 ghost use Rattle.cov_tree.specs.Dated.{rows_at};
-ghost use Rattle.cov_view.specs.Seen.{kind_in};
-ghost use Rattle.cov_engine.specs.Showing.{bare_row, with_row, with_node, AreFresh};
+ghost use Rattle.cov_view.specs.Seen.{kind_in, with_row};
+ghost use Rattle.cov_engine.specs.Showing.{bare_row, with_node, AreFresh};
 ghost use Rattle.cov_edit.specs.Touched.{AreRising};
 ghost use Rattle.cov_engine.specs.Parts.{part_node};
 ghost use Rattle.cov_engine.specs.Visibility.{item_of, stored_file_of};
@@ -21,7 +21,7 @@ use crate::places::part_of;
 use crate::{FilePart, Visible};
 use cov_base::{Choice, Kind, LineNo, Memory, NodeNo, NodeNos, Position};
 use cov_dd::{Node, Table};
-use cov_file::{FileLines, FileRows};
+use cov_file::FileLines;
 use cov_tree::NodeRow;
 use cov_view::View;
 use std::alloc::Global;
@@ -145,24 +145,7 @@ pub(crate) fn add_lines(
     ensures lines { view.new.lines_made ≡ view.old.lines_made }
 {
     let rows = file.lines_at(table, choice, at)?;
-    add_rows(view, node, &rows)
-}
-
-// Adds lines of a file.
-fn add_rows(view: &mut View, file: NodeNo, rows: &FileRows) -> Result<(), Memory>
-    requires file { kind_in view.old.rows (Old file) ≡ Some File }
-    ensures rows { OnOk result (view.new.rows ≡ fold (with_row file) view.old.rows rows.now) }
-    ensures nodes { view.new.nodes_made ≡ view.old.nodes_made }
-    ensures lines { view.new.lines_made ≡ view.old.lines_made }
-{
-    // Tells that there are no more rows than an index can count.
-    let _count = rows.len();
-    let mut index = 0;
-    while let Some(row) = rows.get(index) {
-        view.add_line(file, row.line, &row.text)?;
-        index += 1;
-    }
-    Ok(())
+    view.add_lines(node, &rows)
 }
 
 /// The file of a line.

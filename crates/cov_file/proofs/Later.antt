@@ -1,29 +1,14 @@
 -- What a change of a file changes of what is shown.
 use Rattle.std.specs.Prelude.{filter}
-use Rattle.std.proofs.Common.{◌≡◌, ℕ, zero, suc, ◌<◌, ◌≤◌, ◌==◌, Bool, true, false, cond, nat_eq, nat_le, List, [], ◌∷◌, ◌++◌, map, refl, sym, ap, ◌∙◌, arith}
+use Rattle.std.proofs.Common.{◌≡◌, ℕ, zero, suc, ◌<◌, ◌≤◌, Bool, true, false, cond, nat_eq, nat_le, List, [], ◌∷◌, ◌++◌, map, refl, sym, ap, ◌∙◌, arith}
 use Rattle.std.proofs.lemmas.Bool.Decides.{nat_tests}
-use Rattle.cov_base.specs.Choices.{is_on}
 use Rattle.cov_dd.specs.declared.triple.Triple.{Triple}
-use Rattle.cov_dd.specs.Diagrams.{diagram_size, value_in}
+use Rattle.cov_dd.proofs.CallerLemmas.{value-constant}
+use Rattle.cov_dd.specs.Diagrams.{value_in}
 use Rattle.cov_base.specs.Addresses.{after_first}
-use Rattle.cov_file.specs.declared.row.FileRow.{FileRow}
+use Rattle.cov_line.specs.declared.row.FileRow.{FileRow}
 use Rattle.cov_file.specs.Dated.{DatedLine, vis_at, dated_number, new_line, with_line, changed, with_change, file_row_of, is_visible, rows_at, AreAlike}
 use Rattle.cov_file.specs.Laws.{InsertIsLater, ChangeIsLater}
-
-not_zero : (n : ℕ) → 0 < n → (0 == n) ≡ false
-not_zero zero h = absurd (omega (arith, h))
-not_zero (suc n) h = grind (arith, nat_tests)
-
-some_nodes : (table : List Triple) → 0 < diagram_size table
-some_nodes [] = omega arith
-some_nodes (t ∷ ts) = let rest = some_nodes ts in omega (arith, rest)
-
--- FALSE is false on each choice
-false_node : (table : List Triple) (c : List Bool) → value_in table 0 c ≡ false
-false_node [] c = refl
-false_node (t ∷ ts) c =
-    ap (λ b. cond b (cond (is_on c t.option) (value_in ts t.on c) (value_in ts t.off c)) (value_in ts 0 c)) (not_zero (diagram_size ts) (some_nodes ts))
-    ∙ false_node ts c
 
 -- the row of a line that passes a test, and then the others
 split : (test : DatedLine → Bool) (l : DatedLine) (ls : List DatedLine) → map file_row_of (filter test (l ∷ ls)) ≡ cond (test l) (file_row_of l ∷ []) [] ++ map file_row_of (filter test ls)
@@ -104,12 +89,12 @@ reached at p h = grind (arith, nat_tests, h)
 
 new_unseen : (table : List Triple) (c : List Bool) (vis : ℕ) (b : Bool) → value_in table vis c ≡ false → value_in table (cond b vis 0) c ≡ false
 new_unseen table c vis true h = h
-new_unseen table c vis false h = false_node table c
+new_unseen table c vis false h = value-constant table 0 c (omega arith)
 
 pub insert_later : InsertIsLater
 insert_later = record {
   before = λ table c p anchor line text vis at ls h.
-      unseen_line table c p anchor (new_line line text vis at) ls (ap (λ b. value_in table (cond b vis 0) c) (before at p h) ∙ false_node table c);
+      unseen_line table c p anchor (new_line line text vis at) ls (ap (λ b. value_in table (cond b vis 0) c) (before at p h) ∙ value-constant table 0 c (omega arith));
   elsewhere = λ table c p anchor line text vis at ls h. unseen_line table c p anchor (new_line line text vis at) ls (new_unseen table c vis (nat_le at p) h);
 }
 

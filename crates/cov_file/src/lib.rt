@@ -5,7 +5,5 @@ mod coming;
 pub mod laws;
 mod lines;
 mod lists;
-mod row;
 
 pub use lines::FileLines;
-pub use row::{FileRow, FileRows};

@@ -2,6 +2,7 @@
 ghost use Rattle.std.specs.Prelude.{◌≡◌, ℕ, List, ◌<◌, ◌≤◌, ◌+◌, ◌-◌, ◌^◌, ◌++◌, ◌∷◌, [], true, false, unwrap_or, slice_get, IfOk, OnOk, if◌then◌else◌};
 ghost use Rattle.std.specs.Map.{keys_of};
 ghost use Rattle.cov_base.specs.Addresses.{after_anchor};
+ghost use Rattle.cov_dd.specs.Diagrams.{value_in};
 ghost use Rattle.cov_order.specs.Orders.{has_line, is_anchor};
 ghost use Rattle.cov_file.specs.Dated.{line_numbers_of, new_line, with_line, with_change, rows_at, all_rows, newest_of, vis_of, AreAlike};
 ghost use Rattle.cov_file.specs.Rooms.{is_room_at, IsMade, IsLeft};
@@ -9,9 +10,9 @@ ghost use Rattle.cov_file.specs.Listing.{row_in, visible_lines, vis_in};
 
 use crate::coming::Coming;
 use crate::lists::NodeLists;
-use crate::{FileRow, FileRows};
-use cov_base::{Choice, LineNo, LineNos, Memory, Position, Text};
+use cov_base::{Choice, LineNo, LineNos, Memory, Position};
 use cov_dd::{FALSE, Node, Table};
+use cov_line::{FileRow, FileRows, SharedText};
 use cov_order::Order;
 use indexmap::IndexMap;
 use std::alloc::Global;
@@ -23,7 +24,7 @@ use std::marker::Model;
 #[derive(Drop)]
 pub struct FileLines {
     order: Order,
-    texts: IndexMap<LineNo, Text>,
+    texts: IndexMap<LineNo, SharedText>,
     lists: NodeLists,
     coming: Coming,
 }
@@ -118,7 +119,14 @@ impl FileLines {
 
     /// Puts a line directly after its anchor, or first where the anchor is the head, with its visibility from a position on. It
     /// takes time in the number of lines, and no memory.
-    pub fn insert(&mut self, anchor: LineNo, line: LineNo, text: Text, vis: Node, at: Position)
+    pub fn insert(
+        &mut self,
+        anchor: LineNo,
+        line: LineNo,
+        text: SharedText,
+        vis: Node,
+        at: Position,
+    )
         requires anchored { is_anchor anchor (line_numbers_of self.old.lines) ≡ true }
         requires line { 0 < line }
         requires fresh { has_line line (line_numbers_of self.old.lines) ≡ false }
@@ -194,7 +202,7 @@ impl FileLines {
 
 // The lines whose nodes in a list are true on a choice.
 fn visible_rows(
-    texts: &IndexMap<LineNo, Text>,
+    texts: &IndexMap<LineNo, SharedText>,
     lines: &LineNos,
     nodes: &[Node],
     table: &Table,
@@ -207,49 +215,60 @@ fn visible_rows(
     let mut rows = FileRows::new(*texts.allocator());
     let mut index = 0;
     while let Some(line) = lines.get(index) {
-        let shown = table.value(listed_node(texts, nodes, line), choice);
-        add_shown(&mut rows, texts, line, shown)?;
+        add_visible(&mut rows, texts, line, nodes, table, choice)?;
         index += 1;
     }
     Ok(rows)
 }
 
+// Adds a line, if its node in a list is true on the choice. It looks the line up once.
+fn add_visible(
+    rows: &mut FileRows,
+    texts: &IndexMap<LineNo, SharedText>,
+    line: LineNo,
+    nodes: &[Node],
+    table: &Table,
+    choice: Choice,
+) -> Result<(), Memory>
+    ensures { OnOk result (rows.new ≡ rows.old ++ (if value_in table.now (vis_in (keys_of texts.now.entries) nodes.now line) choice then row_in texts.now.entries line ∷ [] else [])) }
+{
+    match texts.get_full(&line) {
+        Some((at, _, text)) => {
+            let shown = table.value(node_or_false(nodes, at), choice);
+            add_shown(rows, line, text, shown)
+        }
+        None => Ok(()),
+    }
+}
+
 // Adds a line, if it is shown.
 fn add_shown(
     rows: &mut FileRows,
-    texts: &IndexMap<LineNo, Text>,
     line: LineNo,
+    text: &SharedText,
     shown: bool,
 ) -> Result<(), Memory>
-    ensures { OnOk result (rows.new ≡ rows.old ++ (if shown then row_in texts.now.entries line ∷ [] else [])) }
+    ensures { OnOk result (rows.new ≡ rows.old ++ (if shown then record { line = line; text = text.now } ∷ [] else [])) }
 {
     if shown {
-        return rows.push(copied_row(texts, line)?);
+        let text = text.share()?;
+        return rows.push(FileRow { line, text });
     }
     Ok(())
 }
 
 // The line with its text.
-fn copied_row(texts: &IndexMap<LineNo, Text>, line: LineNo) -> Result<FileRow, Memory>
+fn copied_row(texts: &IndexMap<LineNo, SharedText>, line: LineNo) -> Result<FileRow, Memory>
     ensures { IfOk result (λ row. row ≡ row_in texts.now.entries line) }
 {
     let text = match texts.get(&line) {
-        Some(text) => text.copy()?,
-        None => Text::new(*texts.allocator()),
+        Some(text) => text.share()?,
+        None => SharedText::from_slice(*texts.allocator(), &[])?,
     };
     Ok(FileRow { line, text })
 }
 
-// The node of a line in a list, FALSE where it has none.
-fn listed_node(texts: &IndexMap<LineNo, Text>, nodes: &[Node], line: LineNo) -> Node
-    ensures { result ≡ vis_in (keys_of texts.now.entries) nodes.now line }
-{
-    match texts.get_index_of(&line) {
-        Some(index) => node_or_false(nodes, index),
-        None => FALSE,
-    }
-}
-
+// A node of a list, FALSE where the index isn't below its length.
 fn node_or_false(nodes: &[Node], index: usize) -> Node
     ensures { result ≡ unwrap_or (slice_get nodes.now index) 0 }
 {

@@ -5,5 +5,6 @@ mod files;
 mod listings;
 mod records;
 mod rules;
+mod texts;
 mod trees;
 mod view;

@@ -4,7 +4,7 @@ ghost use Rattle.cov_serve.specs.Replies.{lines_reply, mark_byte};
 
 use cov_alt::{AltLine, Mark};
 use cov_base::{Memory, Text};
-use cov_file::FileRow;
+use cov_line::FileRow;
 use cov_script::{alt_line, append_cat_line, list_line, reply_count, show_line};
 use cov_view::{DirRow, ViewLine};
 use std::alloc::Global;
@@ -25,7 +25,7 @@ impl Told for FileRow {
     ghost line = { file_line };
 
     fn tell(&self, alloc: Global, reply: &mut Text) -> Result<(), Memory> {
-        append_cat_line(alloc, reply, self.line, &self.text)
+        append_cat_line(alloc, reply, self.line, self.text.as_text())
     }
 }
 
@@ -35,7 +35,7 @@ impl Told for ViewLine {
     ghost line = { view_line };
 
     fn tell(&self, alloc: Global, reply: &mut Text) -> Result<(), Memory> {
-        let line = show_line(alloc, self.line, &self.text)?;
+        let line = show_line(alloc, self.line, self.text.as_text())?;
         reply.append(line.as_slice())
     }
 }
@@ -57,7 +57,7 @@ impl Told for AltLine {
     ghost line = { marked_line };
 
     fn tell(&self, alloc: Global, reply: &mut Text) -> Result<(), Memory> {
-        let line = alt_line(alloc, mark_byte(self.mark), self.line, &self.text)?;
+        let line = alt_line(alloc, mark_byte(self.mark), self.line, self.text.as_text())?;
         reply.append(line.as_slice())
     }
 }

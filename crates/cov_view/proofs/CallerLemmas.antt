@@ -1,4 +1,5 @@
 -- Lemmas on refusals, references, trees and rows of a history's nodes, for the proofs of callers.
+pub use Rattle.cov_view.proofs.Ahead.{drop-at, drop-end}
 pub use Rattle.cov_view.proofs.Changes.{not_there}
 pub use Rattle.cov_view.proofs.FewRows.{few-tree}
 pub use Rattle.cov_view.proofs.Placed.{old-append, rows-old}

@@ -11,6 +11,7 @@ use Rattle.cov_base.specs.declared.number.LineRef.{LineRef}
 use Rattle.cov_base.specs.declared.number.LineRef.TheVariants as lines
 use Rattle.cov_edit.specs.declared.edit.Edit.{Edit}
 use Rattle.cov_edit.specs.declared.edit.Edit.TheVariants as edits
+use Rattle.cov_line.specs.declared.row.FileRow.{FileRow}
 use Rattle.cov_view.specs.References.{is_root, is_head, is_dir_kind, same_node, is_new_below}
 use Rattle.cov_view.specs.Lines.{is_among, after_ref, without_ref}
 use Rattle.cov_view.specs.declared.fault.EditFault.{EditFault}
@@ -145,6 +146,10 @@ seen_fault rows (edits.Remove node) = remove_fault rows node
 abbrev pub with_lines_by : (List ViewLine → List ViewLine) → ViewRow → ViewRow
 with_lines_by f r = record { node = r.node; kind = r.kind; parent = r.parent; name = r.name; lines = f r.lines }
 
+-- a line that a history has
+abbrev pub old_line : FileRow → ViewLine
+old_line r = record { line = lines.Old r.line; text = r.text }
+
 -- a row with another name
 abbrev pub with_name_by : List ℕ → ViewRow → ViewRow
 with_name_by name r = record { node = r.node; kind = r.kind; parent = r.parent; name = name; lines = r.lines }
@@ -161,6 +166,10 @@ without_node node rows = filter (λ r. not (same_node r.node node)) rows
 abbrev pub at_row : NodeRef → (ViewRow → ViewRow) → List ViewRow → List ViewRow
 at_row node f [] = []
 at_row node f (r ∷ rows) = if same_node r.node node then f r ∷ rows else r ∷ at_row node f rows
+
+-- the rows with a line that a history has at the end of a file
+abbrev pub with_row : ℕ → List ViewRow → FileRow → List ViewRow
+with_row file rows r = at_row (nodes.Old file) (with_lines_by (λ ls. ls ++ old_line r ∷ [])) rows
 
 -- what is seen after an edit
 abbrev pub seen_after : Seen → Edit → Seen

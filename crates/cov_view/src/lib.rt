@@ -1,6 +1,7 @@
 //! One variant as a plain tree, and edits of it.
 #![tactic(auto)]
 
+mod adding;
 mod changing;
 mod children;
 mod counting;

@@ -4,23 +4,24 @@ ghost use Rattle.std.specs.List.{insert};
 ghost use Rattle.cov_view.specs.References.{is_head, same_line};
 ghost use Rattle.cov_view.specs.Lines.{is_among, after_ref, without_ref};
 
-use cov_base::{LineRef, List, Memory, Text};
+use cov_base::{LineRef, List, Memory};
+use cov_line::SharedText;
 
 /// A line of a file.
 #[derive(Debug, Drop)]
 pub struct ViewLine {
     pub line: LineRef,
-    pub text: Text,
+    pub text: SharedText,
 }
 
 impl ViewLine {
-    /// The same line, in memory of its own.
+    /// The same line, which shares its text.
     pub fn copy(&self) -> Result<ViewLine, Memory>
         ensures { IfOk result (λ line. line ≡ self.now) }
     {
         Ok(ViewLine {
             line: self.line,
-            text: self.text.copy()?,
+            text: self.text.share()?,
         })
     }
 }
@@ -28,7 +29,7 @@ impl ViewLine {
 /// The lines of a file, in order.
 pub type ViewLines = List<ViewLine>;
 
-/// The same lines, in memory of their own.
+/// The same lines, which share their texts.
 pub(crate) fn copied(lines: &ViewLines) -> Result<ViewLines, Memory>
     ensures { IfOk result (λ copy. copy ≡ lines.now) }
 {

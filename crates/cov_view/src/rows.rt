@@ -185,12 +185,17 @@ impl Rows {
         self.rows.as_slice()
     }
 
-    /// Puts a line at the end of a file.
-    pub(crate) fn append_line(&mut self, file: &NodeRef, line: ViewLine) -> Result<(), Memory>
+    /// Puts a line at the end of a file, whose row stands at a place.
+    pub(crate) fn append_line(
+        &mut self,
+        file: &NodeRef,
+        place: Option<usize>,
+        line: ViewLine,
+    ) -> Result<(), Memory>
+        requires { place ≡ position (λ r. same_node r.node file.now) self.old }
         ensures ok { OnOk result (self.new ≡ at_row file.now (with_lines_by (λ ls. ls ++ line ∷ [])) self.old) }
         ensures err { OnErr result (self.new ≡ self.old) }
     {
-        let place = self.place(file);
         append_line(&mut self.rows, file, place, line)
     }
 

@@ -5,7 +5,6 @@ ghost use Rattle.cov_base.specs.Addresses.{IsTable};
 ghost use Rattle.cov_base.specs.Faults.{fault_of};
 ghost use Rattle.cov_base.specs.declared.number.Kind.TheVariants.{File, Dir};
 ghost use Rattle.cov_base.specs.declared.number.NodeRef.TheVariants.{Old};
-ghost use Rattle.cov_base.specs.declared.number.LineRef.TheVariants as lines;
 ghost use Rattle.cov_edit.specs.Numbering.{Numbers, node_number, nodes_made, anchors_of};
 ghost use Rattle.cov_edit.specs.Variant.{Variant, edited};
 ghost use Rattle.cov_view.specs.References.{is_made_node};
@@ -13,12 +12,13 @@ ghost use Rattle.cov_view.specs.Lines.{after_ref, without_ref};
 ghost use Rattle.cov_view.specs.Listing.{IsListingOf, listed_in};
 ghost use Rattle.cov_view.specs.Refusals.{shows_node, is_dir, refusal, takes_memory};
 ghost use Rattle.cov_view.specs.Paths.{path_node, shown_kind, AreLinesOf};
-ghost use Rattle.cov_view.specs.Seen.{Seen, kind_in, node_at, lines_in, has_child, is_there, kind_is_dir, new_fault, line_fault, rename_fault, move_fault, remove_fault, seen_fault, seen_after, at_row, with_lines_by, with_name_by, with_parent_by, without_node, AreRows};
+ghost use Rattle.cov_view.specs.Seen.{Seen, kind_in, node_at, lines_in, has_child, is_there, kind_is_dir, new_fault, line_fault, rename_fault, move_fault, remove_fault, seen_fault, seen_after, at_row, with_lines_by, with_name_by, with_parent_by, with_row, without_node, AreRows};
 ghost use Rattle.cov_view.specs.SeenTree.{tree_in};
 ghost use Rattle.cov_view.specs.Soundness.{AreOld, old_row, fault_in};
 ghost use Rattle.cov_view.specs.Tree.{tree_of, IsTreeOf};
 ghost use Rattle.cov_view.specs.Views.{Shows, table_after, next_by_number, FaultBy};
 
+use crate::adding::append_lines;
 use crate::line::copied;
 use crate::listing::listing;
 use crate::row::{ViewRow, is_root, shows_anchor, shows_line};
@@ -26,8 +26,9 @@ use crate::rows::Rows;
 use crate::soundness::first_fault;
 use crate::tree::tree;
 use crate::{DirRows, EditFault, Fault, ListFault, ReadFaultOfView, TreeRows, ViewLine, ViewLines};
-use cov_base::{Kind, LineNo, LineRef, Memory, Name, NodeNo, NodeRef, Path, Text};
+use cov_base::{Kind, LineRef, Memory, Name, NodeNo, NodeRef, Path, Text};
 use cov_edit::Edit;
+use cov_line::{FileRows, SharedText};
 use std::alloc::Global;
 use std::marker::Model;
 
@@ -86,19 +87,15 @@ impl View {
         self.rows.push(row)
     }
 
-    /// Appends a line that a history has to its file, which was added before.
-    pub fn add_line(&mut self, file: NodeNo, line: LineNo, text: &Text) -> Result<(), Memory>
+    /// Appends lines that a history has to their file, which was added before. It looks the file up once and copies no text; at an
+    /// `Err` some of the lines are there.
+    pub fn add_lines(&mut self, file: NodeNo, lines: &FileRows) -> Result<(), Memory>
         requires { kind_in self.old.rows (NodeRef.Old file) ≡ Some File }
-        ensures rows { OnOk result (self.new.rows ≡ at_row (NodeRef.Old file) (with_lines_by (λ ls. ls ++ record { line = lines.Old line; text = text.now } ∷ [])) self.old.rows) }
+        ensures rows { OnOk result (self.new.rows ≡ fold (with_row file) self.old.rows lines.now) }
         ensures nodes { self.new.nodes_made ≡ self.old.nodes_made }
         ensures lines { self.new.lines_made ≡ self.old.lines_made }
-        ensures err { OnErr result (self.new ≡ self.old) }
     {
-        let added = ViewLine {
-            line: LineRef::Old(line),
-            text: text.copy()?,
-        };
-        self.rows.append_line(&NodeRef::Old(file), added)
+        append_lines(&mut self.rows, file, lines)
     }
 
     /// How many nodes edits have made.
@@ -409,7 +406,7 @@ impl View {
     {
         let line = ViewLine {
             line: LineRef::New(self.lines_made),
-            text: text.copy()?,
+            text: SharedText::from_slice(self.rows.allocator(), text.as_slice())?,
         };
         self.rows.insert_line(file, after, line)?;
         self.lines_made += 1;

@@ -13,7 +13,7 @@ use cov_dd::{FALSE, TRUE};
 use cov_edit::{Command, Edit, Edits};
 use cov_engine::{Engine, NoSuchLine};
 use cov_expr::{Expr, Part};
-use cov_file::FileRows;
+use cov_line::FileRows;
 use cov_view::{View, ViewLines};
 use cov_vis::{Child, ListingEntry};
 use std::alloc::Global;

@@ -1,5 +1,6 @@
 //! A variant as a tree of paths, and its digest.
-use cov_base::{Kind, LineNo, Name, NodeNo, NodeRef, Text};
+use super::texts::one_row;
+use cov_base::{Kind, Name, NodeNo, NodeRef, Text};
 use cov_view::{TreeRow, TreeRows, View, digest, dirs_in, files_in};
 use std::alloc::Global;
 use std::process::Abort;
@@ -57,9 +58,9 @@ fn add_node(
 }
 
 fn add_line(alloc: Global, view: &mut View, line: u32, file: u32, text: &str) -> Result<(), Fail> {
-    let text = Text::from_slice(alloc, text.as_bytes())?;
+    let rows = one_row(alloc, line, text.as_bytes())?;
     match view.kind(NodeRef::Old(NodeNo::new(file))) {
-        Some(Kind::File) => Ok(view.add_line(NodeNo::new(file), LineNo::new(line), &text)?),
+        Some(Kind::File) => Ok(view.add_lines(NodeNo::new(file), &rows)?),
         Some(Kind::Dir) | None => Err(Fail::from("no file")),
     }
 }

@@ -1,11 +1,12 @@
 // Lines with their texts.
-use cov_base::{LineNo, List, Text};
+use crate::SharedText;
+use cov_base::{LineNo, List};
 
 /// A line of a file.
 #[derive(Debug, Drop)]
 pub struct FileRow {
     pub line: LineNo,
-    pub text: Text,
+    pub text: SharedText,
 }
 
 /// Lines of a file, in order.

@@ -1,8 +1,0 @@
-use Rattle.std.proofs.Common.{refl}
-use Rattle.cov_base.specs.declared.number.NodeRef.TheVariants as nodes
-use Rattle.cov_view.proofs.Changes.{rows-kept}
-use Rattle.cov_view.proofs.view.View.add_line.Goals as goal
-
-pub invariant_of-self : goal.invariant_of-self
-invariant_of-self c =
-    rows-kept c.append_line.result c.self.inside.nodes_made (nodes.Old c.args.file) _ (λ q. refl) c.self.inside.rows c.append_line.new.self c.append_line.ensures.ok c.append_line.ensures.err c.self.invariant
