@@ -52,9 +52,13 @@ pub record IsGivenUp (prepared : Pending) (back : EngineValue × Refusal) : Type
   pub extends : Extends prepared.table back.0.table
   pub wanting : back.1 ≡ refusals.Memory
 
+-- a history with the command that was prepared after it
+abbrev pub with_command : Pending → List Command
+with_command prepared = prepared.history ++ prepared.command ∷ []
+
 -- a command that was prepared is part of the history
 pub record IsInstalled (prepared : Pending) (done : EngineValue × Receipt) : Type 0 where
-  pub history : done.0.history ≡ prepared.history ++ prepared.command ∷ []
+  pub history : done.0.history ≡ with_command prepared
   pub extends : Extends prepared.table done.0.table
   pub position : done.1.position ≡ length prepared.history + 1
   pub number : done.1.number ≡ receipt_number prepared.history prepared.command

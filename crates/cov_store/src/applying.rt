@@ -5,7 +5,7 @@ ghost use Rattle.cov_dd.specs.Diagrams.{Extends};
 ghost use Rattle.cov_disk.specs.Images.{LeavesOnly};
 ghost use Rattle.cov_history.specs.Verdict.{IsLegal, verdict};
 ghost use Rattle.cov_journal.specs.Gates.{HasGate};
-ghost use Rattle.cov_store.specs.Applying.{IsAccepted, IsReady, IsReadyFor, IsGivenBack, IsGivenUp, IsInstalled};
+ghost use Rattle.cov_store.specs.Applying.{IsAccepted, IsReady, IsReadyFor, IsGivenBack, IsGivenUp, IsInstalled, with_command};
 ghost use Rattle.cov_store.specs.Stands.{IsStored, IsJournalOf, gate_of};
 
 use crate::Store;
@@ -88,7 +88,7 @@ fn give_up(prepared: Prepared, journal: Journal) -> Store
     Store { engine, journal }
 }
 
-/// Appends a record for which there is room, and then installs its command.
+/// Appends the record of a command for which there is room, and then installs the command.
 pub(crate) fn write<D: Disk>(ready: Ready, disk: &mut D) -> Result<(Store, Receipt), Failed>
     requires journal { IsJournalOf ready.journal ready.prepared.history }
     requires accepted { IsAccepted ready.prepared.history ready.prepared.command ready.payload }
@@ -96,12 +96,42 @@ pub(crate) fn write<D: Disk>(ready: Ready, disk: &mut D) -> Result<(Store, Recei
     requires gate { HasGate (D.contents disk.old) (gate_of ready.prepared.history) }
     ensures installed { IfOk result (IsInstalled ready.prepared) }
     ensures written { IfSome (D.contents disk.old) (λ image. IsStored image ready.prepared.history) →
-        OnOk result (IfSome (D.contents disk.new) (λ image. IsStored image (ready.prepared.history ++ ready.prepared.command ∷ []))) }
-    ensures gate { OnOk result (HasGate (D.contents disk.new) (gate_of (ready.prepared.history ++ ready.prepared.command ∷ []))) }
+        OnOk result (IfSome (D.contents disk.new) (λ image. IsStored image (with_command ready.prepared))) }
+    ensures gate { OnOk result (HasGate (D.contents disk.new) (gate_of (with_command ready.prepared))) }
     ensures stored { ((image : List ℕ) → D.images disk.old image → IsStored image ready.prepared.history) →
-        OnOk result ((image : List ℕ) → D.images disk.new image → IsStored image (ready.prepared.history ++ ready.prepared.command ∷ [])) }
+        OnOk result ((image : List ℕ) → D.images disk.new image → IsStored image (with_command ready.prepared)) }
     ensures any_moment { ((image : List ℕ) → D.images disk.old image → IsStored image ready.prepared.history) →
-        LeavesOnly D.moment D.images_since disk.old disk.new (λ image. IsStored image ready.prepared.history ⊎ IsStored image (ready.prepared.history ++ ready.prepared.command ∷ [])) }
+        LeavesOnly D.moment D.images_since disk.old disk.new (λ image. IsStored image ready.prepared.history ⊎ IsStored image (with_command ready.prepared)) }
+    ensures cause { HasCause (D.faults disk.old) (D.faults disk.new) result }
+{
+    match append(ready, disk) {
+        Ok(appended) => Ok(install(appended)),
+        Err(Failed) => Err(Failed),
+    }
+}
+
+// A command that is prepared, and the journal that goes on behind its record.
+#[derive(Drop)]
+struct Appended {
+    prepared: Prepared,
+    journal: Journal,
+}
+
+// Appends the record of a command for which there is room.
+fn append<D: Disk>(ready: Ready, disk: &mut D) -> Result<Appended, Failed>
+    requires journal { IsJournalOf ready.journal ready.prepared.history }
+    requires accepted { IsAccepted ready.prepared.history ready.prepared.command ready.payload }
+    requires room { length ready.payload + 37 ≤ ready.journal.spare }
+    requires gate { HasGate (D.contents disk.old) (gate_of ready.prepared.history) }
+    ensures prepared { IfOk result (λ appended. appended.prepared ≡ ready.prepared) }
+    ensures journal { IfOk result (λ appended. IsJournalOf appended.journal (with_command appended.prepared)) }
+    ensures written { IfSome (D.contents disk.old) (λ image. IsStored image ready.prepared.history) →
+        OnOk result (IfSome (D.contents disk.new) (λ image. IsStored image (with_command ready.prepared))) }
+    ensures gate { OnOk result (HasGate (D.contents disk.new) (gate_of (with_command ready.prepared))) }
+    ensures stored { ((image : List ℕ) → D.images disk.old image → IsStored image ready.prepared.history) →
+        OnOk result ((image : List ℕ) → D.images disk.new image → IsStored image (with_command ready.prepared)) }
+    ensures any_moment { ((image : List ℕ) → D.images disk.old image → IsStored image ready.prepared.history) →
+        LeavesOnly D.moment D.images_since disk.old disk.new (λ image. IsStored image ready.prepared.history ⊎ IsStored image (with_command ready.prepared)) }
     ensures cause { HasCause (D.faults disk.old) (D.faults disk.new) result }
 {
     let Ready {
@@ -110,15 +140,22 @@ pub(crate) fn write<D: Disk>(ready: Ready, disk: &mut D) -> Result<(Store, Recei
         payload,
     } = ready;
     match journal.append(disk, payload.as_slice()) {
-        Ok(journal) => {
-            let (engine, receipt) = prepared.install();
-            Ok((Store { engine, journal }, receipt))
-        }
+        Ok(journal) => Ok(Appended { prepared, journal }),
         Err(Failed) => {
             lose(prepared);
             Err(Failed)
         }
     }
+}
+
+// Installs a command whose record is appended.
+fn install(appended: Appended) -> (Store, Receipt)
+    requires journal { IsJournalOf appended.journal (with_command appended.prepared) }
+    ensures { IsInstalled appended.prepared result }
+{
+    let Appended { prepared, journal } = appended;
+    let (engine, receipt) = prepared.install();
+    (Store { engine, journal }, receipt)
 }
 
 // Drops what is prepared, here alone.

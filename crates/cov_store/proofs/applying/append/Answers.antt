@@ -1,9 +1,9 @@
-use Rattle.std.proofs.Common.{arith, ap, length, subst, sym}
+use Rattle.std.proofs.Common.{arith, ap, length}
 use Rattle.cov_journal.proofs.CallerLemmas.{some_to}
 use Rattle.cov_journal.specs.Journal.{IsWritten}
-use Rattle.cov_store.specs.Stands.{payloads, IsStored, IsJournalOf}
+use Rattle.cov_store.specs.Stands.{payloads, IsStored}
 use Rattle.cov_store.proofs.Applies.{gate_with, journal_with, moments_with, near, short, stored_with, told_with}
-use Rattle.cov_store.proofs.applying.write.Goals as goal
+use Rattle.cov_store.proofs.applying.append.Goals as goal
 
 pub append-requires-clause-payload : goal.append-requires-clause-payload
 append-requires-clause-payload g c =
@@ -15,12 +15,11 @@ append-requires-clause-end g c =
     let r = c.args.ready in
     omega (arith, ap length c.as_slice.ensures, near r.prepared.history r.prepared.command r.payload c.requires.accepted r.journal c.requires.journal)
 
-pub invariant_of-result : goal.invariant_of-result
-invariant_of-result g c =
+pub returns-in-Ok-clause-journal : goal.returns-in-Ok-clause-journal
+returns-in-Ok-clause-journal g c =
     let r = c.args.ready in
-    subst (IsJournalOf c.in-Ok.journal) (sym c.install-engine.ensures.history)
-    (journal_with r.prepared.history r.prepared.command r.payload c.requires.accepted r.journal c.requires.journal c.as_slice.result.now c.as_slice.ensures c.in-Ok.journal
-    (c.in-Ok.ensures.fits (payloads r.prepared.history) c.requires.journal.fits))
+    journal_with r.prepared.history r.prepared.command r.payload c.requires.accepted r.journal c.requires.journal c.as_slice.result.now c.as_slice.ensures c.in-Ok.journal
+    (c.in-Ok.ensures.fits (payloads r.prepared.history) c.requires.journal.fits)
 
 pub returns-in-Ok-clause-written : goal.returns-in-Ok-clause-written
 returns-in-Ok-clause-written g c held =
