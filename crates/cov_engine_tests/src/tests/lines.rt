@@ -5,9 +5,9 @@ ghost use Rattle.cov_edit.specs.EditFits.{has_line_text};
 ghost use Rattle.cov_engine_tests.specs.Lines.{ambition_of, file_m, line_in, file_with, line_after, without, commit_of, with_X, without_X};
 
 use crate::tests::steps::{append, close, declare_d};
+use crate::tests::trees::making;
 use cov_base::{
-    Choice, Kind, LineNo, LineRef, Memory, MemoryOr, Name, NodeNo, NodeRef, OptionId, Position,
-    Text,
+    Choice, Kind, LineNo, LineRef, Memory, MemoryOr, NodeNo, NodeRef, OptionId, Position, Text,
 };
 use cov_dd::{FALSE, TRUE};
 use cov_edit::{Command, Edit, Edits};
@@ -20,14 +20,27 @@ use std::alloc::Global;
 use std::process::Abort;
 use std::test::Fail;
 
-/// All variants, or those with d.
-pub(crate) fn ambition(for_d: bool) -> Result<Expr, Fail>
+// All variants, or those with d.
+fn ambition(for_d: bool) -> Result<Expr, Fail>
     ensures { IfOk result (λ expr. expr ≡ ambition_of for_d) }
 {
     match for_d {
         true => Ok(Expr::new(Part::Option(OptionId::new(0)))?),
         false => Ok(Expr::new(Part::True)?),
     }
+}
+
+/// A commit of edits on the variant of a choice.
+pub(crate) fn command(base: u32, choice: Choice, for_d: bool, edits: Edits) -> Result<Command, Fail>
+    ensures { IfOk result (λ command. command ≡ commit_of base choice for_d edits) }
+{
+    let ambition = ambition(for_d)?;
+    Ok(Command::Commit {
+        base: Position::new(base),
+        choice,
+        ambition,
+        edits,
+    })
 }
 
 /// Commits edits on the variant of a choice.
@@ -40,13 +53,7 @@ pub(crate) fn commit(
 ) -> Result<(), Fail>
     ensures { OnOk result (engine.new.history ≡ engine.old.history ++ commit_of base choice for_d edits ∷ []) }
 {
-    let ambition = ambition(for_d)?;
-    let command = Command::Commit {
-        base: Position::new(base),
-        choice,
-        ambition,
-        edits,
-    };
+    let command = command(base, choice, for_d, edits)?;
     append(engine, command)?;
     Ok(())
 }
@@ -84,12 +91,7 @@ pub(crate) fn insertion(
 fn new_file(alloc: Global) -> Result<Edits, Fail>
     ensures { IfOk result (λ edits. edits ≡ file_m ∷ []) }
 {
-    let name = Name::read(alloc, b"m")?;
-    let edit = Edit::New {
-        kind: Kind::File,
-        parent: NodeRef::Old(NodeNo::new(0)),
-        name,
-    };
+    let edit = making(alloc, Kind::File, 0, b"m")?;
     Ok(one(alloc, edit)?)
 }
 

@@ -2,10 +2,11 @@
 ghost use Rattle.std.specs.Prelude.{◌≡◌, [], ◌∷◌, false, codes, IfOk, OnOk};
 ghost use Rattle.cov_engine_tests.specs.Lines.{commit_of, file_n, line_after, with_X, with_Y};
 
-use crate::tests::lines::{ambition, commit, insert, insert_lines, insertion, one};
+use crate::tests::lines::{command, commit, insert, insert_lines, insertion, one};
 use crate::tests::steps::close;
-use cov_base::{Choice, Kind, Name, NodeNo, NodeRef, Position};
-use cov_edit::{Command, Edit, Edits};
+use crate::tests::trees::making;
+use cov_base::{Choice, Kind, NodeNo, NodeRef};
+use cov_edit::Edits;
 use cov_engine::{Engine, Refusal};
 use std::alloc::Global;
 use std::process::Abort;
@@ -15,12 +16,7 @@ use std::test::Fail;
 fn other_file(alloc: Global) -> Result<Edits, Fail>
     ensures { IfOk result (λ edits. edits ≡ file_n ∷ []) }
 {
-    let name = Name::read(alloc, b"n")?;
-    let edit = Edit::New {
-        kind: Kind::File,
-        parent: NodeRef::Old(NodeNo::new(0)),
-        name,
-    };
+    let edit = making(alloc, Kind::File, 0, b"n")?;
     Ok(one(alloc, edit)?)
 }
 
@@ -38,13 +34,7 @@ fn insert_beside(alloc: Global, engine: &mut Engine) -> Result<(), Fail>
 fn overtaker(alloc: Global, engine: &mut Engine, base: u32) -> Result<Option<u32>, Fail> {
     let edit = insertion(alloc, NodeRef::Old(NodeNo::new(1)), 1, b"Z")?;
     let edits = one(alloc, edit)?;
-    let ambition = ambition(false)?;
-    let command = Command::Commit {
-        base: Position::new(base),
-        choice: Choice::new(0, 1),
-        ambition,
-        edits,
-    };
+    let command = command(base, Choice::new(0, 1), false, edits)?;
     match engine.append(command) {
         Ok(_) => Ok(None),
         Err(refusal) => Ok(Some(position_of(refusal)?)),

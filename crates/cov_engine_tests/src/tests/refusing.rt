@@ -3,10 +3,10 @@ ghost use Rattle.std.specs.Prelude.{◌≡◌, ◌<◌, [], true};
 ghost use Rattle.cov_base.specs.declared.limits.TheConstants.{CHOICE_WIDTH};
 ghost use Rattle.cov_edit.specs.EditFits.{has_line_text};
 
-use crate::tests::lines::{ambition, insert_lines, insertion, one};
+use crate::tests::lines::{command, insert_lines, insertion, one};
 use crate::tests::steps::{append, close};
 use crate::tests::trees::also;
-use cov_base::{Choice, LineNo, LineRef, Memory, NodeNo, NodeRef, OptionId, Position};
+use cov_base::{Choice, LineNo, LineRef, Memory, NodeNo, NodeRef, OptionId};
 use cov_edit::{Command, Edit, Edits};
 use cov_engine::{Engine, Refusal};
 use cov_expr::{Expr, Part};
@@ -29,13 +29,7 @@ fn refusal_of(
     for_d: bool,
     edits: Edits,
 ) -> Result<Refusal, Fail> {
-    let ambition = ambition(for_d)?;
-    let command = Command::Commit {
-        base: Position::new(base),
-        choice,
-        ambition,
-        edits,
-    };
+    let command = command(base, choice, for_d, edits)?;
     refused(engine, command)
 }
 

@@ -94,8 +94,8 @@ fn old(node: u32) -> NodeRef
     NodeRef::Old(NodeNo::new(node))
 }
 
-// A file or directory made in a directory.
-fn making(alloc: Global, kind: Kind, parent: u32, name: &[u8]) -> Result<Edit, Fail>
+/// A file or directory made in a directory.
+pub(crate) fn making(alloc: Global, kind: Kind, parent: u32, name: &[u8]) -> Result<Edit, Fail>
     ensures { IfOk result (λ edit. edit ≡ edits.New kind (nodes.Old parent) name.now) }
 {
     let name = Name::read(alloc, name)?;
