@@ -1,21 +1,17 @@
 -- A commit that is staged, and then installed.
-use Rattle.std.proofs.Common.{◌≡◌, ℕ, ◌+◌, ◌<◌, ◌≤◌, ◌^◌, Bool, true, false, ◌||◌, nat_eq, nat_lt, List, [], ◌∷◌, ◌++◌, length, map, take, drop, append-nil, Option, Some, None, refl, sym, ap, subst, ◌∙◌, arith}
+use Rattle.std.proofs.Common.{◌≡◌, ℕ, ◌+◌, ◌<◌, ◌≤◌, ◌^◌, Bool, true, false, nat_eq, List, [], ◌∷◌, ◌++◌, length, map, take, append-nil, Option, Some, None, refl, sym, ap, subst, ◌∙◌, arith}
 use Rattle.std.specs.List.{AllByRecursion}
 use Rattle.std.specs.Option.{option_map_or}
-use Rattle.std.proofs.lemmas.List.{take-append-drop}
 use Rattle.cov_base.proofs.CallerLemmas.{all-map, all-both, all-append}
 use Rattle.cov_base.specs.declared.limits.TheConstants.{LIMITS}
 use Rattle.cov_expr.specs.Formula.{Formula, reach}
 use Rattle.cov_edit.specs.declared.edit.Edit.{Edit}
 use Rattle.cov_edit.specs.declared.command.Command.{Command}
 use Rattle.cov_edit.specs.declared.command.Command.TheVariants as commands
-use Rattle.cov_edit.specs.History.{options_of, option_count, text_bytes, byte_count}
+use Rattle.cov_edit.specs.History.{options_of, option_count}
 use Rattle.cov_edit.specs.Numbering.{Numbers, nodes_made, anchors_of, no_numbers, numbers_of, line_count, node_count}
-use Rattle.cov_view.specs.Refusals.{when, first_of}
 use Rattle.cov_engine.specs.declared.store.CommitMark.{CommitMark}
 use Rattle.cov_engine.specs.declared.file_part.FilePart.{FilePart}
-use Rattle.cov_history.specs.declared.refusal.Refusal.{Refusal}
-use Rattle.cov_history.specs.declared.refusal.Refusal.TheVariants as refusals
 use Rattle.cov_engine.specs.Marks.{AreMarks}
 use Rattle.cov_history.specs.Kept.{held_by, kept_of}
 use Rattle.cov_history.specs.Files.{dated, file_dated}
@@ -29,7 +25,7 @@ use Rattle.cov_history.specs.FileNodes.{files_made, files_of}
 use Rattle.cov_history.specs.Sessions.{IsGood, session_of}
 use Rattle.cov_edit.specs.Replay.{replay}
 use Rattle.cov_view.specs.Refusals.{first_refused}
-use Rattle.cov_history.specs.Verdict.{IsLegal, verdict, when_full, refusals_of, size_refusals}
+use Rattle.cov_history.specs.Verdict.{IsLegal, verdict}
 use Rattle.cov_history.specs.FileOfLine.{new_file_of_line, AreFilesOfLines}
 use Rattle.cov_engine.specs.Staging.{Contents, contents, new_files, AreNear, AreLow, HasRoom, named_line}
 use Rattle.cov_engine.specs.Staged.{IsStaged}
@@ -43,66 +39,15 @@ use Rattle.cov_engine.specs.declared.edit_plan.EditPlan.TheVariants as plans
 use Rattle.cov_history.proofs.CallerLemmas.{commit-lines, files-commit, files-rise, lines-edits, all-mapped, base-nodes, new-files_of_lines-count}
 use Rattle.cov_engine.proofs.FileLines.{all-unmapped}
 use Rattle.cov_edit.proofs.CallerLemmas.{numbers_from-append}
-use Rattle.cov_engine.proofs.Holdings.{as-many-options}
+use Rattle.cov_engine.proofs.Refused.{declared-less}
 use Rattle.cov_engine.proofs.Rooms.{staged-nodes}
 use Rattle.cov_engine.proofs.RowPlans.{entries-committed, files-kinds, made-below}
-use Rattle.cov_engine.proofs.States.{length-one, not-below, options-append}
+use Rattle.cov_engine.proofs.States.{length-one, options-append}
 use Rattle.cov_engine.proofs.Marking.{marks-committed}
 use Rattle.cov_engine.proofs.Named.{edits-named, named-near, legal-files}
 use Rattle.cov_engine.proofs.MidCommit.{IsHere, AreHere, carried, line-files-along, named-low}
 use Rattle.cov_engine.proofs.Started.{planned-right}
 use Rattle.cov_engine.proofs.Committed.{new-files-all, line-files-after, file-empty}
-
-abbrev head_of : List (Option Refusal) → Option Refusal
-head_of [] = None
-head_of (o ∷ os) = o
-
-abbrev tail_of : List (Option Refusal) → List (Option Refusal)
-tail_of [] = []
-tail_of (o ∷ os) = os
-
-none-first : (os : List (Option Refusal)) → first_of os ≡ None → head_of os ≡ None
-none-first [] h = refl
-none-first (None ∷ os) h = refl
-none-first (Some r ∷ os) h = absurd (cc)
-
-none-later : (os : List (Option Refusal)) → first_of os ≡ None → first_of (tail_of os) ≡ None
-none-later [] h = refl
-none-later (None ∷ os) h = h
-none-later (Some r ∷ os) h = absurd (cc)
-
-none-when : (b : Bool) (r : Refusal) → when b r ≡ None → b ≡ false
-none-when false r h = refl
-none-when true r h = absurd (cc)
-
-or-second : (a b : Bool) → (a || b) ≡ false → b ≡ false
-or-second false b h = h
-or-second true b h = absurd (cc)
-
--- a commit that isn't refused for its sizes stays within the limits
-module _ (history : List Command) (es : List Edit) (others : List (Option Refusal)) (sized : first_of (size_refusals history es ++ others) ≡ None) where
-  abbrev sizes : List (Option Refusal)
-  sizes = size_refusals history es ++ others
-
-  pub edits-few : length es ≤ LIMITS.edits
-  edits-few = not-below LIMITS.edits (length es) (none-when (nat_lt LIMITS.edits (length es)) refusals.TooManyEdits (none-first sizes sized))
-
-  pub lines-few : line_count history + length (anchors_of 0 es) ≤ LIMITS.lines
-  lines-few =
-      not-below LIMITS.lines (line_count history + length (anchors_of 0 es))
-      (none-when (nat_lt LIMITS.lines (line_count history + length (anchors_of 0 es))) refusals.TooManyLines (none-first (tail_of sizes) (none-later sizes sized)))
-
-  pub nodes-few : node_count history + nodes_made es ≤ LIMITS.nodes
-  nodes-few =
-      not-below LIMITS.nodes (node_count history + nodes_made es)
-      (none-when (nat_lt LIMITS.nodes (node_count history + nodes_made es)) refusals.TooManyNodes (none-first (tail_of (tail_of sizes)) (none-later (tail_of sizes) (none-later sizes sized))))
-
-  pub bytes-few : byte_count history + text_bytes es ≤ LIMITS.bytes
-  bytes-few =
-      not-below LIMITS.bytes (byte_count history + text_bytes es)
-      (or-second (nat_lt LIMITS.commit_bytes (text_bytes es)) (nat_lt LIMITS.bytes (byte_count history + text_bytes es))
-      (none-when (nat_lt LIMITS.commit_bytes (text_bytes es) || nat_lt LIMITS.bytes (byte_count history + text_bytes es)) refusals.TooManyBytes
-      (none-first (tail_of (tail_of (tail_of sizes))) (none-later (tail_of (tail_of sizes)) (none-later (tail_of sizes) (none-later sizes sized))))))
 
 -- the nodes that its edits name have small numbers
 pub edits-near : (history : List Command) (base : ℕ) (choice : List Bool) (es : List Edit) → node_count history + nodes_made es ≤ LIMITS.nodes
@@ -117,21 +62,6 @@ edits-low history base choice ambition es few good legal =
     all-map (λ e. named_line (line_count history) e ≤ LIMITS.lines) (λ e. named_line (line_count history) e < 2 ^ 32) (λ e low. omega (arith, low)) es
     (named-low history base choice ambition es good legal LIMITS.lines es [] refl
     (let same = sym (new-files_of_lines-count 0 (line_count history) es) ∙ new-files_of_lines-count 0 0 es in omega (arith, few, same)))
-
--- the refusals of an accepted commit for its sizes, with those after them
-pub accepted-sizes : (history : List Command) (base : ℕ) (choice : List Bool) (ambition : Formula ℕ) (es : List Edit) → verdict history (commands.Commit base choice ambition es) ≡ None
-    → (others : List (Option Refusal)) × (first_of (size_refusals history es ++ others) ≡ None)
-accepted-sizes history base choice ambition es accepted = (
-  tail_of (tail_of (tail_of (tail_of (tail_of (tail_of (tail_of tests)))))),
-  none-later (tail_of (tail_of tests)) (none-later (tail_of tests) (none-later tests accepted)),
-)
-  where
-    tests : List (Option Refusal)
-    tests = when_full history ∷ refusals_of history (commands.Commit base choice ambition es)
-
--- no fewer options are declared later
-pub declared-less : (base : ℕ) (history : List Command) → option_count (take base history) ≤ option_count history
-declared-less base history = subst (λ h. option_count (take base history) ≤ option_count h) (take-append-drop base history) (as-many-options (take base history) (drop base history))
 
 -- stored files that are the same but for their room have the same files
 pub files-contents : (history : List Command) (ts : List Triple) (old now : List FilePart) → map contents now ≡ map contents old → AllByRecursion (IsFileOf history ts) old → AllByRecursion (IsFileOf history ts) now

@@ -1,6 +1,7 @@
 -- What is shown of the files with some nodes is the variant with the lines of these files alone.
 use Rattle.std.proofs.Common.{◌≡◌, refl, ap, sym, subst, ◌∙◌, ℕ, zero, suc, ◌+◌, ◌<◌, ◌≤◌, Bool, true, false, cond, ◌&&◌, ◌||◌, nat_eq, nat_lt, List, [], ◌∷◌, ◌++◌, length, map, take, append_assoc, Option, Some, None, option_map, arith}
 use Rattle.std.specs.List.{fold, AllByRecursion}
+use Rattle.std.proofs.lemmas.Bool.{or_parts}
 use Rattle.std.proofs.lemmas.Bool.Decides.{nat_tests}
 use Rattle.cov_base.specs.Addresses.{line_of, AreInOrder, IsLineOf}
 use Rattle.cov_base.specs.Rows.{Row, has_node, AreDistinct, AreOnce}
@@ -41,14 +42,6 @@ use Rattle.cov_engine.proofs.LinesRead.{lines-read}
 use Rattle.cov_engine.proofs.NamedFiles.{is_kept, lines-only, named-same, only}
 use Rattle.cov_engine.proofs.StoredFiles.{equal}
 use Rattle.cov_engine.proofs.Views.{lines-below, rows-made}
-
-or-first : (a b : Bool) → (a || b) ≡ false → a ≡ false
-or-first true b h = absurd (cc)
-or-first false b h = refl
-
-or-second : (a b : Bool) → (a || b) ≡ false → b ≡ false
-or-second true b h = absurd (cc)
-or-second false b h = h
 
 or-both : (a b : Bool) → a ≡ false → b ≡ false → (a || b) ≡ false
 or-both a b g h = λ i. g i || h i
@@ -113,14 +106,14 @@ module _ (ts : List Triple) (c : List Bool) (at : ℕ) (stored : List FilePart) 
   -- rows of other nodes are as they were
   others : (x : ℕ) (has : ℕ → Bool) (rs : List Row) → has_node x (map (λ r. r.node) rs) ≡ false → map (row_with has) rs ≡ map (row_with (also x has)) rs
   others x has [] h = refl
-  others x has (r ∷ rs) h = λ i. row_by (own i) ∷ others x has rs (or-second (nat_eq r.node x) _ h) i
+  others x has (r ∷ rs) h = λ i. row_by (own i) ∷ others x has rs (or_parts (nat_eq r.node x) _ h).1 i
     where
       row_by : Bool → ViewRow
       row_by b = record { node = nodes.Old r.node; kind = r.kind; parent = nodes.Old r.parent; name = r.name; lines = row_lines r.kind b r.node }
 
       own : has r.node ≡ also x has r.node
       own =
-          let differs = or-first (nat_eq r.node x) (has_node x (map (λ s. s.node) rs)) h in
+          let differs = (or_parts (nat_eq r.node x) (has_node x (map (λ s. s.node) rs)) h).0 in
           let is : nat_eq x r.node ≡ false = grind (arith, nat_tests, differs) in
           ap (λ b. b || has r.node) (sym is)
 

@@ -60,10 +60,10 @@ use Rattle.cov_engine.proofs.StoredFiles.{same-nodes}
 use Rattle.cov_engine.proofs.Rising.{count-front}
 use Rattle.cov_engine.proofs.Rooms.{staged-nodes}
 use Rattle.cov_engine.proofs.RowPlans.{entries-room, makes-room}
-use Rattle.cov_engine.proofs.Refused.{commit-good, commit-sizes, commit-verdict}
+use Rattle.cov_engine.proofs.Refused.{accepted-sizes, bytes-few, commit-good, commit-sizes, commit-verdict, declared-less, edits-few, lines-few, nodes-few}
 use Rattle.cov_engine.proofs.Ruling.{rules-same}
 use Rattle.cov_engine.specs.Refusing.{choice_refusals, commit_refusals, early_refusal, edit_refusals}
-use Rattle.cov_engine.proofs.Installed.{declared-less, lines-few, nodes-few, edits-few, bytes-few, edits-near, edits-low, accepted-sizes, staged-rise, staged-plans, row-later, held-committed, files-contents}
+use Rattle.cov_engine.proofs.Installed.{edits-near, edits-low, staged-rise, staged-plans, row-later, held-committed, files-contents}
 
 -- what is found among the commits is what overtakes in the history
 overtaken-found : (history : List Command) (names : List (List ℕ)) (ts : List Triple) (standing : Standing) (counts : Counts) (commits : List CommitMark) (file_of_line : List ℕ) (entries : Dated) (stored : List FilePart) (valid base : ℕ)

@@ -10,8 +10,8 @@ use Rattle.cov_expr.specs.Validity.{is_valid, first_false}
 use Rattle.cov_edit.specs.declared.edit.Edit.{Edit}
 use Rattle.cov_edit.specs.declared.command.Command.{Command}
 use Rattle.cov_edit.specs.declared.command.Command.TheVariants as commands
-use Rattle.cov_edit.specs.History.{option_count, constraints_of, first_false_in}
-use Rattle.cov_edit.specs.Numbering.{numbers_of}
+use Rattle.cov_edit.specs.History.{option_count, constraints_of, first_false_in, byte_count, text_bytes}
+use Rattle.cov_edit.specs.Numbering.{anchors_of, line_count, node_count, nodes_made, numbers_of}
 use Rattle.cov_edit.specs.Replay.{replay}
 use Rattle.cov_view.specs.Refusals.{when, first_of, first_refused}
 use Rattle.cov_view.specs.declared.fault.EditFault.{EditFault}
@@ -28,6 +28,7 @@ use Rattle.cov_engine.specs.Refusing.{base_refusals, choice_refusals, commit_ref
 use Rattle.cov_engine.specs.Staging.{sizes_refusal}
 use Rattle.cov_engine.specs.States.{AreCountsOf}
 use Rattle.cov_engine.specs.declared.counts.Counts.{Counts}
+use Rattle.cov_engine.proofs.States.{not-below}
 
 module _ {F : Type 0} where
   -- refusals before others, or the others
@@ -121,6 +122,47 @@ module _ (history : List Command) (base : ℕ) (choice : List Bool) (ambition : 
         accepted = no-bad_record (first_refused (numbers_of before) (replay choice before) es) bad.0;
       }
 
+-- a commit that isn't refused for its sizes stays within the limits
+module _ (history : List Command) (es : List Edit) (others : List (Option Refusal)) (sized : first_of (size_refusals history es ++ others) ≡ None) where
+  abbrev too_much : Bool
+  too_much = nat_lt LIMITS.commit_bytes (text_bytes es) || nat_lt LIMITS.bytes (byte_count history + text_bytes es)
+
+  -- no test of a size holds
+  none-beyond : (nat_lt LIMITS.edits (length es) ≡ false) × (nat_lt LIMITS.lines (line_count history + length (anchors_of 0 es)) ≡ false)
+      × (nat_lt LIMITS.nodes (node_count history + nodes_made es) ≡ false) × (too_much ≡ false)
+  none-beyond =
+      let edits = none-when (nat_lt LIMITS.edits (length es)) refusals.TooManyEdits _ sized in
+      let lines = none-when (nat_lt LIMITS.lines (line_count history + length (anchors_of 0 es))) refusals.TooManyLines _ edits.1 in
+      let nodes = none-when (nat_lt LIMITS.nodes (node_count history + nodes_made es)) refusals.TooManyNodes _ lines.1 in
+      (edits.0, lines.0, nodes.0, (none-when too_much refusals.TooManyBytes _ nodes.1).0)
+
+  pub edits-few : length es ≤ LIMITS.edits
+  edits-few = not-below LIMITS.edits (length es) none-beyond.0
+
+  pub lines-few : line_count history + length (anchors_of 0 es) ≤ LIMITS.lines
+  lines-few = not-below LIMITS.lines (line_count history + length (anchors_of 0 es)) none-beyond.1
+
+  pub nodes-few : node_count history + nodes_made es ≤ LIMITS.nodes
+  nodes-few = not-below LIMITS.nodes (node_count history + nodes_made es) none-beyond.2
+
+  pub text-few : text_bytes es ≤ LIMITS.commit_bytes
+  text-few =
+      not-below LIMITS.commit_bytes (text_bytes es)
+      (or_parts (nat_lt LIMITS.commit_bytes (text_bytes es)) (nat_lt LIMITS.bytes (byte_count history + text_bytes es)) none-beyond.3).0
+
+  pub bytes-few : byte_count history + text_bytes es ≤ LIMITS.bytes
+  bytes-few =
+      not-below LIMITS.bytes (byte_count history + text_bytes es)
+      (or_parts (nat_lt LIMITS.commit_bytes (text_bytes es)) (nat_lt LIMITS.bytes (byte_count history + text_bytes es)) none-beyond.3).1
+
+-- the refusals of an accepted commit for its sizes, with those after them
+pub accepted-sizes : (history : List Command) (base : ℕ) (choice : List Bool) (ambition : Formula ℕ) (es : List Edit) → verdict history (commands.Commit base choice ambition es) ≡ None
+    → (others : List (Option Refusal)) × (first_of (size_refusals history es ++ others) ≡ None)
+accepted-sizes history base choice ambition es accepted =
+    let room = none-when (nat_le LIMITS.commands (length history)) refusals.Full (refusals_of history (commands.Commit base choice ambition es)) accepted in
+    let at_base = none-when (nat_lt (length history) base) refusals.BadBase _ room.1 in
+    (_, (none-when (not (nat_eq (length choice) (option_count (take base history))) || nat_lt (option_count (take base history)) (reach ambition)) refusals.BadOption _ at_base.1).1)
+
 -- a command that isn't refused early may come
 pub early-may : (history : List Command) (k : Command) → early_refusal history k ≡ None → MayCome history k
 early-may history (commands.Option name) passes = tt
@@ -161,6 +203,10 @@ options-split (suc n) (commands.Constraint expr ∷ history) = options-split n h
 options-split (suc n) (commands.Prefer expr ∷ history) = options-split n history
 options-split (suc n) (commands.Default option on ∷ history) = options-split n history
 options-split (suc n) (commands.Commit base choice ambition es ∷ history) = options-split n history
+
+-- no fewer options are declared later
+pub declared-less : (base : ℕ) (history : List Command) → option_count (take base history) ≤ option_count history
+declared-less base history = let parts = options-split base history in omega (arith, parts)
 
 -- the constraints up to a position have only options that are declared there
 pub rules-within : (history : List Command) (base : ℕ) → IsLegal history → reach_of (constraints_of (take base history)) ≤ option_count (take base history)

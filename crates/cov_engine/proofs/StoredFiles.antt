@@ -2,6 +2,7 @@
 use Rattle.std.proofs.Common.{◌≡◌, ℕ, zero, suc, ◌<◌, ◌≤◌, Bool, true, false, ◌||◌, nat_eq, List, [], ◌∷◌, length, map, get_or, set, slice_get, Some, Ok, Err, refl, sym, ap, subst, ◌∙◌, arith}
 use Rattle.std.specs.Prelude.{Result, OnOk}
 use Rattle.std.specs.List.{AllByRecursion, AllZip}
+use Rattle.std.proofs.lemmas.Bool.{or_parts}
 use Rattle.std.proofs.lemmas.Bool.Decides.{nat_tests}
 use Rattle.cov_base.specs.Rows.{has_node}
 use Rattle.cov_edit.specs.Touched.{AreRising}
@@ -17,14 +18,6 @@ never h = cc
 
 pub equal : (m n : ℕ) → nat_eq m n ≡ true → m ≡ n
 equal m n e = grind (arith, nat_tests, e)
-
-or-first : (a b : Bool) → (a || b) ≡ false → a ≡ false
-or-first true b h = absurd (cc)
-or-first false b h = refl
-
-or-second : (a b : Bool) → (a || b) ≡ false → b ≡ false
-or-second true b h = absurd (cc)
-or-second false b h = h
 
 pub all-get : (P : ℕ → Type 0) (xs : List ℕ) (i y : ℕ) → slice_get xs i ≡ Some y → AllByRecursion P xs → P y
 all-get P [] i y h all = absurd (cc)
@@ -49,7 +42,7 @@ module _ (file : ℕ) (P : FilePart → FilePart → Type 0) where
   -- where the file has no stored file, none is changed
   pub none-changed : (es : List FilePart) → has_node file (map part_node es) ≡ false → AllZip (IsChangedIn file P) es es
   none-changed [] h = tt
-  none-changed (e ∷ es) h = (same-one e (or-first (nat_eq e.node file) (has_node file (map part_node es)) h), none-changed es (or-second (nat_eq e.node file) (has_node file (map part_node es)) h))
+  none-changed (e ∷ es) h = (same-one e (or_parts (nat_eq e.node file) (has_node file (map part_node es)) h).0, none-changed es (or_parts (nat_eq e.node file) (has_node file (map part_node es)) h).1)
 
   -- the file's stored file is changed
   pub one-changed : (es : List FilePart) (i : ℕ) (d new : FilePart) → AreRising (map part_node es) → slice_get (map part_node es) i ≡ Some file → P (get_or es i d) new
