@@ -3,6 +3,7 @@ use Rattle.std.proofs.Common.{◌≡◌, ℕ, ◌+◌, ◌-◌, ◌<◌, ◌≤�
 use Rattle.std.specs.List.{AllByRecursion}
 use Rattle.std.proofs.lemmas.List.{take-map, length-map, take-append-le, take_all}
 use Rattle.cov_base.proofs.CallerLemmas.{length-with_lines, all-map}
+use Rattle.cov_base.specs.declared.number.Kind.{Kind}
 use Rattle.cov_dd.specs.declared.triple.Triple.{Triple}
 use Rattle.cov_base.specs.declared.limits.TheConstants.{LIMITS}
 use Rattle.cov_expr.specs.Formula.{Formula, False, reach}
@@ -31,7 +32,7 @@ use Rattle.cov_engine.proofs.Dating.{dated-nodes}
 use Rattle.cov_tree.specs.declared.entry.Entry.{Entry}
 use Rattle.cov_tree.specs.Changes.{Makes}
 use Rattle.cov_tree.specs.Dated.{Dated, HasRoom as HasRowRoom, nodes_in, kinds_in, nodes_with, kinds_with, without_room}
-use Rattle.cov_engine.specs.RowPlans.{edit_changes, made_by, kinds_made_by, IsSet}
+use Rattle.cov_engine.specs.RowPlans.{edit_changes, made_by, made_with, kinds_made_by, IsSet}
 use Rattle.cov_engine.specs.Holdings.{IsFileOf, IsHeldBy}
 use Rattle.cov_engine.specs.Parts.{part_node, count_below, files_in}
 use Rattle.cov_edit.specs.Touched.{AreRising}
@@ -311,29 +312,21 @@ module _ (history : List Command) (counts : Counts) (es some : List Edit) (befor
   pub first-few : IsInBounds history es → some ≡ es → before + nodes_made some < 2 ^ 32
   first-few within e = let nodes = are.nodes in let few = within.nodes in let same = ap nodes_made e in omega (arith, nodes, few, same, is)
 
--- what a plan makes of a commit's edits, and the nodes that it then has
+  -- the nodes that a plan has with those that they make, with or without the kinds
+  pub made-after : {X : Type 0} (item : ℕ → Kind → X) (first plan kept : List X) → some ≡ es → first ≡ kept → plan ≡ made_with item before some first → plan ≡ made_with item (numbers_of history).nodes es kept
+  made-after item first plan kept same begun listed =
+      listed
+      ∙ ap (made_with item before some) begun
+      ∙ ap (λ n. made_with item n some kept) nodes-before
+      ∙ ap (λ xs. made_with item (numbers_of history).nodes xs kept) same
+
+-- what a plan makes of a commit's edits
 pub made-changes : (history : List Command) (counts : Counts) (ts : List Triple) (entries : Dated) (es some : List Edit) (before node at : ℕ) (plan : Option (List Entry)) → AreCountsOf history counts → before ≡ counts.nodes - 1 → at ≡ node → some ≡ es
     → Makes ts entries plan (edit_changes before before at some) → Makes ts entries plan (edit_changes (numbers_of history).nodes (numbers_of history).nodes node es)
 made-changes history counts ts entries es some before node at plan are is own same makes =
     subst (λ a. Makes ts entries plan (edit_changes (numbers_of history).nodes (numbers_of history).nodes a es)) own
     (subst (λ xs. Makes ts entries plan (edit_changes (numbers_of history).nodes (numbers_of history).nodes at xs)) same
     (subst (λ n. Makes ts entries plan (edit_changes n n at some)) (nodes-before history counts es some before are is) makes))
-
-pub made-nodes : (history : List Command) (counts : Counts) (entries : Dated) (es some : List Edit) (before : ℕ) (first plan : Option (List Entry)) → AreCountsOf history counts → before ≡ counts.nodes - 1 → some ≡ es
-    → nodes_with first entries ≡ nodes_in entries → nodes_with plan entries ≡ made_by before some (nodes_with first entries) → nodes_with plan entries ≡ made_by (numbers_of history).nodes es (nodes_in entries)
-made-nodes history counts entries es some before first plan are is same begun listed =
-    listed
-    ∙ ap (made_by before some) begun
-    ∙ ap (λ n. made_by n some (nodes_in entries)) (nodes-before history counts es some before are is)
-    ∙ ap (λ xs. made_by (numbers_of history).nodes xs (nodes_in entries)) same
-
-pub made-kinds : (history : List Command) (counts : Counts) (entries : Dated) (es some : List Edit) (before : ℕ) (first plan : Option (List Entry)) → AreCountsOf history counts → before ≡ counts.nodes - 1 → some ≡ es
-    → kinds_with first entries ≡ kinds_in entries → kinds_with plan entries ≡ kinds_made_by before some (kinds_with first entries) → kinds_with plan entries ≡ kinds_made_by (numbers_of history).nodes es (kinds_in entries)
-made-kinds history counts entries es some before first plan are is same begun listed =
-    listed
-    ∙ ap (kinds_made_by before some) begun
-    ∙ ap (λ n. kinds_made_by n some (kinds_in entries)) (nodes-before history counts es some before are is)
-    ∙ ap (λ xs. kinds_made_by (numbers_of history).nodes xs (kinds_in entries)) same
 
 -- the node of the constraints is one of each table that goes on, and names only declared options
 pub conjunction-stands : {history : List Command} {names : List (List ℕ)} {ts : List Triple} {standing : Standing} {counts : Counts} (new : List Triple) → IsStateOf history names ts standing counts → Extends ts new

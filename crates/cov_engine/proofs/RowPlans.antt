@@ -30,7 +30,7 @@ use Rattle.cov_engine.specs.States.{AreCountsOf}
 use Rattle.cov_history.specs.FileNodes.{if_file, files_made}
 use Rattle.cov_engine.specs.Parts.{files_among}
 use Rattle.cov_engine.specs.Holdings.{AreEntriesOf, IsHeldBy}
-use Rattle.cov_engine.specs.RowPlans.{edit_changes, AlsoMakes, AreNodesUpTo, made_by, kinds_made_by, IsSet}
+use Rattle.cov_engine.specs.RowPlans.{edit_changes, AlsoMakes, AreNodesUpTo, number_alone, made_by, made_with, kinds_made_by, IsSet}
 use Rattle.cov_engine.proofs.States.{length-one}
 
 -- the next node isn't among the first so many
@@ -63,25 +63,15 @@ changes-first n made a (edits.Remove node) es =
     let same : made ≡ made + nodes_made (edits.Remove node ∷ []) = omega arith in
     ap (λ k. (Removed (node_number n node), a) ∷ edit_changes n k a es) same
 
-made-first : (made : ℕ) (e : Edit) (es : List Edit) (nodes : List ℕ) → made_by made (e ∷ es) nodes ≡ made_by (made + nodes_made (e ∷ [])) es (made_by made (e ∷ []) nodes)
-made-first made (edits.New kind parent name) es nodes =
+made-first : {X : Type 0} (item : ℕ → Kind → X) (made : ℕ) (e : Edit) (es : List Edit) (xs : List X) → made_with item made (e ∷ es) xs ≡ made_with item (made + nodes_made (e ∷ [])) es (made_with item made (e ∷ []) xs)
+made-first item made (edits.New kind parent name) es xs =
     let one : made + 1 ≡ made + nodes_made (edits.New kind parent name ∷ []) = omega arith in
-    ap (λ k. made_by k es (nodes ++ (made + 1) ∷ [])) one
-made-first made (edits.Insert file after text) es nodes = let same : made ≡ made + nodes_made (edits.Insert file after text ∷ []) = omega arith in ap (λ k. made_by k es nodes) same
-made-first made (edits.Delete file line) es nodes = let same : made ≡ made + nodes_made (edits.Delete file line ∷ []) = omega arith in ap (λ k. made_by k es nodes) same
-made-first made (edits.Rename node name) es nodes = let same : made ≡ made + nodes_made (edits.Rename node name ∷ []) = omega arith in ap (λ k. made_by k es nodes) same
-made-first made (edits.Move node parent) es nodes = let same : made ≡ made + nodes_made (edits.Move node parent ∷ []) = omega arith in ap (λ k. made_by k es nodes) same
-made-first made (edits.Remove node) es nodes = let same : made ≡ made + nodes_made (edits.Remove node ∷ []) = omega arith in ap (λ k. made_by k es nodes) same
-
-kinds-first : (made : ℕ) (e : Edit) (es : List Edit) (ks : List (ℕ × Kind)) → kinds_made_by made (e ∷ es) ks ≡ kinds_made_by (made + nodes_made (e ∷ [])) es (kinds_made_by made (e ∷ []) ks)
-kinds-first made (edits.New kind parent name) es ks =
-    let one : made + 1 ≡ made + nodes_made (edits.New kind parent name ∷ []) = omega arith in
-    ap (λ k. kinds_made_by k es (ks ++ (made + 1, kind) ∷ [])) one
-kinds-first made (edits.Insert file after text) es ks = let same : made ≡ made + nodes_made (edits.Insert file after text ∷ []) = omega arith in ap (λ k. kinds_made_by k es ks) same
-kinds-first made (edits.Delete file line) es ks = let same : made ≡ made + nodes_made (edits.Delete file line ∷ []) = omega arith in ap (λ k. kinds_made_by k es ks) same
-kinds-first made (edits.Rename node name) es ks = let same : made ≡ made + nodes_made (edits.Rename node name ∷ []) = omega arith in ap (λ k. kinds_made_by k es ks) same
-kinds-first made (edits.Move node parent) es ks = let same : made ≡ made + nodes_made (edits.Move node parent ∷ []) = omega arith in ap (λ k. kinds_made_by k es ks) same
-kinds-first made (edits.Remove node) es ks = let same : made ≡ made + nodes_made (edits.Remove node ∷ []) = omega arith in ap (λ k. kinds_made_by k es ks) same
+    ap (λ k. made_with item k es (xs ++ item (made + 1) kind ∷ [])) one
+made-first item made (edits.Insert file after text) es xs = let same : made ≡ made + nodes_made (edits.Insert file after text ∷ []) = omega arith in ap (λ k. made_with item k es xs) same
+made-first item made (edits.Delete file line) es xs = let same : made ≡ made + nodes_made (edits.Delete file line ∷ []) = omega arith in ap (λ k. made_with item k es xs) same
+made-first item made (edits.Rename node name) es xs = let same : made ≡ made + nodes_made (edits.Rename node name ∷ []) = omega arith in ap (λ k. made_with item k es xs) same
+made-first item made (edits.Move node parent) es xs = let same : made ≡ made + nodes_made (edits.Move node parent ∷ []) = omega arith in ap (λ k. made_with item k es xs) same
+made-first item made (edits.Remove node) es xs = let same : made ≡ made + nodes_made (edits.Remove node ∷ []) = omega arith in ap (λ k. made_with item k es xs) same
 
 count-first : (e : Edit) (es : List Edit) → nodes_made (e ∷ es) ≡ nodes_made (e ∷ []) + nodes_made es
 count-first e es = nodes-append (e ∷ []) es
@@ -110,26 +100,15 @@ module _ (made next : ℕ) (edit d : Edit) (more : next ≡ made + nodes_made (e
   pub up-to-rest : (nodes later : List ℕ) → later ≡ made_by made (edit ∷ []) nodes → AllByRecursion (λ n. n ≤ made) nodes → AllByRecursion (λ n. n ≤ next) later
   up-to-rest nodes later e h = subst (AllByRecursion (λ n. n ≤ next)) (sym e) (subst (λ k. AllByRecursion (λ n. n ≤ k) (made_by made (edit ∷ []) nodes)) (sym more) (up-to-next made edit nodes h))
 
-  pub listed-rest : (ahead : List Edit) (nodes later all : List ℕ) → edit ≡ get_or ahead 0 d → 1 ≤ length ahead → later ≡ made_by made (edit ∷ []) nodes → made_by made ahead nodes ≡ all
-      → made_by next (rest_of ahead) later ≡ all
-  listed-rest [] nodes later all is h e g = absurd (omega (arith, h))
-  listed-rest (x ∷ es) nodes later all is h e g =
-      ap (λ rest. made_by next rest later) (rest-is x es)
-      ∙ ap (λ k. made_by k es later) more
-      ∙ ap (λ l. made_by (made + nodes_made (edit ∷ [])) es l) e
-      ∙ sym (made-first made edit es nodes)
-      ∙ ap (λ y. made_by made (y ∷ es) nodes) is
-      ∙ g
-
-  pub kinds-rest : (ahead : List Edit) (ks later all : List (ℕ × Kind)) → edit ≡ get_or ahead 0 d → 1 ≤ length ahead → later ≡ kinds_made_by made (edit ∷ []) ks → kinds_made_by made ahead ks ≡ all
-      → kinds_made_by next (rest_of ahead) later ≡ all
-  kinds-rest [] ks later all is h e g = absurd (omega (arith, h))
-  kinds-rest (x ∷ es) ks later all is h e g =
-      ap (λ rest. kinds_made_by next rest later) (rest-is x es)
-      ∙ ap (λ k. kinds_made_by k es later) more
-      ∙ ap (λ l. kinds_made_by (made + nodes_made (edit ∷ [])) es l) e
-      ∙ sym (kinds-first made edit es ks)
-      ∙ ap (λ y. kinds_made_by made (y ∷ es) ks) is
+  pub listed-rest : {X : Type 0} (item : ℕ → Kind → X) (ahead : List Edit) (xs later all : List X) → edit ≡ get_or ahead 0 d → 1 ≤ length ahead → later ≡ made_with item made (edit ∷ []) xs → made_with item made ahead xs ≡ all
+      → made_with item next (rest_of ahead) later ≡ all
+  listed-rest item [] xs later all is h e g = absurd (omega (arith, h))
+  listed-rest item (x ∷ es) xs later all is h e g =
+      ap (λ rest. made_with item next rest later) (rest-is x es)
+      ∙ ap (λ k. made_with item k es later) more
+      ∙ ap (λ l. made_with item (made + nodes_made (edit ∷ [])) es l) e
+      ∙ sym (made-first item made edit es xs)
+      ∙ ap (λ y. made_with item made (y ∷ es) xs) is
       ∙ g
 
   pub changes-rest : (n a : ℕ) (ahead : List Edit) (done all : List (RowChange × ℕ)) → edit ≡ get_or ahead 0 d → 1 ≤ length ahead → done ++ edit_changes n made a ahead ≡ all
@@ -156,20 +135,16 @@ pub also-all : (ts us : List Triple) (entries : Dated) (p q : Option (List Entry
 also-all ts us entries p q n made a [] done all h e makes = subst (AlsoMakes ts us entries p q) (sym (append-nil done) ∙ e) makes
 also-all ts us entries p q n made a (x ∷ ahead) done all h e makes = absurd (omega (arith, h))
 
-pub listed-all : (made : ℕ) (ahead : List Edit) (nodes all : List ℕ) → length ahead < 1 → made_by made ahead nodes ≡ all → nodes ≡ all
-listed-all made [] nodes all h e = e
-listed-all made (x ∷ ahead) nodes all h e = absurd (omega (arith, h))
-
-pub kinds-all : (made : ℕ) (ahead : List Edit) (ks all : List (ℕ × Kind)) → length ahead < 1 → kinds_made_by made ahead ks ≡ all → ks ≡ all
-kinds-all made [] ks all h e = e
-kinds-all made (x ∷ ahead) ks all h e = absurd (omega (arith, h))
+pub listed-all : {X : Type 0} (item : ℕ → Kind → X) (made : ℕ) (ahead : List Edit) (xs all : List X) → length ahead < 1 → made_with item made ahead xs ≡ all → xs ≡ all
+listed-all item made [] xs all h e = e
+listed-all item made (x ∷ ahead) xs all h e = absurd (omega (arith, h))
 
 -- the nodes that edits make are no more than they make
 pub made-below : (made most : ℕ) (es : List Edit) (nodes : List ℕ) → made + nodes_made es ≤ most → AllByRecursion (λ n. n ≤ made) nodes → AllByRecursion (λ n. n ≤ most) (made_by made es nodes)
 made-below made most [] nodes le h = all-map (λ n. n ≤ made) (λ n. n ≤ most) (λ n low. omega (arith, low, le)) nodes h
 made-below made most (e ∷ es) nodes le h =
     let count = count-first e es in
-    subst (AllByRecursion (λ n. n ≤ most)) (sym (made-first made e es nodes))
+    subst (AllByRecursion (λ n. n ≤ most)) (sym (made-first number_alone made e es nodes))
     (made-below (made + nodes_made (e ∷ [])) most es (made_by made (e ∷ []) nodes) (omega (arith, le, count)) (up-to-next made e nodes h))
 
 -- the files that edits make come behind those before

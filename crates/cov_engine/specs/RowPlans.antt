@@ -32,25 +32,30 @@ AlsoMakes before after entries old new more =
 abbrev pub AreNodesUpTo : ℕ → Option (List Entry) → Dated → Type 0
 AreNodesUpTo count plan entries = AllByRecursion (λ node. node ≤ count) (nodes_with plan entries)
 
--- nodes with those that edits make behind them, so many having been made before these edits
+-- items with one for each node that edits make behind them, by its number and kind, so many nodes having been made before these edits
+abbrev pub made_with : {X : Type 0} → (ℕ → Kind → X) → ℕ → List Edit → List X → List X
+made_with item made [] xs = xs
+made_with item made (edits.New kind parent name ∷ es) xs = made_with item (made + 1) es (xs ++ item (made + 1) kind ∷ [])
+made_with item made (edits.Insert file after text ∷ es) xs = made_with item made es xs
+made_with item made (edits.Delete file line ∷ es) xs = made_with item made es xs
+made_with item made (edits.Rename node name ∷ es) xs = made_with item made es xs
+made_with item made (edits.Move node parent ∷ es) xs = made_with item made es xs
+made_with item made (edits.Remove node ∷ es) xs = made_with item made es xs
+
+-- a node by its number, and with its kind
+abbrev pub number_alone : ℕ → Kind → ℕ
+number_alone node kind = node
+
+abbrev pub number_and_kind : ℕ → Kind → ℕ × Kind
+number_and_kind node kind = (node, kind)
+
+-- nodes with those that edits make behind them
 abbrev pub made_by : ℕ → List Edit → List ℕ → List ℕ
-made_by made [] nodes = nodes
-made_by made (edits.New kind parent name ∷ es) nodes = made_by (made + 1) es (nodes ++ (made + 1) ∷ [])
-made_by made (edits.Insert file after text ∷ es) nodes = made_by made es nodes
-made_by made (edits.Delete file line ∷ es) nodes = made_by made es nodes
-made_by made (edits.Rename node name ∷ es) nodes = made_by made es nodes
-made_by made (edits.Move node parent ∷ es) nodes = made_by made es nodes
-made_by made (edits.Remove node ∷ es) nodes = made_by made es nodes
+made_by made es nodes = made_with number_alone made es nodes
 
 -- and the same with their kinds
 abbrev pub kinds_made_by : ℕ → List Edit → List (ℕ × Kind) → List (ℕ × Kind)
-kinds_made_by made [] ks = ks
-kinds_made_by made (edits.New kind parent name ∷ es) ks = kinds_made_by (made + 1) es (ks ++ (made + 1, kind) ∷ [])
-kinds_made_by made (edits.Insert file after text ∷ es) ks = kinds_made_by made es ks
-kinds_made_by made (edits.Delete file line ∷ es) ks = kinds_made_by made es ks
-kinds_made_by made (edits.Rename node name ∷ es) ks = kinds_made_by made es ks
-kinds_made_by made (edits.Move node parent ∷ es) ks = kinds_made_by made es ks
-kinds_made_by made (edits.Remove node ∷ es) ks = kinds_made_by made es ks
+kinds_made_by made es ks = made_with number_and_kind made es ks
 
 -- a plan is installed from a position on
 pub record IsSet (at : ℕ) (plan : Option (List Entry)) (old new : Dated) : Type 0 where

@@ -1,8 +1,8 @@
 use Rattle.std.proofs.Common.{◌++◌, ◌^◌, [], ◌∷◌, refl, arith}
 use Rattle.cov_dd.proofs.CallerLemmas.{extends_none, extends_trans}
 use Rattle.cov_edit.proofs.CallerLemmas.{all-rest}
-use Rattle.cov_engine.specs.RowPlans.{edit_changes}
-use Rattle.cov_engine.proofs.RowPlans.{fewer, up-to-rest, listed-rest, kinds-rest, changes-rest, also-both, also-none, also-all, listed-all, kinds-all}
+use Rattle.cov_engine.specs.RowPlans.{number_alone, edit_changes, number_and_kind}
+use Rattle.cov_engine.proofs.RowPlans.{fewer, up-to-rest, listed-rest, changes-rest, also-both, also-none, also-all, listed-all}
 use Rattle.cov_engine.proofs.row_planning.plan_rows.Goals as goal
 
 pub loop-ahead-init : goal.loop-ahead-init
@@ -39,8 +39,8 @@ loop-ahead-preserved c =
         also-both c.args.table.now c.loop-ahead.table c.plan_row.new.table c.args.entries.now c.args.plan.now c.loop-ahead.plan c.plan_row.new.plan i.makes.0 (edit_changes n c.loop-ahead.made a (c.edit-item.result ∷ [])) i.makes.1 c.in_ok-made.ensures.makes,
         changes-rest c.loop-ahead.made c.in_ok-made.made c.edit-item.result c.edit-item.result more n a c.loop-ahead.ahead.now i.makes.0 _ c.edit-item.is c.in-len1-up.len_at_least i.makes.2,
       );
-      listed = listed-rest c.loop-ahead.made c.in_ok-made.made c.edit-item.result c.edit-item.result more c.loop-ahead.ahead.now _ _ _ c.edit-item.is c.in-len1-up.len_at_least c.in_ok-made.ensures.nodes i.listed;
-      kinds = kinds-rest c.loop-ahead.made c.in_ok-made.made c.edit-item.result c.edit-item.result more c.loop-ahead.ahead.now _ _ _ c.edit-item.is c.in-len1-up.len_at_least c.in_ok-made.ensures.kinds i.kinds;
+      listed = listed-rest c.loop-ahead.made c.in_ok-made.made c.edit-item.result c.edit-item.result more number_alone c.loop-ahead.ahead.now _ _ _ c.edit-item.is c.in-len1-up.len_at_least c.in_ok-made.ensures.nodes i.listed;
+      kinds = listed-rest c.loop-ahead.made c.in_ok-made.made c.edit-item.result c.edit-item.result more number_and_kind c.loop-ahead.ahead.now _ _ _ c.edit-item.is c.in-len1-up.len_at_least c.in_ok-made.ensures.kinds i.kinds;
     }
 
 pub returns-in_err-made-clause-extends : goal.returns-in_err-made-clause-extends
@@ -52,7 +52,7 @@ returns-clause-makes c =
     also-all c.args.table.now c.loop-ahead.table c.args.entries.now c.args.plan.now c.loop-ahead.plan c.args.site.now.nodes c.loop-ahead.made c.args.site.now.ambition c.loop-ahead.ahead.now i.makes.0 _ c.in_default.len_below i.makes.2 i.makes.1
 
 pub returns-clause-nodes : goal.returns-clause-nodes
-returns-clause-nodes c = listed-all c.loop-ahead.made c.loop-ahead.ahead.now _ _ c.in_default.len_below c.loop-ahead.invariant.listed
+returns-clause-nodes c = listed-all number_alone c.loop-ahead.made c.loop-ahead.ahead.now _ _ c.in_default.len_below c.loop-ahead.invariant.listed
 
 pub returns-clause-kinds : goal.returns-clause-kinds
-returns-clause-kinds c = kinds-all c.loop-ahead.made c.loop-ahead.ahead.now _ _ c.in_default.len_below c.loop-ahead.invariant.kinds
+returns-clause-kinds c = listed-all number_and_kind c.loop-ahead.made c.loop-ahead.ahead.now _ _ c.in_default.len_below c.loop-ahead.invariant.kinds

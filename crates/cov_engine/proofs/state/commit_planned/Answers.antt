@@ -7,9 +7,10 @@ use Rattle.cov_expr.specs.Formula.{value}
 use Rattle.cov_history.specs.BadChoices.{unsound_refusal}
 use Rattle.cov_tree.specs.Carried.{AreUnreadWith}
 use Rattle.cov_tree.proofs.CallerLemmas.{plans_grow}
+use Rattle.cov_engine.specs.RowPlans.{number_alone, number_and_kind}
 use Rattle.cov_engine.proofs.Holdings.{held-grown, entries-grown}
 use Rattle.cov_engine.proofs.Judging.{once-with, unread-with, told-refusal}
-use Rattle.cov_engine.proofs.Readied.{first-near, first-few, made-changes, made-nodes, made-kinds, conjunction-later, conjunction-stands}
+use Rattle.cov_engine.proofs.Readied.{first-near, first-few, made-after, made-changes, conjunction-later, conjunction-stands}
 use Rattle.cov_engine.proofs.RowPlans.{entries-once, up-to-made}
 use Rattle.cov_engine.proofs.Ruling.{refused-by}
 use Rattle.cov_engine.proofs.States.{state-grown}
@@ -118,8 +119,8 @@ returns-in-None-clause-planned c = record {
   stands = stands_later c.refusal_left.ensures.extends (stands_weaker 0 (option_count c.args.state.now.commands.commands) (value c.args.ambition.now) (omega arith) c.requires.reach (λ d. refl) (stands_later c.plan_rows.ensures.extends c.in_ok-compile.ensures.stands));
   changes = plans_grow c.plan_rows.new.table c.refusal_left.new.table c.args.state.now.visible.entries c.plan_rows.new.plan _ c.refusal_left.ensures.extends (made-changes c.args.state.now.commands.commands c.args.state.now.counts c.plan_rows.new.table c.args.state.now.visible.entries c.args.edits.now c.as_slice.result.now c.site_of-site.result.nodes c.in_ok-compile.field-0 c.site_of-site.result.ambition c.plan_rows.new.plan c.requires.state.counted (ap (λ s. s.nodes) c.site_of-site.ensures) (ap (λ s. s.ambition) c.site_of-site.ensures) c.as_slice.ensures.items
       (c.in_ok-plan_rows.ensures.makes [] (c.new-rows.ensures.makes c.compile.new.table c.args.state.now.visible.entries (entries-grown c.args.state.now.commands.commands c.args.state.now.visible.table c.compile.new.table c.args.state.now.visible.entries c.requires.held.of_entries c.compile.ensures.extends).within)));
-  nodes = made-nodes c.args.state.now.commands.commands c.args.state.now.counts c.args.state.now.visible.entries c.args.edits.now c.as_slice.result.now c.site_of-site.result.nodes c.new-rows.result c.plan_rows.new.plan c.requires.state.counted (ap (λ s. s.nodes) c.site_of-site.ensures) c.as_slice.ensures.items
+  nodes = made-after c.args.state.now.commands.commands c.args.state.now.counts c.args.edits.now c.as_slice.result.now c.site_of-site.result.nodes c.requires.state.counted (ap (λ s. s.nodes) c.site_of-site.ensures) number_alone _ _ _ c.as_slice.ensures.items
       (c.new-rows.ensures.nodes c.args.state.now.visible.entries) c.in_ok-plan_rows.ensures.nodes;
-  kinds = made-kinds c.args.state.now.commands.commands c.args.state.now.counts c.args.state.now.visible.entries c.args.edits.now c.as_slice.result.now c.site_of-site.result.nodes c.new-rows.result c.plan_rows.new.plan c.requires.state.counted (ap (λ s. s.nodes) c.site_of-site.ensures) c.as_slice.ensures.items
+  kinds = made-after c.args.state.now.commands.commands c.args.state.now.counts c.args.edits.now c.as_slice.result.now c.site_of-site.result.nodes c.requires.state.counted (ap (λ s. s.nodes) c.site_of-site.ensures) number_and_kind _ _ _ c.as_slice.ensures.items
       (c.new-rows.ensures.kinds c.args.state.now.visible.entries) c.in_ok-plan_rows.ensures.kinds;
 }
