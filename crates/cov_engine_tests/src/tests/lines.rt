@@ -2,61 +2,23 @@
 ghost use Rattle.std.specs.Prelude.{◌≡◌, ◌++◌, [], ◌∷◌, true, codes, IfOk, OnOk};
 ghost use Rattle.cov_base.specs.Spelling.{is_line_text};
 ghost use Rattle.cov_edit.specs.EditFits.{has_line_text};
-ghost use Rattle.cov_engine_tests.specs.Lines.{ambition_of, file_m, line_in, file_with, line_after, without, commit_of, with_X, without_X};
+ghost use Rattle.cov_engine_tests.specs.Lines.{file_m, line_in, file_with, line_after, without, with_X, without_X};
+ghost use Rattle.cov_engine_tests.specs.Trees.{commit_in};
 
-use crate::tests::steps::{append, close, declare_d};
+use crate::tests::steps::{close, commit, declare_d};
 use crate::tests::trees::making;
 use cov_base::{
     Choice, Kind, LineNo, LineRef, Memory, MemoryOr, NodeNo, NodeRef, OptionId, Position, Text,
 };
 use cov_dd::{FALSE, TRUE};
-use cov_edit::{Command, Edit, Edits};
+use cov_edit::{Edit, Edits};
 use cov_engine::{Engine, NoSuchLine};
-use cov_expr::{Expr, Part};
 use cov_line::FileRows;
 use cov_view::{View, ViewLines};
 use cov_vis::{Child, ListingEntry};
 use std::alloc::Global;
 use std::process::Abort;
 use std::test::Fail;
-
-// All variants, or those with d.
-fn ambition(for_d: bool) -> Result<Expr, Fail>
-    ensures { IfOk result (λ expr. expr ≡ ambition_of for_d) }
-{
-    match for_d {
-        true => Ok(Expr::new(Part::Option(OptionId::new(0)))?),
-        false => Ok(Expr::new(Part::True)?),
-    }
-}
-
-/// A commit of edits on the variant of a choice.
-pub(crate) fn command(base: u32, choice: Choice, for_d: bool, edits: Edits) -> Result<Command, Fail>
-    ensures { IfOk result (λ command. command ≡ commit_of base choice for_d edits) }
-{
-    let ambition = ambition(for_d)?;
-    Ok(Command::Commit {
-        base: Position::new(base),
-        choice,
-        ambition,
-        edits,
-    })
-}
-
-/// Commits edits on the variant of a choice.
-pub(crate) fn commit(
-    engine: &mut Engine,
-    base: u32,
-    choice: Choice,
-    for_d: bool,
-    edits: Edits,
-) -> Result<(), Fail>
-    ensures { OnOk result (engine.new.history ≡ engine.old.history ++ commit_of base choice for_d edits ∷ []) }
-{
-    let command = command(base, choice, for_d, edits)?;
-    append(engine, command)?;
-    Ok(())
-}
 
 /// One edit.
 pub(crate) fn one(alloc: Global, edit: Edit) -> Result<Edits, Memory>
@@ -116,28 +78,34 @@ pub(crate) fn insert(
     engine: &mut Engine,
     base: u32,
     choice: Choice,
-    for_d: bool,
+    within: Option<OptionId>,
     after: u32,
     text: &[u8],
 ) -> Result<(), Fail>
     requires text { is_line_text text.now ≡ true }
-    ensures { OnOk result (engine.new.history ≡ engine.old.history ++ commit_of base choice for_d (line_after after text.now) ∷ []) }
+    ensures { OnOk result (engine.new.history ≡ engine.old.history ++ commit_in base choice within (line_after after text.now) ∷ []) }
 {
     let edit = insertion(alloc, NodeRef::Old(NodeNo::new(1)), after, text)?;
     let edits = one(alloc, edit)?;
-    commit(engine, base, choice, for_d, edits)
+    commit(engine, base, choice, within, edits)
 }
 
 // Takes a line out of the file 1, from the variant of the choice with d.
-fn delete(alloc: Global, engine: &mut Engine, base: u32, for_d: bool, line: u32) -> Result<(), Fail>
-    ensures { OnOk result (engine.new.history ≡ engine.old.history ++ commit_of base (true ∷ []) for_d (without line) ∷ []) }
+fn delete(
+    alloc: Global,
+    engine: &mut Engine,
+    base: u32,
+    within: Option<OptionId>,
+    line: u32,
+) -> Result<(), Fail>
+    ensures { OnOk result (engine.new.history ≡ engine.old.history ++ commit_in base (true ∷ []) within (without line) ∷ []) }
 {
     let edit = Edit::Delete {
         file: NodeRef::Old(NodeNo::new(1)),
         line: LineRef::Old(LineNo::new(line)),
     };
     let edits = one(alloc, edit)?;
-    commit(engine, base, Choice::new(1, 1), for_d, edits)
+    commit(engine, base, Choice::new(1, 1), within, edits)
 }
 
 /// Lines for all variants before and after one for those with d.
@@ -147,10 +115,18 @@ pub(crate) fn insert_lines(alloc: Global, engine: &mut Engine) -> Result<(), Fai
 {
     declare_d(alloc, engine)?;
     let edits = file_with_line(alloc)?;
-    commit(engine, 1, Choice::new(1, 1), false, edits)?;
-    insert(alloc, engine, 2, Choice::new(1, 1), true, 1, b"B")?;
-    insert(alloc, engine, 3, Choice::new(1, 1), false, 2, b"C")?;
-    insert(alloc, engine, 4, Choice::new(0, 1), false, 1, b"X")
+    commit(engine, 1, Choice::new(1, 1), None, edits)?;
+    insert(
+        alloc,
+        engine,
+        2,
+        Choice::new(1, 1),
+        Some(OptionId::new(0)),
+        1,
+        b"B",
+    )?;
+    insert(alloc, engine, 3, Choice::new(1, 1), None, 2, b"C")?;
+    insert(alloc, engine, 4, Choice::new(0, 1), None, 1, b"X")
 }
 
 /// One line taken out of all variants, and one out of those with d.
@@ -158,8 +134,8 @@ pub(crate) fn delete_lines(alloc: Global, engine: &mut Engine) -> Result<(), Fai
     requires { engine.old.history ≡ with_X }
     ensures { OnOk result (engine.new.history ≡ without_X) }
 {
-    delete(alloc, engine, 5, false, 2)?;
-    delete(alloc, engine, 6, true, 4)
+    delete(alloc, engine, 5, None, 2)?;
+    delete(alloc, engine, 6, Some(OptionId::new(0)), 4)
 }
 
 // Whether a line is visible without d and with it.

@@ -1,9 +1,9 @@
 //! Lines that are put into a file on older bases, beside commits of another file.
 ghost use Rattle.std.specs.Prelude.{◌≡◌, [], ◌∷◌, false, codes, IfOk, OnOk};
-ghost use Rattle.cov_engine_tests.specs.Lines.{commit_of, file_n, line_after, with_X, with_Y};
+ghost use Rattle.cov_engine_tests.specs.Lines.{file_n, line_after, with_X, with_Y};
 
-use crate::tests::lines::{command, commit, insert, insert_lines, insertion, one};
-use crate::tests::steps::close;
+use crate::tests::lines::{insert, insert_lines, insertion, one};
+use crate::tests::steps::{close, command, commit};
 use crate::tests::trees::making;
 use cov_base::{Choice, Kind, NodeNo, NodeRef};
 use cov_edit::Edits;
@@ -26,15 +26,15 @@ fn insert_beside(alloc: Global, engine: &mut Engine) -> Result<(), Fail>
     ensures { OnOk result (engine.new.history ≡ with_Y) }
 {
     let edits = other_file(alloc)?;
-    commit(engine, 5, Choice::new(0, 1), false, edits)?;
-    insert(alloc, engine, 5, Choice::new(0, 1), false, 1, b"Y")
+    commit(engine, 5, Choice::new(0, 1), None, edits)?;
+    insert(alloc, engine, 5, Choice::new(0, 1), None, 1, b"Y")
 }
 
 // The position of what overtakes a line that is put into the file m on a base.
 fn overtaker(alloc: Global, engine: &mut Engine, base: u32) -> Result<Option<u32>, Fail> {
     let edit = insertion(alloc, NodeRef::Old(NodeNo::new(1)), 1, b"Z")?;
     let edits = one(alloc, edit)?;
-    let command = command(base, Choice::new(0, 1), false, edits)?;
+    let command = command(base, Choice::new(0, 1), None, edits)?;
     match engine.append(command) {
         Ok(_) => Ok(None),
         Err(refusal) => Ok(Some(position_of(refusal)?)),

@@ -3,8 +3,8 @@ ghost use Rattle.std.specs.Prelude.{◌≡◌, ◌<◌, [], true};
 ghost use Rattle.cov_base.specs.declared.limits.TheConstants.{CHOICE_WIDTH};
 ghost use Rattle.cov_edit.specs.EditFits.{has_line_text};
 
-use crate::tests::lines::{command, insert_lines, insertion, one};
-use crate::tests::steps::{append, close};
+use crate::tests::lines::{insert_lines, insertion, one};
+use crate::tests::steps::{append, close, command};
 use crate::tests::trees::also;
 use cov_base::{Choice, LineNo, LineRef, Memory, NodeNo, NodeRef, OptionId};
 use cov_edit::{Command, Edit, Edits};
@@ -26,10 +26,10 @@ fn refusal_of(
     engine: &mut Engine,
     base: u32,
     choice: Choice,
-    for_d: bool,
+    within: Option<OptionId>,
     edits: Edits,
 ) -> Result<Refusal, Fail> {
-    let command = command(base, choice, for_d, edits)?;
+    let command = command(base, choice, within, edits)?;
     refused(engine, command)
 }
 
@@ -73,17 +73,29 @@ fn check_rules(rt: &impl Abort, engine: &mut Engine) -> Result<(), Fail> {
 }
 
 fn check_bases(rt: &impl Abort, alloc: Global, engine: &mut Engine) -> Result<(), Fail> {
-    let refusal = refusal_of(engine, 6, Choice::new(0, 1), false, line(alloc, 1, 1)?)?;
+    let refusal = refusal_of(engine, 6, Choice::new(0, 1), None, line(alloc, 1, 1)?)?;
     assert!(rt; matches!(refusal, Refusal::BadBase));
-    let refusal = refusal_of(engine, 5, Choice::new(0, 0), false, line(alloc, 1, 1)?)?;
+    let refusal = refusal_of(engine, 5, Choice::new(0, 0), None, line(alloc, 1, 1)?)?;
     assert!(rt; matches!(refusal, Refusal::BadOption));
-    let refusal = refusal_of(engine, 0, Choice::new(0, 1), false, line(alloc, 1, 1)?)?;
+    let refusal = refusal_of(engine, 0, Choice::new(0, 1), None, line(alloc, 1, 1)?)?;
     assert!(rt; matches!(refusal, Refusal::BadOption));
-    let refusal = refusal_of(engine, 0, Choice::new(0, 0), true, line(alloc, 1, 1)?)?;
+    let refusal = refusal_of(
+        engine,
+        0,
+        Choice::new(0, 0),
+        Some(OptionId::new(0)),
+        line(alloc, 1, 1)?,
+    )?;
     assert!(rt; matches!(refusal, Refusal::BadOption));
-    let refusal = refusal_of(engine, 5, Choice::new(0, 1), true, Edits::new(alloc))?;
+    let refusal = refusal_of(
+        engine,
+        5,
+        Choice::new(0, 1),
+        Some(OptionId::new(0)),
+        Edits::new(alloc),
+    )?;
     assert!(rt; matches!(refusal, Refusal::OutsideAmbition));
-    let refusal = refusal_of(engine, 5, Choice::new(0, 1), false, Edits::new(alloc))?;
+    let refusal = refusal_of(engine, 5, Choice::new(0, 1), None, Edits::new(alloc))?;
     assert!(rt; matches!(refusal, Refusal::Empty));
     Ok(())
 }
@@ -92,9 +104,9 @@ fn check_bases(rt: &impl Abort, alloc: Global, engine: &mut Engine) -> Result<()
 fn check_constraint(rt: &impl Abort, alloc: Global, engine: &mut Engine) -> Result<(), Fail> {
     let expr = option(0)?;
     append(engine, Command::Constraint { expr })?;
-    let refusal = refusal_of(engine, 6, Choice::new(0, 1), false, line(alloc, 1, 1)?)?;
+    let refusal = refusal_of(engine, 6, Choice::new(0, 1), None, line(alloc, 1, 1)?)?;
     assert!(rt; matches!(refusal, Refusal::Invalid { rule: 1 }));
-    let refusal = refusal_of(engine, 5, Choice::new(0, 1), false, line(alloc, 9, 1)?)?;
+    let refusal = refusal_of(engine, 5, Choice::new(0, 1), None, line(alloc, 9, 1)?)?;
     assert!(rt; matches!(refusal, Refusal::BadRecord { edit: 0 }));
     Ok(())
 }
@@ -128,20 +140,20 @@ fn check_edits(rt: &impl Abort, alloc: Global, engine: &mut Engine) -> Result<()
     requires { engine.old.history ≡ [] }
 {
     insert_lines(alloc, engine)?;
-    let refusal = refusal_of(engine, 5, Choice::new(1, 1), false, line(alloc, 2, 0)?)?;
+    let refusal = refusal_of(engine, 5, Choice::new(1, 1), None, line(alloc, 2, 0)?)?;
     assert!(rt; matches!(refusal, Refusal::BadRecord { edit: 0 }));
-    let refusal = refusal_of(engine, 5, Choice::new(0, 1), false, line(alloc, 1, 2)?)?;
+    let refusal = refusal_of(engine, 5, Choice::new(0, 1), None, line(alloc, 1, 2)?)?;
     assert!(rt; matches!(refusal, Refusal::BadRecord { edit: 0 }));
-    let refusal = refusal_of(engine, 2, Choice::new(1, 1), false, line(alloc, 1, 3)?)?;
+    let refusal = refusal_of(engine, 2, Choice::new(1, 1), None, line(alloc, 1, 3)?)?;
     assert!(rt; matches!(refusal, Refusal::BadRecord { edit: 0 }));
     let edits = line_deleted_twice(alloc)?;
-    let refusal = refusal_of(engine, 5, Choice::new(1, 1), false, edits)?;
+    let refusal = refusal_of(engine, 5, Choice::new(1, 1), None, edits)?;
     assert!(rt; matches!(refusal, Refusal::BadRecord { edit: 2 }));
     let edits = one(alloc, deletion(LineRef::Old(LineNo::new(5))))?;
-    let refusal = refusal_of(engine, 5, Choice::new(1, 1), false, edits)?;
+    let refusal = refusal_of(engine, 5, Choice::new(1, 1), None, edits)?;
     assert!(rt; matches!(refusal, Refusal::BadRecord { edit: 0 }));
     let edits = one(alloc, deletion(LineRef::Old(LineNo::new(2))))?;
-    let refusal = refusal_of(engine, 4, Choice::new(1, 1), false, edits)?;
+    let refusal = refusal_of(engine, 4, Choice::new(1, 1), None, edits)?;
     assert!(rt; matches!(refusal, Refusal::Overtaken { .. }));
     Ok(())
 }

@@ -1,10 +1,12 @@
 // What tests do with an engine.
 ghost use Rattle.std.specs.Prelude.{◌≡◌, ◌++◌, [], ◌∷◌, IfOk, OnOk};
 ghost use Rattle.cov_engine_tests.specs.Lines.{of_d};
+ghost use Rattle.cov_engine_tests.specs.Trees.{ambition_in, commit_in};
 
-use cov_base::OptionName;
-use cov_edit::Command;
+use cov_base::{Choice, OptionId, OptionName, Position};
+use cov_edit::{Command, Edits};
 use cov_engine::{Engine, Receipt};
+use cov_expr::{Expr, Part};
 use std::alloc::Global;
 use std::test::Fail;
 
@@ -32,6 +34,49 @@ pub(crate) fn declare_d(alloc: Global, engine: &mut Engine) -> Result<Receipt, F
 {
     let command = option_d(alloc)?;
     append(engine, command)
+}
+
+// All variants, or those with an option.
+fn ambition(within: Option<OptionId>) -> Result<Expr, Fail>
+    ensures { IfOk result (λ expr. expr ≡ ambition_in within) }
+{
+    match within {
+        Some(option) => Ok(Expr::new(Part::Option(option))?),
+        None => Ok(Expr::new(Part::True)?),
+    }
+}
+
+/// A commit of edits on the variant of a choice.
+pub(crate) fn command(
+    base: u32,
+    choice: Choice,
+    within: Option<OptionId>,
+    edits: Edits,
+) -> Result<Command, Fail>
+    ensures { IfOk result (λ command. command ≡ commit_in base choice within edits) }
+{
+    let ambition = ambition(within)?;
+    Ok(Command::Commit {
+        base: Position::new(base),
+        choice,
+        ambition,
+        edits,
+    })
+}
+
+/// Commits edits on the variant of a choice.
+pub(crate) fn commit(
+    engine: &mut Engine,
+    base: u32,
+    choice: Choice,
+    within: Option<OptionId>,
+    edits: Edits,
+) -> Result<(), Fail>
+    ensures { OnOk result (engine.new.history ≡ engine.old.history ++ commit_in base choice within edits ∷ []) }
+{
+    let command = command(base, choice, within, edits)?;
+    append(engine, command)?;
+    Ok(())
 }
 
 pub(crate) fn close(_: Engine) {}

@@ -4,9 +4,9 @@ ghost use Rattle.cov_base.specs.Spelling.{is_line_text};
 ghost use Rattle.cov_base.specs.declared.number.NodeRef.TheVariants as nodes;
 ghost use Rattle.cov_edit.specs.EditFits.{has_line_text};
 ghost use Rattle.cov_edit.specs.declared.edit.Edit.TheVariants as edits;
-ghost use Rattle.cov_engine_tests.specs.Trees.{ambition_in, commit_in, of_option, file_in_root, dir_in_root, line_of, renaming, moving, removing, of_both, begun, renamed, grown, file_for_d, directories};
+ghost use Rattle.cov_engine_tests.specs.Trees.{commit_in, of_option, file_in_root, dir_in_root, line_of, renaming, moving, removing, of_both, begun, renamed, grown, file_for_d, directories};
 
-use crate::tests::steps::{append, close};
+use crate::tests::steps::{append, close, command, commit};
 use cov_base::{
     Choice, Kind, LineNo, LineRef, Memory, Name, NodeNo, NodeRef, OptionId, OptionName, Path,
     Position, Text,
@@ -14,7 +14,6 @@ use cov_base::{
 use cov_dd::TRUE;
 use cov_edit::{Command, Edit, Edits};
 use cov_engine::{Counts, Engine, FileFault, Refusal};
-use cov_expr::{Expr, Part};
 use std::alloc::Global;
 use std::process::Abort;
 use std::test::Fail;
@@ -24,48 +23,6 @@ fn declare(alloc: Global, engine: &mut Engine, name: &[u8]) -> Result<(), Fail>
 {
     let name = OptionName::read(alloc, name)?;
     append(engine, Command::Option { name })?;
-    Ok(())
-}
-
-// All variants, or those with an option.
-fn ambition(within: Option<OptionId>) -> Result<Expr, Fail>
-    ensures { IfOk result (λ expr. expr ≡ ambition_in within) }
-{
-    match within {
-        Some(option) => Ok(Expr::new(Part::Option(option))?),
-        None => Ok(Expr::new(Part::True)?),
-    }
-}
-
-// A commit of edits on the variant of a choice.
-fn command(
-    base: u32,
-    choice: Choice,
-    within: Option<OptionId>,
-    edits: Edits,
-) -> Result<Command, Fail>
-    ensures { IfOk result (λ command. command ≡ commit_in base choice within edits) }
-{
-    let ambition = ambition(within)?;
-    Ok(Command::Commit {
-        base: Position::new(base),
-        choice,
-        ambition,
-        edits,
-    })
-}
-
-fn commit(
-    engine: &mut Engine,
-    base: u32,
-    choice: Choice,
-    within: Option<OptionId>,
-    edits: Edits,
-) -> Result<(), Fail>
-    ensures { OnOk result (engine.new.history ≡ engine.old.history ++ commit_in base choice within edits ∷ []) }
-{
-    let command = command(base, choice, within, edits)?;
-    append(engine, command)?;
     Ok(())
 }
 
