@@ -28,6 +28,7 @@ use Rattle.cov_session.specs.Faults.{by_edit}
 use Rattle.cov_session.specs.Open.{SessionValue, IsOpen, numbers_at_base, table_of}
 use Rattle.cov_session.specs.declared.fault.SessionFault.{SessionFault}
 use Rattle.cov_session.specs.declared.fault.SessionFault.TheVariants as faults
+use Rattle.cov_engine.proofs.CallerLemmas.{Accepts, Applies}
 use Rattle.cov_view.proofs.CallerLemmas.{first-not_when, first-when, first-one, fault-by}
 use Rattle.cov_session.proofs.Made.{DeleteWithin, DeletesWithin, deletes-within, replay-within}
 
@@ -187,18 +188,6 @@ by-first history s es room light =
     first-not_when (nat_lt LIMITS.edits (length (s.edits ++ es))) faults.TooManyEdits _ few
     ∙ first-not_when (nat_lt LIMITS.commit_bytes (text_bytes (s.edits ++ es))) faults.TooManyBytes _ less
     ∙ first-one (as_fault (first_refused (numbers_at_base history s) (replay s.choice (take s.base history)) (s.edits ++ es)))
-
--- an edit is refused by no variant that a view shows
-abbrev pub Accepts : Seen → Edit → Type 0
-Accepts view e = (ns : Numbers) (table : List (List ℕ)) (v : Variant) → Shows ns table view v → refusal ns v e ≡ None
-
--- an edit is refused with a fault by each variant that a view shows, unless memory is wanting
-abbrev pub Refuses : EditFault → Seen → Edit → Type 0
-Refuses f view e = (ns : Numbers) (table : List (List ℕ)) (v : Variant) → Shows ns table view v → FaultBy f (refusal ns v e)
-
--- after an edit a view shows what it showed with this edit
-abbrev pub Applies : Seen → Edit → Seen → Type 0
-Applies old e new = (ns : Numbers) (table : List (List ℕ)) (v : Variant) → IsTable table → Shows ns table old v → Shows ns (table_after ns table e) new (fold edited v (next_by_number ns table old e))
 
 module _ (history : List Command) (s : SessionValue) (e : Edit) (stands : HoldingStands) (replays : ReplayStands) (here : IsOpen history s) where
   -- a session with one edit more sees its variant after this edit

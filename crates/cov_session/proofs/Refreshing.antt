@@ -34,17 +34,8 @@ use Rattle.cov_session.specs.Open.{SessionValue, IsOpen, numbers_at_base}
 use Rattle.cov_session.specs.Refreshing.{rebased, as_lost, refreshed, refreshed_on, with_work, first_lost}
 use Rattle.cov_session.specs.declared.fault.SessionFault.{SessionFault}
 use Rattle.cov_session.specs.declared.fault.SessionFault.TheVariants as faults
-use Rattle.cov_session.proofs.Adding.{Accepts, Refuses, Applies, first-refused, open-after}
-
--- no prefix of a history has more options
-options-within : (n : ℕ) (history : List Command) → option_count (take n history) ≤ option_count history
-options-within zero history = omega arith
-options-within (suc n) [] = omega arith
-options-within (suc n) (commands.Option name ∷ history) = let rest = options-within n history in omega (arith, rest)
-options-within (suc n) (commands.Constraint expr ∷ history) = options-within n history
-options-within (suc n) (commands.Prefer expr ∷ history) = options-within n history
-options-within (suc n) (commands.Default option on ∷ history) = options-within n history
-options-within (suc n) (commands.Commit base choice ambition es ∷ history) = options-within n history
+use Rattle.cov_engine.proofs.CallerLemmas.{Accepts, Applies, Refuses, declared-less}
+use Rattle.cov_session.proofs.Adding.{first-refused, open-after}
 
 -- what is below a number is below a greater one
 below-more : (m n : ℕ) (bs : List (ℕ × Bool)) → m ≤ n → list_all (λ b. nat_lt b.0 m) bs ≡ true → list_all (λ b. nat_lt b.0 n) bs ≡ true
@@ -82,14 +73,14 @@ still-good history s n constraints c partial d good is bound completion =
 
 -- what a good session names is declared now
 pub reach-within : (history : List Command) (s : Session) → IsGood history s → reach s.ambition ≤ option_count history
-reach-within history s good = let named = good.in_reach in let more = options-within s.base history in omega (arith, named, more)
+reach-within history s good = let named = good.in_reach in let more = declared-less s.base history in omega (arith, named, more)
 
 pub bound-within : (history : List Command) (s : Session) (c : List Bool) (bs : List (ℕ × Bool)) → IsGood history s → c ≡ s.choice → list_all (λ b. nat_lt b.0 (length c)) bs ≡ true
     → list_all (λ b. nat_lt b.0 (option_count history)) bs ≡ true
 bound-within history s c bs good is h =
     let same = ap length is in
     let whole = good.of_all_options in
-    let more = options-within s.base history in
+    let more = declared-less s.base history in
     below-more (length c) (option_count history) bs (omega (arith, same, whole, more)) h
 
 -- the fault of an edit that is refused is that of a loss, unless memory is wanting

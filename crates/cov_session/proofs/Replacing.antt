@@ -26,7 +26,8 @@ use Rattle.cov_session.specs.Adding.{with_edits, as_fault, addition_fault, IsAdd
 use Rattle.cov_session.specs.Faults.{by_edit}
 use Rattle.cov_session.specs.Open.{SessionValue, IsOpen, numbers_at_base, table_of}
 use Rattle.cov_session.specs.declared.fault.SessionFault.TheVariants as faults
-use Rattle.cov_session.proofs.Adding.{Accepts, Applies, refused-behind, is-table, first-refused, by-first, by-fault, by-edit, fault-at, no-fault-at, refused-as, seen-after, open-after}
+use Rattle.cov_engine.proofs.CallerLemmas.{Accepts, Applies}
+use Rattle.cov_session.proofs.Adding.{refused-behind, is-table, first-refused, by-first, by-fault, by-edit, fault-at, no-fault-at, refused-as, seen-after, open-after}
 
 -- a refused edit stays the first with more edits behind it
 refused-stays : (ns : Numbers) (v : Variant) (k : ℕ) (es fs : List Edit) (ds gs : List NumberedEdit) (r : ℕ × EditFault)

@@ -5,7 +5,8 @@ use Rattle.cov_edit.specs.Numbering.{nodes_made, anchors_of}
 use Rattle.cov_session.specs.Adding.{addition_fault, IsAdditionFault}
 use Rattle.cov_session.specs.Open.{SessionValue, IsOpen}
 use Rattle.cov_session.specs.contracts.session.OpenSession.{the_view}
-use Rattle.cov_session.proofs.Adding.{Accepts, Refuses, Applies, accepted-by, refused-by, open-after}
+use Rattle.cov_engine.proofs.CallerLemmas.{Accepts, Applies, Refuses}
+use Rattle.cov_session.proofs.Adding.{accepted-by, refused-by, open-after}
 use Rattle.cov_session.proofs.Counting.{nodes-fit, lines-fit, one-light, counted-after, last-is}
 use Rattle.cov_session.proofs.session.OpenSession.add_edit.Goals as goal
 

@@ -7,7 +7,7 @@ use Rattle.cov_view.specs.Seen.{Seen, seen_fault, seen_after}
 use Rattle.cov_session.specs.Adding.{addition_fault, IsAdditionFault}
 use Rattle.cov_session.specs.Open.{SessionValue, IsOpen}
 use Rattle.cov_session.specs.contracts.session.OpenSession.{the_view}
-use Rattle.cov_session.proofs.Adding.{Accepts, Refuses, Applies}
+use Rattle.cov_engine.proofs.CallerLemmas.{Accepts, Applies, Refuses}
 use Rattle.cov_session.proofs.Counting.{nodes-fit, lines-fit, one-light, counted-after}
 use Rattle.cov_session.proofs.Deleting.{deletes-after, inserted, delete-fits}
 use Rattle.cov_session.proofs.Replacing.{both-accepted, both-open, both-refused}
