@@ -5,6 +5,8 @@ use Rattle.std.specs.List.{IsDistinct}
 use Rattle.std.specs.Map.{keys_of, lookup}
 use Rattle.std.proofs.lemmas.Bool.Decides.{nat_tests}
 use Rattle.std.proofs.lemmas.List.{length-map}
+use Rattle.indexmap.specs.IndexMap.{IndexMap, insert_entry}
+use Rattle.indexmap.proofs.CallerLemmas.{insert_entry-new}
 use Rattle.slab.specs.Slab.{Slab, get, slab_len, Updates}
 use Rattle.cov_expr.specs.Formula.{Formula}
 use Rattle.cov_edit.specs.declared.command.Command.{Command}
@@ -17,9 +19,17 @@ use Rattle.cov_session.specs.declared.fault.SessionFault.{SessionFault}
 use Rattle.cov_session.specs.declared.fault.SessionFault.TheVariants as faults
 use Rattle.cov_session.specs.declared.opened.Opened.{Opened}
 use Rattle.cov_session.specs.declared.sessions.TheConstants.{MOST_SESSIONS}
-use Rattle.cov_session.proofs.Changing.{is_some-named, kept-slots, slots-kept, added-kept, added-named, added-open}
+use Rattle.cov_session.proofs.Changing.{is_some-named, none-is, kept-slots, slots-kept, added-kept, added-named, added-open}
 use Rattle.cov_session.proofs.Faulting.{among-exists, among-many, among-opened, fault-opened}
 use Rattle.cov_session.proofs.Keeping.{is_of, length-kept}
+
+-- a key of a name that none has comes behind the others
+pub key-added : {S : Type 0} (keys : Keys) (room : IndexMap (Vec ℕ) ℕ S) (name : List ℕ) (own : Vec ℕ) (key : ℕ) (entries : Keys) → is_some (lookup (is_of name) keys) ≡ false → own.items ≡ name → room.entries ≡ keys
+    → entries ≡ insert_entry same_name room.entries own key → entries ≡ keys ++ (own, key) ∷ []
+key-added keys room name own key entries free called same added =
+    added
+    ∙ insert_entry-new same_name room own key ((λ i. lookup (is_of (called i)) (same i)) ∙ none-is (lookup (is_of name) keys) free)
+    ∙ ap (λ es. es ++ (own, key) ∷ []) same
 
 module _ (keys : Keys) (slab : Slab SessionValue) (name : List ℕ) (here : AreKept keys slab) (ss : List SessionValue) (is : kept keys slab ≡ ss)
     (history : List Command) (partial : List (ℕ × Bool)) (ambition : Formula ℕ) where

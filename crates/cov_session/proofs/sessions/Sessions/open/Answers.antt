@@ -1,13 +1,12 @@
-use Rattle.std.proofs.Common.{◌≡◌, ◌∙◌, sym, ap, subst, ◌<◌, ◌≤◌, ◌++◌, ◌∷◌, [], false, length, map, is_some, arith}
+use Rattle.std.proofs.Common.{◌≡◌, ◌∙◌, sym, ap, subst, ◌<◌, ◌≤◌, false, length, map, is_some, arith}
 use Rattle.std.specs.Map.{lookup}
 use Rattle.std.proofs.lemmas.Bool.Decides.{nat_tests}
-use Rattle.indexmap.proofs.CallerLemmas.{insert_entry-new}
 use Rattle.cov_session.specs.Calls.{IsFaultOf, opened_among}
-use Rattle.cov_session.specs.Kept.{AreKept, same_name}
+use Rattle.cov_session.specs.Kept.{AreKept}
 use Rattle.cov_session.specs.Open.{as_named}
 use Rattle.cov_session.specs.declared.sessions.TheConstants.{MOST_SESSIONS}
-use Rattle.cov_session.proofs.Beginning.{exists, many, not_opened, begins, begins-kept, begins-open}
-use Rattle.cov_session.proofs.Changing.{none-is, slots-kept}
+use Rattle.cov_session.proofs.Beginning.{exists, key-added, many, not_opened, begins, begins-kept, begins-open}
+use Rattle.cov_session.proofs.Changing.{slots-kept}
 use Rattle.cov_session.proofs.Faulting.{passed-on}
 use Rattle.cov_session.proofs.Keeping.{is_of}
 use Rattle.cov_session.proofs.sessions.Sessions.open.Goals as goal
@@ -47,11 +46,7 @@ invariant_of-self-2 c =
     let keys = c.self.inside.keys.entries in
     let free : is_some (lookup (is_of c.args.name) keys) ≡ false = ap (λ n. is_some (lookup (is_of n) keys)) (sym c.as_slice.ensures.bytes) ∙ sym c.contains_key.ensures ∙ c.if-contains_key.false in
     let few : length keys < MOST_SESSIONS = let n = c.len.ensures.len in let b = c.if-len-ge-MOST_SESSIONS.false in grind (arith, nat_tests, n, b) in
-    let added : c.insert.new.self.entries ≡ keys ++ (c.in_ok-own.own, c.insert_reserved-key.result) ∷ [] =
-    c.in-Ok.ensures.entries
-    ∙ insert_entry-new same_name c.make_room.new.keys c.in_ok-own.own c.insert_reserved-key.result
-    ((λ i. lookup (is_of (c.in_ok-own.ensures.name i)) (c.in_ok-own.ensures.keys i)) ∙ none-is (lookup (is_of c.args.name) keys) free)
-    ∙ ap (λ es. es ++ (c.in_ok-own.own, c.insert_reserved-key.result) ∷ []) c.in_ok-own.ensures.keys in
+    let added = key-added keys c.make_room.new.keys c.args.name c.in_ok-own.own c.insert_reserved-key.result c.insert.new.self.entries free c.in_ok-own.ensures.name c.in_ok-own.ensures.keys c.in-Ok.ensures.entries in
     begins-kept c.self.inside.keys.entries c.self.inside.sessions c.args.name c.self.invariant c.args.self.now c.self.view_is c.args.engine.now.history c.args.partial.now c.args.ambition free few
     c.make_room.new.sessions c.insert_reserved-key.new.self c.in_ok-own.ensures.sessions c.in_ok-own.own c.insert_reserved-key.result c.insert.new.self.entries added c.in_ok-session.session
     c.insert_reserved-key.ensures.was_vacant c.insert_reserved-key.ensures.updates (c.in_ok-session.ensures.name ∙ sym c.in_ok-own.ensures.name) c.in-Ok.ensures.unique c.insert_reserved-key.ensures.len
@@ -61,11 +56,7 @@ returns-clause-opened c =
     let keys = c.self.inside.keys.entries in
     let free : is_some (lookup (is_of c.args.name) keys) ≡ false = ap (λ n. is_some (lookup (is_of n) keys)) (sym c.as_slice.ensures.bytes) ∙ sym c.contains_key.ensures ∙ c.if-contains_key.false in
     let few : length keys < MOST_SESSIONS = let n = c.len.ensures.len in let b = c.if-len-ge-MOST_SESSIONS.false in grind (arith, nat_tests, n, b) in
-    let added : c.insert.new.self.entries ≡ keys ++ (c.in_ok-own.own, c.insert_reserved-key.result) ∷ [] =
-    c.in-Ok.ensures.entries
-    ∙ insert_entry-new same_name c.make_room.new.keys c.in_ok-own.own c.insert_reserved-key.result
-    ((λ i. lookup (is_of (c.in_ok-own.ensures.name i)) (c.in_ok-own.ensures.keys i)) ∙ none-is (lookup (is_of c.args.name) keys) free)
-    ∙ ap (λ es. es ++ (c.in_ok-own.own, c.insert_reserved-key.result) ∷ []) c.in_ok-own.ensures.keys in
+    let added = key-added keys c.make_room.new.keys c.args.name c.in_ok-own.own c.insert_reserved-key.result c.insert.new.self.entries free c.in_ok-own.ensures.name c.in_ok-own.ensures.keys c.in-Ok.ensures.entries in
     begins c.self.inside.keys.entries c.self.inside.sessions c.args.name c.self.invariant c.args.self.now c.self.view_is c.args.engine.now.history c.args.partial.now c.args.ambition free few
     c.make_room.new.sessions c.insert_reserved-key.new.self c.in_ok-own.ensures.sessions c.in_ok-own.own c.insert_reserved-key.result c.insert.new.self.entries added c.in_ok-session.session
     c.insert_reserved-key.ensures.was_vacant c.insert_reserved-key.ensures.updates c.standing-opened.result c.in_ok-session.ensures.name c.in_ok-session.ensures.opened c.standing-opened.ensures.base c.standing-opened.ensures.choice
@@ -75,11 +66,7 @@ returns-clause-open c = λ are.
     let keys = c.self.inside.keys.entries in
     let free : is_some (lookup (is_of c.args.name) keys) ≡ false = ap (λ n. is_some (lookup (is_of n) keys)) (sym c.as_slice.ensures.bytes) ∙ sym c.contains_key.ensures ∙ c.if-contains_key.false in
     let few : length keys < MOST_SESSIONS = let n = c.len.ensures.len in let b = c.if-len-ge-MOST_SESSIONS.false in grind (arith, nat_tests, n, b) in
-    let added : c.insert.new.self.entries ≡ keys ++ (c.in_ok-own.own, c.insert_reserved-key.result) ∷ [] =
-    c.in-Ok.ensures.entries
-    ∙ insert_entry-new same_name c.make_room.new.keys c.in_ok-own.own c.insert_reserved-key.result
-    ((λ i. lookup (is_of (c.in_ok-own.ensures.name i)) (c.in_ok-own.ensures.keys i)) ∙ none-is (lookup (is_of c.args.name) keys) free)
-    ∙ ap (λ es. es ++ (c.in_ok-own.own, c.insert_reserved-key.result) ∷ []) c.in_ok-own.ensures.keys in
+    let added = key-added keys c.make_room.new.keys c.args.name c.in_ok-own.own c.insert_reserved-key.result c.insert.new.self.entries free c.in_ok-own.ensures.name c.in_ok-own.ensures.keys c.in-Ok.ensures.entries in
     begins-open c.self.inside.keys.entries c.self.inside.sessions c.args.name c.self.invariant c.args.self.now c.self.view_is c.args.engine.now.history c.args.partial.now c.args.ambition free few
     c.make_room.new.sessions c.insert_reserved-key.new.self c.in_ok-own.ensures.sessions c.in_ok-own.own c.insert_reserved-key.result c.insert.new.self.entries added c.in_ok-session.session
     c.insert_reserved-key.ensures.was_vacant c.insert_reserved-key.ensures.updates are c.in_ok-session.ensures.«open»
