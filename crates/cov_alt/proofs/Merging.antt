@@ -10,24 +10,23 @@ use Rattle.cov_history.specs.Kept.{Kept, the_item, kept_address}
 use Rattle.cov_history.proofs.CallerLemmas.{all-mapped, any-none}
 use Rattle.cov_alt.specs.Sides.{has_address, merged}
 
--- two addresses of which one stands before the other are different
-different : (a b : List ℕ) → stands_before a b ≡ true → bytes_eq a b ≡ false
-different a b h = at (bytes_eq a b) refl
+-- an address that stands before another isn't the same
+not_same : (a b : List ℕ) → stands_before a b ≡ true → a ≡ b → ⊥
+not_same a b h same = let first : stands_before a a ≡ true = subst (λ x. stands_before a x ≡ true) (sym same) h in let never = before-itself a in cc
+
+unequal : (a b : List ℕ) → (a ≡ b → ⊥) → bytes_eq a b ≡ false
+unequal a b other = at (bytes_eq a b) refl
   where
     at : (t : Bool) → bytes_eq a b ≡ t → t ≡ false
-    at true e =
-        let same : a ≡ b = (bytes_eq-Decides a b).0 e in
-        absurd (let first : stands_before a a ≡ true = subst (λ x. stands_before a x ≡ true) (sym same) h in let never = before-itself a in cc)
+    at true e = absurd (other ((bytes_eq-Decides a b).0 e))
     at false e = refl
 
+-- so the two are different, in either order
+different : (a b : List ℕ) → stands_before a b ≡ true → bytes_eq a b ≡ false
+different a b h = unequal a b (not_same a b h)
+
 different_back : (a b : List ℕ) → stands_before a b ≡ true → bytes_eq b a ≡ false
-different_back a b h = at (bytes_eq b a) refl
-  where
-    at : (t : Bool) → bytes_eq b a ≡ t → t ≡ false
-    at true e =
-        let same : b ≡ a = (bytes_eq-Decides b a).0 e in
-        absurd (let first : stands_before a a ≡ true = subst (λ x. stands_before a x ≡ true) same h in let never = before-itself a in cc)
-    at false e = refl
+different_back a b h = unequal b a (λ same. not_same a b h (sym same))
 
 -- an address stands before those of all these lines
 abbrev IsBeforeAll : List ℕ → List (Kept Line) → Type 0
