@@ -1,16 +1,15 @@
 -- What a legal history is within.
-use Rattle.std.proofs.Common.{◌≡◌, ℕ, ◌+◌, ◌*◌, ◌<◌, ◌≤◌, ◌^◌, Bool, true, false, ◌||◌, nat_lt, nat_le, List, [], ◌∷◌, ◌++◌, length, Option, Some, None, refl, sym, ap, subst, arith, append_assoc, length-append}
+use Rattle.std.proofs.Common.{◌≡◌, ℕ, ◌+◌, ◌*◌, ◌<◌, ◌≤◌, ◌^◌, true, nat_le, List, [], ◌∷◌, ◌++◌, length, None, refl, sym, ap, subst, arith, append_assoc, length-append}
 use Rattle.std.specs.List.{AllByRecursion}
 use Rattle.std.proofs.lemmas.Bool.Decides.{nat_tests}
 use Rattle.std.proofs.lemmas.List.{append-nil, length-map}
 use Rattle.cov_base.proofs.CallerLemmas.{all-append, all-map}
 use Rattle.cov_base.specs.declared.limits.TheConstants.{LIMITS}
 use Rattle.cov_edit.specs.Fits.{fits_command}
-use Rattle.cov_edit.specs.History.{byte_count, text_bytes}
 use Rattle.cov_edit.specs.declared.command.Command.{Command}
 use Rattle.cov_edit.specs.declared.command.Command.TheVariants as commands
-use Rattle.cov_history.specs.Verdict.{verdict, refusals_of, when_full, IsLegal, IsLegalFrom}
-use Rattle.cov_history.specs.declared.refusal.Refusal.{Refusal}
+use Rattle.cov_engine.proofs.CallerLemmas.{accepted-sizes, edits-few, text-few}
+use Rattle.cov_history.specs.Verdict.{verdict, refusals_of, IsLegal, IsLegalFrom}
 use Rattle.cov_history.specs.declared.refusal.Refusal.TheVariants as refusals
 use Rattle.cov_journal.specs.Journal.{records_size}
 use Rattle.cov_journal.specs.Laws.{AreShort}
@@ -18,44 +17,13 @@ use Rattle.cov_record.specs.FitsRecord.{FitsRecord}
 use Rattle.cov_record.specs.Payload.{payload}
 use Rattle.cov_record.proofs.CallerLemmas.{IsWithinLimits, payloads-short}
 use Rattle.cov_store.specs.Stands.{payloads, gate_of}
-use Rattle.cov_view.specs.Refusals.{when, first_of}
-
-below : (n m : ℕ) → nat_le n m ≡ false → m < n
-below n m h = grind (arith, nat_tests, h)
-
-not-below : (n m : ℕ) → nat_lt n m ≡ false → m ≤ n
-not-below n m h = grind (arith, nat_tests, h)
-
-or-first : (a b : Bool) → (a || b) ≡ false → a ≡ false
-or-first false b h = refl
-or-first true b h = absurd (cc)
-
--- the first of a list of refusals, and those after it
-abbrev head_of : List (Option Refusal) → Option Refusal
-head_of [] = None
-head_of (o ∷ os) = o
-
-abbrev tail_of : List (Option Refusal) → List (Option Refusal)
-tail_of [] = []
-tail_of (o ∷ os) = os
-
-none-first : (os : List (Option Refusal)) → first_of os ≡ None → head_of os ≡ None
-none-first [] h = refl
-none-first (None ∷ os) h = refl
-none-first (Some r ∷ os) h = absurd (cc)
-
-none-later : (os : List (Option Refusal)) → first_of os ≡ None → first_of (tail_of os) ≡ None
-none-later [] h = refl
-none-later (None ∷ os) h = h
-none-later (Some r ∷ os) h = absurd (cc)
-
-none-when : (b : Bool) (r : Refusal) → when b r ≡ None → b ≡ false
-none-when false r h = refl
-none-when true r h = absurd (cc)
+use Rattle.cov_view.proofs.CallerLemmas.{none-when}
 
 -- where a command is accepted, the history isn't full
 pub accepted-room : (history : List Command) (c : Command) → verdict history c ≡ None → length history < LIMITS.commands
-accepted-room history c accepted = below LIMITS.commands (length history) (none-when (nat_le LIMITS.commands (length history)) refusals.Full (none-first (when_full history ∷ refusals_of history c) accepted))
+accepted-room history c accepted =
+    let room = (none-when (nat_le LIMITS.commands (length history)) refusals.Full (refusals_of history c) accepted).0 in
+    grind (arith, nat_tests, room)
 
 -- and the command has no more edits and text than a commit may have
 pub accepted-within : (history : List Command) (c : Command) → verdict history c ≡ None → IsWithinLimits c
@@ -63,22 +31,9 @@ accepted-within history (commands.Option name) accepted = record { edits = omega
 accepted-within history (commands.Constraint expr) accepted = record { edits = omega arith; bytes = omega arith }
 accepted-within history (commands.Prefer expr) accepted = record { edits = omega arith; bytes = omega arith }
 accepted-within history (commands.Default option on) accepted = record { edits = omega arith; bytes = omega arith }
-accepted-within history (commands.Commit base choice ambition es) accepted = record {
-  edits = not-below LIMITS.edits (length es) (none-when (nat_lt LIMITS.edits (length es)) refusals.TooManyEdits (none-first sizes sized));
-  bytes = not-below LIMITS.commit_bytes (text_bytes es)
-      (or-first (nat_lt LIMITS.commit_bytes (text_bytes es)) (nat_lt LIMITS.bytes (byte_count history + text_bytes es))
-      (none-when (nat_lt LIMITS.commit_bytes (text_bytes es) || nat_lt LIMITS.bytes (byte_count history + text_bytes es)) refusals.TooManyBytes
-      (none-first (tail_of (tail_of (tail_of sizes))) (none-later (tail_of (tail_of sizes)) (none-later (tail_of sizes) (none-later sizes sized))))));
-}
-  where
-    tests : List (Option Refusal)
-    tests = when_full history ∷ refusals_of history (commands.Commit base choice ambition es)
-
-    sizes : List (Option Refusal)
-    sizes = tail_of (tail_of (tail_of tests))
-
-    sized : first_of sizes ≡ None
-    sized = none-later (tail_of (tail_of tests)) (none-later (tail_of tests) (none-later tests accepted))
+accepted-within history (commands.Commit base choice ambition es) accepted =
+    let sized = accepted-sizes history base choice ambition es accepted in
+    record { edits = edits-few history es sized.0 sized.1; bytes = text-few history es sized.0 sized.1 }
 
 legal-from-within : (before history : List Command) → IsLegalFrom before history → AllByRecursion IsWithinLimits history
 legal-from-within before [] legal = tt
