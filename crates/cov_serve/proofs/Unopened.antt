@@ -6,12 +6,12 @@ use Rattle.cov_io.specs.Devices.{AppendsAll, AppendsSome}
 use Rattle.cov_loop.specs.Turns.{WritesFront}
 use Rattle.cov_script.specs.Replies.{IsCodeOf}
 use Rattle.cov_serve.specs.Codes.{refusal_code}
-use Rattle.cov_serve.specs.Opening.{TellsDamage, TellsNoStore}
 use Rattle.cov_serve.specs.Program.{CanBeTold, OnUnopened, EndsTold, EndsWithLine, ReadsAs, StopsCheck, StopsOpening, TellsFault, damaged_line, not_a_store_line}
+use Rattle.cov_serve.specs.States.{State}
 use Rattle.cov_serve.specs.declared.status.Status.{Status}
 use Rattle.cov_serve.specs.declared.status.Status.TheVariants as statuses
 use Rattle.cov_store.specs.Damages.{HasDamage}
-use Rattle.cov_store.specs.Opening.{IsOfVerdict, MayStop}
+use Rattle.cov_store.specs.Opening.{IsOfVerdict, MayStop, TellsDamage, TellsNoStore}
 use Rattle.cov_store.specs.Stands.{StandsFor}
 use Rattle.cov_store.specs.declared.damage.StoreDamage.{StoreDamage}
 use Rattle.cov_store.specs.declared.damage.StoreDamage.TheVariants as damages
@@ -100,11 +100,11 @@ module _ (sink sink' : ℕ) where
     nothing_put faults.Memory h t = t.same
 
     -- a disk that is no store
-    module _ (fault : StoreFault) (no_store : TellsNoStore disk disk' (Err fault)) (t : TellsFault fault old new sink sink' status) where
+    module _ (fault : StoreFault) (no_store : TellsNoStore {S = State} disk disk' (Err fault)) (t : TellsFault fault old new sink sink' status) where
       pub no_store_front : AppendsSome not_a_store_line old new
       no_store_front = at fault no_store t
         where
-          at : (fault : StoreFault) → TellsNoStore disk disk' (Err fault) → TellsFault fault old new sink sink' status → AppendsSome not_a_store_line old new
+          at : (fault : StoreFault) → TellsNoStore {S = State} disk disk' (Err fault) → TellsFault fault old new sink sink' status → AppendsSome not_a_store_line old new
           at faults.NotAStore h t = t.front
           at (faults.Damaged number cause options) h t = absurd h
           at faults.DiskFault h t = appends_none not_a_store_line old new t.same
@@ -113,7 +113,7 @@ module _ (sink sink' : ℕ) where
       pub no_store_whole : (P : Type 0) → (AppendsAll not_a_store_line old new → P) → OnUnopened status P
       no_store_whole P to = at fault no_store t
         where
-          at : (fault : StoreFault) → TellsNoStore disk disk' (Err fault) → TellsFault fault old new sink sink' status → OnUnopened status P
+          at : (fault : StoreFault) → TellsNoStore {S = State} disk disk' (Err fault) → TellsFault fault old new sink sink' status → OnUnopened status P
           at faults.NotAStore h t = on_whole statuses.NotAStore status P t.ends (λ e. to (t.whole e))
           at (faults.Damaged number cause options) h t = absurd h
           at faults.DiskFault h t = subst (λ s. OnUnopened s P) (sym t.is) tt
@@ -121,14 +121,14 @@ module _ (sink sink' : ℕ) where
 
     -- a disk that has damage
     module _ (image : List ℕ) (number : ℕ) (cause : StoreDamage) (damage : HasDamage image number cause) (fault : StoreFault)
-        (tells : TellsDamage damage.history number cause disk disk' (Err fault)) (t : TellsFault fault old new sink sink' status) where
+        (tells : TellsDamage {S = State} damage.history number cause disk disk' (Err fault)) (t : TellsFault fault old new sink sink' status) where
       abbrev line : List ℕ
       line = damaged_line (options_of damage.history) number cause
 
       pub damage_front : AppendsSome line old new
       damage_front = at fault tells t
         where
-          at : (fault : StoreFault) → TellsDamage damage.history number cause disk disk' (Err fault) → TellsFault fault old new sink sink' status → AppendsSome line old new
+          at : (fault : StoreFault) → TellsDamage {S = State} damage.history number cause disk disk' (Err fault) → TellsFault fault old new sink sink' status → AppendsSome line old new
           at faults.NotAStore h t = absurd h
           at (faults.Damaged k what options) (k_is, what_is, names_are) t =
               let same : damaged_line options.names k what ≡ line = ap (λ names. damaged_line names k what) names_are ∙ ap (λ n. damaged_line (options_of damage.history) n what) k_is ∙ ap (damaged_line (options_of damage.history) number) what_is in
@@ -139,7 +139,7 @@ module _ (sink sink' : ℕ) where
       pub damage_whole : (P : Type 0) → (AppendsAll line old new → P) → OnUnopened status P
       damage_whole P to = at fault tells t
         where
-          at : (fault : StoreFault) → TellsDamage damage.history number cause disk disk' (Err fault) → TellsFault fault old new sink sink' status → OnUnopened status P
+          at : (fault : StoreFault) → TellsDamage {S = State} damage.history number cause disk disk' (Err fault) → TellsFault fault old new sink sink' status → OnUnopened status P
           at faults.NotAStore h t = absurd h
           at (faults.Damaged k what options) (k_is, what_is, names_are) t =
               let same : damaged_line options.names k what ≡ line = ap (λ names. damaged_line names k what) names_are ∙ ap (λ n. damaged_line (options_of damage.history) n what) k_is ∙ ap (damaged_line (options_of damage.history) number) what_is in
@@ -150,7 +150,7 @@ module _ (sink sink' : ℕ) where
       pub damage_told : EndsTold (statuses.Damaged number cause) sink sink' disk disk' status
       damage_told = at fault tells t
         where
-          at : (fault : StoreFault) → TellsDamage damage.history number cause disk disk' (Err fault) → TellsFault fault old new sink sink' status → EndsTold (statuses.Damaged number cause) sink sink' disk disk' status
+          at : (fault : StoreFault) → TellsDamage {S = State} damage.history number cause disk disk' (Err fault) → TellsFault fault old new sink sink' status → EndsTold (statuses.Damaged number cause) sink sink' disk disk' status
           at faults.NotAStore h t = absurd h
           at (faults.Damaged k what options) (k_is, what_is, names_are) t =
               let same : statuses.Damaged k what ≡ statuses.Damaged number cause = ap (λ n. statuses.Damaged n what) k_is ∙ ap (statuses.Damaged number) what_is in

@@ -4,10 +4,10 @@ ghost use Rattle.cov_disk.specs.Images.{LeavesOnly};
 ghost use Rattle.cov_edit.specs.declared.command.Command.{Command};
 ghost use Rattle.cov_journal.specs.Gates.{HasGate};
 ghost use Rattle.cov_journal.specs.Reading.{IsNoStore};
-ghost use Rattle.cov_serve.specs.Opening.{Begins, TellsDamage, TellsNoStore};
+ghost use Rattle.cov_serve.specs.Opening.{Begins};
 ghost use Rattle.cov_serve.specs.States.{starting};
 ghost use Rattle.cov_store.specs.Damages.{HasDamage};
-ghost use Rattle.cov_store.specs.Opening.{IsFaultOf, HasReason, IsOfVerdict, OnRefused};
+ghost use Rattle.cov_store.specs.Opening.{IsFaultOf, HasReason, IsOfVerdict, OnRefused, TellsDamage, TellsNoStore};
 ghost use Rattle.cov_store.specs.Stands.{StandsFor, IsStored, gate_of};
 ghost use Rattle.cov_store.specs.declared.damage.StoreDamage.{StoreDamage};
 

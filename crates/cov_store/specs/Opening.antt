@@ -65,13 +65,13 @@ GivesHistory history before now (Ok store) = store.history ≡ history
 GivesHistory history before now (Err fault) = MayStop before now fault
 
 -- this damage is told with the options that the history before it declares, unless the opening stops
-abbrev pub TellsDamage : List Command → ℕ → StoreDamage → ℕ → ℕ → Result EngineValue StoreFault → Type 0
-TellsDamage history number cause before now (Ok store) = ⊥
+abbrev pub TellsDamage : {S : Type 0} → List Command → ℕ → StoreDamage → ℕ → ℕ → Result S StoreFault → Type 0
+TellsDamage history number cause before now (Ok opened) = ⊥
 TellsDamage history number cause before now (Err (faults.Damaged k what options)) = (k ≡ number) × (what ≡ cause) × (options.names ≡ options_of history)
 TellsDamage history number cause before now (Err fault) = MayStop before now fault
 
 -- it is told that the disk is no store, unless the opening stops
-abbrev pub TellsNoStore : ℕ → ℕ → Result EngineValue StoreFault → Type 0
-TellsNoStore before now (Ok store) = ⊥
+abbrev pub TellsNoStore : {S : Type 0} → ℕ → ℕ → Result S StoreFault → Type 0
+TellsNoStore before now (Ok opened) = ⊥
 TellsNoStore before now (Err faults.NotAStore) = Unit {0}
 TellsNoStore before now (Err fault) = MayStop before now fault
