@@ -17,7 +17,8 @@ use Rattle.cov_session.specs.Named.{named}
 use Rattle.cov_serve.specs.Acting.{CanBeTold, IsDone, IsPlain, Refuses, Stops}
 use Rattle.cov_serve.specs.Adding.{HasReceipt, command_added, ended_by, told_by}
 use Rattle.cov_serve.specs.Codes.{refusal_code}
-use Rattle.cov_serve.specs.Finding.{Found, ◌>>=◌, unless}
+use Rattle.cov_serve.specs.Finding.{Found, ◌>>=◌}
+use Rattle.cov_session.specs.Faults.{unless}
 use Rattle.cov_serve.specs.States.{State, with_command}
 use Rattle.cov_serve.specs.Step.{Act, acted, appended, as_outcome, plainly, refused, step}
 use Rattle.cov_serve.specs.Storing.{grown, unless_refused}

@@ -29,7 +29,7 @@ use Rattle.cov_engine.specs.Visibility.{is_no_line}
 use Rattle.cov_alt.specs.Sides.{sides_at}
 use Rattle.cov_serve.specs.Codes.{alt_code, refusal_code, session_code, syntax_code}
 use Rattle.cov_serve.specs.Editing.{directory_of}
-use Rattle.cov_serve.specs.Finding.{Found, ◌>>=◌, by_code, unless as coded, completed_choice, found_choice, found_expression, found_option, found_partial}
+use Rattle.cov_serve.specs.Finding.{Found, ◌>>=◌, by_code, completed_choice, found_choice, found_expression, found_option, found_partial}
 use Rattle.cov_serve.specs.Isolation.{HasSession, begins_or_ends, has_form, is_boundary, is_own, works_in}
 use Rattle.cov_serve.specs.States.{State, with_command, with_sessions, with_tree}
 use Rattle.cov_serve.specs.Step.{Act, Done, acted, checked_out, compared, done, is_taken, located, plainly, added, appended, as_outcome, begun, committed, completed, constrained, declared, defaulted, deleted, dropped, ended, file_told, inserted, listed_at, made_in, moved, node_at, preferred, rebegun, removed, renamed, replaced, served, served_edit, served_session, served_text, shown, step, told}
@@ -71,7 +71,7 @@ module _ (name : List ℕ) (s : NamedSession) (before : List Command) where
     on-appended : (k : Command) (later : State → Act) → Leaves (later (with_command st k)) → Leaves (appended st k >>= later)
     on-appended k later h = at (verdict st.history k)
       where
-        at : (refusal : Option Refusal) → Leaves (coded (option_map refusal_code refusal) (with_command st k) >>= later)
+        at : (refusal : Option Refusal) → Leaves (unless (option_map refusal_code refusal) (with_command st k) >>= later)
         at None = h
         at (Some refusal) = tt
 

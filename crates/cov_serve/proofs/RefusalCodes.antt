@@ -16,7 +16,7 @@ use Rattle.cov_history.specs.declared.refusal.Refusal.TheVariants as refusals
 use Rattle.cov_script.specs.Replies.{IsCodeOf}
 use Rattle.cov_serve.specs.Acting.{Stops}
 use Rattle.cov_serve.specs.Codes.{refusal_code}
-use Rattle.cov_serve.specs.Finding.{unless}
+use Rattle.cov_session.specs.Faults.{unless}
 use Rattle.cov_serve.specs.States.{State, with_command}
 use Rattle.cov_serve.specs.Step.{appended}
 use Rattle.cov_serve.specs.Stops.{refusal_stop}

@@ -27,11 +27,6 @@ abbrev pub ◌>>=◌ : {X Y : Type 0} → Found X → (X → Found Y) → Found 
 (Ok x) >>= later = later x
 (Err code) >>= later = Err code
 
--- what is there, unless a code refuses it
-abbrev pub unless : {X : Type 0} → Option Code → X → Found X
-unless None x = Ok x
-unless (Some code) x = Err code
-
 -- an option, unless there is none of that name
 abbrev pub option_if : List ℕ → Option ℕ → Found ℕ
 option_if name None = Err (codes.UnknownOption name)

@@ -29,7 +29,8 @@ use Rattle.cov_store.specs.Stands.{IsStored}
 use Rattle.cov_serve.specs.Adding.{adds}
 use Rattle.cov_serve.specs.Codes.{alt_code, refusal_code, session_code, syntax_code}
 use Rattle.cov_serve.specs.Editing.{directory_of}
-use Rattle.cov_serve.specs.Finding.{Found, ◌>>=◌, by_code, unless as coded, completed_choice, found_choice, found_expression, found_option, found_partial}
+use Rattle.cov_session.specs.Faults.{unless}
+use Rattle.cov_serve.specs.Finding.{Found, ◌>>=◌, by_code, completed_choice, found_choice, found_expression, found_option, found_partial}
 use Rattle.cov_serve.specs.Laws.{long_refused, no_reply}
 use Rattle.cov_serve.specs.States.{State, with_command, with_sessions}
 use Rattle.cov_serve.specs.Step.{Act, Done, acted, checked_out, compared, done, is_taken, located, plainly, added, appended, as_outcome, begun, committed, completed, constrained, declared, defaulted, deleted, dropped, ended, file_told, inserted, listed_at, made_in, moved, node_at, preferred, rebegun, removed, renamed, replaced, served, served_edit, served_session, served_text, shown, step, told}
@@ -71,7 +72,7 @@ module _ (st : State) where
   command_adds : (command : Command) (later : State → Act) → Adds (later (with_command st command)) → Adds (appended st command >>= later)
   command_adds command later h = at (verdict st.history command)
     where
-      at : (refusal : Option Refusal) → Adds (coded (option_map refusal_code refusal) (with_command st command) >>= later)
+      at : (refusal : Option Refusal) → Adds (unless (option_map refusal_code refusal) (with_command st command) >>= later)
       at None = h
       at (Some refusal) = tt
 

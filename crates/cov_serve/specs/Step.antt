@@ -43,7 +43,8 @@ use Rattle.cov_session.specs.Open.{NamedSession}
 use Rattle.cov_loop.specs.Outcome.{Outcome, answers}
 use Rattle.cov_serve.specs.Codes.{alt_code, syntax_code, refusal_code, session_code}
 use Rattle.cov_serve.specs.Editing.{directory_of, last_name, ref_in, line_ref}
-use Rattle.cov_serve.specs.Finding.{Found, by_code, unless, ◌>>=◌, completed_choice, found_option, found_expression, found_partial, found_choice}
+use Rattle.cov_session.specs.Faults.{unless}
+use Rattle.cov_serve.specs.Finding.{Found, by_code, ◌>>=◌, completed_choice, found_option, found_expression, found_partial, found_choice}
 use Rattle.cov_serve.specs.Replies.{directory_reply, edit_reply, file_reply, lines_reply, marked_line, presence_reply, seen_reply}
 use Rattle.cov_serve.specs.States.{State, starting, with_command, with_sessions, with_tree}
 use Rattle.cov_serve.specs.Written.{rows_in, tree_reply}

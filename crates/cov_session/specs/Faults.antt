@@ -30,7 +30,7 @@ by_completion completions.Memory = faults.Memory
 by_completion (completions.Invalid rule) = faults.Invalid rule
 by_completion (completions.Incomplete option) = faults.Incomplete option
 
--- what comes, unless a fault refuses it
-abbrev pub unless : {X : Type 0} → Option SessionFault → X → Result X SessionFault
+-- what comes, unless a fault or a code refuses it
+abbrev pub unless : {X E : Type 0} → Option E → X → Result X E
 unless None x = Ok x
-unless (Some fault) x = Err fault
+unless (Some refused) x = Err refused
