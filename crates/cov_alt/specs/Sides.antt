@@ -50,7 +50,7 @@ sides history on off file = both_sides (lines_if_present (replay on history) fil
 
 -- what comes next, unless a fault comes before it
 infixl 10 ◌>>=◌
-abbrev pub ◌>>=◌ : {X Y : Type 0} → Result X AltFault → (X → Result Y AltFault) → Result Y AltFault
+abbrev pub ◌>>=◌ : {X Y E : Type 0} → Result X E → (X → Result Y E) → Result Y E
 (Ok x) >>= next = next x
 (Err fault) >>= next = Err fault
 
@@ -88,5 +88,5 @@ IsAnswer answer (Err faults.Memory) = Unit {0}
 IsAnswer answer (Err fault) = answer ≡ Err fault
 
 -- a fault is that of an answer, but where memory is wanting
-abbrev pub IsFaultOf : {X : Type 0} → Result X AltFault → AltFault → Type 0
-IsFaultOf answer fault = IsAnswer answer (Err fault)
+abbrev pub IsAltFaultOf : {X : Type 0} → Result X AltFault → AltFault → Type 0
+IsAltFaultOf answer fault = IsAnswer answer (Err fault)

@@ -2,7 +2,7 @@
 ghost use Rattle.std.specs.Prelude.{◌≡◌, ◌<◌, length, None, Ok, IfOk, IfErr};
 ghost use Rattle.cov_edit.specs.History.{option_count, first_false_in};
 ghost use Rattle.cov_edit.specs.Replay.{replay};
-ghost use Rattle.cov_alt.specs.Sides.{sides, side_of, file_found, sides_at, IsAnswer, IsFaultOf};
+ghost use Rattle.cov_alt.specs.Sides.{sides, side_of, file_found, sides_at, IsAnswer, IsAltFaultOf};
 ghost use Rattle.cov_alt.specs.Marking.{on_choice};
 
 use crate::marking::{Side, mark_all};
@@ -27,7 +27,7 @@ pub fn alt(
     requires valid { first_false_in engine.now.history choice ≡ None }
     requires option { option < length choice }
     ensures lines { IfOk result (λ lines. sides_at engine.now.history choice option path.now ≡ Ok lines) }
-    ensures refused { IfErr result (IsFaultOf (sides_at engine.now.history choice option path.now)) }
+    ensures refused { IfErr result (IsAltFaultOf (sides_at engine.now.history choice option path.now)) }
 {
     let on = match side(engine, choice, option, true) {
         Ok(on) => on,

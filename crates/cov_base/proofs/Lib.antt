@@ -1,4 +1,5 @@
 pub mod CallerLemmas
+pub mod Choosing
 pub mod Examples
 pub mod Faulty
 pub mod Inserting

@@ -1,9 +1,14 @@
 -- Lists, tests and the newest value not beyond a position, where neither std nor its algebra of Bool has it.
-use Rattle.std.proofs.Common.{◌≡◌, ◌||◌, ◌==◌, ℕ, Bool, true, false, cond, nat_eq, nat_le, nat_lt, List, [], ◌∷◌, Some, None, unwrap_or, refl, sym, ap, ◌∙◌, arith, ◌-◌, ◌≤◌, ◌&&◌, length, take, drop, get_or, subst}
-use Rattle.std.specs.List.{find, filter, list_any, AllByRecursion}
+use Rattle.std.proofs.Common.{◌≡◌, ◌||◌, ◌==◌, ℕ, zero, suc, ◌+◌, Bool, true, false, not, cond, nat_eq, nat_le, nat_lt, List, [], ◌∷◌, ◌++◌, Option, Some, None, is_some, unwrap_or, position, refl, sym, ap, ◌∙◌, arith, ◌-◌, ◌≤◌, ◌&&◌, length, take, drop, get_or, slice_get, subst}
+use mathlib.Core.Bool.{or_comm}
+use Rattle.std.specs.List.{find, filter, list_any, onto_first, position_or_len, slice_split, AllByRecursion}
 use Rattle.std.specs.Ordering.{is_le, nat_cmp}
 use Rattle.std.specs.declared.cmp.Ordering.TheVariants.{Less, Equal, Greater}
+use Rattle.std.proofs.lemmas.Bool.{ltb-false}
 use Rattle.std.proofs.lemmas.Bool.Decides.{nat_tests}
+use Rattle.std.proofs.lemmas.List.Folds.{list_any-append}
+use Rattle.std.proofs.lemmas.List.Sums.{prefix_len-le-length}
+use Rattle.std.proofs.lemmas.Option.{cond_some}
 use Rattle.cov_base.specs.Older.{value_at}
 use Rattle.std.proofs.Math.Seq.{take-length}
 
@@ -34,6 +39,76 @@ module _ {X : Type 0} where
       at : (b : Bool) → list_any t (filter p xs) ≡ list_any (λ y. p y && t y) xs → list_any t (cond b (x ∷ filter p xs) (filter p xs)) ≡ ((b && t x) || list_any (λ y. p y && t y) xs)
       at true rest = ap (λ b. t x || b) rest
       at false rest = rest
+
+  -- an item more at the end
+  pub any-push : (t : X → Bool) (xs : List X) (x : X) → list_any t (xs ++ x ∷ []) ≡ (list_any t xs || t x)
+  any-push t xs x = list_any-append t xs (x ∷ []) ∙ ap (λ b. list_any t xs || b) (or_comm (t x) false)
+
+  drop-next : (xs : List X) (i : ℕ) (x : X) → slice_get xs i ≡ Some x → drop i xs ≡ x ∷ drop (suc i) xs
+  drop-next [] i x h = absurd (cc)
+  drop-next (y ∷ ys) zero x h = ap (λ z. z ∷ ys) (let same : y ≡ x = cc in same)
+  drop-next (y ∷ ys) (suc i) x h = drop-next ys i x h
+
+  -- from an index on, the item there comes first
+  pub drop-at : (xs : List X) (i k : ℕ) (x : X) → slice_get xs i ≡ Some x → k ≡ i + 1 → drop i xs ≡ x ∷ drop k xs
+  drop-at xs i k x h e = let same : suc i ≡ k = omega (arith, e) in drop-next xs i x h ∙ ap (λ m. x ∷ drop m xs) same
+
+  -- from where there is no item on, there is none
+  pub drop-end : (xs : List X) (i : ℕ) → slice_get xs i ≡ None → drop i xs ≡ []
+  drop-end [] zero h = refl
+  drop-end [] (suc i) h = refl
+  drop-end (y ∷ ys) zero h = absurd (cc)
+  drop-end (y ∷ ys) (suc i) h = drop-end ys i h
+
+  -- what isn't there is none
+  pub none-is : (o : Option X) → is_some o ≡ false → o ≡ None
+  none-is None h = refl
+  none-is (Some x) h = absurd (cc)
+
+  -- the place that is found is that of the first item that passes
+  pub place-found : (t : X → Bool) (xs : List X) (i : ℕ) → position t xs ≡ Some i → position_or_len t xs ≡ i
+  place-found t xs i found = (cond_some (nat_lt (position_or_len t xs) (length xs)) (position_or_len t xs) i found).1
+
+  -- it is the length where no item passes
+  pub place-absent : (t : X → Bool) (xs : List X) → position t xs ≡ None → position_or_len t xs ≡ length xs
+  place-absent t xs none = cases (nat_lt (position_or_len t xs) (length xs)) refl
+    where
+      cases : (b : Bool) → nat_lt (position_or_len t xs) (length xs) ≡ b → position_or_len t xs ≡ length xs
+      cases true h =
+          let found : Some (position_or_len t xs) ≡ None = ap (λ b. cond b (Some (position_or_len t xs)) None) (sym h) ∙ none in
+          cc
+      cases false h = omega (arith, ltb-false _ _ h, prefix_len-le-length (λ x. not (t x)) xs)
+
+module _ {X : Type 0} (t : X → Bool) where
+  none-before : (xs : List X) → length xs ≤ position_or_len t xs → list_any t xs ≡ false
+  none-before [] h = refl
+  none-before (x ∷ xs) h = at (t x) h (none-before xs)
+    where
+      at : (b : Bool) → suc (length xs) ≤ cond (not b) (1 + position_or_len t xs) 0 → (length xs ≤ position_or_len t xs → list_any t xs ≡ false) → (b || list_any t xs) ≡ false
+      at true k rest = absurd (omega (arith, k))
+      at false k rest = rest (omega (arith, k))
+
+  one-part : (xs : List X) → length xs ≤ position_or_len t xs → slice_split t xs ≡ xs ∷ []
+  one-part [] h = refl
+  one-part (x ∷ xs) h = at (t x) h (one-part xs)
+    where
+      at : (b : Bool) → suc (length xs) ≤ cond (not b) (1 + position_or_len t xs) 0 → (length xs ≤ position_or_len t xs → slice_split t xs ≡ xs ∷ [])
+          → cond b ([] ∷ slice_split t xs) (onto_first x (slice_split t xs)) ≡ (x ∷ xs) ∷ []
+      at true k rest = absurd (omega (arith, k))
+      at false k rest = ap (onto_first x) (rest (omega (arith, k)))
+
+  -- where no place is found, no item passes
+  pub none-placed : (xs : List X) → position t xs ≡ None → list_any t xs ≡ false
+  none-placed xs none = none-before xs (omega (arith, place-absent t xs none))
+
+  -- and the list is the one part between such items
+  pub split-absent : (xs : List X) → position t xs ≡ None → slice_split t xs ≡ xs ∷ []
+  split-absent xs none = one-part xs (omega (arith, place-absent t xs none))
+
+-- one of two holds, and it isn't the first
+pub or_second : (a b : Bool) → a ≡ false → (a || b) ≡ true → b ≡ true
+or_second true b e h = absurd (cc)
+or_second false b e h = h
 
 -- the first two of three change places
 pub or_left_comm : (a b c : Bool) → (a || (b || c)) ≡ (b || (a || c))

@@ -6,6 +6,7 @@ mod choice;
 mod error;
 pub mod laws;
 mod limits;
+mod line_text;
 mod list;
 mod name;
 mod number;
@@ -20,6 +21,7 @@ pub use limits::{
     CHOICE_WIDTH, LIMITS, Limits, MOST_NAME_BYTES, MOST_OPTION_NAME_BYTES, MOST_PARTS,
     MOST_SCRIPT_LINE_BYTES, MOST_TEXT_BYTES, MOST_TOKENS, TOO_MANY_SCRIPT_BYTES,
 };
+pub use line_text::is_line_text;
 pub use list::{ByReference, ByValue, LineNos, List, NodeNos, Numbers, Texts};
 pub use name::{Name, Path};
 pub use number::{Kind, LineNo, LineRef, NodeNo, NodeRef, OptionId, Position};

@@ -5,7 +5,7 @@ use Rattle.cov_base.specs.Choices.{is_on, with_option}
 use Rattle.cov_base.specs.declared.limits.TheConstants.{CHOICE_WIDTH}
 use Rattle.cov_dd.specs.declared.triple.Triple.{Triple}
 use Rattle.cov_dd.specs.Diagrams.{diagram_size, entry_in, top, span, value_in, IsNew, IsDiagram, Extends, IsEntry, Stands}
-use Rattle.cov_dd.proofs.Settings.{is_on-other}
+use Rattle.cov_base.proofs.CallerLemmas.{is_on-other}
 
 pub cond-older : {A : Type 0} (a n : ℕ) (x y : A) → a < n → cond (a == n) x y ≡ y
 cond-older a n x y h = ap (λ b. cond b x y) (ne_eqb a n (λ e. omega (arith, h, e)))

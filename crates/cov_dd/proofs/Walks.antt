@@ -6,7 +6,7 @@ use Rattle.cov_base.specs.Choices.{all_choices, bits_of, is_on, with_option}
 use Rattle.cov_base.specs.declared.limits.TheConstants.{CHOICE_WIDTH}
 use Rattle.cov_dd.specs.declared.triple.Triple.{Triple}
 use Rattle.cov_dd.specs.Diagrams.{diagram_size, entry_in, top, span, value_in, IsDiagram, IsEntry}
-use Rattle.cov_dd.proofs.Settings.{length-with_option}
+use Rattle.cov_base.proofs.CallerLemmas.{is_on-middle, length-with_option, with_option-middle}
 use Rattle.cov_dd.proofs.Nodes.{Order, below, level, above, ordered, cond-older, value-constant, top-constant, entry-constant, entry_facts, has_entry}
 
 -- the choice c with the options on that a walk through the nodes sets, where it goes off unless that is FALSE
@@ -76,14 +76,6 @@ find_longer p q b (x ∷ cs) c same h = by (q x) (p (b ∷ x)) (same x) h (find_
 find_nowhere : (p : List Bool → Bool) (b : Bool) (cs : List (List Bool)) → ((x : List Bool) → p (b ∷ x) ≡ false) → find p (map (λ x. b ∷ x) cs) ≡ None
 find_nowhere p b [] h = refl
 find_nowhere p b (x ∷ cs) h = ap (λ r. cond r (Some (b ∷ x)) (find p (map (λ y. b ∷ y) cs))) (h x) ∙ find_nowhere p b cs h
-
-is_on-middle : (p x : List Bool) (b : Bool) → is_on (p ++ b ∷ x) (length p) ≡ b
-is_on-middle [] x b = refl
-is_on-middle (y ∷ p) x b = is_on-middle p x b
-
-with_option-middle : (p x : List Bool) (b on : Bool) → with_option (p ++ b ∷ x) (length p) on ≡ p ++ on ∷ x
-with_option-middle [] x b on = refl
-with_option-middle (y ∷ p) x b on = ap (λ l. y ∷ l) (with_option-middle p x b on)
 
 -- the first choice with the options p at its start on which a is true, where a has only options from there on
 record First (ts : List Triple) (a m : ℕ) (p : List Bool) : Type 0 where

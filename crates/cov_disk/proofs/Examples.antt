@@ -2,7 +2,7 @@
 use Rattle.std.proofs.Common.{◌≡◌, ◌⊎◌, inl, inr, refl, ℕ, zero, suc, ◌<◌, ◌≤◌, true, false, [], ◌∷◌, slice_index, Some, arith}
 use Rattle.cov_disk.specs.Images.{Written, Torn}
 use Rattle.cov_disk.specs.Kept.{undone, unsynced, IsImageNow}
-use Rattle.cov_disk.specs.InMemory.{fails_next}
+use Rattle.cov_io.specs.InMemory.{fails_next}
 use Rattle.cov_disk.specs.declared.kept.Logged.TheVariants.{Wrote, Missed, Synced}
 
 -- two bytes over the last one and past the end

@@ -1,3 +1,5 @@
+pub mod CallerLemmas
 mod Examples
 mod Keeping
+pub mod Moments
 mod Tearing

@@ -1,35 +1,8 @@
--- What a disk in memory holds, and how it counts.
-use Rattle.std.specs.Prelude.{◌≡◌, ◌⊎◌, ℕ, ◌||◌, Bool, true, false, Result, Ok, Err, nat_lt, List, ◌∷◌, length, take, drop, Option, Some, None}
-use Rattle.cov_io.specs.InMemory.{raised, is_next_in}
+-- What a disk in memory holds, and what its calls do.
+use Rattle.std.specs.Prelude.{◌≡◌, ◌⊎◌, ℕ, true, false, Result, Ok, Err, List, ◌∷◌, length, take, drop}
+use Rattle.cov_io.specs.InMemory.{Calls, fails_next, counted, failed, starved}
 use Rattle.cov_disk.specs.Kept.{Disk}
 use Rattle.cov_disk.specs.declared.kept.Logged.TheVariants.{Wrote, Missed, Synced}
-
--- the numbers of the calls that fail, how many calls come before every call fails, and the counts
-pub record Calls : Type 0 where
-  pub fail : List ℕ
-  pub fuse : Option ℕ
-  pub calls : ℕ
-  pub faults : ℕ
-  pub starved : ℕ
-
--- whether the call of this number comes after the fuse
-abbrev pub is_past : Option ℕ → ℕ → Bool
-is_past None calls = false
-is_past (Some fuse) calls = nat_lt fuse calls
-
--- whether the next call fails by its number
-abbrev pub fails_next : Calls → Bool
-fails_next c = is_past c.fuse (raised c.calls) || is_next_in c.fail c.calls
-
--- the counts after a call, and after one that failed, or failed for want of memory
-abbrev pub counted : Calls → Calls
-counted c = record c { calls = raised c.calls }
-
-abbrev pub failed : Calls → Calls
-failed c = record c { faults = raised c.faults }
-
-abbrev pub starved : Calls → Calls
-starved c = record c { faults = raised c.faults; starved = raised c.starved }
 
 -- a disk in memory
 pub record DiskState : Type 0 where

@@ -4,9 +4,9 @@ ghost use Rattle.cov_base.specs.Causes.{HasCause};
 ghost use Rattle.cov_io.specs.InMemory.{raised};
 
 use crate::Disk;
-use crate::count::raised;
 use crate::file::StoreFile;
 use cov_base::Failed;
+use cov_io::raised;
 use std::marker::Model;
 use std::rt::Files;
 

@@ -1,8 +1,6 @@
 //! A disk as a store sees it: what a read gives, and which images a crash may leave.
 #![tactic(auto)]
 
-mod calls;
-mod count;
 mod device;
 mod file;
 mod file_disk;

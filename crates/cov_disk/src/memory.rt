@@ -5,10 +5,10 @@ ghost use Rattle.cov_disk.specs.Images.{Torn, Follows, AddsNone, Elapses, Writte
 ghost use Rattle.cov_disk.specs.Kept.{IsImageNow, IsImageSince, IsPicked};
 ghost use Rattle.cov_disk.specs.InMemory.{Counts, Misses, Leaves, LogsWrite, LogsSync};
 
-use crate::calls::Calls;
 use crate::kept::Kept;
 use crate::{Disk, Pick};
 use cov_base::{Failed, Memory, Numbers, Text};
+use cov_io::Calls;
 use std::alloc::Global;
 use std::marker::Model;
 

@@ -63,10 +63,6 @@ no-anchor m (edits.Rename node name) is = refl
 no-anchor m (edits.Move node parent) is = refl
 no-anchor m (edits.Remove node) is = refl
 
-pub map-append : {X Y : Type 0} (f : X → Y) (xs ys : List X) → map f (xs ++ ys) ≡ map f xs ++ map f ys
-map-append f [] ys = refl
-map-append f (x ∷ xs) ys = ap (λ zs. f x ∷ zs) (map-append f xs ys)
-
 -- the numbers of the lines in a file of a history
 pub in-range : (history : List Command) (file : ℕ) → AllByRecursion (λ d. (1 ≤ dated_number d) × (dated_number d ≤ length (numbers_of history).addresses)) (file_dated file (kept_of history))
 in-range history file =

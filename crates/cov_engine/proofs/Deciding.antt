@@ -18,7 +18,7 @@ use Rattle.cov_edit.specs.History.{option_count, constraints_of, is_valid_in}
 use Rattle.cov_edit.specs.Touched.{have_common, touched, AreRising}
 use Rattle.cov_edit.proofs.CallerLemmas.{touched-rising}
 use Rattle.cov_engine.specs.Marks.{IsMark, AreMarks}
-use Rattle.cov_engine.specs.Overtakers.{AreApart, Overtakes, IsFirstOf, IsOvertaker}
+use Rattle.cov_engine.specs.Overtakers.{HaveNoCommonChoice, Overtakes, IsFirstOf, IsOvertaker}
 use Rattle.cov_history.specs.Overtaking.{share_choice, overtakes, overtaken_from, overtaken}
 use Rattle.cov_engine.specs.declared.store.CommitMark.{CommitMark}
 use Rattle.cov_engine.proofs.Marking.{marks-grown}
@@ -52,10 +52,10 @@ module _ (history : List Command) (ts : List Triple) (base within : ℕ) (ambiti
         && (value_same other c d (λ o lt. h o (omega (arith, lt, low))) i && value_same ambition c d (λ o lt. h o (omega (arith, lt, own))) i)
 
     -- it has one just where the ambitions share a valid choice
-    apart : share_choice history other ambition ≡ false → AreApart ts m.node within
+    apart : share_choice history other ambition ≡ false → HaveNoCommonChoice ts m.node within
     apart none c long = same c ∙ none_wide count count shared most reads (omega arith) none c long
 
-    unshared : AreApart ts m.node within → share_choice history other ambition ≡ false
+    unshared : HaveNoCommonChoice ts m.node within → share_choice history other ambition ≡ false
     unshared none = none_short count count shared most reads (λ c long. sym (same c) ∙ none c long)
 
     yes-overtakes : (old : ℕ) (choice : List Bool) → Overtakes ts base within (touched es) m → overtakes history ambition es (commands.Commit old choice other fs) ≡ true

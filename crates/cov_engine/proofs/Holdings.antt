@@ -1,11 +1,10 @@
 -- What is kept of rows and lines, and the views of it.
-use Rattle.std.proofs.Common.{◌≡◌, refl, ap, sym, subst, ◌∙◌, ℕ, zero, suc, ◌<◌, ◌≤◌, Bool, true, false, cond, nat_le, List, [], ◌∷◌, ◌++◌, length, map, take, Option, Some, None, append-nil, append_assoc, arith}
-use Rattle.std.proofs.lemmas.List.{take-append-le, take_all}
+use Rattle.std.proofs.Common.{◌≡◌, refl, ap, sym, subst, ◌∙◌, ℕ, zero, suc, ◌<◌, ◌≤◌, Bool, true, false, nat_le, List, [], ◌∷◌, ◌++◌, length, map, take, Option, Some, None, append-nil, append_assoc, arith}
+use Rattle.std.proofs.lemmas.List.{length_push, map-append, take-append-le, take_all}
 use Rattle.std.proofs.lemmas.Bool.Decides.{nat_tests}
 use Rattle.std.specs.List.{fold, AllByRecursion}
 use Rattle.cov_base.specs.declared.number.Kind.{Kind}
 use Rattle.cov_base.specs.declared.number.Kind.TheVariants as kinds
-use Rattle.cov_base.specs.declared.number.NodeRef.{NodeRef}
 use Rattle.cov_base.specs.Rows.{Row}
 use Rattle.cov_base.proofs.CallerLemmas.{all-append, all-map}
 use Rattle.cov_view.specs.Soundness.{is_old_row, AreOld, old_row}
@@ -20,10 +19,8 @@ use Rattle.cov_edit.specs.History.{option_count}
 use Rattle.cov_edit.specs.Numbering.{Numbers, no_numbers, numbers_of}
 use Rattle.cov_edit.specs.Variant.{Variant}
 use Rattle.cov_edit.specs.Replay.{replay}
-use Rattle.cov_view.specs.declared.line.ViewLine.{ViewLine}
 use Rattle.cov_view.specs.declared.row.ViewRow.{ViewRow}
-use Rattle.cov_view.specs.References.{same_node}
-use Rattle.cov_view.specs.Seen.{at_row, with_lines_by, with_row}
+use Rattle.cov_view.specs.Seen.{with_row}
 use Rattle.cov_view.specs.Views.{row_by_number}
 use Rattle.cov_engine.specs.declared.store.CommitMark.{CommitMark}
 use Rattle.cov_engine.specs.declared.file_part.FilePart.{FilePart}
@@ -42,21 +39,9 @@ use Rattle.cov_history.specs.Sessions.{has_commit}
 use Rattle.cov_engine.proofs.Marking.{marks-grown, marks-declared}
 use Rattle.cov_engine.proofs.Nodes.{stands-on}
 use Rattle.cov_edit.proofs.CallerLemmas.{replay-append}
-use Rattle.cov_history.proofs.CallerLemmas.{files-append, holding-goes_on}
-use Rattle.cov_engine.proofs.States.{numbers-kept, length-one}
-
-map-one : {A B : Type 0} (f : A → B) (xs : List A) (x : A) → map f (xs ++ x ∷ []) ≡ map f xs ++ f x ∷ []
-map-one f [] x = refl
-map-one f (y ∷ ys) x = ap (λ zs. f y ∷ zs) (map-one f ys x)
-
-one-same : (ns : Numbers) (b : Bool) (f : List ViewLine → List ViewLine) (r : ViewRow) (rows later : List ViewRow) → map (row_by_number ns) later ≡ map (row_by_number ns) rows
-    → map (row_by_number ns) (cond b (with_lines_by f r ∷ rows) (r ∷ later)) ≡ map (row_by_number ns) (r ∷ rows)
-one-same ns true f r rows later h = refl
-one-same ns false f r rows later h = ap (λ rs. row_by_number ns r ∷ rs) h
-
-rows-same : (ns : Numbers) (node : NodeRef) (f : List ViewLine → List ViewLine) (rows : List ViewRow) → map (row_by_number ns) (at_row node (with_lines_by f) rows) ≡ map (row_by_number ns) rows
-rows-same ns node f [] = refl
-rows-same ns node f (r ∷ rows) = one-same ns (same_node r.node node) f r rows (at_row node (with_lines_by f) rows) (rows-same ns node f rows)
+use Rattle.cov_history.proofs.CallerLemmas.{files-append, holding-goes_on, options-grow}
+use Rattle.cov_view.proofs.CallerLemmas.{rows-same}
+use Rattle.cov_engine.proofs.States.{numbers-kept}
 
 abbrev pub no_files : List FilePart
 no_files = []
@@ -75,7 +60,7 @@ module _ (ns : Numbers) (ts : List Triple) (c : List Bool) (at : ℕ) (stored : 
   nodes-rows rows [] = sym (append-nil (map (row_by_number ns) rows))
   nodes-rows rows (r ∷ rs) =
       nodes-rows (with_node ts c at stored rows r) rs
-      ∙ ap (λ xs. xs ++ rs) (kinds-same r.kind r.node (part_of stored r.node) (rows ++ bare_row r ∷ []) ∙ map-one (row_by_number ns) rows (bare_row r))
+      ∙ ap (λ xs. xs ++ rs) (kinds-same r.kind r.node (part_of stored r.node) (rows ++ bare_row r ∷ []) ∙ map-append (row_by_number ns) rows (bare_row r ∷ []))
       ∙ append_assoc (map (row_by_number ns) rows) (r ∷ []) rs
 
 -- rows without lines name nodes that a history has, and are told by their numbers
@@ -126,18 +111,6 @@ held-same history (commands.Constraint expr) h = holding-goes_on history (comman
 held-same history (commands.Prefer expr) h = holding-goes_on history (commands.Prefer expr ∷ [])
 held-same history (commands.Default option on) h = holding-goes_on history (commands.Default option on ∷ [])
 held-same history (commands.Commit base choice ambition es) h = absurd (cc)
-
-pub as-many-options : (history later : List Command) → option_count history ≤ option_count (history ++ later)
-as-many-options [] later = omega arith
-as-many-options (commands.Option name ∷ history) later =
-    let ih : option_count history ≤ option_count (history ++ later) = as-many-options history later in
-    let left : option_count (commands.Option name ∷ history) ≡ suc (option_count history) = refl in
-    let right : option_count ((commands.Option name ∷ history) ++ later) ≡ suc (option_count (history ++ later)) = refl in
-    omega (arith, ih, left, right)
-as-many-options (commands.Constraint expr ∷ history) later = as-many-options history later
-as-many-options (commands.Prefer expr ∷ history) later = as-many-options history later
-as-many-options (commands.Default option on ∷ history) later = as-many-options history later
-as-many-options (commands.Commit base choice ambition es ∷ history) later = as-many-options history later
 
 -- so do the lines of a file
 pub dated-on : (old new : List Triple) (count more : ℕ) (ds : List DatedLine) (ls : List FileLine) → Extends old new → count ≤ more → AreDated old count ds ls → AreDated new more ds ls
@@ -205,7 +178,7 @@ rows-declared c p history k h = by (nat_le p (length history)) refl
     by true e = ap (replay c) (take-before p history k (grind (arith, nat_tests, e)))
     by false e =
         let above : length history < p = grind (arith, nat_tests, e) in
-        let one = length-one history k in
+        let one = length_push history k in
         ap (replay c) (take-beyond p (history ++ k ∷ []) (omega (arith, above, one))) ∙ replay-same c history k h ∙ ap (replay c) (sym (take-beyond p history (omega (arith, above))))
 
 files-same : (history : List Command) (k : Command) → has_commit (k ∷ []) ≡ false → files_of (history ++ k ∷ []) ≡ files_of history
@@ -225,7 +198,7 @@ held-declared history longer k ts commits file_of_line entries stored held h e =
   of_entries = record {
     rows = λ c p. held.of_entries.rows c p ∙ sym (ap (λ (v : Variant). v.rows) (rows-declared c p history k h));
     within = held.of_entries.within;
-    from = let one = length-one history k in let from = held.of_entries.from in omega (arith, one, from);
+    from = let one = length_push history k in let from = held.of_entries.from in omega (arith, one, from);
   };
   below = subst (λ (ns : Numbers). AllByRecursion (λ node. node ≤ ns.nodes) (nodes_in entries)) (sym (numbers-kept history k h)) held.below;
   made = held.made ∙ sym (files-same history k h);
@@ -233,15 +206,15 @@ held-declared history longer k ts commits file_of_line entries stored held h e =
   files = all-map (IsFileOf history ts) (IsFileOf (history ++ k ∷ []) ts)
       (λ stored file. record {
         lines = subst (λ (held : Holding). AreDated ts (option_count (history ++ k ∷ [])) (file_dated stored.node held.lines) stored.lines.lines) (sym (held-same history k h))
-            (dated-on ts ts (option_count history) (option_count (history ++ k ∷ [])) (file_dated stored.node (kept_of history)) stored.lines.lines (itself ts) (as-many-options history (k ∷ [])) file.lines);
-        newest = let one = length-one history k in let newest = file.newest in omega (arith, one, newest);
+            (dated-on ts ts (option_count history) (option_count (history ++ k ∷ [])) (file_dated stored.node (kept_of history)) stored.lines.lines (itself ts) (options-grow history (k ∷ [])) file.lines);
+        newest = let one = length_push history k in let newest = file.newest in omega (arith, one, newest);
       })
       stored held.files;
   lines = held.lines ∙ ap (λ ns. length ns.addresses) (sym (numbers-kept history k h));
   in_files = subst (λ (held : Holding). AreFilesOfLines held.lines 0 file_of_line) (sym (held-same history k h)) held.in_files;
-  few = let one = length-one history k in let few = held.few in omega (arith, one, few);
+  few = let one = length_push history k in let few = held.few in omega (arith, one, few);
   marks = marks-declared ts (option_count (history ++ k ∷ [])) 0 history k commits h
-      (marks-grown ts ts (option_count history) (option_count (history ++ k ∷ [])) (itself ts) (as-many-options history (k ∷ [])) 0 history commits held.marks);
+      (marks-grown ts ts (option_count history) (option_count (history ++ k ∷ [])) (itself ts) (options-grow history (k ∷ [])) 0 history commits held.marks);
 })
 
 abbrev no_commands : List Command

@@ -2,6 +2,7 @@
 use Rattle.std.proofs.Common.{◌≡◌, ℕ, ◌+◌, ◌<◌, ◌≤◌, ◌^◌, Bool, true, false, nat_eq, List, [], ◌∷◌, ◌++◌, length, map, take, append-nil, Option, Some, None, refl, sym, ap, subst, ◌∙◌, arith}
 use Rattle.std.specs.List.{AllByRecursion}
 use Rattle.std.specs.Option.{option_map_or}
+use Rattle.std.proofs.lemmas.List.{length_push}
 use Rattle.cov_base.proofs.CallerLemmas.{all-map, all-both, all-append}
 use Rattle.cov_base.specs.declared.limits.TheConstants.{LIMITS}
 use Rattle.cov_expr.specs.Formula.{Formula, reach}
@@ -42,7 +43,7 @@ use Rattle.cov_edit.proofs.CallerLemmas.{numbers_from-append}
 use Rattle.cov_engine.proofs.Refused.{declared-less}
 use Rattle.cov_engine.proofs.Rooms.{staged-nodes}
 use Rattle.cov_engine.proofs.RowPlans.{entries-committed, files-kinds, made-below}
-use Rattle.cov_engine.proofs.States.{length-one, options-append}
+use Rattle.cov_engine.proofs.States.{options-append}
 use Rattle.cov_engine.proofs.Marking.{marks-committed}
 use Rattle.cov_engine.proofs.Named.{edits-named, named-near, legal-files}
 use Rattle.cov_engine.proofs.MidCommit.{IsHere, AreHere, carried, line-files-along, named-low}
@@ -206,8 +207,8 @@ module _ (history : List Command) (base : ℕ) (choice : List Bool) (ambition : 
   held-committed later after set installed =
       let same : map part_node after ≡ map part_node stored =
       installed-rows part_node (λ e f same. ap (λ (s : Contents). s.node) same) (λ e ls newest f same. ap (λ (s : Contents). s.node) same) q ss stored after installed in
-      let one = length-one commits mark in
-      let longer = length-one history commit in
+      let one = length_push commits mark in
+      let longer = length_push history commit in
       let count : length commits + 1 ≡ length all_commits = sym one in
       record {
         of_entries = entries-committed history base choice ambition es ts mark.node staged.stands.value entries plan staged.held.of_entries staged.changes later set;

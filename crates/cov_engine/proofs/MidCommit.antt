@@ -3,6 +3,7 @@ use Rattle.std.proofs.Common.{◌≡◌, ℕ, zero, suc, ◌+◌, ◌<◌, ◌�
 use Rattle.std.specs.List.{list_any, AllByRecursion}
 use Rattle.std.proofs.lemmas.Bool.{and_from, or_left, or_right}
 use Rattle.std.proofs.lemmas.Bool.Decides.{nat_tests}
+use Rattle.std.proofs.lemmas.List.{length_push}
 use Rattle.cov_base.specs.Addresses.{after_first, after_anchor, after_anchor_by}
 use Rattle.cov_base.proofs.CallerLemmas.{all-map}
 use Rattle.cov_base.specs.declared.number.NodeRef.{NodeRef}
@@ -39,7 +40,6 @@ use Rattle.cov_history.proofs.CallerLemmas.{files_of_lines-stay, file_of_line-mo
 use Rattle.cov_engine.proofs.Committed.{numbers-dated, rows-same, no-anchor}
 use Rattle.cov_engine.proofs.Dating.{IsGone, gone, dated-numbers, insert-lines, delete-lines, all-after}
 use Rattle.cov_engine.proofs.StoredFiles.{all-pairs}
-use Rattle.cov_engine.proofs.States.{length-one}
 
 alike-numbers : (ls ms : List FileLine) → AreAlike ls ms → file_numbers ls ≡ file_numbers ms
 alike-numbers [] [] h = refl
@@ -54,7 +54,7 @@ one_more : (history : List Command) (begun : List Edit) (file : NodeRef) (after 
 one_more history begun file after text =
     let m = length (numbers_of history).addresses in
     let joined = ap length (anchors-append m begun (edits.Insert file after text ∷ [])) in
-    let one = length-one (anchors_of m begun) (line_number m after) in
+    let one = length_push (anchors_of m begun) (line_number m after) in
     omega (arith, joined, one)
 
 none_more : (m : ℕ) (begun : List Edit) (e : Edit) → anchors_of m (e ∷ []) ≡ [] → anchors_of m (begun ++ e ∷ []) ≡ anchors_of m begun
@@ -554,7 +554,7 @@ module _ (history : List Command) (base : ℕ) (choice : List Bool) (ambition : 
       let e = edits.Insert file after text in
       subst (AreFilesOfLines (lines_at es) 0) (append_assoc file_of_line (node_number n file ∷ []) (new_file_of_line n later))
       (line-files-along later (begun ++ e ∷ []) (file_of_line ++ node_number n file ∷ []) (append_assoc begun (e ∷ []) later ∙ all)
-      (let one = length-one file_of_line (node_number n file) in let more = one_more history begun file after text in omega (arith, counted, one, more))
+      (let one = length_push file_of_line (node_number n file) in let more = one_more history begun file after text in omega (arith, counted, one, more))
       (file_of_line-more (lines_at (begun ++ e ∷ [])) (node_number n file) 0 file_of_line
       (files_of_lines-stay (lines_at begun) (lines_at (begun ++ e ∷ [])) (insert-stays begun later file after text all) 0 file_of_line at_its_file)
       (subst (λ k. is_kept_anchor (node_number n file) k (lines_at (begun ++ e ∷ [])) ≡ true) (let one : lines_amid history begun + 1 ≡ 0 + length file_of_line + 1 = omega (arith, counted) in one)

@@ -1,7 +1,7 @@
 -- What is shown of the files with some nodes is the variant with the lines of these files alone.
 use Rattle.std.proofs.Common.{◌≡◌, refl, ap, sym, subst, ◌∙◌, ℕ, zero, suc, ◌+◌, ◌<◌, ◌≤◌, Bool, true, false, cond, ◌&&◌, ◌||◌, nat_eq, nat_lt, List, [], ◌∷◌, ◌++◌, length, map, take, append_assoc, Option, Some, None, option_map, arith}
 use Rattle.std.specs.List.{fold, AllByRecursion}
-use Rattle.std.proofs.lemmas.Bool.{or_parts}
+use Rattle.std.proofs.lemmas.Bool.{or_from, or_parts}
 use Rattle.std.proofs.lemmas.Bool.Decides.{nat_tests}
 use Rattle.cov_base.specs.Addresses.{line_of, AreInOrder, IsLineOf}
 use Rattle.cov_base.specs.Rows.{Row, has_node, AreDistinct, AreOnce}
@@ -42,9 +42,6 @@ use Rattle.cov_engine.proofs.LinesRead.{lines-read}
 use Rattle.cov_engine.proofs.NamedFiles.{is_kept, lines-only, named-same, only}
 use Rattle.cov_engine.proofs.StoredFiles.{equal}
 use Rattle.cov_engine.proofs.Views.{lines-below, rows-made}
-
-or-both : (a b : Bool) → a ≡ false → b ≡ false → (a || b) ≡ false
-or-both a b g h = λ i. g i || h i
 
 or-next : (a b c : Bool) → (b || (a || c)) ≡ ((a || b) || c)
 or-next true true c = refl
@@ -162,7 +159,7 @@ module _ (ts : List Triple) (c : List Bool) (at : ℕ) (stored : List FilePart) 
       ap (λ rows. fold (with_named ts c at stored) rows ns) (next-named x has rs once not_yet.0)
       ∙ all-named ns (also x has) rs once rising.1
       (all-both (λ y. x < y) (λ y. has y ≡ false) (λ y. also x has y ≡ false)
-      (λ y above none. let differs : nat_eq x y ≡ false = grind (arith, nat_tests, above) in or-both (nat_eq x y) (has y) differs none) ns rising.0 not_yet.1)
+      (λ y above none. let differs : nat_eq x y ≡ false = grind (arith, nat_tests, above) in or_from (nat_eq x y) (has y) differs none) ns rising.0 not_yet.1)
       ∙ (λ i. map (row_with (λ y. or-next (nat_eq x y) (has_number y ns) (has y) i)) rs)
 
   all-bare : (rs : List Row) → map bare_row rs ≡ map (row_with (λ x. false)) rs

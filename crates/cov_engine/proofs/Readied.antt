@@ -1,7 +1,7 @@
 -- What is ready for a command, staged, installed or given up.
 use Rattle.std.proofs.Common.{◌≡◌, ℕ, ◌+◌, ◌-◌, ◌<◌, ◌≤◌, ◌^◌, Bool, true, List, [], Option, ◌∷◌, ◌++◌, length, map, take, None, Result, Ok, Err, OnErr, IfOk, append-nil, refl, sym, ap, subst, ◌∙◌, arith}
 use Rattle.std.specs.List.{AllByRecursion}
-use Rattle.std.proofs.lemmas.List.{take-map, length-map, take-append-le, take_all}
+use Rattle.std.proofs.lemmas.List.{length_push, take-map, length-map, take-append-le, take_all}
 use Rattle.cov_base.proofs.CallerLemmas.{length-with_lines, all-map}
 use Rattle.cov_base.specs.declared.number.Kind.{Kind}
 use Rattle.cov_dd.specs.declared.triple.Triple.{Triple}
@@ -56,7 +56,7 @@ use Rattle.cov_history.proofs.CallerLemmas.{files-commit, files-rise, made-withi
 use Rattle.cov_history.specs.BadChoices.{unsound_refusal}
 use Rattle.cov_engine.specs.declared.ready.Ready.{Ready}
 use Rattle.cov_engine.specs.declared.ready.Ready.TheVariants as ready
-use Rattle.cov_engine.proofs.States.{legal-one, length-one, sum-one, options-append, below}
+use Rattle.cov_engine.proofs.States.{legal-one, sum-one, options-append, below}
 use Rattle.cov_engine.proofs.StoredFiles.{same-nodes}
 use Rattle.cov_engine.proofs.Rising.{count-front}
 use Rattle.cov_engine.proofs.Rooms.{staged-nodes}
@@ -216,7 +216,7 @@ module _ (history : List Command) (base : ℕ) (choice : List Bool) (ambition : 
         rules-same history commit ts standing refl (omega (arith, same)) (omega (arith, same, few)) old.rules;
     most =
         let less : length history < LIMITS.commands = below LIMITS.commands (length history) (none-when _ refusals.Full (refusals_of history commit) accepted).0 in
-        let more = length-one history commit in
+        let more = length_push history commit in
         omega (arith, less, more);
     counted = counts-with new with;
   }

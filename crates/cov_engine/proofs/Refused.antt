@@ -22,7 +22,7 @@ use Rattle.cov_history.specs.Sessions.{IsGood, MayCome, session_of}
 use Rattle.cov_history.specs.Verdict.{IsLegal, as_bad_record, as_invalid, as_overtaken, has_no_edits, refusals_of, size_refusals, verdict}
 use Rattle.cov_history.specs.declared.refusal.Refusal.{Refusal}
 use Rattle.cov_history.specs.declared.refusal.Refusal.TheVariants as refusals
-use Rattle.cov_history.proofs.CallerLemmas.{legal-take, rules-low}
+use Rattle.cov_history.proofs.CallerLemmas.{legal-take, no-record, rules-low}
 use Rattle.cov_rules.specs.Installing.{reach_of}
 use Rattle.cov_engine.specs.Refusing.{base_refusals, choice_refusals, commit_refusals, early_refusal, early_refusals, edit_refusals, undeclared}
 use Rattle.cov_engine.specs.Staging.{sizes_refusal}
@@ -71,10 +71,6 @@ no-invalid : (o : Option ℕ) → as_invalid o ≡ None → o ≡ None
 no-invalid None h = refl
 no-invalid (Some rule) h = absurd (cc)
 
-no-bad_record : (o : Option (ℕ × EditFault)) → as_bad_record o ≡ None → o ≡ None
-no-bad_record None h = refl
-no-bad_record (Some refused) h = absurd (cc)
-
 -- what is known of the place of a refused edit is its refusal
 pub as-found : (o : Option (ℕ × EditFault)) (found : Option ℕ) → found ≡ option_map (λ (refused : ℕ × EditFault). refused.0) o → as_bad_record o ≡ option_map refusals.BadRecord found
 as-found None found h = ap (option_map refusals.BadRecord) (sym h)
@@ -119,7 +115,7 @@ module _ (history : List Command) (base : ℕ) (choice : List Bool) (ambition : 
         valid = all-valid (constraints_of before) choice (no-invalid (first_false_in before choice) invalid.0);
         in_ambition = not-false _ outside.0;
         in_reach = grind (arith, nat_tests, reached);
-        accepted = no-bad_record (first_refused (numbers_of before) (replay choice before) es) bad.0;
+        accepted = no-record (first_refused (numbers_of before) (replay choice before) es) bad.0;
       }
 
 -- a commit that isn't refused for its sizes stays within the limits

@@ -1,5 +1,5 @@
 -- Where numbers stand among rising ones.
-use Rattle.std.proofs.Common.{◌≡◌, ℕ, zero, suc, ◌<◌, ◌≤◌, Bool, true, false, cond, ◌||◌, nat_eq, nat_lt, List, [], ◌∷◌, ◌++◌, length, map, get_or, slice_get, Option, Some, None, refl, sym, ap, subst, ◌∙◌, arith}
+use Rattle.std.proofs.Common.{◌≡◌, ℕ, zero, suc, ◌<◌, ◌≤◌, Bool, true, false, cond, ◌||◌, nat_eq, nat_lt, List, [], ◌∷◌, ◌++◌, length, map, get_or, slice_get, Option, Some, None, true≢false, refl, sym, ap, subst, ◌∙◌, arith}
 use Rattle.std.specs.List.{AllByRecursion}
 use Rattle.std.proofs.lemmas.Bool.Decides.{nat_tests}
 use Rattle.cov_base.specs.Rows.{has_node}
@@ -74,10 +74,7 @@ at-there (e ∷ es) zero node h = let same : e.node ≡ node = cc in grind (arit
 at-there (e ∷ es) (suc i) node h = at-there es i node h
 
 pub place-none : (es : List FilePart) (node at : ℕ) → AreRising (map part_node es) → at ≡ count_below node (map part_node es) → is_at (slice_get es at) node ≡ false → has_node node (map part_node es) ≡ false
-place-none es node at rising is h = absent-there node (map part_node es) rising (λ there. never (sym (at-there es (count_below node (map part_node es)) node there) ∙ (λ j. is_at (slice_get es (sym is j)) node) ∙ h))
-  where
-    never : true ≡ false → ⊥
-    never e = cc
+place-none es node at rising is h = absent-there node (map part_node es) rising (λ there. true≢false (sym (at-there es (count_below node (map part_node es)) node there) ∙ (λ j. is_at (slice_get es (sym is j)) node) ∙ h))
 
 -- the file at the place of a node is the node's
 pub part-there : (es : List FilePart) (i node : ℕ) → AreRising (map part_node es) → slice_get (map part_node es) i ≡ Some node → part_of es node ≡ slice_get es i

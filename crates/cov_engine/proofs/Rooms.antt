@@ -1,7 +1,7 @@
 -- Room for what edits do to files, counted edit by edit.
 use Rattle.std.proofs.Common.{◌≡◌, ℕ, suc, ◌+◌, ◌-◌, ◌<◌, ◌≤◌, Bool, true, false, cond, ◌&&◌, ◌||◌, nat_eq, List, [], ◌∷◌, ◌++◌, length, map, take, drop, get_or, is_none, Option, Some, None, refl, sym, ap, subst, ◌∙◌, arith}
 use Rattle.std.specs.List.{AllByRecursion}
-use Rattle.std.proofs.lemmas.List.{take-map, take-append-drop}
+use Rattle.std.proofs.lemmas.List.{map-append, take-map, take-append-drop}
 use Rattle.std.proofs.lemmas.Bool.{or_right}
 use Rattle.std.proofs.lemmas.Bool.Decides.{nat_tests}
 use Rattle.std.proofs.lemmas.List.Folds.{list_any-append}
@@ -23,7 +23,6 @@ use Rattle.cov_engine.specs.declared.file_part.FilePart.{FilePart}
 use Rattle.cov_engine.specs.Staging.{Contents, contents, new_files, inserts_into, deletes_from, touches, HasRoom}
 use Rattle.cov_engine.specs.Carrying.{IsChangedIn, IsExpectingInsert, IsExpectingDelete, Expects}
 use Rattle.cov_engine.specs.Parts.{part_node}
-use Rattle.cov_engine.proofs.Committed.{map-append}
 use Rattle.cov_engine.proofs.Rising.{rising-front}
 use Rattle.cov_engine.proofs.StoredFiles.{contents-nodes, new-nodes, node-contents, all-pairs}
 

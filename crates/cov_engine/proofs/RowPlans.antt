@@ -1,8 +1,8 @@
 -- The changes of rows that a commit's edits make.
-use Rattle.std.proofs.Common.{◌≡◌, ℕ, ◌+◌, ◌-◌, ◌<◌, ◌≤◌, Bool, true, false, cond, ◌||◌, nat_eq, nat_le, List, [], ◌∷◌, ◌++◌, length, map, take, get_or, Option, Some, None, append-nil, append_assoc, refl, sym, ap, subst, ◌∙◌, arith}
+use Rattle.std.proofs.Common.{◌≡◌, ℕ, ◌+◌, ◌-◌, ◌<◌, ◌≤◌, Bool, true, false, cond, ◌||◌, nat_eq, nat_le, List, [], ◌∷◌, ◌++◌, length, map, take, get_or, Option, append-nil, append_assoc, refl, sym, ap, subst, ◌∙◌, arith}
 use Rattle.std.specs.List.{fold, cons_option, AllByRecursion}
 use Rattle.std.proofs.lemmas.Bool.Decides.{nat_tests}
-use Rattle.std.proofs.lemmas.List.{take-append-le, take_all}
+use Rattle.std.proofs.lemmas.List.{length_push, take-append-le, take_all}
 use Rattle.cov_base.specs.Rows.{RowChange, Created, Renamed, Moved, Removed, changed, has_node, AreOnce}
 use Rattle.cov_base.proofs.CallerLemmas.{all-append, all-map}
 use Rattle.cov_base.specs.declared.number.Kind.{Kind}
@@ -18,7 +18,7 @@ use Rattle.cov_edit.specs.Numbering.{Numbers, NumberedEdit, OnRows, node_number,
 use Rattle.cov_edit.specs.Variant.{Variant, edited}
 use Rattle.cov_edit.specs.Replay.{applying, applied, replay}
 use Rattle.cov_edit.proofs.CallerLemmas.{nodes-append, replay-commit, rest_of, rest-is}
-use Rattle.cov_history.proofs.CallerLemmas.{replay-once}
+use Rattle.cov_history.proofs.CallerLemmas.{onto_both, replay-once}
 use Rattle.cov_tree.specs.declared.entry.Entry.{Entry}
 use Rattle.cov_tree.specs.Carried.{AreNodesAt, AreNodesWith, AreOnceAt}
 use Rattle.cov_tree.specs.Changes.{all_changed, Makes}
@@ -31,7 +31,6 @@ use Rattle.cov_history.specs.FileNodes.{if_file, files_made}
 use Rattle.cov_engine.specs.Parts.{files_among}
 use Rattle.cov_engine.specs.Holdings.{AreEntriesOf, IsHeldBy}
 use Rattle.cov_engine.specs.RowPlans.{edit_changes, AlsoMakes, AreNodesUpTo, number_alone, made_by, made_with, kinds_made_by, IsSet}
-use Rattle.cov_engine.proofs.States.{length-one}
 
 -- the next node isn't among the first so many
 pub fresh-next : (made node : ℕ) (nodes : List ℕ) → node ≡ made + 1 → AllByRecursion (λ n. n ≤ made) nodes → has_node node (0 ∷ nodes) ≡ false
@@ -154,13 +153,9 @@ files-kinds made (edits.New kind parent name ∷ es) ks =
     files-kinds (made + 1) es (ks ++ (made + 1, kind) ∷ []) ∙ ap (λ files. files ++ files_made (made + 1) es) (behind ks) ∙ append_assoc (files_among ks) (cons_option (if_file kind (made + 1)) []) (files_made (made + 1) es)
     ∙ ap (λ files. files_among ks ++ files) (first kind)
   where
-    one : (o : Option ℕ) (xs ys : List ℕ) → cons_option o (xs ++ ys) ≡ cons_option o xs ++ ys
-    one None xs ys = refl
-    one (Some x) xs ys = refl
-
     behind : (ks : List (ℕ × Kind)) → files_among (ks ++ (made + 1, kind) ∷ []) ≡ files_among ks ++ cons_option (if_file kind (made + 1)) []
     behind [] = refl
-    behind (k ∷ ks) = ap (cons_option (if_file k.1 k.0)) (behind ks) ∙ one (if_file k.1 k.0) (files_among ks) (cons_option (if_file kind (made + 1)) [])
+    behind (k ∷ ks) = ap (cons_option (if_file k.1 k.0)) (behind ks) ∙ onto_both (if_file k.1 k.0) (files_among ks) (cons_option (if_file kind (made + 1)) [])
 
     first : (of : Kind) → cons_option (if_file of (made + 1)) [] ++ files_made (made + 1) es ≡ cons_option (if_file of (made + 1)) (files_made (made + 1) es)
     first kinds.File = refl
@@ -229,7 +224,7 @@ module _ (history : List Command) (base : ℕ) (choice : List Bool) (ambition : 
   entries-committed later set = record {
     rows = λ c p. by c p (nat_le p (length history)) refl;
     within = set.within ts makes.over makes.within;
-    from = let one = length-one history commit in let from = set.from in omega (arith, one, from);
+    from = let one = length_push history commit in let from = set.from in omega (arith, one, from);
   }
     where
       by : (c : List Bool) (p : ℕ) (b : Bool) → nat_le p (length history) ≡ b → rows_at ts c p later ≡ (replay c (take p (history ++ commit ∷ []))).rows
@@ -238,7 +233,7 @@ module _ (history : List Command) (base : ℕ) (choice : List Bool) (ambition : 
           set.before ts c p (omega (arith, low)) ∙ of_entries.rows c p ∙ ap (λ h. (replay c h).rows) (sym (take-append-le p history (commit ∷ []) low))
       by c p false e =
           let high : length history < p = grind (arith, nat_tests, e) in
-          let one = length-one history commit in
+          let one = length_push history commit in
           set.planned ts c p (omega (arith, high)) ∙ planned-rows c ∙ ap (λ h. (replay c h).rows) (sym (take_all p (history ++ commit ∷ []) (omega (arith, high, one))))
 
 -- entries are those of a history whatever room they have

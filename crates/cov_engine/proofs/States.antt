@@ -1,7 +1,8 @@
 -- A history with one declaration more.
-use Rattle.std.proofs.Common.{◌≡◌, refl, suc, append-nil, ap, sym, ◌∙◌, ℕ, ◌+◌, ◌<◌, ◌≤◌, Bool, true, false, nat_le, nat_lt, List, [], ◌∷◌, ◌++◌, length, Some, None, subst, arith, append_assoc}
+use Rattle.std.proofs.Common.{◌≡◌, refl, append-nil, ap, sym, ◌∙◌, ℕ, ◌+◌, ◌<◌, ◌≤◌, Bool, true, false, nat_le, nat_lt, List, [], ◌∷◌, ◌++◌, length, Some, None, subst, arith, append_assoc}
 use Rattle.std.specs.List.{sum_by}
 use Rattle.std.proofs.lemmas.Bool.Decides.{nat_tests}
+use Rattle.std.proofs.lemmas.List.{length_push}
 use Rattle.cov_base.specs.declared.limits.TheConstants.{LIMITS}
 use Rattle.cov_dd.specs.declared.triple.Triple.{Triple}
 use Rattle.cov_dd.specs.Diagrams.{Extends}
@@ -50,14 +51,6 @@ along-legal P stays before (k ∷ history) legal h =
 pub sum-one : {A : Type 0} (f : A → ℕ) (xs : List A) (x : A) → sum_by f (xs ++ x ∷ []) ≡ sum_by f xs + f x
 sum-one f xs x = fold-append (λ a y. a + f y) 0 xs (x ∷ [])
 
-pub length-one : {A : Type 0} (xs : List A) (x : A) → length (xs ++ x ∷ []) ≡ length xs + 1
-length-one [] x = refl
-length-one (y ∷ ys) x =
-    let ih : length (ys ++ x ∷ []) ≡ length ys + 1 = length-one ys x in
-    let left : length ((y ∷ ys) ++ x ∷ []) ≡ suc (length (ys ++ x ∷ [])) = refl in
-    let right : length (y ∷ ys) ≡ suc (length ys) = refl in
-    omega (arith, ih, left, right)
-
 pub below : (n m : ℕ) → nat_le n m ≡ false → m < n
 below n m h = grind (arith, nat_tests, h)
 
@@ -104,7 +97,7 @@ state-declared history k names names' ts standing standing' counts h fits accept
   rules = rules;
   most =
       let less : length history < LIMITS.commands = below LIMITS.commands (length history) (none-when _ refusals.Full (refusals_of history k) accepted).0 in
-      let more : length (history ++ k ∷ []) ≡ length history + 1 = length-one history k in
+      let more : length (history ++ k ∷ []) ≡ length history + 1 = length_push history k in
       omega (arith, less, more);
   counted = counts-kept history k counts h old.counted;
 }
@@ -114,7 +107,7 @@ pub option-installed : (history : List Command) (k : Command) (name : List ℕ) 
     → k ≡ commands.Option name → fits_command k ≡ true → verdict history k ≡ None → IsStateOf history names ts standing counts → names' ≡ names ++ name ∷ [] → IsStateOf (history ++ k ∷ []) names' ts standing counts
 option-installed history k name names names' ts standing counts is fits accepted old ne =
     let one : option_count (history ++ k ∷ []) ≡ option_count history + 1 =
-    ap (λ j. option_count (history ++ j ∷ [])) is ∙ ap (λ ns. length ns) (options-append history (commands.Option name ∷ [])) ∙ length-one (options_of history) name in
+    ap (λ j. option_count (history ++ j ∷ [])) is ∙ ap (λ ns. length ns) (options-append history (commands.Option name ∷ [])) ∙ length_push (options_of history) name in
     let few : option_count history < LIMITS.options = below LIMITS.options (option_count history)
     (none-when _ refusals.Full _ (none-when (nat_le LIMITS.commands (length history)) refusals.Full (refusals_of history (commands.Option name)) (ap (verdict history) (sym is) ∙ accepted)).1).0 in
     state-declared history k names names' ts standing standing counts (ap (λ j. has_commit (j ∷ [])) is) fits accepted old

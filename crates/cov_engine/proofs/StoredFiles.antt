@@ -1,5 +1,5 @@
 -- Stored files by their nodes.
-use Rattle.std.proofs.Common.{◌≡◌, ℕ, zero, suc, ◌<◌, ◌≤◌, Bool, true, false, ◌||◌, nat_eq, List, [], ◌∷◌, length, map, get_or, set, slice_get, Some, Ok, Err, refl, sym, ap, subst, ◌∙◌, arith}
+use Rattle.std.proofs.Common.{◌≡◌, ℕ, zero, suc, ◌<◌, ◌≤◌, Bool, true, false, ◌||◌, nat_eq, List, [], ◌∷◌, length, map, get_or, set, slice_get, Some, Ok, Err, true≢false, refl, sym, ap, subst, ◌∙◌, arith}
 use Rattle.std.specs.Prelude.{Result, OnOk}
 use Rattle.std.specs.List.{AllByRecursion, AllZip}
 use Rattle.std.proofs.lemmas.Bool.{or_parts}
@@ -12,9 +12,6 @@ use Rattle.cov_engine.specs.declared.edit_plan.EditPlan.TheVariants as plans
 use Rattle.cov_engine.specs.Staging.{Contents, contents, new_contents}
 use Rattle.cov_engine.specs.Carrying.{plan_file, IsCarriedOut, IsChangedIn, AreCarriedOut, CanCarryOutAll, AreAllCarriedOut}
 use Rattle.cov_engine.specs.Parts.{part_node}
-
-never : true ≡ false → ⊥
-never h = cc
 
 pub equal : (m n : ℕ) → nat_eq m n ≡ true → m ≡ n
 equal m n e = grind (arith, nat_tests, e)
@@ -34,10 +31,10 @@ above-absent x low (y ∷ xs) le h =
 
 module _ (file : ℕ) (P : FilePart → FilePart → Type 0) where
   same-one : (e : FilePart) → nat_eq e.node file ≡ false → IsChangedIn file P e e
-  same-one e h = record { here = λ t. absurd (never (sym t ∙ h)); elsewhere = λ t. refl }
+  same-one e h = record { here = λ t. absurd (true≢false (sym t ∙ h)); elsewhere = λ t. refl }
 
   changed-one : (e new : FilePart) → nat_eq e.node file ≡ true → P e new → IsChangedIn file P e new
-  changed-one e new h p = record { here = λ t. p; elsewhere = λ t. absurd (never (sym h ∙ t)) }
+  changed-one e new h p = record { here = λ t. p; elsewhere = λ t. absurd (true≢false (sym h ∙ t)) }
 
   -- where the file has no stored file, none is changed
   pub none-changed : (es : List FilePart) → has_node file (map part_node es) ≡ false → AllZip (IsChangedIn file P) es es

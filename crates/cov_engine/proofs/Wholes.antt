@@ -1,5 +1,5 @@
 -- What an engine shows is whole.
-use Rattle.std.proofs.Common.{◌≡◌, ℕ, ◌<◌, Bool, true, false, cond, ◌||◌, nat_eq, List, [], ◌∷◌, map, refl, sym, ap, subst, ◌∙◌, arith}
+use Rattle.std.proofs.Common.{◌≡◌, ℕ, ◌<◌, Bool, true, false, cond, ◌||◌, nat_eq, List, [], ◌∷◌, map, true≢false, refl, sym, ap, subst, ◌∙◌, arith}
 use Rattle.std.specs.List.{AllByRecursion}
 use Rattle.std.proofs.lemmas.Bool.{or_right}
 use Rattle.std.proofs.lemmas.Bool.Decides.{nat_tests}
@@ -19,7 +19,7 @@ use Rattle.cov_engine.specs.declared.store.CommitMark.{CommitMark}
 use Rattle.cov_engine.specs.declared.visible.Visible.{Visible}
 use Rattle.cov_engine.specs.Holdings.{IsFileOf, IsHeldBy}
 use Rattle.cov_engine.specs.Parts.{part_node}
-use Rattle.cov_engine.specs.Visible.{AreLineNodes, HaveNoCommonLine, AreApart, IsWhole}
+use Rattle.cov_engine.specs.Visible.{AreLineNodes, HaveNoCommonLine, HaveNoCommonLines, IsWhole}
 use Rattle.cov_history.proofs.CallerLemmas.{files-rise, holding-whole}
 use Rattle.cov_engine.proofs.Committed.{numbers-dated}
 use Rattle.cov_engine.proofs.Dating.{dated-numbers, dated-nodes}
@@ -49,12 +49,9 @@ not-any : (b : Bool) → (b ≡ true → ⊥) → b ≡ false
 not-any true never = absurd (never refl)
 not-any false never = refl
 
-never : true ≡ false → ⊥
-never h = cc
-
 -- lines each of which stands once have none in two files
 apart-lines : (a b line : ℕ) → nat_eq a b ≡ false → (ks : List (Kept Line)) → AreLines (numbers ks) → has_line line (numbers (file_kept a ks)) ≡ true → has_line line (numbers (file_kept b ks)) ≡ false
-apart-lines a b line differs [] lines h = absurd (never (sym h))
+apart-lines a b line differs [] lines h = absurd (true≢false (sym h))
 apart-lines a b line differs (k ∷ ks) lines h =
     at (nat_eq k.item.file a) (nat_eq k.item.file b) (nat_eq (kept_number k) line) refl refl refl h (apart-lines a b line differs ks lines.2) lines.1
   where
@@ -62,19 +59,19 @@ apart-lines a b line differs (k ∷ ks) lines h =
     Rest = has_line line (numbers (file_kept a ks)) ≡ true → has_line line (numbers (file_kept b ks)) ≡ false
 
     same-file : nat_eq k.item.file a ≡ true → nat_eq k.item.file b ≡ true → ⊥
-    same-file e f = never (sym (grind (arith, nat_tests, e, f)) ∙ differs)
+    same-file e f = true≢false (sym (grind (arith, nat_tests, e, f)) ∙ differs)
 
     none-of : (file : ℕ) → has_line (kept_number k) (numbers ks) ≡ false → nat_eq (kept_number k) line ≡ true → has_line line (numbers (file_kept file ks)) ≡ false
     none-of file once is =
         not-any (has_line line (numbers (file_kept file ks)))
-        (λ there. never (sym (of-all file line ks there) ∙ (λ j. has_line (sym (equal (kept_number k) line is) j) (numbers ks)) ∙ once))
+        (λ there. true≢false (sym (of-all file line ks there) ∙ (λ j. has_line (sym (equal (kept_number k) line is) j) (numbers ks)) ∙ once))
 
     at : (s t u : Bool) → nat_eq k.item.file a ≡ s → nat_eq k.item.file b ≡ t → nat_eq (kept_number k) line ≡ u → has_line line (numbers (cond s (k ∷ file_kept a ks) (file_kept a ks))) ≡ true → Rest → has_line (kept_number k) (numbers ks) ≡ false
         → has_line line (numbers (cond t (k ∷ file_kept b ks) (file_kept b ks))) ≡ false
     at true true u e f g i rest once = absurd (same-file e f)
     at true false true e f g i rest once = none-of b once g
     at true false false e f g i rest once = rest (ap (λ w. w || has_line line (numbers (file_kept a ks))) (sym g) ∙ i)
-    at false true true e f g i rest once = absurd (never (sym i ∙ none-of a once g))
+    at false true true e f g i rest once = absurd (true≢false (sym i ∙ none-of a once g))
     at false true false e f g i rest once = ap (λ w. w || has_line line (numbers (file_kept b ks))) g ∙ rest i
     at false false u e f g i rest once = rest i
 
@@ -89,7 +86,7 @@ module _ (history : List Command) (ts : List Triple) where
       ∙ apart-lines e.node f.node line differs (kept_of history) (holding-whole history).once (ap (has_line line) (sym (order-is e own)) ∙ there)
 
   -- the files of a history have no common line
-  files-apart : (es : List FilePart) → AllByRecursion (IsFileOf history ts) es → AreRising (map part_node es) → AreApart es
+  files-apart : (es : List FilePart) → AllByRecursion (IsFileOf history ts) es → AreRising (map part_node es) → HaveNoCommonLines es
   files-apart [] files rising = tt
   files-apart (e ∷ es) files rising = (
     all-both (λ f. e.node < f.node) (IsFileOf history ts) (HaveNoCommonLine e) (λ f less own. no-common e f files.0 own less) es (all-unmapped (λ n. e.node < n) part_node es rising.0) files.1,

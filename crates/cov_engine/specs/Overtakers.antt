@@ -17,14 +17,14 @@ use Rattle.cov_engine.specs.declared.commits.Notes.{Notes}
 use Rattle.cov_engine.specs.declared.store.CommitMark.{CommitMark}
 
 -- two nodes are true on no common choice
-abbrev pub AreApart : List Triple → ℕ → ℕ → Type 0
-AreApart ts a b = (c : List Bool) → length c ≡ CHOICE_WIDTH → (value_in ts a c && value_in ts b c) ≡ false
+abbrev pub HaveNoCommonChoice : List Triple → ℕ → ℕ → Type 0
+HaveNoCommonChoice ts a b = (c : List Bool) → length c ≡ CHOICE_WIDTH → (value_in ts a c && value_in ts b c) ≡ false
 
 -- a commit comes after a base, touches one of the nodes, and shares a choice with another node
 pub record Overtakes (ts : List Triple) (base within : ℕ) (touched : List ℕ) (m : CommitMark) : Type 0 where
   pub after : base < m.position
   pub common : have_common m.touched touched ≡ true
-  pub shared : AreApart ts m.node within → ⊥
+  pub shared : HaveNoCommonChoice ts m.node within → ⊥
 
 -- a test decides whether something holds
 pub record Decides (b : Bool) (P : Type 0) : Type 0 where

@@ -35,15 +35,15 @@ rule_in (commands.Default option on) = Some (rules.Default option on)
 rule_in _ = None
 
 -- the refusal of a command for the fault of its rule
-abbrev pub fault_refusal : RuleFault → Refusal
-fault_refusal faults.Memory = refusals.Memory
-fault_refusal faults.Full = refusals.Full
-fault_refusal faults.NoVariantLeft = refusals.NoVariantLeft
+abbrev pub rule_refusal : RuleFault → Refusal
+rule_refusal faults.Memory = refusals.Memory
+rule_refusal faults.Full = refusals.Full
+rule_refusal faults.NoVariantLeft = refusals.NoVariantLeft
 
 -- so of a fault, if there is one
 abbrev pub as_refusal : Option RuleFault → Option Refusal
 as_refusal None = None
-as_refusal (Some fault) = Some (fault_refusal fault)
+as_refusal (Some fault) = Some (rule_refusal fault)
 
 -- a refusal is that of a rule beside those that stand, whatever options are declared, unless memory is wanting
 abbrev pub IsRefusalOf : Standing → Rule → Refusal → Type 0

@@ -23,9 +23,9 @@ abbrev pub HaveNoCommonLine : FilePart → FilePart → Type 0
 HaveNoCommonLine e f = (line : ℕ) → has_line line (line_numbers_of e.lines.lines) ≡ true → has_line line (line_numbers_of f.lines.lines) ≡ false
 
 -- no line stands in two files
-abbrev pub AreApart : List FilePart → Type 0
-AreApart [] = Unit {0}
-AreApart (e ∷ es) = AllByRecursion (HaveNoCommonLine e) es × AreApart es
+abbrev pub HaveNoCommonLines : List FilePart → Type 0
+HaveNoCommonLines [] = Unit {0}
+HaveNoCommonLines (e ∷ es) = AllByRecursion (HaveNoCommonLine e) es × HaveNoCommonLines es
 
 -- all nodes of the entries and files are of the table, the files are those of the entries, each once and by rising node, no line
 -- stands in two of them, and at no position on no choice a node has two rows, or the root has one
@@ -34,7 +34,7 @@ pub record IsWhole (v : Visible) : Type 0 where
   pub line_nodes : AllByRecursion (AreLineNodes v.table) v.files
   pub files : map part_node v.files ≡ files_in v.entries
   pub rising : AreRising (map part_node v.files)
-  pub apart : AreApart v.files
+  pub apart : HaveNoCommonLines v.files
   pub once : AreOnceAt v.table v.entries
 
 -- what is shown on a choice at a position: the rows of the entries, and of each file among them the lines

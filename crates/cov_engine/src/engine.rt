@@ -23,7 +23,7 @@ ghost use Rattle.cov_engine.specs.Visible.{IsWhole, shown};
 use crate::commits::Commits;
 use crate::installing::add_ready;
 use crate::state::{EngineState, make_ready};
-use crate::store::{Store, file_of, show};
+use crate::store::{Store, add_nodes, file_of};
 use crate::{Counts, FileFault, FileParts, Prepared, Receipt, Refusal, Visible, reading};
 use cov_base::{Choice, LineNo, Memory, MemoryOr, Name, NodeNo, Position};
 use cov_dd::{Node, Table};
@@ -219,7 +219,18 @@ impl Engine {
         requires whole { IsWhole visible.now }
         ensures { IfOk result (λ view. view ≡ shown visible.now choice at) }
     {
-        show(alloc, visible, choice, at)
+        let rows = visible.entries.rows_at(&visible.table, choice, at)?;
+        let files = visible.files.as_slice();
+        let mut view = View::new(alloc)?;
+        add_nodes(
+            &mut view,
+            &visible.table,
+            files,
+            rows.as_slice(),
+            choice,
+            at,
+        )?;
+        Ok(view)
     }
 
     /// The file at a path, its names from the root on, in the variant of a choice at a position; beyond the history that is the one

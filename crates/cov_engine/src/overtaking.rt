@@ -4,7 +4,7 @@ ghost use Rattle.std.specs.List.{AllByRecursion};
 ghost use Rattle.std.specs.Option.{option_copied};
 ghost use Rattle.cov_dd.specs.Diagrams.{diagram_size, Extends};
 ghost use Rattle.cov_edit.specs.Touched.{AreRising};
-ghost use Rattle.cov_engine.specs.Overtakers.{Overtakes, Decides, IsFirstOf, AreApart, IsOvertaker, is_beyond, IsAfter};
+ghost use Rattle.cov_engine.specs.Overtakers.{Overtakes, Decides, IsFirstOf, HaveNoCommonChoice, IsOvertaker, is_beyond, IsAfter};
 ghost use Rattle.cov_engine.specs.Visibility.{item_of};
 
 use crate::commits::Commits;
@@ -122,7 +122,7 @@ fn share_choice(table: &mut Table, a: Node, b: Node) -> Result<bool, Memory>
     requires a { a < diagram_size table.old }
     requires b { b < diagram_size table.old }
     ensures extends { Extends table.old table.new }
-    ensures decides { IfOk result (λ shared. Decides shared (AreApart table.old a b → ⊥)) }
+    ensures decides { IfOk result (λ shared. Decides shared (HaveNoCommonChoice table.old a b → ⊥)) }
 {
     let both = table.and(a, b, &mut Steps::<Uncounted>::new())?;
     Ok(!table.is_false(both))

@@ -5,7 +5,7 @@ ghost use Rattle.cov_rules.specs.Installing.{Holds, IsPlan};
 ghost use Rattle.cov_rules.specs.Refusals.{IsAccepted};
 ghost use Rattle.cov_rules.specs.declared.rules.Rule.{Rule as AnyRule};
 ghost use Rattle.cov_edit.specs.declared.command.Command.{Command as AnyCommand};
-ghost use Rattle.cov_engine.specs.Ruling.{rule_in, fault_refusal, IsRefusalOf, IsRuleReady};
+ghost use Rattle.cov_engine.specs.Ruling.{rule_in, rule_refusal, IsRefusalOf, IsRuleReady};
 
 use crate::Refusal;
 use crate::ready::Ready;
@@ -81,12 +81,12 @@ fn plan(rules: &mut Rules, table: &mut Table, rule: &Rule) -> Result<RulePlan, R
 {
     match rules.prepare(table, rule) {
         Ok(plan) => Ok(plan),
-        Err(fault) => Err(fault_refusal(fault)),
+        Err(fault) => Err(rule_refusal(fault)),
     }
 }
 
-fn fault_refusal(fault: RuleFault) -> Refusal
-    ensures { result ≡ fault_refusal fault }
+fn rule_refusal(fault: RuleFault) -> Refusal
+    ensures { result ≡ rule_refusal fault }
 {
     match fault {
         RuleFault::Memory => Refusal::Memory,

@@ -7,13 +7,11 @@ ghost use Rattle.std.specs.Option.{option_copied};
 ghost use Rattle.cov_base.specs.declared.number.Kind.TheVariants.{File};
 ghost use Rattle.cov_base.specs.declared.number.NodeRef.TheVariants.{Old};
 ghost use Rattle.cov_file.specs.Dated.{rows_at as file_rows_at};
-ghost use Rattle.cov_tree.specs.Dated.{rows_at};
 ghost use Rattle.cov_view.specs.Seen.{kind_in, with_row};
 ghost use Rattle.cov_engine.specs.Showing.{bare_row, with_node, AreFresh};
 ghost use Rattle.cov_edit.specs.Touched.{AreRising};
 ghost use Rattle.cov_engine.specs.Parts.{part_node};
 ghost use Rattle.cov_engine.specs.Visibility.{item_of, stored_file_of};
-ghost use Rattle.cov_engine.specs.Visible.{IsWhole, shown};
 
 use crate::commits::Commits;
 use crate::number::item_of;
@@ -41,30 +39,6 @@ pub(crate) struct Store {
     pub(crate) file_of_line: Vec<NodeNo>,
 }
 
-/// The rows and lines that are seen on a choice at a position.
-pub(crate) fn show(
-    alloc: Global,
-    visible: &Visible,
-    choice: Choice,
-    at: Position,
-) -> Result<View, Memory>
-    requires whole { IsWhole visible.now }
-    ensures { IfOk result (λ view. view ≡ shown visible.now choice at) }
-{
-    let rows = visible.entries.rows_at(&visible.table, choice, at)?;
-    let files = visible.files.as_slice();
-    let mut view = View::new(alloc)?;
-    add_nodes(
-        &mut view,
-        &visible.table,
-        files,
-        rows.as_slice(),
-        choice,
-        at,
-    )?;
-    Ok(view)
-}
-
 /// The view of rows that are of different nodes but the root, without lines.
 pub(crate) fn view_of_rows(
     alloc: Global,
@@ -82,8 +56,8 @@ pub(crate) fn view_of_rows(
     Ok(view)
 }
 
-// Adds rows with the lines that are seen.
-fn add_nodes(
+/// Adds rows with the lines that are seen.
+pub(crate) fn add_nodes(
     view: &mut View,
     table: &Table,
     files: &[FilePart],

@@ -1,30 +1,12 @@
 -- A full choice that is read one binding after another.
-use Rattle.std.proofs.Common.{◌≡◌, ℕ, zero, suc, ◌+◌, ◌/◌, ◌<◌, ◌≤◌, Bool, true, false, ◌&&◌, List, [], ◌∷◌, ◌++◌, length, take, drop, map, get_or, slice_get, Some, None, if◌then◌else◌, refl, sym, ap, ◌∙◌, arith, append_assoc, add-one}
+use Rattle.std.proofs.Common.{◌≡◌, ℕ, suc, ◌+◌, ◌<◌, ◌≤◌, Bool, true, false, ◌&&◌, List, [], ◌∷◌, ◌++◌, length, take, drop, map, get_or, slice_get, Some, None, if◌then◌else◌, sym, ap, ◌∙◌, arith, append_assoc, add-one}
 use Rattle.std.specs.Str.{bytes_eq}
 use Rattle.std.specs.Cmp.Lexicographic.{pointwise}
 use Rattle.std.proofs.Math.Seq.{drop-cons}
 use Rattle.std.proofs.lemmas.List.{take_more, take_all, drop_all, map-append, length-map, length-take, append-nil}
-use Rattle.cov_base.specs.Choices.{is_on, bits_of, with_option}
+use Rattle.cov_base.specs.Choices.{is_on, with_option}
 use Rattle.cov_expr.specs.Binding.{full_choice}
-use Rattle.cov_expr.proofs.PartialLemmas.{drop-is_on}
-
-pub length-with_option : (c : List Bool) (o : ℕ) (on : Bool) → length (with_option c o on) ≡ length c
-length-with_option [] o on = refl
-length-with_option (b ∷ c) zero on = refl
-length-with_option (b ∷ c) (suc o) on = ap suc (length-with_option c o on)
-
-pub length-bits_of : (n b : ℕ) → length (bits_of n b) ≡ n
-length-bits_of zero b = refl
-length-bits_of (suc n) b = ap suc (length-bits_of n (b / 2))
-
-with_option-append : (xs zs : List Bool) (z on : Bool) → with_option (xs ++ z ∷ zs) (length xs) on ≡ xs ++ on ∷ zs
-with_option-append [] zs z on = refl
-with_option-append (x ∷ xs) zs z on = ap (λ r. x ∷ r) (with_option-append xs zs z on)
-
-drop-slice_get : (names : List (List ℕ)) (i : ℕ) (n : List ℕ) → slice_get names i ≡ Some n → drop i names ≡ n ∷ drop (suc i) names
-drop-slice_get [] i n h = absurd (cc)
-drop-slice_get (m ∷ names) zero n h = cc
-drop-slice_get (m ∷ names) (suc i) n h = drop-slice_get names i n h
+use Rattle.cov_base.proofs.CallerLemmas.{drop-at, drop-is_on, with_option-middle}
 
 module _ (bs : List (List ℕ × Bool)) where
   abbrev values : List (List ℕ × Bool) → List Bool
@@ -42,14 +24,14 @@ module _ (bs : List (List ℕ × Bool)) where
     with_option-next zs o same below =
         let long : length (values (take i bs)) ≡ i = omega (arith, length-map (take i bs) (λ (c : List ℕ × Bool). c.1), length-take i bs, here) in
         (λ j. with_option (values (take i bs) ++ drop-is_on zs i below j) ((same ∙ sym long) j) b.1)
-        ∙ with_option-append (values (take i bs)) (drop (suc i) zs) (is_on zs i) b.1
+        ∙ with_option-middle (values (take i bs)) (drop (suc i) zs) (is_on zs i) b.1
         ∙ sym (append_assoc (values (take i bs)) (b.1 ∷ []) (drop (suc i) zs))
         ∙ (λ j. sym values_more j ++ drop (sym (add-one i) j) zs)
 
     -- one more name is compared
     pub names_next : (names : List (List ℕ)) (n : List ℕ) → slice_get names i ≡ Some n → pointwise bytes_eq (names_of (drop i bs)) (drop i names) ≡ (bytes_eq b.0 n && pointwise bytes_eq (names_of (drop (i + 1) bs)) (drop (i + 1) names))
     names_next names n found =
-        (λ j. pointwise bytes_eq (names_of ((drop-cons bs i b here ∙ ap (λ c. c ∷ drop (suc i) bs) (sym at)) j)) (drop-slice_get names i n found j))
+        (λ j. pointwise bytes_eq (names_of ((drop-cons bs i b here ∙ ap (λ c. c ∷ drop (suc i) bs) (sym at)) j)) (drop-at names i (suc i) n found (omega arith) j))
         ∙ ap (λ k. bytes_eq b.0 n && pointwise bytes_eq (names_of (drop k bs)) (drop k names)) (sym (add-one i))
 
   -- a name that differs

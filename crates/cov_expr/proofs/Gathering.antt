@@ -7,6 +7,7 @@ use Rattle.std.proofs.Math.Seq.{drop-cons}
 use Rattle.std.proofs.lemmas.List.{take_more, map-append, get_or-set_other}
 use Rattle.std.proofs.lemmas.Grind.{get_or-set_at}
 use Rattle.std.proofs.lemmas.Bool.Decides.{eqb_tells}
+use Rattle.cov_base.proofs.CallerLemmas.{none-is}
 use Rattle.cov_expr.specs.Partials.{bound_value}
 use Rattle.cov_expr.specs.Binding.{first_again}
 
@@ -32,10 +33,6 @@ is_some-bound_value (c ∷ bs) k = by (nat_eq k c.0) (is_some-bound_value bs k)
     by : (t : Bool) → is_some (bound_value bs k) ≡ list_any (nat_eq k) (map (λ (b : ℕ × Bool). b.0) bs) → is_some (option_map (λ (d : ℕ × Bool). d.1) (cond t (Some c) (find (λ d. nat_eq k d.0) bs))) ≡ (t || list_any (nat_eq k) (map (λ (b : ℕ × Bool). b.0) bs))
     by true h = refl
     by false h = h
-
-none-of : (o : Option Bool) → is_some o ≡ false → o ≡ None
-none-of None h = refl
-none-of (Some v) h = absurd (cc)
 
 module _ (bs : List (ℕ × Bool)) (i : ℕ) (b : ℕ × Bool) (here : i < length bs) (at : b ≡ get_or bs i b) where
   taken : take (i + 1) bs ≡ take i bs ++ b ∷ []
@@ -84,7 +81,7 @@ module _ (bs : List (ℕ × Bool)) (i : ℕ) (b : ℕ × Bool) (here : i < lengt
         by : ((nat_eq k b.0 ≡ true) × (k ≡ b.0)) ⊎ ((nat_eq k b.0 ≡ false) × (k ≡ b.0 → ⊥)) → get_or (set values n (Some b.1)) k None ≡ bound_value (take (i + 1) bs) k
         by (inl e) =
             get_or-set_at values n k (Some b.1) None (e.1 ∙ sym same) (omega (arith, e.1, same, below))
-            ∙ sym (value_after k ∙ (λ j. or_value ((ap (bound_value (take i bs)) e.1 ∙ none-of (bound_value (take i bs) b.0) new) j) (last_value k true e.0 j)))
+            ∙ sym (value_after k ∙ (λ j. or_value ((ap (bound_value (take i bs)) e.1 ∙ none-is (bound_value (take i bs) b.0) new) j) (last_value k true e.0 j)))
         by (inr e) =
             get_or-set_other values n k (Some b.1) None (λ q. e.1 (q ∙ same))
             ∙ before k below

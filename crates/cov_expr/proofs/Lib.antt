@@ -15,6 +15,5 @@ pub mod PartialLemmas
 pub mod Printing
 pub mod ReadingBindings
 pub mod Spelt
-pub mod SplitLemmas
 pub mod Texts
 pub mod Words

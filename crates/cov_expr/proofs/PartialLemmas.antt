@@ -1,9 +1,10 @@
 -- Bindings in order of options, gathered from the first option on.
-use Rattle.std.proofs.Common.{◌≡◌, ℕ, zero, suc, ◌+◌, ◌<◌, ◌≤◌, Bool, true, ◌&&◌, nat_lt, List, [], ◌∷◌, ◌++◌, length, drop, Option, Some, None, refl, sym, ap, ◌∙◌, arith, append_assoc, add-one}
+use Rattle.std.proofs.Common.{◌≡◌, ℕ, ◌+◌, ◌<◌, ◌≤◌, Bool, true, ◌&&◌, nat_lt, List, [], ◌∷◌, ◌++◌, length, drop, Option, Some, None, refl, sym, ap, ◌∙◌, arith, append_assoc, add-one}
 use Rattle.std.specs.List.{list_all, enumerate_from}
 use Rattle.std.proofs.lemmas.Bool.{lt-ltb}
 use Rattle.std.proofs.lemmas.List.{drop_all, append-nil}
 use Rattle.cov_base.specs.Choices.{is_on}
+use Rattle.cov_base.proofs.CallerLemmas.{drop-is_on}
 use Rattle.cov_expr.specs.Partials.{is_in_order, places_from}
 
 places_later : (m n : ℕ) (vs : List (Option Bool)) → m < n → list_all (λ c. nat_lt m c.0) (places_from n vs) ≡ true
@@ -24,12 +25,6 @@ enumerated_later m n (v ∷ c) h = λ i. lt-ltb m n h i && enumerated_later m (n
 is_in_order-enumerate_from : (n : ℕ) (c : List Bool) → is_in_order (enumerate_from n c) ≡ true
 is_in_order-enumerate_from n [] = refl
 is_in_order-enumerate_from n (v ∷ c) = λ i. enumerated_later n (n + 1) c (omega arith) i && is_in_order-enumerate_from (n + 1) c i
-
--- a choice from an option on begins with that option's value
-pub drop-is_on : (c : List Bool) (i : ℕ) → i < length c → drop i c ≡ is_on c i ∷ drop (suc i) c
-drop-is_on [] i h = absurd (omega (arith, h))
-drop-is_on (b ∷ c) zero h = refl
-drop-is_on (b ∷ c) (suc i) h = drop-is_on c i (omega (arith, h))
 
 module _ (done whole : List (ℕ × Bool)) where
   joined : (b : ℕ × Bool) (rest before : List (ℕ × Bool)) → before ≡ b ∷ rest → done ++ before ≡ whole → (done ++ b ∷ []) ++ rest ≡ whole

@@ -1,12 +1,12 @@
 -- The lines of a file after a change.
 use Rattle.std.proofs.Common.{◌≡◌, ℕ, zero, suc, ◌+◌, ◌-◌, ◌≤◌, min, Bool, true, false, cond, nat_eq, nat_le, ◌||◌, List, [], ◌∷◌, ◌++◌, length, set, map, Some, position, refl, sym, ap, subst, ◌∙◌, arith}
-use mathlib.Core.Bool.{or_assoc, or_comm}
+use mathlib.Core.Bool.{or_comm}
 use Rattle.std.proofs.Math.Nat.{min-le_left, min-le_right, le-min}
 use Rattle.std.specs.List.{AllByRecursion, list_any}
 use Rattle.std.specs.Map.{keys_of}
 use Rattle.std.proofs.lemmas.Bool.Decides.{nat_tests}
 use Rattle.std.proofs.lemmas.Bool.{or_left}
-use Rattle.cov_base.proofs.CallerLemmas.{or_left_comm, nat_eq-sym}
+use Rattle.cov_base.proofs.CallerLemmas.{any-push, or_left_comm, nat_eq-sym}
 use Rattle.cov_base.specs.Addresses.{after_first, after_anchor}
 use Rattle.cov_order.specs.Orders.{has_line}
 use Rattle.cov_file.specs.Dated.{DatedLine, vis_at, newest_vis, line_numbers_of, dated_number, new_line, with_line, changed, with_change, IsAlike, AreAlike}
@@ -31,10 +31,6 @@ has_first n t x (y ∷ ys) = at (t y) (has_first n t x ys)
 pub has_after : (n anchor line : ℕ) (lines : List ℕ) → has_line n (after_anchor anchor line lines) ≡ (nat_eq line n || has_line n lines)
 has_after n zero line lines = refl
 has_after n (suc anchor) line lines = has_first n (λ m. nat_eq m (suc anchor)) line lines
-
-any_behind : (n k : ℕ) (keys : List ℕ) → list_any (nat_eq n) (keys ++ k ∷ []) ≡ (list_any (nat_eq n) keys || nat_eq n k)
-any_behind n k [] = or_comm (nat_eq n k) false
-any_behind n k (x ∷ xs) = ap (λ b. nat_eq n x || b) (any_behind n k xs) ∙ sym (or_assoc (nat_eq n x) (list_any (nat_eq n) xs) (nat_eq n k))
 
 -- lines of a list have what all its lines have
 pub all_lines : (P : ℕ → Type 0) (lines : List ℕ) → ((n : ℕ) → has_line n lines ≡ true → P n) → AllByRecursion P lines
@@ -176,7 +172,7 @@ module _ (lines : List ℕ) (texts : List (ℕ × List ℕ)) (l : Listing) (kept
     keys_inserted : (anchor n : ℕ) → has_line n (after_anchor anchor line lines) ≡ list_any (nat_eq n) (keys_of new_texts)
     keys_inserted anchor n =
         has_after n anchor line lines ∙ (λ j. nat_eq-sym line n j || kept.keys n j) ∙ or_comm (nat_eq n line) (list_any (nat_eq n) the_keys)
-        ∙ sym (any_behind n line the_keys) ∙ ap (list_any (nat_eq n)) (sym (keys_behind texts line text))
+        ∙ sym (any-push (nat_eq n) the_keys line) ∙ ap (list_any (nat_eq n)) (sym (keys_behind texts line text))
 
     -- the invariant once a line is inserted
     pub inserted_kept : (anchor : ℕ) (lines' : List ℕ) (texts' : List (ℕ × List ℕ)) (l' : Listing)

@@ -21,22 +21,6 @@ found_place line keys i false e h = absurd (cc)
 pub found : (line : ℕ) (keys : List ℕ) (i : ℕ) → position (nat_eq line) keys ≡ Some i → (place line keys ≡ i) × (place line keys < length keys)
 found line keys i h = found_place line keys i (nat_lt (place line keys) (length keys)) refl h
 
-missing_place : (line : ℕ) (keys : List ℕ) → length keys ≤ place line keys → list_any (nat_eq line) keys ≡ false
-missing_place line [] h = refl
-missing_place line (k ∷ ks) h = at (nat_eq line k) h (missing_place line ks)
-  where
-    at : (b : Bool) → suc (length ks) ≤ cond (not b) (1 + place line ks) 0 → (length ks ≤ place line ks → list_any (nat_eq line) ks ≡ false) → (b || list_any (nat_eq line) ks) ≡ false
-    at true k rest = absurd (omega (arith, k))
-    at false k rest = rest (omega (arith, k))
-
-not_found : (line : ℕ) (keys : List ℕ) (b : Bool) → nat_lt (place line keys) (length keys) ≡ b → cond b (Some (place line keys)) None ≡ None → list_any (nat_eq line) keys ≡ false
-not_found line keys true e h = absurd (cc)
-not_found line keys false e h = missing_place line keys (grind (arith, nat_tests, e))
-
--- where no key is found, none is the line
-pub missing : (line : ℕ) (keys : List ℕ) → position (nat_eq line) keys ≡ None → list_any (nat_eq line) keys ≡ false
-missing line keys h = not_found line keys (nat_lt (place line keys) (length keys)) refl h
-
 there_place : (line : ℕ) (keys : List ℕ) → place line keys < length keys → list_any (nat_eq line) keys ≡ true
 there_place line [] h = absurd (omega (arith, h))
 there_place line (k ∷ ks) h = at (nat_eq line k) h (there_place line ks)

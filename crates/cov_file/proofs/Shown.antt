@@ -1,6 +1,6 @@
 -- What is shown, line by line in order, and what is known of one line.
-use Rattle.std.specs.Prelude.{Result, Ok, Err, IfOk, OnOk, filter}
-use Rattle.std.proofs.Common.{◌≡◌, ℕ, zero, suc, ◌+◌, ◌≤◌, Bool, true, false, cond, nat_eq, nat_le, ◌||◌, List, [], ◌∷◌, ◌++◌, map, drop, Option, Some, None, is_some, slice_get, append-nil, append_assoc, refl, sym, ap, subst, ◌∙◌, arith}
+use Rattle.std.specs.Prelude.{Result, Ok, Err, OnOk, filter}
+use Rattle.std.proofs.Common.{◌≡◌, ℕ, ◌+◌, ◌≤◌, Bool, true, false, cond, nat_eq, nat_le, ◌||◌, List, [], ◌∷◌, ◌++◌, map, drop, Some, None, slice_get, append-nil, append_assoc, refl, sym, ap, subst, ◌∙◌, arith}
 use Rattle.std.specs.List.{find}
 use Rattle.std.specs.Option.{option_map}
 use Rattle.std.specs.Map.{keys_of}
@@ -11,6 +11,7 @@ use Rattle.cov_order.specs.Orders.{has_line}
 use Rattle.cov_line.specs.declared.row.FileRow.{FileRow}
 use Rattle.cov_file.specs.Dated.{DatedLine, vis_at, newest_vis, newest_of, vis_of, file_row_of, is_visible, rows_at, all_rows}
 use Rattle.cov_base.specs.Older.{value_at}
+use Rattle.cov_base.proofs.CallerLemmas.{drop-at, drop-end}
 use Rattle.cov_file.specs.Rooms.{Room, Coming, IsMade}
 use Rattle.cov_file.specs.Listing.{Listing, lists_of, vis_in, changes_in, dated_in, dated_lines, row_in, visible_lines}
 use Rattle.cov_file.proofs.Nodes.{node_listed}
@@ -18,24 +19,6 @@ use Rattle.cov_file.proofs.Nodes.{node_listed}
 pub on_ok : {A E : Type 0} (r : Result A E) (P Q R : Type 0) → (P → Q → R) → OnOk r P → OnOk r Q → OnOk r R
 on_ok (Ok x) P Q R f p q = f p q
 on_ok (Err e) P Q R f p q = tt
-
-pub is_none : {A : Type 0} (o : Option A) → is_some o ≡ false → o ≡ None
-is_none None h = refl
-is_none (Some x) h = absurd (cc)
-
-drop-next : {X : Type 0} (xs : List X) (i : ℕ) (x : X) → slice_get xs i ≡ Some x → drop i xs ≡ x ∷ drop (suc i) xs
-drop-next [] i x h = absurd (cc)
-drop-next (y ∷ ys) zero x h = ap (λ z. z ∷ ys) (let same : y ≡ x = cc in same)
-drop-next (y ∷ ys) (suc i) x h = drop-next ys i x h
-
-drop-at : {X : Type 0} (xs : List X) (i k : ℕ) (x : X) → slice_get xs i ≡ Some x → k ≡ i + 1 → drop i xs ≡ x ∷ drop k xs
-drop-at xs i k x h e = let same : suc i ≡ k = omega (arith, e) in drop-next xs i x h ∙ ap (λ m. x ∷ drop m xs) same
-
-drop-end : {X : Type 0} (xs : List X) (i : ℕ) → slice_get xs i ≡ None → drop i xs ≡ []
-drop-end [] zero h = refl
-drop-end [] (suc i) h = refl
-drop-end (y ∷ ys) zero h = absurd (cc)
-drop-end (y ∷ ys) (suc i) h = drop-end ys i h
 
 -- the rows of the lines ahead begin with those of the next line
 pub rows_next : (f : List ℕ → List FileRow) (xs : List ℕ) (i k x : ℕ) (rows next all piece : List FileRow) → slice_get xs i ≡ Some x → k ≡ i + 1
@@ -113,10 +96,6 @@ module _ (texts : List (ℕ × List ℕ)) (l : Listing) (line : ℕ) (lines : Li
 
   pub latest_none : (p : ℕ) → has_line line lines ≡ false → vis_of line p (dated_lines texts (lists_of l) lines) ≡ None
   latest_none p h = ap (option_map (λ d. vis_at d.changes p)) (no_line (dated_in texts (lists_of l)) line lines (λ n. refl) h)
-
-pub if_ok : {A E : Type 0} (r : Result A E) (P Q : A → Type 0) → ((a : A) → P a → Q a) → IfOk r P → IfOk r Q
-if_ok (Ok a) P Q f h = f a h
-if_ok (Err e) P Q f h = tt
 
 -- room for any changes is room for those that are expected
 pub coming_made : {A E : Type 0} (r : Result A E) (room : Room) (lines : List ℕ) (inserts : ℕ) (coming : Coming) → coming.inserts ≡ inserts → OnOk r ((deletes : List ℕ) → IsMade room lines inserts deletes)

@@ -111,16 +111,17 @@ from-rise ns (commands.Default option on ∷ history) = from-rise ns history
 pub files-rise : (history : List Command) → AreRising (files_of history) × AllByRecursion (λ file. (0 < file) × (file ≤ (numbers_of history).nodes)) (files_of history)
 files-rise history = (from-rise no_numbers history, from-within no_numbers history)
 
+-- what an option puts before the first of two lists stands before both
+pub onto_both : (o : Option ℕ) (xs ys : List ℕ) → cons_option o (xs ++ ys) ≡ cons_option o xs ++ ys
+onto_both None xs ys = refl
+onto_both (Some x) xs ys = refl
+
 -- the files of what comes first, and then those of the rest
 pub made-append : (n : ℕ) (es fs : List Edit) → files_made n (es ++ fs) ≡ files_made n es ++ files_made (n + nodes_made es) fs
 made-append n [] fs = let same : n ≡ n + 0 = omega arith in ap (λ m. files_made m fs) same
 made-append n (e ∷ es) fs =
     ap (cons_option (file_made n e)) (made-append (node_count_after n e) es fs ∙ ap (λ m. files_made (node_count_after n e) es ++ files_made m fs) (sym (node_count_after-is n (nodes_made es) e)))
-    ∙ behind (file_made n e) (files_made (node_count_after n e) es) (files_made (n + node_count_after (nodes_made es) e) fs)
-  where
-    behind : (o : Option ℕ) (xs ys : List ℕ) → cons_option o (xs ++ ys) ≡ cons_option o xs ++ ys
-    behind None xs ys = refl
-    behind (Some x) xs ys = refl
+    ∙ onto_both (file_made n e) (files_made (node_count_after n e) es) (files_made (n + node_count_after (nodes_made es) e) fs)
 
 from-append : (ns : Numbers) (history later : List Command) → files_from ns.nodes (history ++ later) ≡ files_from ns.nodes history ++ files_from (numbers_from ns history).nodes later
 from-append ns [] later = refl

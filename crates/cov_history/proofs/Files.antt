@@ -4,7 +4,7 @@ use Rattle.std.specs.List.{filter, list_any}
 pub use Rattle.std.proofs.lemmas.Bool.{or_right}
 use Rattle.std.proofs.lemmas.Bool.Decides.{nat_tests}
 use Rattle.cov_base.specs.Addresses.{stands_before, address_in, IsTable, IsLineOf, line_of, placed, number_by, AreInOrder, after_anchor_by}
-use Rattle.cov_base.proofs.CallerLemmas.{any-filter, all-map, all-filter, filter-placed, in_order-filter, at_one, order-insert, line_of-in}
+use Rattle.cov_base.proofs.CallerLemmas.{any-filter, all-map, all-filter, filter-placed, in_order-filter, at_one, or_left_comm, order-insert, line_of-in}
 use Rattle.cov_expr.specs.Formula.{Formula}
 use Rattle.cov_edit.specs.declared.command.Command.{Command}
 use Rattle.cov_edit.specs.Variant.{Variant, Line, line_address, lines_of}
@@ -115,14 +115,9 @@ pub any-placed : {X : Type 0} (address : X → List ℕ) (t : X → Bool) (x : X
 any-placed address t x [] = refl
 any-placed address t x (y ∷ ys) = at (stands_before (address x) (address y)) (any-placed address t x ys)
   where
-    swapped : (a b c : Bool) → (b || (a || c)) ≡ (a || (b || c))
-    swapped true true c = refl
-    swapped true false c = refl
-    swapped false b c = refl
-
     at : (b : Bool) → list_any t (placed address x ys) ≡ (t x || list_any t ys) → list_any t (cond b (x ∷ y ∷ ys) (y ∷ placed address x ys)) ≡ (t x || (t y || list_any t ys))
     at true rest = refl
-    at false rest = ap (λ b. t y || b) rest ∙ swapped (t x) (t y) (list_any t ys)
+    at false rest = ap (λ b. t y || b) rest ∙ or_left_comm (t y) (t x) (list_any t ys)
 
 -- whether a kept line is one of a file with a number
 abbrev pub is_one : ℕ → ℕ → Kept Line → Bool

@@ -12,7 +12,7 @@ use Rattle.cov_base.specs.declared.number.Kind.TheVariants as kinds
 use Rattle.cov_base.specs.declared.number.NodeRef.{NodeRef}
 use Rattle.cov_base.specs.declared.number.NodeRef.TheVariants as nodes
 use Rattle.cov_base.specs.declared.number.LineRef.{LineRef}
-use Rattle.cov_base.proofs.CallerLemmas.{all-map, all-placed}
+use Rattle.cov_base.proofs.CallerLemmas.{all-map, all-placed, or_second}
 use Rattle.cov_expr.specs.Formula.{Formula, True}
 use Rattle.cov_edit.specs.declared.edit.Edit.{Edit}
 use Rattle.cov_edit.specs.declared.edit.Edit.TheVariants as edits
@@ -101,10 +101,6 @@ made-again n m i k l (edits.Remove which ∷ es) j e f = made-again n m i k l es
 or_first : (a b : Bool) → b ≡ false → (a || b) ≡ true → a ≡ true
 or_first true b e h = refl
 or_first false b e h = absurd (cc)
-
-or_second : (a b : Bool) → a ≡ false → (a || b) ≡ true → b ≡ true
-or_second true b e h = absurd (cc)
-or_second false b e h = h
 
 -- a file by the numbers of the base is one by those of now
 file-now : (n m : ℕ) (files more : List ℕ) (es : List Edit) (file : NodeRef) → AllByRecursion (λ x. x ≤ n) files → is_known_node n file ≡ true

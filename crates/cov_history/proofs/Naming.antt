@@ -8,7 +8,7 @@ use Rattle.cov_base.specs.Addresses.{address_in}
 use Rattle.cov_base.specs.Rows.{Row, with_name, with_parent, is_present}
 use Rattle.cov_base.specs.declared.number.NodeRef.{NodeRef}
 use Rattle.cov_base.specs.declared.number.NodeRef.TheVariants as nodes
-use Rattle.cov_base.proofs.CallerLemmas.{all-map, all-append, all-filter, all-placed}
+use Rattle.cov_base.proofs.CallerLemmas.{all-map, all-append, all-filter, all-placed, or_second}
 use Rattle.cov_expr.specs.Formula.{Formula, value, reach}
 use Rattle.cov_edit.specs.declared.edit.Edit.{Edit}
 use Rattle.cov_edit.specs.declared.edit.Edit.TheVariants as edits
@@ -82,15 +82,11 @@ present-below count node (r ∷ rows) h there = at (nat_eq r.node node) refl (λ
         omega (arith, own, same)
     at false e rest k = rest k
 
-or_other : (a b : Bool) → a ≡ false → (a || b) ≡ true → b ≡ true
-or_other true b e h = absurd (cc)
-or_other false b e h = h
-
 known-made : (n made : ℕ) (node : NodeRef) (rows : List Row) → AreUpTo the_node (n + made) rows → (is_known_node n node && is_present rows (node_number n node)) ≡ true → is_made_node n made node ≡ true
 known-made n made (nodes.Old x) rows h there = (and_parts (nat_le x n) (is_present rows x) there).0
 known-made n made (nodes.New i) rows h there =
     let no_root : nat_eq (n + 1 + i) 0 ≡ false = grind (arith, nat_tests) in
-    let below : n + 1 + i ≤ n + made = present-below (n + made) (n + 1 + i) rows h (or_other (nat_eq (n + 1 + i) 0) (list_any (λ r. nat_eq r.node (n + 1 + i)) rows) no_root there) in
+    let below : n + 1 + i ≤ n + made = present-below (n + made) (n + 1 + i) rows h (or_second (nat_eq (n + 1 + i) 0) (list_any (λ r. nat_eq r.node (n + 1 + i)) rows) no_root there) in
     grind (arith, nat_tests, below)
 
 pub made-number : (n m made : ℕ) (node : NodeRef) → n ≤ m → is_made_node n made node ≡ true → node_number m node ≤ m + made
@@ -262,7 +258,7 @@ base-nodes base history =
     (nodes-grow (numbers_of (take base history)) (drop base history))
 
 -- an accepted commit's edits are accepted
-no-record : (refused : Option (ℕ × EditFault)) → as_bad_record refused ≡ None → refused ≡ None
+pub no-record : (refused : Option (ℕ × EditFault)) → as_bad_record refused ≡ None → refused ≡ None
 no-record None h = refl
 no-record (Some r) h = absurd (cc)
 

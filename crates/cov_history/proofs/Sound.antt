@@ -1,5 +1,5 @@
 -- Each valid variant of a legal history is sound.
-use Rattle.std.proofs.Common.{◌≡◌, ℕ, ◌≤◌, Bool, true, false, cond, ◌&&◌, nat_lt, List, [], ◌∷◌, ◌++◌, length, length-append, take, append_assoc, append-nil, Option, Some, None, is_some, refl, sym, ap, subst, ◌∙◌, arith}
+use Rattle.std.proofs.Common.{◌≡◌, ℕ, ◌≤◌, Bool, true, false, cond, ◌&&◌, nat_lt, List, [], ◌∷◌, ◌++◌, length, length-append, take, append_assoc, append-nil, None, is_some, refl, sym, ap, subst, ◌∙◌, arith}
 use Rattle.std.specs.List.{fold, list_any, AllByRecursion}
 use Rattle.std.proofs.Math.Seq.{take-length}
 use Rattle.std.proofs.lemmas.Bool.{and_parts}
@@ -7,7 +7,7 @@ use Rattle.std.proofs.lemmas.Bool.Decides.{nat_tests}
 use Rattle.std.proofs.lemmas.List.{length-take, take-append-le}
 use Rattle.cov_base.specs.Choices.{all_choices}
 use Rattle.cov_base.specs.Faults.{fault_of}
-use Rattle.cov_base.proofs.CallerLemmas.{is_some-find}
+use Rattle.cov_base.proofs.CallerLemmas.{is_some-find, none-is}
 use Rattle.cov_expr.specs.Formula.{Formula, value, reach}
 use Rattle.cov_expr.specs.Validity.{is_valid}
 use Rattle.cov_edit.specs.declared.edit.Edit.{Edit}
@@ -35,7 +35,7 @@ take-front : (before later : List Command) → take (length before) (before ++ l
 take-front before later = take-append-le (length before) before later (omega arith) ∙ take-length before
 
 -- a longer history declares no fewer options
-options-grow : (before later : List Command) → option_count before ≤ option_count (before ++ later)
+pub options-grow : (before later : List Command) → option_count before ≤ option_count (before ++ later)
 options-grow before later =
     let more = options-later (length before) (length (before ++ later)) (before ++ later) (omega (arith, length-append before later)) in
     let front = ap option_count (take-front before later) in
@@ -153,14 +153,10 @@ pub legal-sound : (history : List Command) (c : List Bool) → IsLegal history �
 legal-sound history c legal long valid = sound-along [] history legal legal (λ d h i. refl) c long valid
 
 -- so edits of lines alone have no bad choice
-nothing : {X : Type 0} (o : Option X) → is_some o ≡ false → o ≡ None
-nothing None h = refl
-nothing (Some x) h = absurd (cc)
-
 pub lines-sound : (history : List Command) (base : ℕ) (choice : List Bool) (ambition : Formula ℕ) (es : List Edit) → IsLegal history → list_any changes_rows es ≡ false
     → bad_choice history ambition (commands.Commit base choice ambition es) ≡ None
 lines-sound history base choice ambition es legal h =
-    nothing (bad_choice history ambition k) (is_some-find (is_bad history ambition k) (all_choices (option_count history)) ∙ none_passes (option_count history) (is_bad history ambition k) each)
+    none-is (bad_choice history ambition k) (is_some-find (is_bad history ambition k) (all_choices (option_count history)) ∙ none_passes (option_count history) (is_bad history ambition k) each)
   where
     k : Command
     k = commands.Commit base choice ambition es

@@ -1,7 +1,7 @@
 -- The names of a replay's rows are those of edits, so they are well spelt.
-use Rattle.std.proofs.Common.{◌≡◌, ℕ, ◌+◌, Bool, true, false, cond, ◌&&◌, not, nat_eq, List, [], ◌∷◌, ◌++◌, length, map}
+use Rattle.std.proofs.Common.{◌≡◌, ℕ, ◌+◌, Bool, true, false, cond, not, nat_eq, List, [], ◌∷◌, ◌++◌, length, map}
 use Rattle.std.proofs.lemmas.Bool.{and_parts}
-use Rattle.std.specs.List.{fold, filter, list_all, AllByRecursion}
+use Rattle.std.specs.List.{fold, list_all, AllByRecursion}
 use Rattle.cov_base.specs.Rows.{Row, with_name, with_parent}
 use Rattle.cov_base.specs.Spelling.{is_name}
 use Rattle.cov_base.proofs.CallerLemmas.{all-append, all-filter}

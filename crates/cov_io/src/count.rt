@@ -2,7 +2,8 @@
 ghost use Rattle.std.specs.Prelude.{◌≡◌, ◌==◌, if◌then◌else◌};
 ghost use Rattle.cov_io.specs.InMemory.{raised};
 
-pub(crate) fn raised(count: u64) -> u64
+/// One more, unless the count is the greatest.
+pub fn raised(count: u64) -> u64
     ensures { result ≡ raised count }
 {
     count.saturating_add(1)

@@ -4,8 +4,8 @@ ghost use Rattle.cov_base.specs.Causes.{HasCause};
 ghost use Rattle.cov_io.specs.Devices.{Reads, Unread, Gives, CountsEnd, AppendsAll, AppendsSome};
 ghost use Rattle.cov_io.specs.InMemory.{raised, is_next_in, FailsToRead, Writes, FailsToWrite};
 
-use crate::count::{ends_after, raised};
-use crate::{Sink, Source};
+use crate::count::ends_after;
+use crate::{Calls, Sink, Source};
 use cov_base::{Failed, Memory, Numbers, Text};
 use std::alloc::Global;
 use std::marker::Model;
@@ -17,14 +17,12 @@ pub struct MemorySource {
     bytes: Text,
     at: usize,
     piece: usize,
-    fail: Numbers,
-    calls: u64,
-    faults: u64,
+    calls: Calls,
     ends: u64,
 }
 
 impl Model for MemorySource {
-    ghost use Rattle.std.specs.Prelude.{◌≤◌, drop, length};
+    ghost use Rattle.std.specs.Prelude.{◌≡◌, ◌≤◌, None, drop, length};
     ghost use Rattle.cov_io.specs.InMemory.{SourceState};
 
     ghost Value = { SourceState };
@@ -33,13 +31,13 @@ impl Model for MemorySource {
       left = drop s.at s.bytes;
       given = s.at;
       piece = s.piece;
-      fail = s.fail;
-      calls = s.calls;
-      faults = s.faults;
+      fail = s.calls.fail;
+      calls = s.calls.calls;
+      faults = s.calls.faults;
       ends = s.ends;
     } };
 
-    ghost invariant = { λ s. (s.at ≤ length s.bytes) × (1 ≤ s.piece) };
+    ghost invariant = { λ s. (s.at ≤ length s.bytes) × (1 ≤ s.piece) × (s.calls.fuse ≡ None) };
 }
 
 impl MemorySource {
@@ -61,9 +59,7 @@ impl MemorySource {
             bytes,
             at: 0,
             piece,
-            fail,
-            calls: 0,
-            faults: 0,
+            calls: Calls::new(fail, None),
             ends: 0,
         }
     }
@@ -105,9 +101,8 @@ impl Source for MemorySource {
         ensures same_piece { self.new.piece ≡ self.old.piece }
         ensures same_list { self.new.fail ≡ self.old.fail }
     {
-        self.calls = raised(self.calls);
-        if self.fail.contains(self.calls) {
-            self.faults = raised(self.faults);
+        if self.calls.next_fails() {
+            self.calls.fail();
             return Err(Failed);
         }
         let left = self.bytes.len() - self.at;
@@ -124,24 +119,24 @@ impl Source for MemorySource {
 #[derive(Debug, Drop)]
 pub struct MemorySink {
     written: Text,
-    fail: Numbers,
-    calls: u64,
-    faults: u64,
-    starved: u64,
+    calls: Calls,
 }
 
 impl Model for MemorySink {
+    ghost use Rattle.std.specs.Prelude.{◌≡◌, None};
     ghost use Rattle.cov_io.specs.InMemory.{SinkState};
 
     ghost Value = { SinkState };
 
     ghost view = { λ s. record {
       written = s.written;
-      fail = s.fail;
-      calls = s.calls;
-      faults = s.faults;
-      starved = s.starved;
+      fail = s.calls.fail;
+      calls = s.calls.calls;
+      faults = s.calls.faults;
+      starved = s.calls.starved;
     } };
+
+    ghost invariant = { λ s. s.calls.fuse ≡ None };
 }
 
 impl MemorySink {
@@ -156,10 +151,7 @@ impl MemorySink {
     {
         MemorySink {
             written: Text::new(alloc),
-            fail,
-            calls: 0,
-            faults: 0,
-            starved: 0,
+            calls: Calls::new(fail, None),
         }
     }
 
@@ -173,7 +165,7 @@ impl MemorySink {
     pub fn starved(&self) -> u64
         ensures { result ≡ self.now.starved }
     {
-        self.starved
+        self.calls.starved()
     }
 }
 
@@ -192,16 +184,14 @@ impl Sink for MemorySink {
         ensures ok { OnOk result (Writes bytes.now self.old self.new) }
         ensures err { OnErr result (FailsToWrite self.old self.new) }
     {
-        self.calls = raised(self.calls);
-        if self.fail.contains(self.calls) {
-            self.faults = raised(self.faults);
+        if self.calls.next_fails() {
+            self.calls.fail();
             return Err(Failed);
         }
         match self.written.append(bytes) {
             Ok(()) => Ok(()),
             Err(Memory) => {
-                self.faults = raised(self.faults);
-                self.starved = raised(self.starved);
+                self.calls.starve();
                 Err(Failed)
             }
         }

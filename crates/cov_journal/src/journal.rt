@@ -69,15 +69,15 @@ fn fill(room: &mut Vec<u8>, payload: &[u8], digest: &[u8; 32])
 }
 
 // Puts a record behind a closed gate.
-fn stage<D: Disk>(disk: &mut D, gate: u64, record: &[u8]) -> Result<(), Failed>
+fn stage<D: Disk>(disk: &mut D, gate: u64, staged: &[u8]) -> Result<(), Failed>
     requires far { gate < 2 ^ 62 }
     requires within { IfSome (D.contents disk.old) (λ old. gate < length old) }
-    ensures written { OnOk result (Told (Written (gate + 1) record.now) (D.contents disk.old) (D.contents disk.new)) }
+    ensures written { OnOk result (Told (Written (gate + 1) staged.now) (D.contents disk.old) (D.contents disk.new)) }
     ensures durable { OnOk result (Only (D.contents disk.new) (D.images disk.new)) }
-    ensures since { LeavesOnly D.moment D.images_since disk.old disk.new (IsTornFrom (D.images disk.old) (gate + 1) (length record.now)) }
+    ensures since { LeavesOnly D.moment D.images_since disk.old disk.new (IsTornFrom (D.images disk.old) (gate + 1) (length staged.now)) }
     ensures cause { HasCause (D.faults disk.old) (D.faults disk.new) result }
 {
-    write_synced(disk, gate + 1, record)
+    write_synced(disk, gate + 1, staged)
 }
 
 // Opens a gate.

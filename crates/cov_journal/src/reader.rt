@@ -34,6 +34,8 @@ impl Model for Reader {
 
     ghost view = { λ r. record { at = r.at; digest = r.digest; given = r.given } };
 
+    // 12 bytes stand before the first gate, and from one gate to the next there are at most 2 ^ 32 - 1 of a payload and 37 others,
+    // which are 4294967332.
     ghost invariant = { λ r. r.at ≤ 12 + r.given * 4294967332 };
 }
 

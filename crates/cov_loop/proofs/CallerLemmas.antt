@@ -1,2 +1,3 @@
 -- What callers cite.
+pub use Rattle.cov_loop.proofs.Outcomes.{nothing_first, nothing_next}
 pub use Rattle.cov_loop.proofs.Turning.{fault_turn}

@@ -12,7 +12,7 @@ use Rattle.cov_loop.specs.Turns.{EndsWith, Ends, GoesOn, HasRows, HasStored, IsW
 use Rattle.cov_loop.specs.declared.answer.Answer.{Answer}
 use Rattle.cov_loop.proofs.Appending.{all_some, all_then, all_then_some, same_all, told_all}
 use Rattle.cov_loop.proofs.Kept.{keeps_later, reaches_later}
-use Rattle.cov_loop.proofs.Moments.{joined, weakened}
+use Rattle.cov_disk.proofs.CallerLemmas.{joined, weakened}
 use Rattle.cov_loop.proofs.Outcomes.{answers_append, answers_last, cut_twice, nothing_next}
 use Rattle.cov_out.specs.declared.row.OutRow.{OutRow}
 

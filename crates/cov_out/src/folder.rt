@@ -5,8 +5,8 @@ ghost use Rattle.cov_io.specs.InMemory.{raised};
 ghost use Rattle.cov_out.specs.Rows.{is_below};
 
 use crate::Trees;
-use crate::count::raised;
 use cov_base::{BadName, Failed, Memory, MemoryOr, Path, Text};
+use cov_io::raised;
 use std::alloc::Global;
 use std::fs::{self, File};
 use std::io::{self, Write};
@@ -156,6 +156,7 @@ fn write_new(files: &impl Files, place: &str, bytes: &[u8]) -> io::Result<()> {
     match file.write_all(bytes) {
         Ok(()) => Ok(()),
         Err(error) => {
+            // Whether it is gone or not, what is told is why it couldn't be written.
             let _ = fs::remove_file(files, place);
             Err(error)
         }

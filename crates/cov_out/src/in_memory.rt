@@ -5,9 +5,9 @@ ghost use Rattle.cov_base.specs.Causes.{HasCause};
 ghost use Rattle.cov_out.specs.InMemory.{Adds, FailsToAdd};
 ghost use Rattle.cov_out.specs.Rows.{AddsRow, dir_row, file_row, out_row};
 
-use crate::count::raised;
 use crate::{OutRow, OutRows, Trees};
 use cov_base::{Failed, Memory, Numbers, Text};
+use cov_io::Calls;
 use std::alloc::Global;
 use std::marker::Model;
 
@@ -15,24 +15,24 @@ use std::marker::Model;
 #[derive(Debug, Drop)]
 pub struct MemoryTrees {
     rows: OutRows,
-    fail: Numbers,
-    calls: u64,
-    faults: u64,
-    starved: u64,
+    calls: Calls,
 }
 
 impl Model for MemoryTrees {
+    ghost use Rattle.std.specs.Prelude.{◌≡◌, None};
     ghost use Rattle.cov_out.specs.InMemory.{TreesState};
 
     ghost Value = { TreesState };
 
     ghost view = { λ t. record {
       rows = t.rows;
-      fail = t.fail;
-      calls = t.calls;
-      faults = t.faults;
-      starved = t.starved;
+      fail = t.calls.fail;
+      calls = t.calls.calls;
+      faults = t.calls.faults;
+      starved = t.calls.starved;
     } };
+
+    ghost invariant = { λ t. t.calls.fuse ≡ None };
 }
 
 impl MemoryTrees {
@@ -47,10 +47,7 @@ impl MemoryTrees {
     {
         MemoryTrees {
             rows: OutRows::new(alloc),
-            fail,
-            calls: 0,
-            faults: 0,
-            starved: 0,
+            calls: Calls::new(fail, None),
         }
     }
 
@@ -65,7 +62,7 @@ impl MemoryTrees {
     pub fn starved(&self) -> u64
         ensures { result ≡ self.now.starved }
     {
-        self.starved
+        self.calls.starved()
     }
 
     // Adds the row of a directory, or of a file where there are bytes.
@@ -74,16 +71,14 @@ impl MemoryTrees {
         ensures err { OnErr result (FailsToAdd self.old self.new) }
         ensures cause { HasCause self.old.faults self.new.faults result }
     {
-        self.calls = raised(self.calls);
-        if self.fail.contains(self.calls) {
-            self.faults = raised(self.faults);
+        if self.calls.next_fails() {
+            self.calls.fail();
             return Err(Failed);
         }
         match push_row(&mut self.rows, path, bytes) {
             Ok(()) => Ok(()),
             Err(Memory) => {
-                self.faults = raised(self.faults);
-                self.starved = raised(self.starved);
+                self.calls.starve();
                 Err(Failed)
             }
         }

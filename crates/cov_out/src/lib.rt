@@ -1,7 +1,6 @@
 //! Trees of files that are written, row by row.
 #![tactic(auto)]
 
-mod count;
 mod folder;
 mod in_memory;
 mod row;

@@ -14,7 +14,7 @@ use Rattle.cov_record.specs.Payload.{expression_spelling, run_of}
 use Rattle.cov_record.specs.Reading.{Front, behind, front_u8, front_sign, sign_of, named_of, front_forest, front_expression, awaited, taken, lone, first, Gives}
 use Rattle.cov_record.specs.declared.expression.Sign.{Sign}
 use Rattle.cov_record.specs.declared.expression.Sign.TheVariants.{Never, Always, Named, Negates, Joins, Chooses}
-use Rattle.cov_record.proofs.Fronts.{pair_of, given_some, given_true, behind_some, behind_at}
+use Rattle.cov_record.proofs.Fronts.{Begins, begins_with, pair_of, given_some, given_true, behind_some, behind_at}
 use Rattle.cov_record.proofs.Bytes.{u8_forth}
 
 -- expressions in front of others
@@ -100,26 +100,20 @@ FitsSign Negates = Unit {0}
 FitsSign Joins = Unit {0}
 FitsSign Chooses = Unit {0}
 
-abbrev IsSign : List ℕ → Sign → List ℕ → Type 0
-IsSign bs s r = FitsSign s × (bs ≡ sign_spelling s ++ r)
-
-plain_sign : (t s : Sign) (mid r : List ℕ) → FitsSign t → ◌≡◌ {A = Front Sign} (Some (t, mid)) (Some (s, r)) → IsSign (sign_spelling t ++ mid) s r
-plain_sign t s mid r k h = let p = pair_of t s mid r h in (subst FitsSign p.0 k, λ i. sign_spelling (p.0 i) ++ p.1 i)
-
-sign_of_forth : (tag : ℕ) (bs : List ℕ) (s : Sign) (r : List ℕ) → sign_of tag bs ≡ Some (s, r) → IsSign (tag ∷ bs) s r
-sign_of_forth zero bs s r h = plain_sign Never s bs r tt h
-sign_of_forth (suc zero) bs s r h = plain_sign Always s bs r tt h
+sign_of_forth : (tag : ℕ) (bs : List ℕ) (s : Sign) (r : List ℕ) → sign_of tag bs ≡ Some (s, r) → Begins sign_spelling FitsSign (tag ∷ bs) s r
+sign_of_forth zero bs s r h = begins_with sign_spelling FitsSign Never s bs r (0 ∷ bs) (tt, refl) h
+sign_of_forth (suc zero) bs s r h = begins_with sign_spelling FitsSign Always s bs r (1 ∷ bs) (tt, refl) h
 sign_of_forth (suc (suc zero)) bs s r h =
     let a = behind_some (front_u8 bs) named_of s r h in
     let g = given_some (nat_lt a.0 CHOICE_WIDTH) (Named a.0) s a.1 r a.3 in
     let k = ltb-true a.0 CHOICE_WIDTH g.0 in
     (subst FitsSign g.1 k, ap (λ m. 2 ∷ m) (u8_forth bs a.0 a.1 a.2) ∙ (λ i. sign_spelling (g.1 i) ++ g.2 i))
-sign_of_forth (suc (suc (suc zero))) bs s r h = plain_sign Negates s bs r tt h
-sign_of_forth (suc (suc (suc (suc zero)))) bs s r h = plain_sign Joins s bs r tt h
-sign_of_forth (suc (suc (suc (suc (suc zero))))) bs s r h = plain_sign Chooses s bs r tt h
+sign_of_forth (suc (suc (suc zero))) bs s r h = begins_with sign_spelling FitsSign Negates s bs r (3 ∷ bs) (tt, refl) h
+sign_of_forth (suc (suc (suc (suc zero)))) bs s r h = begins_with sign_spelling FitsSign Joins s bs r (4 ∷ bs) (tt, refl) h
+sign_of_forth (suc (suc (suc (suc (suc zero))))) bs s r h = begins_with sign_spelling FitsSign Chooses s bs r (5 ∷ bs) (tt, refl) h
 sign_of_forth (suc (suc (suc (suc (suc (suc n)))))) bs s r h = absurd (none-some (s, r) h)
 
-sign_forth : (bs : List ℕ) (s : Sign) (r : List ℕ) → front_sign bs ≡ Some (s, r) → IsSign bs s r
+sign_forth : (bs : List ℕ) (s : Sign) (r : List ℕ) → front_sign bs ≡ Some (s, r) → Begins sign_spelling FitsSign bs s r
 sign_forth bs s r h =
     let a = behind_some (front_u8 bs) sign_of s r h in
     let w = sign_of_forth a.0 a.1 s r a.3 in

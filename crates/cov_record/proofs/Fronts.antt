@@ -1,5 +1,5 @@
 -- What stands at the front of bytes, and what follows it.
-use Rattle.std.proofs.Common.{◌≡◌, ℕ, Bool, true, false, List, Some, None, refl, ap, ◌∙◌}
+use Rattle.std.proofs.Common.{◌≡◌, ℕ, Bool, true, false, List, ◌++◌, Some, None, refl, ap, subst, ◌∙◌}
 use Rattle.std.proofs.lemmas.Option.{none-some, same_Some}
 use Rattle.cov_record.specs.Reading.{Front, behind, given}
 
@@ -21,3 +21,12 @@ behind_some (Some p) more y r h = (p.0, p.1, refl, h)
 
 pub behind_at : {X Y : Type 0} (f : Front X) (more : X → List ℕ → Front Y) (out : Front Y) (x : X) (s : List ℕ) → f ≡ Some (x, s) → more x s ≡ out → behind f more ≡ out
 behind_at f more out x s e h = ap (λ f. behind f more) e ∙ h
+
+module _ {X : Type 0} (spelling : X → List ℕ) (Fits : X → Type 0) where
+  -- bytes are those of a form that fits, and then others
+  abbrev pub Begins : List ℕ → X → List ℕ → Type 0
+  Begins bs x r = Fits x × (bs ≡ spelling x ++ r)
+
+  -- the form that is read is that at their front
+  pub begins_with : (x y : X) (s r bs : List ℕ) → Begins bs x s → ◌≡◌ {A = Front X} (Some (x, s)) (Some (y, r)) → Begins bs y r
+  begins_with x y s r bs w h = let p = pair_of x y s r h in (subst Fits p.0 w.0, w.1 ∙ (λ i. spelling (p.0 i) ++ p.1 i))

@@ -17,8 +17,8 @@ use Rattle.cov_edit.specs.declared.edit.Edit.TheVariants as edits
 use Rattle.cov_edit.specs.EditFits.{fits_edit}
 use Rattle.cov_record.specs.FitsRecord.{FitsNode, FitsLine, FitsReferences, FitsEdit}
 use Rattle.cov_record.specs.Payload.{bit, run_of, choice_spelling, kind_byte, node_spelling, line_spelling, name_spelling, text_spelling, edit_spelling, all_edit_spelling, edits_spelling}
-use Rattle.cov_record.specs.Reading.{Front, behind, given, front_u8, front_u32, bit_of, front_bit, front_bits, bits_counted, front_choice, kind_of, front_kind, node_of, front_node, line_of, front_line, front_name, front_text, front_new, front_insert, front_delete, front_rename, front_move, front_remove, edit_of, front_edit, front_edits, front_counted}
-use Rattle.cov_record.proofs.Fronts.{pair_of, given_some, given_true, behind_some, behind_at}
+use Rattle.cov_record.specs.Reading.{behind, given, front_u8, front_u32, bit_of, front_bit, front_bits, bits_counted, front_choice, kind_of, front_kind, node_ref_of, front_node, line_ref_of, front_line, front_name, front_text, front_new, front_insert, front_delete, front_rename, front_move, front_remove, edit_of, front_edit, front_edits, front_counted}
+use Rattle.cov_record.proofs.Fronts.{Begins, begins_with, pair_of, given_some, given_true, behind_some, behind_at}
 use Rattle.cov_record.proofs.Bytes.{u8_forth, u32_back, u32_forth, spelt_back, spelt_forth, text_back, text_forth}
 use Rattle.cov_record.proofs.Runs.{many_back, many_forth}
 
@@ -80,37 +80,37 @@ pub kind_forth : (bs : List ℕ) (k : Kind) (r : List ℕ) → front_kind bs ≡
 kind_forth bs k r h = let a = behind_some (front_u8 bs) kind_of k r h in u8_forth bs a.0 a.1 a.2 ∙ kind_of_forth a.0 a.1 k r a.3
 
 pub node_back : (x : NodeRef) (r : List ℕ) → FitsNode x → front_node (node_spelling x ++ r) ≡ Some (x, r)
-node_back (nodes.Old n) r h = ap (λ f. behind f (node_of 0)) (u32_back n r h)
-node_back (nodes.New n) r h = ap (λ f. behind f (node_of 1)) (u32_back n r h)
+node_back (nodes.Old n) r h = ap (λ f. behind f (node_ref_of 0)) (u32_back n r h)
+node_back (nodes.New n) r h = ap (λ f. behind f (node_ref_of 1)) (u32_back n r h)
 
-node_of_forth : (tag n : ℕ) (bs : List ℕ) (x : NodeRef) (r : List ℕ) → node_of tag n bs ≡ Some (x, r) → n < 2 ^ 32 → FitsNode x × (tag ∷ (to_be_bytes w32 n ++ bs) ≡ node_spelling x ++ r)
-node_of_forth zero n bs x r h k = let p = pair_of (nodes.Old n) x bs r h in (subst FitsNode p.0 k, λ i. node_spelling (p.0 i) ++ p.1 i)
-node_of_forth (suc zero) n bs x r h k = let p = pair_of (nodes.New n) x bs r h in (subst FitsNode p.0 k, λ i. node_spelling (p.0 i) ++ p.1 i)
-node_of_forth (suc (suc t)) n bs x r h k = absurd (none-some (x, r) h)
+node_ref_of_forth : (tag n : ℕ) (bs : List ℕ) (x : NodeRef) (r : List ℕ) → node_ref_of tag n bs ≡ Some (x, r) → n < 2 ^ 32 → FitsNode x × (tag ∷ (to_be_bytes w32 n ++ bs) ≡ node_spelling x ++ r)
+node_ref_of_forth zero n bs x r h k = begins_with node_spelling FitsNode (nodes.Old n) x bs r (0 ∷ (to_be_bytes w32 n ++ bs)) (k, refl) h
+node_ref_of_forth (suc zero) n bs x r h k = begins_with node_spelling FitsNode (nodes.New n) x bs r (1 ∷ (to_be_bytes w32 n ++ bs)) (k, refl) h
+node_ref_of_forth (suc (suc t)) n bs x r h k = absurd (none-some (x, r) h)
 
 pub node_forth : (bs : List ℕ) (x : NodeRef) (r : List ℕ) → front_node bs ≡ Some (x, r) → FitsNode x × (bs ≡ node_spelling x ++ r)
 node_forth bs x r h =
     let a = behind_some (front_u8 bs) _ x r h in
-    let b = behind_some (front_u32 a.1) (node_of a.0) x r a.3 in
+    let b = behind_some (front_u32 a.1) (node_ref_of a.0) x r a.3 in
     let u = u32_forth a.1 b.0 b.1 b.2 in
-    let w = node_of_forth a.0 b.0 b.1 x r b.3 u.0 in
+    let w = node_ref_of_forth a.0 b.0 b.1 x r b.3 u.0 in
     (w.0, u8_forth bs a.0 a.1 a.2 ∙ ap (λ m. a.0 ∷ m) u.1 ∙ w.1)
 
 pub line_back : (x : LineRef) (r : List ℕ) → FitsLine x → front_line (line_spelling x ++ r) ≡ Some (x, r)
-line_back (lines.Old n) r h = ap (λ f. behind f (line_of 0)) (u32_back n r h)
-line_back (lines.New n) r h = ap (λ f. behind f (line_of 1)) (u32_back n r h)
+line_back (lines.Old n) r h = ap (λ f. behind f (line_ref_of 0)) (u32_back n r h)
+line_back (lines.New n) r h = ap (λ f. behind f (line_ref_of 1)) (u32_back n r h)
 
-line_of_forth : (tag n : ℕ) (bs : List ℕ) (x : LineRef) (r : List ℕ) → line_of tag n bs ≡ Some (x, r) → n < 2 ^ 32 → FitsLine x × (tag ∷ (to_be_bytes w32 n ++ bs) ≡ line_spelling x ++ r)
-line_of_forth zero n bs x r h k = let p = pair_of (lines.Old n) x bs r h in (subst FitsLine p.0 k, λ i. line_spelling (p.0 i) ++ p.1 i)
-line_of_forth (suc zero) n bs x r h k = let p = pair_of (lines.New n) x bs r h in (subst FitsLine p.0 k, λ i. line_spelling (p.0 i) ++ p.1 i)
-line_of_forth (suc (suc t)) n bs x r h k = absurd (none-some (x, r) h)
+line_ref_of_forth : (tag n : ℕ) (bs : List ℕ) (x : LineRef) (r : List ℕ) → line_ref_of tag n bs ≡ Some (x, r) → n < 2 ^ 32 → FitsLine x × (tag ∷ (to_be_bytes w32 n ++ bs) ≡ line_spelling x ++ r)
+line_ref_of_forth zero n bs x r h k = begins_with line_spelling FitsLine (lines.Old n) x bs r (0 ∷ (to_be_bytes w32 n ++ bs)) (k, refl) h
+line_ref_of_forth (suc zero) n bs x r h k = begins_with line_spelling FitsLine (lines.New n) x bs r (1 ∷ (to_be_bytes w32 n ++ bs)) (k, refl) h
+line_ref_of_forth (suc (suc t)) n bs x r h k = absurd (none-some (x, r) h)
 
 pub line_forth : (bs : List ℕ) (x : LineRef) (r : List ℕ) → front_line bs ≡ Some (x, r) → FitsLine x × (bs ≡ line_spelling x ++ r)
 line_forth bs x r h =
     let a = behind_some (front_u8 bs) _ x r h in
-    let b = behind_some (front_u32 a.1) (line_of a.0) x r a.3 in
+    let b = behind_some (front_u32 a.1) (line_ref_of a.0) x r a.3 in
     let u = u32_forth a.1 b.0 b.1 b.2 in
-    let w = line_of_forth a.0 b.0 b.1 x r b.3 u.0 in
+    let w = line_ref_of_forth a.0 b.0 b.1 x r b.3 u.0 in
     (w.0, u8_forth bs a.0 a.1 a.2 ∙ ap (λ m. a.0 ∷ m) u.1 ∙ w.1)
 
 pub edit_back : (e : Edit) (r : List ℕ) → FitsEdit e → front_edit (edit_spelling e ++ r) ≡ Some (e, r)
@@ -138,24 +138,17 @@ edit_back (edits.Move node parent) r h =
     (behind_at (front_node (node_spelling parent ++ r)) _ _ parent r (node_back parent r h.1.1) refl)
 edit_back (edits.Remove node) r h = behind_at (front_node (node_spelling node ++ r)) _ _ node r (node_back node r h.1) refl
 
--- bytes are those of an edit, and then others
-abbrev IsEdit : List ℕ → Edit → List ℕ → Type 0
-IsEdit bs e r = FitsEdit e × (bs ≡ edit_spelling e ++ r)
-
-same_edit : (e x : Edit) (s r bs : List ℕ) → IsEdit bs e s → ◌≡◌ {A = Front Edit} (Some (e, s)) (Some (x, r)) → IsEdit bs x r
-same_edit e x s r bs w h = let p = pair_of e x s r h in (subst FitsEdit p.0 w.0, w.1 ∙ (λ i. edit_spelling (p.0 i) ++ p.1 i))
-
-new_forth : (bs : List ℕ) (x : Edit) (r : List ℕ) → front_new bs ≡ Some (x, r) → IsEdit (1 ∷ bs) x r
+new_forth : (bs : List ℕ) (x : Edit) (r : List ℕ) → front_new bs ≡ Some (x, r) → Begins edit_spelling FitsEdit (1 ∷ bs) x r
 new_forth bs x r h =
     let a = behind_some (front_kind bs) _ x r h in
     let b = behind_some (front_node a.1) _ x r a.3 in
     let d = behind_some (front_name b.1) _ x r b.3 in
     let n = node_forth a.1 b.0 b.1 b.2 in
     let m = spelt_forth is_name b.1 d.0 d.1 d.2 in
-    same_edit (edits.New a.0 b.0 d.0) x d.1 r (1 ∷ bs)
+    begins_with edit_spelling FitsEdit (edits.New a.0 b.0 d.0) x d.1 r (1 ∷ bs)
     ((m.0, n.0), ap (λ bs. 1 ∷ bs) (kind_forth bs a.0 a.1 a.2 ∙ ap (λ bs. kind_byte a.0 ∷ bs) (n.1 ∙ ap (λ bs. node_spelling b.0 ++ bs) m.1 ∙ sym (append_assoc (node_spelling b.0) (name_spelling d.0) d.1)))) d.3
 
-insert_forth : (bs : List ℕ) (x : Edit) (r : List ℕ) → front_insert bs ≡ Some (x, r) → IsEdit (2 ∷ bs) x r
+insert_forth : (bs : List ℕ) (x : Edit) (r : List ℕ) → front_insert bs ≡ Some (x, r) → Begins edit_spelling FitsEdit (2 ∷ bs) x r
 insert_forth bs x r h =
     let a = behind_some (front_node bs) _ x r h in
     let b = behind_some (front_line a.1) _ x r a.3 in
@@ -163,46 +156,46 @@ insert_forth bs x r h =
     let n = node_forth bs a.0 a.1 a.2 in
     let l = line_forth a.1 b.0 b.1 b.2 in
     let t = text_forth b.1 d.0 d.1 d.2 in
-    same_edit (edits.Insert a.0 b.0 d.0) x d.1 r (2 ∷ bs) (
+    begins_with edit_spelling FitsEdit (edits.Insert a.0 b.0 d.0) x d.1 r (2 ∷ bs) (
       (t.0, (n.0, l.0)),
       ap (λ bs. 2 ∷ bs) (n.1 ∙ ap (λ bs. node_spelling a.0 ++ bs) (l.1 ∙ ap (λ bs. line_spelling b.0 ++ bs) t.1 ∙ sym (append_assoc (line_spelling b.0) (text_spelling d.0) d.1))
           ∙ sym (append_assoc (node_spelling a.0) (line_spelling b.0 ++ text_spelling d.0) d.1)),
     ) d.3
 
-delete_forth : (bs : List ℕ) (x : Edit) (r : List ℕ) → front_delete bs ≡ Some (x, r) → IsEdit (3 ∷ bs) x r
+delete_forth : (bs : List ℕ) (x : Edit) (r : List ℕ) → front_delete bs ≡ Some (x, r) → Begins edit_spelling FitsEdit (3 ∷ bs) x r
 delete_forth bs x r h =
     let a = behind_some (front_node bs) _ x r h in
     let b = behind_some (front_line a.1) _ x r a.3 in
     let n = node_forth bs a.0 a.1 a.2 in
     let l = line_forth a.1 b.0 b.1 b.2 in
-    same_edit (edits.Delete a.0 b.0) x b.1 r (3 ∷ bs)
+    begins_with edit_spelling FitsEdit (edits.Delete a.0 b.0) x b.1 r (3 ∷ bs)
     ((refl, (n.0, l.0)), ap (λ bs. 3 ∷ bs) (n.1 ∙ ap (λ bs. node_spelling a.0 ++ bs) l.1 ∙ sym (append_assoc (node_spelling a.0) (line_spelling b.0) b.1))) b.3
 
-rename_forth : (bs : List ℕ) (x : Edit) (r : List ℕ) → front_rename bs ≡ Some (x, r) → IsEdit (4 ∷ bs) x r
+rename_forth : (bs : List ℕ) (x : Edit) (r : List ℕ) → front_rename bs ≡ Some (x, r) → Begins edit_spelling FitsEdit (4 ∷ bs) x r
 rename_forth bs x r h =
     let a = behind_some (front_node bs) _ x r h in
     let b = behind_some (front_name a.1) _ x r a.3 in
     let n = node_forth bs a.0 a.1 a.2 in
     let m = spelt_forth is_name a.1 b.0 b.1 b.2 in
-    same_edit (edits.Rename a.0 b.0) x b.1 r (4 ∷ bs)
+    begins_with edit_spelling FitsEdit (edits.Rename a.0 b.0) x b.1 r (4 ∷ bs)
     ((m.0, n.0), ap (λ bs. 4 ∷ bs) (n.1 ∙ ap (λ bs. node_spelling a.0 ++ bs) m.1 ∙ sym (append_assoc (node_spelling a.0) (name_spelling b.0) b.1))) b.3
 
-move_forth : (bs : List ℕ) (x : Edit) (r : List ℕ) → front_move bs ≡ Some (x, r) → IsEdit (5 ∷ bs) x r
+move_forth : (bs : List ℕ) (x : Edit) (r : List ℕ) → front_move bs ≡ Some (x, r) → Begins edit_spelling FitsEdit (5 ∷ bs) x r
 move_forth bs x r h =
     let a = behind_some (front_node bs) _ x r h in
     let b = behind_some (front_node a.1) _ x r a.3 in
     let n = node_forth bs a.0 a.1 a.2 in
     let m = node_forth a.1 b.0 b.1 b.2 in
-    same_edit (edits.Move a.0 b.0) x b.1 r (5 ∷ bs)
+    begins_with edit_spelling FitsEdit (edits.Move a.0 b.0) x b.1 r (5 ∷ bs)
     ((refl, (n.0, m.0)), ap (λ bs. 5 ∷ bs) (n.1 ∙ ap (λ bs. node_spelling a.0 ++ bs) m.1 ∙ sym (append_assoc (node_spelling a.0) (node_spelling b.0) b.1))) b.3
 
-remove_forth : (bs : List ℕ) (x : Edit) (r : List ℕ) → front_remove bs ≡ Some (x, r) → IsEdit (6 ∷ bs) x r
+remove_forth : (bs : List ℕ) (x : Edit) (r : List ℕ) → front_remove bs ≡ Some (x, r) → Begins edit_spelling FitsEdit (6 ∷ bs) x r
 remove_forth bs x r h =
     let a = behind_some (front_node bs) _ x r h in
     let n = node_forth bs a.0 a.1 a.2 in
-    same_edit (edits.Remove a.0) x a.1 r (6 ∷ bs) ((refl, n.0), ap (λ bs. 6 ∷ bs) n.1) a.3
+    begins_with edit_spelling FitsEdit (edits.Remove a.0) x a.1 r (6 ∷ bs) ((refl, n.0), ap (λ bs. 6 ∷ bs) n.1) a.3
 
-edit_of_forth : (tag : ℕ) (bs : List ℕ) (x : Edit) (r : List ℕ) → edit_of tag bs ≡ Some (x, r) → IsEdit (tag ∷ bs) x r
+edit_of_forth : (tag : ℕ) (bs : List ℕ) (x : Edit) (r : List ℕ) → edit_of tag bs ≡ Some (x, r) → Begins edit_spelling FitsEdit (tag ∷ bs) x r
 edit_of_forth zero bs x r h = absurd (none-some (x, r) h)
 edit_of_forth (suc zero) bs x r h = new_forth bs x r h
 edit_of_forth (suc (suc zero)) bs x r h = insert_forth bs x r h

@@ -19,7 +19,7 @@ use Rattle.cov_record.specs.FitsRecord.{FitsRecord}
 use Rattle.cov_record.specs.Laws.{IsRecordOf, IsNoRecord, OneRecord, OneCommand, OneHistory}
 use Rattle.cov_record.specs.Payload.{bit, choice_spelling, expression_spelling, name_spelling, edits_spelling, payload}
 use Rattle.cov_record.specs.Reading.{Front, given, alone, GivesAlone, front_u8, front_u32, front_bit, front_choice, front_option_name, front_expression, front_counted, front_rest, front_ambition, front_commit, front_option, front_constraint, front_prefer, front_default, command_of, front_command}
-use Rattle.cov_record.proofs.Fronts.{pair_of, given_some, given_true, behind_some, behind_at}
+use Rattle.cov_record.proofs.Fronts.{Begins, begins_with, pair_of, given_some, given_true, behind_some, behind_at}
 use Rattle.cov_record.proofs.Bytes.{u8_forth, u32_back, u32_forth, spelt_back, spelt_forth}
 use Rattle.cov_record.proofs.Forests.{expression_back, expression_forth}
 use Rattle.cov_record.proofs.Parts.{bit_back, bit_forth, choice_back, choice_forth, each_fits, all_fit, edits_back, edits_forth}
@@ -45,32 +45,25 @@ command_back (commands.Commit base choice ambition es) r h =
     (behind_at (front_expression third) _ _ ambition last (expression_back ambition last own.0)
     (behind_at (front_counted last) _ _ es r (edits_back es r h.1.2 (each_fits es own.1 h.1.3)) refl)))
 
--- bytes are those of a command, and then others
-abbrev Begins : List ℕ → Command → List ℕ → Type 0
-Begins bs c r = FitsRecord c × (bs ≡ payload c ++ r)
-
-same_command : (c x : Command) (s r bs : List ℕ) → Begins bs c s → ◌≡◌ {A = Front Command} (Some (c, s)) (Some (x, r)) → Begins bs x r
-same_command c x s r bs w h = let p = pair_of c x s r h in (subst FitsRecord p.0 w.0, w.1 ∙ (λ i. payload (p.0 i) ++ p.1 i))
-
-option_forth : (bs : List ℕ) (x : Command) (r : List ℕ) → front_option bs ≡ Some (x, r) → Begins (1 ∷ bs) x r
+option_forth : (bs : List ℕ) (x : Command) (r : List ℕ) → front_option bs ≡ Some (x, r) → Begins payload FitsRecord (1 ∷ bs) x r
 option_forth bs x r h =
     let a = behind_some (front_option_name bs) _ x r h in
     let n = spelt_forth is_option_name bs a.0 a.1 a.2 in
-    same_command (commands.Option a.0) x a.1 r (1 ∷ bs) ((n.0, tt), ap (λ bs. 1 ∷ bs) n.1) a.3
+    begins_with payload FitsRecord (commands.Option a.0) x a.1 r (1 ∷ bs) ((n.0, tt), ap (λ bs. 1 ∷ bs) n.1) a.3
 
-constraint_forth : (bs : List ℕ) (x : Command) (r : List ℕ) → front_constraint bs ≡ Some (x, r) → Begins (2 ∷ bs) x r
+constraint_forth : (bs : List ℕ) (x : Command) (r : List ℕ) → front_constraint bs ≡ Some (x, r) → Begins payload FitsRecord (2 ∷ bs) x r
 constraint_forth bs x r h =
     let a = behind_some (front_expression bs) _ x r h in
     let e = expression_forth bs a.0 a.1 a.2 in
-    same_command (commands.Constraint a.0) x a.1 r (2 ∷ bs) ((e.0, tt), ap (λ bs. 2 ∷ bs) e.1) a.3
+    begins_with payload FitsRecord (commands.Constraint a.0) x a.1 r (2 ∷ bs) ((e.0, tt), ap (λ bs. 2 ∷ bs) e.1) a.3
 
-prefer_forth : (bs : List ℕ) (x : Command) (r : List ℕ) → front_prefer bs ≡ Some (x, r) → Begins (3 ∷ bs) x r
+prefer_forth : (bs : List ℕ) (x : Command) (r : List ℕ) → front_prefer bs ≡ Some (x, r) → Begins payload FitsRecord (3 ∷ bs) x r
 prefer_forth bs x r h =
     let a = behind_some (front_expression bs) _ x r h in
     let e = expression_forth bs a.0 a.1 a.2 in
-    same_command (commands.Prefer a.0) x a.1 r (3 ∷ bs) ((e.0, tt), ap (λ bs. 3 ∷ bs) e.1) a.3
+    begins_with payload FitsRecord (commands.Prefer a.0) x a.1 r (3 ∷ bs) ((e.0, tt), ap (λ bs. 3 ∷ bs) e.1) a.3
 
-default_forth : (bs : List ℕ) (x : Command) (r : List ℕ) → front_default bs ≡ Some (x, r) → Begins (4 ∷ bs) x r
+default_forth : (bs : List ℕ) (x : Command) (r : List ℕ) → front_default bs ≡ Some (x, r) → Begins payload FitsRecord (4 ∷ bs) x r
 default_forth bs x r h =
     let a = behind_some (front_u8 bs) _ x r h in
     let b = behind_some (given (nat_lt a.0 CHOICE_WIDTH) a.0 a.1) _ x r a.3 in
@@ -78,10 +71,10 @@ default_forth bs x r h =
     let d = behind_some (front_bit b.1) _ x r b.3 in
     let w = bit_forth b.1 d.0 d.1 d.2 in
     let k = ltb-true a.0 CHOICE_WIDTH g.0 in
-    same_command (commands.Default b.0 d.0) x d.1 r (4 ∷ bs)
+    begins_with payload FitsRecord (commands.Default b.0 d.0) x d.1 r (4 ∷ bs)
     ((le-leb (b.0 + 1) CHOICE_WIDTH (omega (arith, subst (λ o. o < CHOICE_WIDTH) g.1 k)), tt), ap (λ bs. 4 ∷ bs) (u8_forth bs a.0 a.1 a.2 ∙ (λ i. g.1 i ∷ g.2 i) ∙ ap (λ bs. b.0 ∷ bs) w.1)) d.3
 
-commit_forth : (bs : List ℕ) (x : Command) (r : List ℕ) → front_commit bs ≡ Some (x, r) → Begins (5 ∷ bs) x r
+commit_forth : (bs : List ℕ) (x : Command) (r : List ℕ) → front_commit bs ≡ Some (x, r) → Begins payload FitsRecord (5 ∷ bs) x r
 commit_forth bs x r h =
     let a = behind_some (front_u32 bs) _ x r h in
     let b = behind_some (front_choice a.1) (front_ambition a.0) x r a.3 in
@@ -92,7 +85,7 @@ commit_forth bs x r h =
     let e = expression_forth b.1 d.0 d.1 d.2 in
     let w = edits_forth d.1 f.0 f.1 f.2 in
     let fit = all_fit f.0 w.1 in
-    same_command (commands.Commit a.0 b.0 d.0 f.0) x f.1 r (5 ∷ bs) (
+    begins_with payload FitsRecord (commands.Commit a.0 b.0 d.0 f.0) x f.1 r (5 ∷ bs) (
       ((and_from (fits_expr d.0) (list_all fits_edit f.0) e.0 fit.0), (u.0, c.0, w.0, fit.1)),
       ap (λ bs. 5 ∷ bs)
           (u.1 ∙ ap (λ bs. to_be_bytes w32 a.0 ++ bs) (c.1 ∙ ap (λ bs. choice_spelling b.0 ++ bs) (e.1 ∙ ap (λ bs. expression_spelling d.0 ++ bs) w.2
@@ -101,7 +94,7 @@ commit_forth bs x r h =
           ∙ sym (append_assoc (to_be_bytes w32 a.0) (choice_spelling b.0 ++ (expression_spelling d.0 ++ edits_spelling f.0)) f.1)),
     ) f.3
 
-command_of_forth : (tag : ℕ) (bs : List ℕ) (x : Command) (r : List ℕ) → command_of tag bs ≡ Some (x, r) → Begins (tag ∷ bs) x r
+command_of_forth : (tag : ℕ) (bs : List ℕ) (x : Command) (r : List ℕ) → command_of tag bs ≡ Some (x, r) → Begins payload FitsRecord (tag ∷ bs) x r
 command_of_forth zero bs x r h = absurd (none-some (x, r) h)
 command_of_forth (suc zero) bs x r h = option_forth bs x r h
 command_of_forth (suc (suc zero)) bs x r h = constraint_forth bs x r h

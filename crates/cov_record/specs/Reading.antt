@@ -103,22 +103,22 @@ abbrev pub front_kind : List ℕ → Front Kind
 front_kind bytes = behind (front_u8 bytes) kind_of
 
 -- the reference to a node that a byte and a number tell
-abbrev pub node_of : ℕ → ℕ → List ℕ → Front NodeRef
-node_of zero x rest = Some (nodes.Old x, rest)
-node_of (suc zero) x rest = Some (nodes.New x, rest)
-node_of (suc (suc n)) x rest = None
+abbrev pub node_ref_of : ℕ → ℕ → List ℕ → Front NodeRef
+node_ref_of zero x rest = Some (nodes.Old x, rest)
+node_ref_of (suc zero) x rest = Some (nodes.New x, rest)
+node_ref_of (suc (suc n)) x rest = None
 
 abbrev pub front_node : List ℕ → Front NodeRef
-front_node bytes = behind (front_u8 bytes) (λ tag r. behind (front_u32 r) (node_of tag))
+front_node bytes = behind (front_u8 bytes) (λ tag r. behind (front_u32 r) (node_ref_of tag))
 
 -- the same to a line
-abbrev pub line_of : ℕ → ℕ → List ℕ → Front LineRef
-line_of zero x rest = Some (lines.Old x, rest)
-line_of (suc zero) x rest = Some (lines.New x, rest)
-line_of (suc (suc n)) x rest = None
+abbrev pub line_ref_of : ℕ → ℕ → List ℕ → Front LineRef
+line_ref_of zero x rest = Some (lines.Old x, rest)
+line_ref_of (suc zero) x rest = Some (lines.New x, rest)
+line_ref_of (suc (suc n)) x rest = None
 
 abbrev pub front_line : List ℕ → Front LineRef
-front_line bytes = behind (front_u8 bytes) (λ tag r. behind (front_u32 r) (line_of tag))
+front_line bytes = behind (front_u8 bytes) (λ tag r. behind (front_u32 r) (line_ref_of tag))
 
 -- what stands behind the byte of each edit
 abbrev pub front_new : List ℕ → Front Edit

@@ -1,6 +1,5 @@
 // Edits, references, names and texts at the front of bytes.
-ghost use Rattle.std.specs.Prelude.{◌≡◌, ◌≤◌, true, nat_eq, length, drop, IfOk};
-ghost use Rattle.std.specs.List.{list_any};
+ghost use Rattle.std.specs.Prelude.{◌≡◌, ◌≤◌, true, length, drop, IfOk};
 ghost use Rattle.cov_base.specs.Spelling.{is_line_text};
 ghost use Rattle.cov_edit.specs.EditFits.{has_line_text};
 ghost use Rattle.cov_record.specs.Reading.{Takes, Gives, front_kind, front_node, front_line, front_name, front_option_name, front_text, front_new, front_insert, front_delete, front_rename, front_move, front_remove, front_edit, front_edits, front_counted, Ends, Puts, joined};
@@ -8,7 +7,7 @@ ghost use Rattle.cov_record.specs.Reading.{Takes, Gives, front_kind, front_node,
 use crate::ahead::Ahead;
 use crate::fault::{Fault, NotARecord};
 use cov_base::{
-    Kind, LineNo, LineRef, MOST_TEXT_BYTES, MemoryOr, Name, NodeNo, NodeRef, OptionName, Text,
+    Kind, LineNo, LineRef, MemoryOr, Name, NodeNo, NodeRef, OptionName, Text, is_line_text,
 };
 use cov_edit::{Edit, Edits};
 use std::alloc::Global;
@@ -71,18 +70,6 @@ pub(crate) fn take_option_name(alloc: Global, ahead: &mut Ahead<'_>) -> Result<O
         Err(MemoryOr::Refused(_)) => Err(MemoryOr::Refused(NotARecord)),
         Err(MemoryOr::Memory) => Err(MemoryOr::Memory),
     }
-}
-
-fn is_line_text(bytes: &[u8]) -> bool
-    ensures { result ≡ is_line_text bytes.now }
-{
-    bytes.len() <= MOST_TEXT_BYTES && !has_line_end(bytes)
-}
-
-fn has_line_end(bytes: &[u8]) -> bool
-    ensures { result ≡ list_any (λ b. nat_eq b 10) bytes.now }
-{
-    bytes.iter().any(|b| *b == b'\n')
 }
 
 pub(crate) fn take_text(alloc: Global, ahead: &mut Ahead<'_>) -> Result<Text, Fault>

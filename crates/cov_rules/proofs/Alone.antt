@@ -6,7 +6,7 @@ use Rattle.std.proofs.lemmas.List.{length-append, length-map}
 use Rattle.std.proofs.lemmas.List.Elements.{filter-append}
 use Rattle.std.proofs.lemmas.List.Folds.{list_any-append}
 use Rattle.cov_base.specs.Choices.{all_choices, is_on}
-use Rattle.cov_expr.proofs.CallerLemmas.{list_any-map}
+use Rattle.cov_base.proofs.CallerLemmas.{any-map}
 use Rattle.cov_rules.specs.Completion.{has_any, is_open}
 
 module _ {X Y : Type 0} (p : Y → Bool) (f : X → Y) where
@@ -35,7 +35,7 @@ any_false (c ∷ cs) = any_false cs
 
 -- a test of the choices in their two halves
 halves : (t : List Bool → Bool) (xs ys : List (List Bool)) → list_any t (off_then xs ++ on_then ys) ≡ (list_any (λ c. t (false ∷ c)) xs || list_any (λ c. t (true ∷ c)) ys)
-halves t xs ys = list_any-append t (off_then xs) (on_then ys) ∙ (λ j. list_any-map t (λ c. false ∷ c) xs j || list_any-map t (λ c. true ∷ c) ys j)
+halves t xs ys = list_any-append t (off_then xs) (on_then ys) ∙ (λ j. any-map t (λ c. false ∷ c) xs j || any-map t (λ c. true ∷ c) ys j)
 
 -- the first option is open where both halves have a choice
 first_open_where : (xs ys : List (List Bool)) → is_open (off_then xs ++ on_then ys) 0 ≡ (has_any ys && has_any xs)

@@ -6,9 +6,9 @@ use Rattle.std.proofs.lemmas.List.{length-take, length-replicate}
 use Rattle.std.proofs.lemmas.List.Folds.{list_any-append}
 use Rattle.cov_base.specs.Choices.{all_choices, is_on}
 use Rattle.cov_base.specs.declared.limits.TheConstants.{CHOICE_WIDTH}
+use Rattle.cov_base.proofs.CallerLemmas.{any-map, is_on-take}
 use Rattle.cov_dd.specs.declared.triple.Triple.{Triple}
 use Rattle.cov_dd.specs.Diagrams.{value_in}
-use Rattle.cov_expr.proofs.CallerLemmas.{list_any-map}
 use Rattle.cov_expr.specs.Formula.{Formula, False, True, On, Not, And, Or, value, reach}
 use Rattle.cov_expr.specs.Validity.{is_valid, first_false}
 use Rattle.cov_rules.specs.Installing.{reach_of}
@@ -27,12 +27,6 @@ pub is_valid_same : (es : List (Formula ℕ)) (c d : List Bool) → ((o : ℕ) �
 is_valid_same [] c d h = refl
 is_valid_same (e ∷ es) c d h = λ j. value_same e c d (λ o lt. h o (omega (arith, lt))) j && is_valid_same es c d (λ o lt. h o (omega (arith, lt))) j
 
-pub is_on-take : (n : ℕ) (c : List Bool) (o : ℕ) → o < n → is_on (take n c) o ≡ is_on c o
-is_on-take zero c o h = absurd (omega (arith, h))
-is_on-take (suc n) [] o h = refl
-is_on-take (suc n) (b ∷ c) zero h = refl
-is_on-take (suc n) (b ∷ c) (suc o) h = is_on-take n c o (omega (arith, h))
-
 -- options that are off may be left out
 pub is_on-padded : (c : List Bool) (k o : ℕ) → is_on (c ++ replicate k false) o ≡ is_on c o
 is_on-padded [] zero o = refl
@@ -45,7 +39,7 @@ is_on-padded (b ∷ c) k (suc o) = is_on-padded c k o
 module _ (n : ℕ) (p : List Bool → Bool) where
   halves : list_any p (all_choices (suc n)) ≡ (list_any (λ c. p (false ∷ c)) (all_choices n) || list_any (λ c. p (true ∷ c)) (all_choices n))
   halves = list_any-append p (map (λ c. false ∷ c) (all_choices n)) (map (λ c. true ∷ c) (all_choices n))
-      ∙ (λ j. list_any-map p (λ c. false ∷ c) (all_choices n) j || list_any-map p (λ c. true ∷ c) (all_choices n) j)
+      ∙ (λ j. any-map p (λ c. false ∷ c) (all_choices n) j || any-map p (λ c. true ∷ c) (all_choices n) j)
 
 -- a test that fails on each choice of n options passes none of them
 pub none_passes : (n : ℕ) (p : List Bool → Bool) → ((c : List Bool) → length c ≡ n → p c ≡ false) → list_any p (all_choices n) ≡ false

@@ -14,8 +14,9 @@ use Rattle.cov_rules.specs.declared.rules.Installed.{Installed}
 use Rattle.cov_rules.specs.declared.rules.Rule.{Rule}
 use Rattle.cov_rules.specs.declared.rules.Rule.TheVariants as rules
 use Rattle.cov_rules.specs.declared.rules.RulePlan.{RulePlan}
+use Rattle.cov_base.proofs.CallerLemmas.{is_on-take}
 use Rattle.cov_rules.proofs.Holding.{expressions_more, reach_of-more}
-use Rattle.cov_rules.proofs.Deciding.{value_same, is_valid_same, is_on-take}
+use Rattle.cov_rules.proofs.Deciding.{value_same, is_valid_same}
 
 reach-literal : (o : ℕ) (on : Bool) → reach (literal o on) ≡ o + 1
 reach-literal o true = refl

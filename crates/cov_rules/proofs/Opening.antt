@@ -1,5 +1,5 @@
 -- Options that have both values among choices.
-use Rattle.std.proofs.Common.{◌≡◌, ℕ, zero, suc, ◌+◌, ◌-◌, ◌<◌, ◌≤◌, Bool, true, false, cond, ◌&&◌, List, [], ◌∷◌, Some, None, Result, Ok, Err, IfOk, IfErr, ◌||◌, not, length, refl, sym, ap, ◌∙◌, arith}
+use Rattle.std.proofs.Common.{◌≡◌, ℕ, zero, suc, ◌+◌, ◌-◌, ◌<◌, ◌≤◌, Bool, true, false, cond, ◌&&◌, List, [], ◌∷◌, Some, None, ◌||◌, not, length, refl, sym, ap, ◌∙◌, arith}
 use Rattle.std.specs.List.{filter, find, list_any, range_with_len}
 use Rattle.cov_base.specs.Choices.{all_choices, is_on}
 use Rattle.cov_dd.proofs.CallerLemmas.{Order, below, level, above, ordered}
@@ -37,11 +37,6 @@ module _ (p : ℕ → Bool) (n count : ℕ) where
 
   pub find_none : count ≤ n → find p (range_with_len n (count - n)) ≡ None
   find_none h = let k : count - n ≡ 0 = omega (arith, h) in ap (λ m. find p (range_with_len n m)) k
-
--- what follows where there is a value
-pub if_ok_also : {X E : Type 0} (r : Result X E) (P Q : X → Type 0) → ((x : X) → P x → Q x) → IfOk r P → IfOk r Q
-if_ok_also (Ok x) P Q f h = f x h
-if_ok_also (Err e) P Q f h = tt
 
 find_never : (p : ℕ → Bool) (xs : List ℕ) → ((x : ℕ) → p x ≡ false) → find p xs ≡ None
 find_never p [] h = refl
@@ -107,8 +102,3 @@ complete n p choice cs e none found = by cs e (at_most_one n p (λ o lt. ap (λ 
             on false e f rest = rest e f
     by (c ∷ []) e few = let same : find p (all_choices n) ≡ Some c = first_filter p (all_choices n) c [] e in ap Complete (cc)
     by (c ∷ d ∷ ds) e few = absurd (omega (arith, few, ap length e))
-
--- what follows where there is a fault
-pub if_err_also : {X E : Type 0} (r : Result X E) (P Q : E → Type 0) → ((e : E) → P e → Q e) → IfErr r P → IfErr r Q
-if_err_also (Ok x) P Q f h = tt
-if_err_also (Err e) P Q f h = f e h

@@ -1,5 +1,4 @@
 pub mod Checking
-pub mod Cutting
 mod Examples
 pub mod Joining
 pub mod Keywords

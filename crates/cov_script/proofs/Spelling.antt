@@ -1,9 +1,9 @@
 -- What the spelling of a form reads as.
-use Rattle.std.proofs.Common.{◌≡◌, ◌⊎◌, ℕ, ◌+◌, Bool, true, false, not, nat_eq, List, [], ◌∷◌, ◌++◌, length, take, drop, Option, Some, Ok, refl, ap, subst, sym, inl, inr, ◌∙◌, one-add}
-use Rattle.std.specs.Prelude.{◌&&◌}
+use Rattle.std.proofs.Common.{◌≡◌, ◌⊎◌, ℕ, ◌+◌, Bool, true, not, nat_eq, List, [], ◌∷◌, ◌++◌, length, take, drop, Option, Some, Ok, refl, ap, subst, sym, inl, inr, ◌∙◌, one-add}
 use Rattle.std.specs.List.{list_all, prefix_len}
 use Rattle.cov_base.specs.Spelling.{is_line_text, path_of}
 use Rattle.std.proofs.Math.Seq.{take-append_seam, drop-append_seam}
+use Rattle.std.proofs.lemmas.Bool.{and_parts}
 use Rattle.std.proofs.lemmas.List.{append-nil}
 use Rattle.cov_expr.specs.ChoiceText.{bindings_of, switch_of}
 use Rattle.cov_expr.specs.Formula.{Formula}
@@ -19,16 +19,11 @@ use Rattle.cov_script.specs.declared.line.LineField.{LineField}
 abbrev pub is_other : ℕ → Bool
 is_other b = not (nat_eq b 32)
 
-both-true : (a b : Bool) → (a && b) ≡ true → (a ≡ true) × (b ≡ true)
-both-true true true h = (refl, refl)
-both-true true false h = (refl, h)
-both-true false b h = (h, cc)
-
 -- bytes without a space before a space, or at the end
 spaceless_len : (w tail : List ℕ) → list_all is_other w ≡ true → prefix_len is_other tail ≡ 0 → prefix_len is_other (w ++ tail) ≡ length w
 spaceless_len [] tail h none = none
 spaceless_len (b ∷ bs) tail h none =
-    let parts = both-true (is_other b) (list_all is_other bs) h in
+    let parts = and_parts (is_other b) (list_all is_other bs) h in
     rw parts.0 (ap (λ n. 1 + n) (spaceless_len bs tail parts.1 none) ∙ one-add (length bs))
 
 pub first : (w tail : List ℕ) → list_all is_other w ≡ true → prefix_len is_other tail ≡ 0 → first_field (w ++ tail) ≡ w

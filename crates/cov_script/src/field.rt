@@ -1,6 +1,5 @@
 // The kinds of fields, and how a field is read.
-ghost use Rattle.std.specs.Prelude.{◌≡◌, ◌&&◌, ℕ, List, Option, nat_eq, nat_le, not, length, codes, Ok, IfOk, IsErrOf, MatchOption};
-ghost use Rattle.std.specs.List.{list_any};
+ghost use Rattle.std.specs.Prelude.{◌≡◌, ℕ, List, Option, codes, Ok, IfOk, IsErrOf, MatchOption};
 ghost use Rattle.cov_base.specs.Answers.{IsOrMemory};
 ghost use Rattle.cov_base.specs.Spelling.{path_of, is_line_text};
 ghost use Rattle.cov_expr.specs.ChoiceText.{bindings_of, switch_of};
@@ -10,7 +9,7 @@ ghost use Rattle.cov_script.specs.Fields.{Rest, field, expression, text, token_o
 use crate::number::read_number;
 use crate::unread::Unread;
 use crate::{LineField, LineSyntax};
-use cov_base::{MOST_TEXT_BYTES, Memory, MemoryOr, Name, Path, Text};
+use cov_base::{Memory, MemoryOr, Name, Path, Text, is_line_text};
 use cov_expr::{ExprFault, RawChoice, RawExpr, parse, switch_in};
 use std::alloc::Global;
 use std::marker::Model;
@@ -178,16 +177,4 @@ pub(crate) fn read_text(alloc: Global, unread: Unread) -> Result<Text, LineSynta
         return Err(LineSyntax::Syntax { at });
     }
     Ok(Text::from_slice(alloc, bytes)?)
-}
-
-fn is_line_text(bytes: &[u8]) -> bool
-    ensures { result ≡ is_line_text bytes.now }
-{
-    bytes.len() <= MOST_TEXT_BYTES && !has_line_end(bytes)
-}
-
-fn has_line_end(bytes: &[u8]) -> bool
-    ensures { result ≡ list_any (λ b. nat_eq b 10) bytes.now }
-{
-    bytes.iter().any(|b| *b == b'\n')
 }

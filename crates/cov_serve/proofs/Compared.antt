@@ -1,6 +1,6 @@
 -- Both sides of an option, as they are told or refused.
 use Rattle.std.proofs.Common.{◌≡◌, ◌∙◌, ap, refl, ℕ, Bool, List, Result, Ok}
-use Rattle.cov_alt.specs.Sides.{IsFaultOf, sides_at}
+use Rattle.cov_alt.specs.Sides.{IsAltFaultOf, sides_at}
 use Rattle.cov_alt.specs.declared.fault.AltFault.{AltFault}
 use Rattle.cov_alt.specs.declared.fault.AltFault.TheVariants as faults
 use Rattle.cov_alt.specs.declared.line.AltLine.{AltLine}
@@ -34,7 +34,7 @@ module _ (st : State) (token : List ℕ) (path : List (List ℕ)) where
 
     -- sides that can't be told
     pub alt-stops : (fault : AltFault) → found_partial st.history bindings ≡ Ok partial → found_option st.history token ≡ Ok option → completed_choice st.history partial ≡ Ok choice
-        → IsFaultOf (sides_at st.history choice option path) fault → Stops (compared st bindings token path) st st (alt_stop fault)
+        → IsAltFaultOf (sides_at st.history choice option path) fault → Stops (compared st bindings token path) st st (alt_stop fault)
     alt-stops (faults.SideInvalid on rule) p o c h = record { is = by-sides p o c ∙ ap on-sides h; same = refl; told = tt }
     alt-stops faults.NoSuchPath p o c h = record { is = by-sides p o c ∙ ap on-sides h; same = refl; told = tt }
     alt-stops faults.NotFile p o c h = record { is = by-sides p o c ∙ ap on-sides h; same = refl; told = tt }

@@ -6,6 +6,7 @@ use Rattle.cov_base.specs.Lines.{lines_of}
 use Rattle.cov_edit.specs.declared.command.Command.{Command}
 use Rattle.cov_loop.specs.Keeping.{KeepsAnswered, Reaches}
 use Rattle.cov_loop.specs.Outcome.{answers}
+use Rattle.cov_loop.proofs.CallerLemmas.{nothing_first, nothing_next}
 use Rattle.cov_serve.specs.Crashing.{StandsBetween, StandsForAnswered}
 use Rattle.cov_serve.specs.Growth.{step_grows}
 use Rattle.cov_serve.specs.States.{State, starting}
@@ -34,14 +35,6 @@ grown_by st (l ∷ ls) = at (step_grows st l) (grown_by (step st l).state ls)
 goes_further : (st : State) (ls ms : List (List ℕ)) → GoesOn (answers step st ls).state.history (answers step st (ls ++ ms)).state.history
 goes_further st [] ms = grown_by st ms
 goes_further st (l ∷ ls) ms = goes_further (step st l).state ls ms
-
-nothing_first : {X : Type 0} (xs ys : List X) → xs ++ ys ≡ [] → xs ≡ []
-nothing_first [] ys e = refl
-nothing_first (x ∷ xs) ys e = absurd (cc)
-
-nothing_next : {X : Type 0} (xs ys : List X) → xs ++ ys ≡ [] → ys ≡ []
-nothing_next [] ys e = e
-nothing_next (x ∷ xs) ys e = absurd (cc)
 
 -- lines without a reply add no command
 quiet : (st : State) (ls : List (List ℕ)) → (answers step st ls).reply ≡ [] → (answers step st ls).state.history ≡ st.history

@@ -7,7 +7,7 @@ use Rattle.cov_view.specs.Refusals.{when, first_of}
 use Rattle.cov_view.specs.declared.fault.EditFault.{EditFault}
 use Rattle.cov_view.specs.declared.fault.EditFault.TheVariants as edit_faults
 use Rattle.cov_session.specs.Adding.{addition_fault, as_fault}
-use Rattle.cov_session.specs.Calls.{AreOpen, IsFaultOf, taken, taken_by}
+use Rattle.cov_session.specs.Calls.{AreOpen, IsSessionFaultOf, taken, taken_by}
 use Rattle.cov_session.specs.Faults.{unless}
 use Rattle.cov_session.specs.Named.{named}
 use Rattle.cov_session.specs.Open.{NamedSession, SessionValue, as_named}
@@ -24,7 +24,7 @@ use Rattle.cov_serve.proofs.Acted.{stops-later}
 
 -- a session's refusal is the line's
 pub fault-stops : {X : Type 0} (wanted : Result X SessionFault) (old new : State) (fault : SessionFault) → new ≡ old
-    → IsFaultOf wanted fault → NamesDeclared (option_count old.history) fault → Stops (by_code session_code wanted) old new (session_stop fault)
+    → IsSessionFaultOf wanted fault → NamesDeclared (option_count old.history) fault → Stops (by_code session_code wanted) old new (session_stop fault)
 fault-stops wanted old new faults.Memory same h d = tt
 fault-stops wanted old new (faults.Edit edit_faults.Memory) same h d = absurd h
 fault-stops wanted old new (faults.Incomplete option) same h d = record { is = ap (by_code session_code) h; same = same; told = d }
@@ -39,7 +39,7 @@ never-incomplete false false None option h = absurd (cc)
 never-incomplete false false (Some refused) option h = absurd (cc)
 
 -- nor are those of a session by its name
-taken-declared : (n : ℕ) (history : List Command) (ss : List NamedSession) (name : List ℕ) (es : List Edit) (fault : SessionFault) → IsFaultOf (taken history ss name es) fault → NamesDeclared n fault
+taken-declared : (n : ℕ) (history : List Command) (ss : List NamedSession) (name : List ℕ) (es : List Edit) (fault : SessionFault) → IsSessionFaultOf (taken history ss name es) fault → NamesDeclared n fault
 taken-declared n history ss name es (faults.Incomplete option) h = absurd (at (named ss name) h)
   where
     refused : (o : Option SessionFault) (left : List NamedSession) → unless o left ≡ Err (faults.Incomplete option) → o ≡ Some (faults.Incomplete option)
@@ -54,9 +54,9 @@ taken-declared n history ss name es fault h = tt
 -- where the session of a name doesn't take edits, nothing changes
 pub edit-stops : (st new : State) (history : List Command) (ss : List SessionValue) (trees : List (List ℕ)) (name : List ℕ) (es : List Edit) (fault : SessionFault)
     → (let kept : State = record { history = history; sessions = map as_named ss; trees = trees } in kept) ≡ st → new ≡ st → AreOpen history ss
-    → ((h : List Command) → AreOpen h ss → IsFaultOf (taken h (map as_named ss) name es) fault)
+    → ((h : List Command) → AreOpen h ss → IsSessionFaultOf (taken h (map as_named ss) name es) fault)
     → Stops (added st name es) st new (session_stop fault)
 edit-stops st new history ss trees name es fault is same opens refused =
-    let own : IsFaultOf (taken st.history st.sessions name es) fault = subst (λ (t : State). IsFaultOf (taken t.history t.sessions name es) fault) is (refused history opens) in
+    let own : IsSessionFaultOf (taken st.history st.sessions name es) fault = subst (λ (t : State). IsSessionFaultOf (taken t.history t.sessions name es) fault) is (refused history opens) in
     stops-later (by_code session_code (taken st.history st.sessions name es)) (λ left. Ok (with_sessions st left)) st new (session_stop fault)
     (fault-stops (taken st.history st.sessions name es) st new fault same own (taken-declared (option_count st.history) st.history st.sessions name es fault own))

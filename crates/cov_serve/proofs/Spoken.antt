@@ -8,7 +8,6 @@ use Rattle.std.specs.Str.{bytes_eq}
 use Rattle.cov_base.specs.Rows.{Row, is_present}
 use Rattle.cov_base.specs.declared.number.Kind.{Kind}
 use Rattle.cov_base.specs.declared.number.NodeRef.{NodeRef}
-use Rattle.cov_base.specs.declared.number.NodeRef.TheVariants as nodes
 use Rattle.cov_edit.specs.Numbering.{Numbers, node_number}
 use Rattle.cov_edit.specs.Variant.{Variant}
 use Rattle.cov_history.specs.Sessions.{Session, seen}
@@ -22,6 +21,7 @@ use Rattle.cov_script.specs.declared.line.Line.TheVariants as lines
 use Rattle.cov_view.specs.References.{is_known_node, is_made_node}
 use Rattle.cov_view.specs.Seen.{Seen}
 use Rattle.cov_view.specs.Views.{Shows}
+use Rattle.cov_view.proofs.CallerLemmas.{made-known}
 use Rattle.cov_serve.proofs.References.{made_node-again}
 use Rattle.cov_serve.specs.Seeing.{IsNamed, IsNodeAt}
 use Rattle.cov_serve.specs.States.{State}
@@ -68,10 +68,6 @@ has-parts law bytes (lines.Cat c p) h = tt
 has-parts law bytes (lines.Checkout t c) h = tt
 has-parts law bytes (lines.Alt c t p) h = tt
 has-parts law bytes (lines.Presence n) h = tt
-
-made-known : (n made : ℕ) (node : NodeRef) → is_made_node n made node ≡ true → is_known_node n node ≡ true
-made-known n made (nodes.Old x) h = h
-made-known n made (nodes.New i) h = refl
 
 found-there : (p : Row → Bool) (rows : List Row) (r : Row) → find p rows ≡ Some r → list_any (λ (q : Row). nat_eq q.node r.node) rows ≡ true
 found-there p [] r h = absurd (cc)

@@ -6,7 +6,7 @@ use Rattle.cov_io.specs.Devices.{AppendsAll, AppendsSome}
 use Rattle.cov_loop.specs.Turns.{WritesFront}
 use Rattle.cov_script.specs.Replies.{IsCodeOf}
 use Rattle.cov_serve.specs.Codes.{refusal_code}
-use Rattle.cov_serve.specs.Program.{CanBeTold, OnUnopened, EndsTold, EndsWithLine, ReadsAs, StopsCheck, StopsOpening, TellsFault, damaged_line, not_a_store_line}
+use Rattle.cov_serve.specs.Program.{DamageCanBeTold, OnUnopened, EndsTold, EndsWithLine, ReadsAs, StopsCheck, StopsOpening, TellsFault, damaged_line, not_a_store_line}
 use Rattle.cov_serve.specs.States.{State}
 use Rattle.cov_serve.specs.declared.status.Status.{Status}
 use Rattle.cov_serve.specs.declared.status.Status.TheVariants as statuses
@@ -30,7 +30,7 @@ told_gives None image P e all = absurd (cc)
 told_gives (Some bytes) image P e all = let same : bytes ≡ image = cc in subst P same all
 
 -- a fault can be told where its refusal is one of the verdict
-pub can_be_told : (fault : StoreFault) → IsOfVerdict fault → CanBeTold fault
+pub can_be_told : (fault : StoreFault) → IsOfVerdict fault → DamageCanBeTold fault
 can_be_told faults.NotAStore of = tt
 can_be_told (faults.Damaged number damages.Cut options) of = tt
 can_be_told (faults.Damaged number damages.Digest options) of = tt

@@ -1,4 +1,5 @@
 -- What a line names in the history: options, expressions and choices.
+pub use Rattle.cov_alt.specs.Sides.{◌>>=◌}
 use Rattle.std.specs.Prelude.{ℕ, Bool, List, position, unwrap_or, Option, Some, None, Result, Ok, Err}
 use Rattle.std.specs.Str.{bytes_eq}
 use Rattle.cov_expr.specs.Binding.{bound}
@@ -20,12 +21,6 @@ Found X = Result X Code
 abbrev pub by_code : {X E : Type 0} → (E → Code) → Result X E → Found X
 by_code code (Ok x) = Ok x
 by_code code (Err fault) = Err (code fault)
-
--- what is found further on, if the line isn't refused so far
-infixl 10 ◌>>=◌
-abbrev pub ◌>>=◌ : {X Y : Type 0} → Found X → (X → Found Y) → Found Y
-(Ok x) >>= later = later x
-(Err code) >>= later = Err code
 
 -- an option, unless there is none of that name
 abbrev pub option_if : List ℕ → Option ℕ → Found ℕ

@@ -31,22 +31,22 @@ unfolding step
 refusal_told st line h = told_so st (acted st line) h
 
 -- a line that is done has a reply if it writes rows
-abbrev IsTold : Found Done → Type 0
-IsTold (Ok done) = done.reply ≡ [] → done.rows ≡ []
-IsTold (Err code) = Unit {0}
+abbrev TellsItsRows : Found Done → Type 0
+TellsItsRows (Ok done) = done.reply ≡ [] → done.rows ≡ []
+TellsItsRows (Err code) = Unit {0}
 
-plainly_told : (act : Act) → IsTold (plainly act)
+plainly_told : (act : Act) → TellsItsRows (plainly act)
 plainly_told (Ok done) = λ h. refl
 plainly_told (Err code) = tt
 
-later_told : {X : Type 0} (found : Found X) (later : X → Found Done) → ((x : X) → IsTold (later x)) → IsTold (found >>= later)
+later_told : {X : Type 0} (found : Found X) (later : X → Found Done) → ((x : X) → TellsItsRows (later x)) → TellsItsRows (found >>= later)
 later_told (Ok x) later all = all x
 later_told (Err code) later all = tt
 
-written_told : (st : State) (tree : List ℕ) (rows : List TreeRow) → IsTold (Ok (written st tree rows))
+written_told : (st : State) (tree : List ℕ) (rows : List TreeRow) → TellsItsRows (Ok (written st tree rows))
 written_told st tree rows = λ h. absurd (false≢true (ap no_reply h))
 
-checkout_told : (st : State) (tree : List ℕ) (bindings : List (List ℕ × Bool)) → IsTold (checked_out st tree bindings)
+checkout_told : (st : State) (tree : List ℕ) (bindings : List (List ℕ × Bool)) → TellsItsRows (checked_out st tree bindings)
 unfolding checked_out
 checkout_told st tree bindings =
     later_told (found_partial st.history bindings) (λ partial. unused >>= on partial)
@@ -61,12 +61,12 @@ checkout_told st tree bindings =
     on : List (ℕ × Bool) → List ℕ → Found Done
     on partial new = completed_choice st.history partial >>= of new
 
-form_told : (st : State) (form : Line) → IsTold (done st form)
+form_told : (st : State) (form : Line) → TellsItsRows (done st form)
 unfolding done
 form_told st (lines.Checkout tree bindings) = checkout_told st tree bindings
 form_told st form = plainly_told (served st form)
 
-rows_of : (st : State) (act : Found Done) → IsTold act → (as_outcome st act).reply ≡ [] → (as_outcome st act).rows ≡ []
+rows_of : (st : State) (act : Found Done) → TellsItsRows act → (as_outcome st act).reply ≡ [] → (as_outcome st act).rows ≡ []
 rows_of st (Ok done) told h = told h
 rows_of st (Err code) told h = refl
 

@@ -125,9 +125,9 @@ IsCauseOf count (damages.Refused refusal) = IsCodeOf count (refusal_code refusal
 IsCauseOf count cause = Unit {0}
 
 -- what is to be told can be told
-abbrev pub CanBeTold : StoreFault → Type 0
-CanBeTold (faults.Damaged number cause options) = IsCauseOf (length options.names) cause
-CanBeTold fault = Unit {0}
+abbrev pub DamageCanBeTold : StoreFault → Type 0
+DamageCanBeTold (faults.Damaged number cause options) = IsCauseOf (length options.names) cause
+DamageCanBeTold fault = Unit {0}
 
 -- or unless the disk fails, too
 abbrev pub EndsTold : Status → ℕ → ℕ → ℕ → ℕ → Status → Type 0

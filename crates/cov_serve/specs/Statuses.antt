@@ -32,9 +32,9 @@ status_of endings.TreesFault = TreesFault
 status_of endings.TooMuch = TooMuch
 
 -- why a line ends the run, the counts of faults of the sink, the disk and the trees being known before and after
-abbrev pub StopsLine : Status → ℕ → ℕ → ℕ → ℕ → ℕ → ℕ → Type 0
-StopsLine NoMemory sink sink' disk disk' trees trees' = Unit {0}
-StopsLine WriteFault sink sink' disk disk' trees trees' = Rose sink sink'
-StopsLine DiskFault sink sink' disk disk' trees trees' = Rose disk disk'
-StopsLine TreesFault sink sink' disk disk' trees trees' = Rose trees trees'
-StopsLine _ sink sink' disk disk' trees trees' = ⊥
+abbrev pub StopsWithStatus : Status → ℕ → ℕ → ℕ → ℕ → ℕ → ℕ → Type 0
+StopsWithStatus NoMemory sink sink' disk disk' trees trees' = Unit {0}
+StopsWithStatus WriteFault sink sink' disk disk' trees trees' = Rose sink sink'
+StopsWithStatus DiskFault sink sink' disk disk' trees trees' = Rose disk disk'
+StopsWithStatus TreesFault sink sink' disk disk' trees trees' = Rose trees trees'
+StopsWithStatus _ sink sink' disk disk' trees trees' = ⊥

@@ -28,7 +28,7 @@ abbrev pub tree_reply : List ℕ → List TreeRow → List ℕ
 tree_reply tree rows = checkout_reply tree (dirs_in rows) (files_in rows) (digest_of rows)
 
 -- a reply with its rows is that of a tree
-pub record IsTold (tree : List ℕ) (written : List TreeRow) (reply : Reply) : Type 0 where
+pub record TellsTree (tree : List ℕ) (written : List TreeRow) (reply : Reply) : Type 0 where
   pub text : reply.text ≡ tree_reply tree written
   pub rows : reply.rows ≡ rows_in tree written
   pub answer : reply.answer ≡ kind_of reply.text false

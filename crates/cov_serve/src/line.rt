@@ -5,7 +5,7 @@ ghost use Rattle.cov_io.specs.Devices.{AppendsAll, AppendsSome};
 ghost use Rattle.cov_journal.specs.Gates.{HasGate};
 ghost use Rattle.cov_loop.specs.Answers.{IsServed};
 ghost use Rattle.cov_loop.specs.Keeping.{AreAll, IsEither};
-ghost use Rattle.cov_serve.specs.Statuses.{StopsLine};
+ghost use Rattle.cov_serve.specs.Statuses.{StopsWithStatus};
 ghost use Rattle.cov_serve.specs.Step.{step};
 ghost use Rattle.cov_serve.specs.Storing.{stored};
 ghost use Rattle.cov_store.specs.Stands.{gate_of};
@@ -47,7 +47,7 @@ pub fn serve_line<K: Sink, D: Disk, T: Trees>(
         K.written out.old ≡ Some before → K.written out.new ≡ Some (before ++ (step server line.now).reply) →
         AreAll (stored (step server line.now).state) (D.images disk.new) }
 
-    ensures stopped { IfErr result (λ status. StopsLine status (K.faults out.old) (K.faults out.new) (D.faults disk.old) (D.faults disk.new) (T.faults trees.old) (T.faults trees.new)) }
+    ensures stopped { IfErr result (λ status. StopsWithStatus status (K.faults out.old) (K.faults out.new) (D.faults disk.old) (D.faults disk.new) (T.faults trees.old) (T.faults trees.new)) }
     ensures later { K.faults out.old ≤ K.faults out.new }
     ensures disk_later { D.faults disk.old ≤ D.faults disk.new }
     ensures trees_later { T.faults trees.old ≤ T.faults trees.new }

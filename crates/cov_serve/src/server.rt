@@ -7,7 +7,7 @@ ghost use Rattle.cov_journal.specs.Reading.{IsNoStore};
 ghost use Rattle.cov_serve.specs.Opening.{Begins};
 ghost use Rattle.cov_serve.specs.States.{starting};
 ghost use Rattle.cov_store.specs.Damages.{HasDamage};
-ghost use Rattle.cov_store.specs.Opening.{IsFaultOf, HasReason, IsOfVerdict, OnRefused, TellsDamage, TellsNoStore};
+ghost use Rattle.cov_store.specs.Opening.{IsImageFaultOf, HasReason, IsOfVerdict, OnImageRefused, TellsDamage, TellsNoStore};
 ghost use Rattle.cov_store.specs.Stands.{StandsFor, IsStored, gate_of};
 ghost use Rattle.cov_store.specs.declared.damage.StoreDamage.{StoreDamage};
 
@@ -51,12 +51,12 @@ impl Server {
             TellsNoStore (D.faults disk.old) (D.faults disk.new) result) }
         ensures begins { IfOk result (λ server. server ≡ starting server.history) }
         ensures opened { IfOk result (λ server. IfSome (D.contents disk.old) (λ image. StandsFor image server.history)) }
-        ensures faulty { IfErr result (λ fault. IfSome (D.contents disk.old) (λ image. IsFaultOf image fault)) }
+        ensures faulty { IfErr result (λ fault. IfSome (D.contents disk.old) (λ image. IsImageFaultOf image fault)) }
         ensures cause { IfErr result (HasReason (D.faults disk.old) (D.faults disk.new)) }
         ensures verdict { IfErr result IsOfVerdict }
         ensures written { IfOk result (λ server. IfSome (D.contents disk.new) (λ image. IsStored image server.history)) }
         ensures gate { IfOk result (λ server. HasGate (D.contents disk.new) (gate_of server.history)) }
-        ensures kept { IfErr result (λ fault. IfSome (D.contents disk.old) (λ image. OnRefused fault (D.contents disk.new ≡ D.contents disk.old))) }
+        ensures kept { IfErr result (λ fault. IfSome (D.contents disk.old) (λ image. OnImageRefused fault (D.contents disk.new ≡ D.contents disk.old))) }
         ensures stays { (history : List Command) → IfSome (D.contents disk.old) (λ image. StandsFor image history →
             IfSome (D.contents disk.new) (λ now. StandsFor now history)) }
         ensures stored { IfOk result (λ server. (image : List ℕ) → D.images disk.new image → IsStored image server.history) }

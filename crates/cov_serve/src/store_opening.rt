@@ -9,7 +9,7 @@ ghost use Rattle.cov_loop.specs.Keeping.{AreAll};
 ghost use Rattle.cov_loop.specs.Turns.{WritesFront};
 ghost use Rattle.cov_script.specs.Replies.{code_text, IsCodeOf};
 ghost use Rattle.cov_serve.specs.Codes.{refusal_code};
-ghost use Rattle.cov_serve.specs.Program.{cause_text, check_line, damaged_line, CanBeTold, IsCauseOf, OpeningLine, OnUnopened, PutsLast, ReadsAs, EndsTold, StopsOpening, StopsUnopened, TellsFault};
+ghost use Rattle.cov_serve.specs.Program.{cause_text, check_line, damaged_line, DamageCanBeTold, IsCauseOf, OpeningLine, OnUnopened, PutsLast, ReadsAs, EndsTold, StopsOpening, StopsUnopened, TellsFault};
 ghost use Rattle.cov_serve.specs.States.{starting};
 ghost use Rattle.cov_serve.specs.declared.status.Status.TheVariants.{NotAStore, Damaged, WriteFault};
 ghost use Rattle.cov_store.specs.Damages.{HasDamage};
@@ -78,7 +78,7 @@ pub(crate) fn open_or_tell<K: Sink, D: Disk>(
 
 // Tells why a store isn't opened.
 fn tell_fault<K: Sink>(alloc: Global, fault: StoreFault, out: &mut K) -> Status
-    requires { CanBeTold fault }
+    requires { DamageCanBeTold fault }
     ensures told { TellsFault fault (K.written out.old) (K.written out.new) (K.faults out.old) (K.faults out.new) result }
     ensures later { K.faults out.old ≤ K.faults out.new }
 {

@@ -4,7 +4,7 @@ ghost use Rattle.cov_edit.specs.Replay.{replay};
 ghost use Rattle.cov_view.specs.Tree.{tree_of};
 ghost use Rattle.cov_serve.specs.Acting.{Does};
 ghost use Rattle.cov_serve.specs.Step.{checked_out};
-ghost use Rattle.cov_serve.specs.Written.{IsTold, bytes_if_file, row_in, rows_in};
+ghost use Rattle.cov_serve.specs.Written.{TellsTree, bytes_if_file, row_in, rows_in};
 
 use crate::state::ServerState;
 use crate::stop::Stop;
@@ -35,7 +35,7 @@ impl ServerState {
 
     // The rows and the reply of the tree of a choice.
     fn make_tree(&self, tree: &Name, choice: Choice) -> Result<Reply, Memory>
-        ensures { IfOk result (IsTold tree.now (tree_of (replay choice self.now.history))) }
+        ensures { IfOk result (TellsTree tree.now (tree_of (replay choice self.now.history))) }
     {
         // That the count of nodes fits 32 bits bounds the rows for the proof.
         let _nodes = self.engine.counts();
@@ -49,7 +49,7 @@ impl ServerState {
 
 fn tell_tree(alloc: Global, tree: &Name, rows: &TreeRows) -> Result<Reply, Memory>
     requires { length rows.now < 2 ^ 32 }
-    ensures { IfOk result (IsTold tree.now rows.now) }
+    ensures { IfOk result (TellsTree tree.now rows.now) }
 {
     let dirs = dirs_in(rows) as u32;
     let files = files_in(rows) as u32;

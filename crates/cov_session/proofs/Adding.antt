@@ -1,6 +1,7 @@
 -- One edit more in a session.
 use Rattle.std.proofs.Common.{◌≡◌, ◌∙◌, refl, sym, ap, subst, ℕ, ◌+◌, ◌<◌, ◌≤◌, true, false, nat_lt, List, [], ◌∷◌, ◌++◌, length, length-append, take, Option, Some, None, arith}
 use Rattle.std.proofs.lemmas.Bool.Decides.{nat_tests}
+use Rattle.std.proofs.lemmas.List.{length_push}
 use Rattle.std.specs.List.{fold, cons_option}
 use Rattle.cov_base.specs.Addresses.{address_in, with_lines, IsTable}
 use Rattle.cov_base.proofs.CallerLemmas.{length-with_lines, address_in-with_lines}
@@ -30,7 +31,7 @@ use Rattle.cov_session.specs.declared.fault.SessionFault.{SessionFault}
 use Rattle.cov_session.specs.declared.fault.SessionFault.TheVariants as faults
 use Rattle.cov_engine.proofs.CallerLemmas.{Accepts, Applies}
 use Rattle.cov_view.proofs.CallerLemmas.{first-not_when, first-when, first-one, fault-by}
-use Rattle.cov_session.proofs.Made.{DeleteWithin, DeletesWithin, deletes-within, replay-within}
+use Rattle.cov_session.proofs.DeletesWithin.{DeleteWithin, DeletesWithin, deletes-within, replay-within}
 
 -- an edit is the same by another table in which its lines have the same addresses
 edit-same : (ns : Numbers) (t u : List (List ℕ)) (node line m most : ℕ) (e : Edit) (ms : List ℕ) → ((x : ℕ) → x ≤ most → address_in u x ≡ address_in t x) → line + length (cons_option (anchor_of m e) ms) ≤ most
@@ -158,9 +159,6 @@ by-fault f refused wanted g h = g h
 pub by-edit : (f : EditFault) (wanted : Option SessionFault) → wanted ≡ Some (faults.Edit f) → IsAdditionFault (by_edit f) wanted
 by-edit f wanted h = by-fault f (Some f) wanted (λ e. h) (fault-by f (Some f) refl)
 
-length-one : (es : List Edit) (e : Edit) → length (es ++ e ∷ []) ≡ length es + 1
-length-one es e = length-append es (e ∷ [])
-
 -- too many edits
 pub refused-many : (history : List Command) (s : Session) (es : List Edit) (k : ℕ) → length es ≡ k → LIMITS.edits < length s.edits + k → addition_fault history s es ≡ Some faults.TooManyEdits
 refused-many history s es k is h =
@@ -239,7 +237,7 @@ module _ (history : List Command) (s : SessionValue) (e : Edit) (stands : Holdin
     -- within the limits, what the session sees decides
     by-view : addition_fault history s.session (e ∷ []) ≡ as_fault (refused_at (length s.session.edits) (refusal (numbers_at_base history s.session) (seen s.session history) e) None)
     by-view =
-        by-first history s.session (e ∷ []) (let l = length-one s.session.edits e in omega (arith, l, room)) light
+        by-first history s.session (e ∷ []) (let l = length_push s.session.edits e in omega (arith, l, room)) light
         ∙ ap as_fault (first-refused history s (e ∷ []) stands replays here)
 
     pub accepted-by : refusal (numbers_at_base history s.session) (seen s.session history) e ≡ None → addition_fault history s.session (e ∷ []) ≡ None

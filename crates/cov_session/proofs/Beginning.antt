@@ -10,16 +10,17 @@ use Rattle.indexmap.proofs.CallerLemmas.{insert_entry-new}
 use Rattle.slab.specs.Slab.{Slab, get, slab_len, Updates}
 use Rattle.cov_expr.specs.Formula.{Formula}
 use Rattle.cov_edit.specs.declared.command.Command.{Command}
-use Rattle.cov_session.specs.Calls.{AreOpen, IsFaultOf, Makes, opened_among}
+use Rattle.cov_session.specs.Calls.{AreOpen, IsSessionFaultOf, Makes, opened_among}
 use Rattle.cov_session.specs.Kept.{Keys, AreKept, same_name, kept}
 use Rattle.cov_session.specs.Named.{named}
 use Rattle.cov_session.specs.Open.{SessionValue, as_named, IsOpen}
+use Rattle.cov_view.proofs.CallerLemmas.{none_is}
 use Rattle.cov_session.specs.Opening.{opened, IsOpeningFault}
 use Rattle.cov_session.specs.declared.fault.SessionFault.{SessionFault}
 use Rattle.cov_session.specs.declared.fault.SessionFault.TheVariants as faults
 use Rattle.cov_session.specs.declared.opened.Opened.{Opened}
 use Rattle.cov_session.specs.declared.sessions.TheConstants.{MOST_SESSIONS}
-use Rattle.cov_session.proofs.Changing.{is_some-named, none-is, kept-slots, slots-kept, added-kept, added-named, added-open}
+use Rattle.cov_session.proofs.Changing.{is_some-named, kept-slots, slots-kept, added-kept, added-named, added-open}
 use Rattle.cov_session.proofs.Faulting.{among-exists, among-many, among-opened, fault-opened}
 use Rattle.cov_session.proofs.Keeping.{is_of, length-kept}
 
@@ -28,7 +29,7 @@ pub key-added : {S : Type 0} (keys : Keys) (room : IndexMap (Vec ℕ) ℕ S) (na
     → entries ≡ insert_entry same_name room.entries own key → entries ≡ keys ++ (own, key) ∷ []
 key-added keys room name own key entries free called same added =
     added
-    ∙ insert_entry-new same_name room own key ((λ i. lookup (is_of (called i)) (same i)) ∙ none-is (lookup (is_of name) keys) free)
+    ∙ insert_entry-new same_name room own key ((λ i. lookup (is_of (called i)) (same i)) ∙ none_is (lookup (is_of name) keys) free)
     ∙ ap (λ es. es ++ (own, key) ∷ []) same
 
 module _ (keys : Keys) (slab : Slab SessionValue) (name : List ℕ) (here : AreKept keys slab) (ss : List SessionValue) (is : kept keys slab ≡ ss)
@@ -52,7 +53,7 @@ module _ (keys : Keys) (slab : Slab SessionValue) (name : List ℕ) (here : AreK
     pub alone : opened_among history (map as_named ss) name partial ambition ≡ opened history partial ambition
     alone = among-opened history (map as_named ss) name partial ambition (some-named ∙ free) (let n = as_many in grind (arith, nat_tests, n, few))
 
-    pub not_opened : (fault : SessionFault) → IsOpeningFault fault (opened history partial ambition) → IsFaultOf (opened_among history (map as_named ss) name partial ambition) fault
+    pub not_opened : (fault : SessionFault) → IsOpeningFault fault (opened history partial ambition) → IsSessionFaultOf (opened_among history (map as_named ss) name partial ambition) fault
     not_opened fault h = fault-opened history (map as_named ss) name partial ambition fault alone h
 
     -- it is opened under a key of its own, once there is room

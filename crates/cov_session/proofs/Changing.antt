@@ -1,5 +1,5 @@
 -- One session among all that are open: what the calls find and change.
-use Rattle.std.proofs.Common.{◌≡◌, ◌∙◌, refl, sym, ap, subst, ℕ, ◌+◌, ◌<◌, true, false, cond, not, List, [], ◌∷◌, ◌++◌, length, length-append, map, filter, filter_map, count_by, slice_index_or, Option, Some, None, is_some, arith}
+use Rattle.std.proofs.Common.{◌≡◌, ◌∙◌, refl, sym, ap, subst, ℕ, ◌+◌, ◌<◌, true, cond, not, List, [], ◌∷◌, ◌++◌, length, length-append, map, filter, filter_map, count_by, slice_index_or, Option, Some, None, is_some, arith}
 use Rattle.std.specs.Global.{Vec}
 use Rattle.std.specs.List.{AllByRecursion, IsDistinct, find}
 use Rattle.std.specs.Map.{keys_of, lookup, remove_entry}
@@ -13,7 +13,7 @@ use Rattle.cov_session.specs.Kept.{Keys, Leads, AreKept, same_name, kept}
 use Rattle.cov_session.specs.Named.{named, with_session, without}
 use Rattle.cov_session.specs.Open.{SessionValue, as_named, IsOpen}
 use Rattle.cov_session.specs.declared.sessions.TheConstants.{MOST_SESSIONS}
-use Rattle.cov_session.proofs.Keeping.{is_of, has_name, led, find-kept, led-some, only-key, kept-added, leads-added, kept-changed, leads-changed, kept-others, leads-others, others-are}
+use Rattle.cov_session.proofs.Keeping.{is_of, has_name, led, find-kept, led-some, only-key, kept-added, leads-same, leads-added, kept-changed, leads-changed, kept-others, leads-others, others-are}
 use Rattle.cov_session.proofs.Naming.{replaced, its-name, named-none, named-open, named-some, named-replaced, named-without, open-added, open-replaced, open-without}
 
 module _ (keys : Keys) (slab : Slab SessionValue) (name : List ℕ) (here : AreKept keys slab) where
@@ -106,25 +106,17 @@ module _ (keys : Keys) (slab : Slab SessionValue) (name : List ℕ) (here : AreK
           few = let most = here.few in omega (arith, fewer, most);
         }
 
-pub none-is : {X : Type 0} (o : Option X) → is_some o ≡ false → o ≡ None
-none-is None h = refl
-none-is (Some x) h = absurd (cc)
-
 -- where the slots are the same, the same are kept
 pub kept-slots : (keys : Keys) (old new : Slab SessionValue) → new.slots ≡ old.slots → kept keys new ≡ kept keys old
 kept-slots keys old new same = ap (λ l. filter_map (λ e. slice_index_or l e.1 None) keys) same
 
 pub slots-kept : (keys : Keys) (old new : Slab SessionValue) → new.slots ≡ old.slots → AreKept keys old → AreKept keys new
 slots-kept keys old new same here = record {
-  lead = leads keys here.lead;
+  lead = leads-same old new (λ e h. ap (λ l. slice_index_or l e.1 None) same) keys here.lead;
   distinct = here.distinct;
   no_more = ap (count_by is_some) same ∙ here.no_more;
   few = here.few;
 }
-  where
-    leads : (es : Keys) → AllByRecursion (Leads old) es → AllByRecursion (Leads new) es
-    leads [] h = tt
-    leads (e ∷ es) h = (record { session = h.0.session; there = ap (λ l. slice_index_or l e.1 None) same ∙ h.0.there; name = h.0.name }, leads es h.1)
 
 -- a session is opened: it is put under a new key, to which its name leads
 module _ (keys : Keys) (slab new : Slab SessionValue) (own : Vec ℕ) (key : ℕ) (s : SessionValue) (here : AreKept keys slab) (fresh : get slab key ≡ None) (updates : Updates slab new key (Some s)) where

@@ -10,7 +10,7 @@ use Rattle.cov_view.specs.declared.fault.EditFault.TheVariants as edit_faults
 use Rattle.cov_history.specs.Completing.{completed_in}
 use Rattle.cov_history.specs.Sessions.{Session}
 use Rattle.cov_session.specs.Adding.{addition_fault, with_edits, IsAdditionFault}
-use Rattle.cov_session.specs.Calls.{opened_among, taken, taken_by, refreshed_among, refreshed_by, IsFaultOf}
+use Rattle.cov_session.specs.Calls.{opened_among, taken, taken_by, refreshed_among, refreshed_by, IsSessionFaultOf}
 use Rattle.cov_session.specs.Faults.{unless}
 use Rattle.cov_session.specs.Named.{named, with_session}
 use Rattle.cov_session.specs.Open.{NamedSession}
@@ -27,13 +27,13 @@ passed-on P fault (Err e) is h = subst P (sym is) h
 
 -- edits that are refused in the session of a name are refused among all
 pub fault-taken : (history : List Command) (ss : List NamedSession) (name : List ℕ) (es : List Edit) (s : NamedSession) (fault : SessionFault)
-    → named ss name ≡ Some s → IsAdditionFault fault (addition_fault history s.session es) → IsFaultOf (taken history ss name es) fault
-fault-taken history ss name es s fault is h = subst (λ o. IsFaultOf (taken_by history ss es o) fault) (sym is) (at fault (addition_fault history s.session es) h)
+    → named ss name ≡ Some s → IsAdditionFault fault (addition_fault history s.session es) → IsSessionFaultOf (taken history ss name es) fault
+fault-taken history ss name es s fault is h = subst (λ o. IsSessionFaultOf (taken_by history ss es o) fault) (sym is) (at fault (addition_fault history s.session es) h)
   where
     after : List NamedSession
     after = with_session ss (record { name = s.name; session = with_edits s.session es })
 
-    at : (f : SessionFault) (o : Option SessionFault) → IsAdditionFault f o → IsFaultOf (unless o after) f
+    at : (f : SessionFault) (o : Option SessionFault) → IsAdditionFault f o → IsSessionFaultOf (unless o after) f
     at faults.Memory o k = tt
     at (faults.Edit edit_faults.Memory) o k = k
     at f o k = ap (λ p. unless p after) k
@@ -79,18 +79,18 @@ no-edit history partial ambition f h = at (completed_in history partial) h
 -- why a session isn't opened among others, where neither its name nor their number forbids it
 pub fault-opened : (history : List Command) (ss : List NamedSession) (name : List ℕ) (partial : List (ℕ × Bool)) (ambition : Formula ℕ) (fault : SessionFault)
     → opened_among history ss name partial ambition ≡ opened history partial ambition → IsOpeningFault fault (opened history partial ambition)
-    → IsFaultOf (opened_among history ss name partial ambition) fault
-fault-opened history ss name partial ambition fault is h = subst (λ r. IsFaultOf r fault) (sym is) (at fault h)
+    → IsSessionFaultOf (opened_among history ss name partial ambition) fault
+fault-opened history ss name partial ambition fault is h = subst (λ r. IsSessionFaultOf r fault) (sym is) (at fault h)
   where
-    at : (f : SessionFault) → IsOpeningFault f (opened history partial ambition) → IsFaultOf (opened history partial ambition) f
+    at : (f : SessionFault) → IsOpeningFault f (opened history partial ambition) → IsSessionFaultOf (opened history partial ambition) f
     at faults.Memory k = tt
     at (faults.Edit edit_faults.Memory) k = no-edit history partial ambition edit_faults.Memory k
     at f k = k
 
 -- the session of a name that isn't refreshed
 pub fault-refreshed : (history : List Command) (ss : List NamedSession) (name : List ℕ) (s : NamedSession) (fault : SessionFault)
-    → named ss name ≡ Some s → IsFaultOf (refreshed history s.session) fault → IsFaultOf (refreshed_among history ss name) fault
-fault-refreshed history ss name s fault is h = subst (λ o. IsFaultOf (refreshed_by history o) fault) (sym is) h
+    → named ss name ≡ Some s → IsSessionFaultOf (refreshed history s.session) fault → IsSessionFaultOf (refreshed_among history ss name) fault
+fault-refreshed history ss name s fault is h = subst (λ o. IsSessionFaultOf (refreshed_by history o) fault) (sym is) h
 
 pub refreshed-is : (history : List Command) (ss : List NamedSession) (name : List ℕ) (s : NamedSession) → named ss name ≡ Some s → refreshed_among history ss name ≡ refreshed history s.session
 refreshed-is history ss name s is = ap (refreshed_by history) is

@@ -91,6 +91,11 @@ kept-same : (old new : Slab SessionValue) (keys : Keys) → AllByRecursion (λ e
 kept-same old new [] h = refl
 kept-same old new (e ∷ es) h = ap (λ o. cons_option o (kept es new)) h.0 ∙ ap (cons_option (get old e.1)) (kept-same old new es h.1)
 
+-- and each name still leads to its session
+pub leads-same : (old new : Slab SessionValue) → ((e : Vec ℕ × ℕ) → Leads old e → get new e.1 ≡ get old e.1) → (keys : Keys) → AllByRecursion (Leads old) keys → AllByRecursion (Leads new) keys
+leads-same old new same [] h = tt
+leads-same old new same (e ∷ es) h = (record { session = h.0.session; there = same e h.0 ∙ h.0.there; name = h.0.name }, leads-same old new same es h.1)
+
 module _ (old new : Slab SessionValue) (key : ℕ) where
   -- a session is put under a new key
   module _ (s : SessionValue) (own : Vec ℕ) (fresh : get old key ≡ None) (updates : Updates old new key (Some s)) where
@@ -108,12 +113,8 @@ module _ (old new : Slab SessionValue) (key : ℕ) where
         ∙ ap (λ l. l ++ kept ((own, key) ∷ []) new) (kept-same old new keys (all-stay keys h))
         ∙ ap (λ o. kept keys old ++ cons_option o []) updates.changed
 
-    all-lead : (keys : Keys) → AllByRecursion (Leads old) keys → AllByRecursion (Leads new) keys
-    all-lead [] h = tt
-    all-lead (e ∷ es) h = (record { session = h.0.session; there = stays e h.0 ∙ h.0.there; name = h.0.name }, all-lead es h.1)
-
     pub leads-added : s.name ≡ own.items → (keys : Keys) → AllByRecursion (Leads old) keys → AllByRecursion (Leads new) (keys ++ (own, key) ∷ [])
-    leads-added is keys h = all-append (Leads new) keys ((own, key) ∷ []) (all-lead keys h) (record { session = s; there = updates.changed; name = is }, tt)
+    leads-added is keys h = all-append (Leads new) keys ((own, key) ∷ []) (leads-same old new stays keys h) (record { session = s; there = updates.changed; name = is }, tt)
 
   -- a key of another name is another key
   away : (s : SessionValue) (name : List ℕ) → get old key ≡ Some s → s.name ≡ name → (e : Vec ℕ × ℕ) → Leads old e → is_of name e.0 ≡ false → e.1 ≢ key

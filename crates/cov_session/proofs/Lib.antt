@@ -4,10 +4,10 @@ pub mod CallerLemmas
 pub mod Changing
 pub mod Counting
 pub mod Deleting
+pub mod DeletesWithin
 pub mod Faulting
 pub mod Heads
 pub mod Keeping
-pub mod Made
 pub mod Naming
 pub mod Opening
 pub mod Refreshing

@@ -8,7 +8,6 @@ use Rattle.cov_base.specs.Choices.{is_on}
 use Rattle.cov_base.specs.declared.limits.TheConstants.{LIMITS}
 use Rattle.cov_edit.proofs.CallerLemmas.{opened, rest_of, nodes-append, nodes-most, anchors-append, lines-most}
 use Rattle.cov_edit.specs.declared.command.Command.{Command}
-use Rattle.cov_edit.specs.declared.command.Command.TheVariants as commands
 use Rattle.cov_edit.specs.declared.edit.Edit.{Edit}
 use Rattle.cov_edit.specs.History.{option_count}
 use Rattle.cov_edit.specs.Variant.{Variant, edited}
@@ -28,7 +27,7 @@ use Rattle.cov_history.specs.Completing.{completed_in}
 use Rattle.cov_history.specs.Laws.{HoldingStands, ReplayStands}
 use Rattle.cov_history.specs.Sessions.{Session, IsGood, seen}
 use Rattle.cov_session.specs.Adding.{IsAdditionFault}
-use Rattle.cov_session.specs.Calls.{IsFaultOf}
+use Rattle.cov_session.specs.Calls.{IsSessionFaultOf}
 use Rattle.cov_session.specs.Faults.{by_loss, unless}
 use Rattle.cov_session.specs.Open.{SessionValue, IsOpen, numbers_at_base}
 use Rattle.cov_session.specs.Refreshing.{rebased, as_lost, refreshed, refreshed_on, with_work, first_lost}
@@ -151,16 +150,16 @@ module _ (old view : Seen) (all ahead : List Edit) (index : ℕ) (e d : Edit) (s
       loss-by f (refusal (numbers_at_base history s.session) (seen (with_work s h.begun view).session history) e) (first_lost history s.session all) index (lost-first history s f later) (refuses _ _ _ later.shows)
 
 -- a fault that is wanted is why nothing comes
-as-refusal : {X : Type 0} (fault : SessionFault) (wanted : Option SessionFault) (x : X) → IsAdditionFault fault wanted → IsFaultOf (unless wanted x) fault
+as-refusal : {X : Type 0} (fault : SessionFault) (wanted : Option SessionFault) (x : X) → IsAdditionFault fault wanted → IsSessionFaultOf (unless wanted x) fault
 as-refusal faults.Memory wanted x h = tt
 as-refusal (faults.Edit edit_faults.Memory) wanted x h = h
 as-refusal fault wanted x h = ap (λ o. unless o x) h
 
 -- where an edit is lost, this is why the session isn't refreshed
 pub loss-refused : (history : List Command) (s : Session) (choice : List Bool) (fault : SessionFault) → completed_in history (enumerate_from 0 s.choice) ≡ Complete choice
-    → IsAdditionFault fault (first_lost history (rebased s (length history) choice) s.edits) → IsFaultOf (refreshed history s) fault
+    → IsAdditionFault fault (first_lost history (rebased s (length history) choice) s.edits) → IsSessionFaultOf (refreshed history s) fault
 loss-refused history s choice fault completed h =
-    subst (λ answer. IsFaultOf (refreshed_on history s answer) fault) (sym completed)
+    subst (λ answer. IsSessionFaultOf (refreshed_on history s answer) fault) (sym completed)
     (as-refusal fault (as_lost (first_refused (numbers_of history) (replay choice history) s.edits)) (rebased s (length history) choice)
     (subst (λ h. IsAdditionFault fault (as_lost (first_refused (numbers_of h) (replay choice h) s.edits))) (take-length history) h))
 

@@ -5,7 +5,7 @@ use Rattle.slab.specs.Slab.{Slab, get, with_value}
 use Rattle.cov_edit.specs.declared.command.Command.{Command}
 use Rattle.cov_edit.specs.declared.edit.Edit.{Edit}
 use Rattle.cov_session.specs.Adding.{addition_fault, with_edits, IsAdditionFault}
-use Rattle.cov_session.specs.Calls.{AreOpen, IsFaultOf, Makes, taken, refreshed_among}
+use Rattle.cov_session.specs.Calls.{AreOpen, IsSessionFaultOf, Makes, taken, refreshed_among}
 use Rattle.cov_session.specs.Kept.{Keys, AreKept, kept}
 use Rattle.cov_session.specs.Named.{named, with_session}
 use Rattle.cov_session.specs.Open.{SessionValue, as_named, IsOpen}
@@ -36,11 +36,11 @@ module _ (keys : Keys) (slab : Slab SessionValue) (name : List ℕ) (here : AreK
 
     -- what refuses it edits
     pub refuses : (es : List Edit) (fault : SessionFault) → ((history : List Command) → IsOpen history s → IsAdditionFault fault (addition_fault history s.session es))
-        → (history : List Command) → AreOpen history ss → IsFaultOf (taken history (map as_named ss) name es) fault
+        → (history : List Command) → AreOpen history ss → IsSessionFaultOf (taken history (map as_named ss) name es) fault
     refuses es fault h history are = fault-taken history (map as_named ss) name es (as_named s) fault one-named (h history (one-open history are))
 
     -- and what refuses to refresh it
-    pub refuses-refresh : (history : List Command) (fault : SessionFault) → IsFaultOf (refreshed history s.session) fault → IsFaultOf (refreshed_among history (map as_named ss) name) fault
+    pub refuses-refresh : (history : List Command) (fault : SessionFault) → IsSessionFaultOf (refreshed history s.session) fault → IsSessionFaultOf (refreshed_among history (map as_named ss) name) fault
     refuses-refresh history fault h = fault-refreshed history (map as_named ss) name (as_named s) fault one-named h
 
     module _ (t : SessionValue) (same : t.name ≡ s.name) where

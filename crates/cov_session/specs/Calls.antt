@@ -52,10 +52,10 @@ abbrev pub refreshed_among : List Command → List NamedSession → List ℕ →
 refreshed_among history ss name = refreshed_by history (named ss name)
 
 -- a fault is why nothing comes, unless memory is wanting; an edit's fault is a refusal
-abbrev pub IsFaultOf : {X : Type 0} → Result X SessionFault → SessionFault → Type 0
-IsFaultOf wanted faults.Memory = Unit {0}
-IsFaultOf wanted (faults.Edit edit_faults.Memory) = ⊥
-IsFaultOf wanted fault = wanted ≡ Err fault
+abbrev pub IsSessionFaultOf : {X : Type 0} → Result X SessionFault → SessionFault → Type 0
+IsSessionFaultOf wanted faults.Memory = Unit {0}
+IsSessionFaultOf wanted (faults.Edit edit_faults.Memory) = ⊥
+IsSessionFaultOf wanted fault = wanted ≡ Err fault
 
 -- a session comes of a call, which answers with its base and choice and leaves these sessions open
 pub record Makes (wanted : Result Session SessionFault) (open_with : Session → List NamedSession) (answer : Opened) (new : List NamedSession) : Type 0 where

@@ -15,7 +15,7 @@ ghost use Rattle.cov_edit.specs.History.{option_count};
 ghost use Rattle.cov_edit.specs.declared.command.Command.{Command as AnyCommand};
 ghost use Rattle.cov_edit.specs.declared.edit.Edit.TheVariants as edits;
 ghost use Rattle.cov_history.specs.Sessions.{commit_of};
-ghost use Rattle.cov_session.specs.Calls.{AreOpen, IsOfName, IsFaultOf, Makes, opened_among, taken, refreshed_among};
+ghost use Rattle.cov_session.specs.Calls.{AreOpen, IsOfName, IsSessionFaultOf, Makes, opened_among, taken, refreshed_among};
 ghost use Rattle.cov_session.specs.Counting.{own_lines, line_made};
 ghost use Rattle.cov_session.specs.Named.{named, with_session, without};
 ghost use Rattle.cov_session.specs.Open.{SessionValue, as_named};
@@ -86,7 +86,7 @@ impl Sessions {
         ensures extends { Extends engine.old.table engine.new.table }
         ensures opened { IfOk result (λ opened. Makes (opened_among engine.old.history (map as_named self.old) name partial.now ambition) (λ s. map as_named self.old ++ record { name = name; session = s } ∷ []) opened (map as_named self.new)) }
         ensures open { AreOpen engine.old.history self.old → AreOpen engine.old.history self.new }
-        ensures refused { IfErr result (IsFaultOf (opened_among engine.old.history (map as_named self.old) name partial.now ambition)) }
+        ensures refused { IfErr result (IsSessionFaultOf (opened_among engine.old.history (map as_named self.old) name partial.now ambition)) }
         ensures declared { IfErr result (NamesDeclared (option_count engine.old.history)) }
         ensures same { OnErr result (self.new ≡ self.old) }
     {
@@ -115,7 +115,7 @@ impl Sessions {
         ensures taken { OnOk result ((history : List AnyCommand) → AreOpen history self.old → taken history (map as_named self.old) name.now (edit ∷ []) ≡ Ok (map as_named self.new)) }
         ensures open { (history : List AnyCommand) → AreOpen history self.old → AreOpen history self.new }
         ensures number { IfOk result (λ number. option_map (λ s. line_made s.session edit) (named (map as_named self.old) name.now) ≡ Some number) }
-        ensures refused { IfErr result (λ fault. (history : List AnyCommand) → AreOpen history self.old → IsFaultOf (taken history (map as_named self.old) name.now (edit ∷ [])) fault) }
+        ensures refused { IfErr result (λ fault. (history : List AnyCommand) → AreOpen history self.old → IsSessionFaultOf (taken history (map as_named self.old) name.now (edit ∷ [])) fault) }
         ensures same { OnErr result (self.new ≡ self.old) }
     {
         let Some(key) = key_of(&self.keys, name) else {
@@ -143,7 +143,7 @@ impl Sessions {
         ensures taken { OnOk result ((history : List AnyCommand) → AreOpen history self.old → taken history (map as_named self.old) name.now (edits.Insert file line text ∷ edits.Delete file line ∷ []) ≡ Ok (map as_named self.new)) }
         ensures open { (history : List AnyCommand) → AreOpen history self.old → AreOpen history self.new }
         ensures number { IfOk result (λ number. option_map (λ s. own_lines s.session) (named (map as_named self.old) name.now) ≡ Some number) }
-        ensures refused { IfErr result (λ fault. (history : List AnyCommand) → AreOpen history self.old → IsFaultOf (taken history (map as_named self.old) name.now (edits.Insert file line text ∷ edits.Delete file line ∷ [])) fault) }
+        ensures refused { IfErr result (λ fault. (history : List AnyCommand) → AreOpen history self.old → IsSessionFaultOf (taken history (map as_named self.old) name.now (edits.Insert file line text ∷ edits.Delete file line ∷ [])) fault) }
         ensures same { OnErr result (self.new ≡ self.old) }
     {
         let Some(key) = key_of(&self.keys, name) else {
@@ -177,7 +177,7 @@ impl Sessions {
         ensures extends { Extends engine.old.table engine.new.table }
         ensures refreshed { IfOk result (λ opened. Makes (refreshed_among engine.old.history (map as_named self.old) name.now) (λ s. with_session (map as_named self.old) (record { name = name.now; session = s })) opened (map as_named self.new)) }
         ensures open { AreOpen engine.old.history self.new }
-        ensures refused { IfErr result (IsFaultOf (refreshed_among engine.old.history (map as_named self.old) name.now)) }
+        ensures refused { IfErr result (IsSessionFaultOf (refreshed_among engine.old.history (map as_named self.old) name.now)) }
         ensures declared { IfErr result (NamesDeclared (option_count engine.old.history)) }
         ensures same { OnErr result (self.new ≡ self.old) }
     {

@@ -1,14 +1,14 @@
 -- What a legal history is within.
-use Rattle.std.proofs.Common.{◌≡◌, ℕ, ◌+◌, ◌*◌, ◌<◌, ◌≤◌, ◌^◌, true, nat_le, List, [], ◌∷◌, ◌++◌, length, None, refl, sym, ap, subst, arith, append_assoc, length-append}
+use Rattle.std.proofs.Common.{◌≡◌, ℕ, ◌+◌, ◌*◌, ◌<◌, ◌≤◌, ◌^◌, true, nat_le, List, [], ◌∷◌, ◌++◌, length, None, refl, ap, subst, arith, append_assoc, length-append}
 use Rattle.std.specs.List.{AllByRecursion}
 use Rattle.std.proofs.lemmas.Bool.Decides.{nat_tests}
-use Rattle.std.proofs.lemmas.List.{append-nil, length-map}
+use Rattle.std.proofs.lemmas.List.{length-map}
 use Rattle.cov_base.proofs.CallerLemmas.{all-append, all-map}
 use Rattle.cov_base.specs.declared.limits.TheConstants.{LIMITS}
 use Rattle.cov_edit.specs.Fits.{fits_command}
 use Rattle.cov_edit.specs.declared.command.Command.{Command}
 use Rattle.cov_edit.specs.declared.command.Command.TheVariants as commands
-use Rattle.cov_engine.proofs.CallerLemmas.{accepted-sizes, edits-few, text-few}
+use Rattle.cov_engine.proofs.CallerLemmas.{accepted-sizes, edits-few, legal-one, text-few}
 use Rattle.cov_history.specs.Verdict.{verdict, refusals_of, IsLegal, IsLegalFrom}
 use Rattle.cov_history.specs.declared.refusal.Refusal.TheVariants as refusals
 use Rattle.cov_journal.specs.Journal.{records_size}
@@ -50,14 +50,9 @@ legal-from-few before (c ∷ history) legal few =
 pub legal-few : (history : List Command) → IsLegal history → length history ≤ LIMITS.commands
 legal-few history legal = legal-from-few [] history legal (omega arith)
 
-legal-from-push : (before history : List Command) (c : Command) → IsLegalFrom before history → fits_command c ≡ true → verdict (before ++ history) c ≡ None → IsLegalFrom before (history ++ c ∷ [])
-legal-from-push before [] c legal fits accepted = (fits, subst (λ h. verdict h c ≡ None) (append-nil before) accepted, tt)
-legal-from-push before (d ∷ history) c legal fits accepted =
-    (legal.0, legal.1, legal-from-push (before ++ d ∷ []) history c legal.2 fits (subst (λ h. verdict h c ≡ None) (sym (append_assoc before (d ∷ []) history)) accepted))
-
 -- with a command that it accepts it stays legal
 pub legal-push : (history : List Command) (c : Command) → IsLegal history → fits_command c ≡ true → verdict history c ≡ None → IsLegal (history ++ c ∷ [])
-legal-push history c legal fits accepted = legal-from-push [] history c legal fits accepted
+legal-push history c legal fits accepted = legal-one [] history c legal fits accepted
 
 pub fits-push : (history : List Command) (c : Command) → AllByRecursion FitsRecord history → FitsRecord c → AllByRecursion FitsRecord (history ++ c ∷ [])
 fits-push history c fits own = all-append FitsRecord history (c ∷ []) fits (own, tt)

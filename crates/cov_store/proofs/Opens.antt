@@ -10,7 +10,7 @@ use Rattle.cov_journal.specs.Moments.{KeepsImages}
 use Rattle.cov_journal.specs.Reading.{IsOpened}
 use Rattle.cov_journal.proofs.CallerLemmas.{holds_none, joined, one_journal, only_has, weakened}
 use Rattle.cov_store.specs.Damages.{HasDamage, IsDamagedAfter}
-use Rattle.cov_store.specs.Opening.{GivesHistory, HasReason, IsFaultOf, OnRefused, TellsDamage}
+use Rattle.cov_store.specs.Opening.{GivesHistory, HasReason, IsImageFaultOf, OnImageRefused, TellsDamage}
 use Rattle.cov_store.specs.Replaying.{IsFoundIn, Replays}
 use Rattle.cov_store.specs.Stands.{payloads, IsStored, StandsFor}
 use Rattle.cov_store.specs.declared.damage.StoreDamage.{StoreDamage}
@@ -44,7 +44,7 @@ was_large : (history : List Command) (cause : StoreDamage) (d c : List ℕ) → 
 was_large history cause d c (inl large) x = (large.0, large.2)
 was_large history cause d c (inr small) x = absurd (new_closed (payloads history) x.behind (sym small.1 ∙ x.bytes))
 
-was_fault : (fault : StoreFault) (d c : List ℕ) → IsOpened d c → IsFoundIn c fault → IsFaultOf d fault
+was_fault : (fault : StoreFault) (d c : List ℕ) → IsOpened d c → IsFoundIn c fault → IsImageFaultOf d fault
 was_fault faults.NotAStore d c opened found = absurd found
 was_fault (faults.Damaged number cause options) d c opened found =
     let was = was_large found.0 cause d c opened found.2 in
@@ -57,18 +57,18 @@ module _ (old mid : Option (List ℕ)) (told : Told IsOpened old mid) where
   opened_stands (Ok store) ends = told_before IsOpened (λ image. StandsFor image store.history) (λ image. IsStored image store.history) (stood store.history) old mid told ends.0
   opened_stands (Err fault) found = tt
 
-  pub opened_faulty : (result : Result EngineValue StoreFault) → Replays mid result → IfErr result (λ fault. IfSome old (λ image. IsFaultOf image fault))
+  pub opened_faulty : (result : Result EngineValue StoreFault) → Replays mid result → IfErr result (λ fault. IfSome old (λ image. IsImageFaultOf image fault))
   opened_faulty (Ok store) ends = tt
-  opened_faulty (Err fault) found = told_before IsOpened (λ image. IsFaultOf image fault) (λ image. IsFoundIn image fault) (was_fault fault) old mid told found
+  opened_faulty (Err fault) found = told_before IsOpened (λ image. IsImageFaultOf image fault) (λ image. IsFoundIn image fault) (was_fault fault) old mid told found
 
 -- a disk with damage is left as it was
-same_if : (d c : List ℕ) (now : Option (List ℕ)) (fault : StoreFault) → now ≡ Some c → IsOpened d c → IsFoundIn c fault → OnRefused fault (now ≡ Some d)
+same_if : (d c : List ℕ) (now : Option (List ℕ)) (fault : StoreFault) → now ≡ Some c → IsOpened d c → IsFoundIn c fault → OnImageRefused fault (now ≡ Some d)
 same_if d c now faults.NotAStore is opened found = absurd found
 same_if d c now (faults.Damaged number cause options) is opened found = is ∙ ap Some (was_large found.0 cause d c opened found.2).1
 same_if d c now faults.DiskFault is opened found = tt
 same_if d c now faults.Memory is opened found = tt
 
-pub same_where_refused : (old mid now : Option (List ℕ)) (result : Result EngineValue StoreFault) → Told IsOpened old mid → now ≡ mid → Replays mid result → IfErr result (λ fault. IfSome old (λ image. OnRefused fault (now ≡ old)))
+pub same_where_refused : (old mid now : Option (List ℕ)) (result : Result EngineValue StoreFault) → Told IsOpened old mid → now ≡ mid → Replays mid result → IfErr result (λ fault. IfSome old (λ image. OnImageRefused fault (now ≡ old)))
 same_where_refused old mid now (Ok store) told is ends = tt
 same_where_refused None mid now (Err fault) told is found = tt
 same_where_refused (Some d) None now (Err fault) told is found = absurd told
@@ -119,7 +119,7 @@ module _ {D : Type 0} (contents : D → Option (List ℕ)) (images : D → List 
   stored_now mid new (Err fault) only keeps found = tt
 
 -- an answer is the one for what the image stands for
-gives_some : (image : List ℕ) (history : List Command) (before now : ℕ) (result : Result EngineValue StoreFault) → IfOk result (λ store. StandsFor image store.history) → IfErr result (λ fault. IsFaultOf image fault)
+gives_some : (image : List ℕ) (history : List Command) (before now : ℕ) (result : Result EngineValue StoreFault) → IfOk result (λ store. StandsFor image store.history) → IfErr result (λ fault. IsImageFaultOf image fault)
     → IfErr result (HasReason before now) → StandsFor image history → GivesHistory history before now result
 gives_some image history before now (Ok store) opened faulty reason stands = one_history image store.history history opened stands
 gives_some image history before now (Err faults.NotAStore) opened faulty reason stands = absurd ((no_store_is_none image faulty).0 history stands)
@@ -128,7 +128,7 @@ gives_some image history before now (Err faults.DiskFault) opened faulty reason 
 gives_some image history before now (Err faults.Memory) opened faulty reason stands = tt
 
 tells_some : (image : List ℕ) (number : ℕ) (cause : StoreDamage) (before now : ℕ) (result : Result EngineValue StoreFault) → IfOk result (λ store. StandsFor image store.history)
-    → IfErr result (λ fault. IsFaultOf image fault) → IfErr result (HasReason before now) → (damage : HasDamage image number cause) → TellsDamage damage.history number cause before now result
+    → IfErr result (λ fault. IsImageFaultOf image fault) → IfErr result (HasReason before now) → (damage : HasDamage image number cause) → TellsDamage damage.history number cause before now result
 tells_some image number cause before now (Ok store) opened faulty reason damage = damaged_is_none image store.history number cause damage opened
 tells_some image number cause before now (Err faults.NotAStore) opened faulty reason damage = absurd ((no_store_is_none image faulty).1 number cause damage)
 tells_some image number cause before now (Err (faults.Damaged k what options)) opened faulty reason damage =
@@ -138,13 +138,13 @@ tells_some image number cause before now (Err faults.DiskFault) opened faulty re
 tells_some image number cause before now (Err faults.Memory) opened faulty reason damage = tt
 
 pub gives : (o : Option (List ℕ)) (history : List Command) (before now : ℕ) (result : Result EngineValue StoreFault) → IfOk result (λ store. IfSome o (λ image. StandsFor image store.history))
-    → IfErr result (λ fault. IfSome o (λ image. IsFaultOf image fault)) → IfErr result (HasReason before now) → IfSome o (λ image. StandsFor image history → GivesHistory history before now result)
+    → IfErr result (λ fault. IfSome o (λ image. IsImageFaultOf image fault)) → IfErr result (HasReason before now) → IfSome o (λ image. StandsFor image history → GivesHistory history before now result)
 gives None history before now result opened faulty reason = tt
 gives (Some image) history before now (Ok store) opened faulty reason = gives_some image history before now (Ok store) opened faulty reason
 gives (Some image) history before now (Err fault) opened faulty reason = gives_some image history before now (Err fault) opened faulty reason
 
 pub tells : (o : Option (List ℕ)) (number : ℕ) (cause : StoreDamage) (before now : ℕ) (result : Result EngineValue StoreFault) → IfOk result (λ store. IfSome o (λ image. StandsFor image store.history))
-    → IfErr result (λ fault. IfSome o (λ image. IsFaultOf image fault)) → IfErr result (HasReason before now)
+    → IfErr result (λ fault. IfSome o (λ image. IsImageFaultOf image fault)) → IfErr result (HasReason before now)
     → IfSome o (λ image. (damage : HasDamage image number cause) → TellsDamage damage.history number cause before now result)
 tells None number cause before now result opened faulty reason = tt
 tells (Some image) number cause before now (Ok store) opened faulty reason = tells_some image number cause before now (Ok store) opened faulty reason

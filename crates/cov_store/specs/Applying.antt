@@ -24,9 +24,9 @@ HandsBack before (faults.Refused store refusal) = (store.history ≡ before.hist
 HandsBack before faults.DiskFault = Unit {0}
 
 -- what holds where the command is refused
-abbrev pub OnRefused : ApplyFault → Type 0 → Type 0
-OnRefused (faults.Refused store refusal) P = P
-OnRefused faults.DiskFault P = Unit {0}
+abbrev pub OnCommandRefused : ApplyFault → Type 0 → Type 0
+OnCommandRefused (faults.Refused store refusal) P = P
+OnCommandRefused faults.DiskFault P = Unit {0}
 
 -- what holds where the disk fails
 abbrev pub OnDiskFault : ApplyFault → Type 0 → Type 0

@@ -15,11 +15,11 @@ use Rattle.cov_store.specs.declared.damage.StoreFault.{StoreFault}
 use Rattle.cov_store.specs.declared.damage.StoreFault.TheVariants as faults
 
 -- an image that can't be opened has this fault; the options are those of the records before the damaged one
-abbrev pub IsFaultOf : List ℕ → StoreFault → Type 0
-IsFaultOf image faults.NotAStore = IsNoStore image
-IsFaultOf image (faults.Damaged number cause options) = (damage : HasDamage image number cause) × (options.names ≡ options_of damage.history)
-IsFaultOf image faults.DiskFault = Unit {0}
-IsFaultOf image faults.Memory = Unit {0}
+abbrev pub IsImageFaultOf : List ℕ → StoreFault → Type 0
+IsImageFaultOf image faults.NotAStore = IsNoStore image
+IsImageFaultOf image (faults.Damaged number cause options) = (damage : HasDamage image number cause) × (options.names ≡ options_of damage.history)
+IsImageFaultOf image faults.DiskFault = Unit {0}
+IsImageFaultOf image faults.Memory = Unit {0}
 
 -- want of memory is no damage
 abbrev pub IsNoWant : StoreDamage → Type 0
@@ -46,11 +46,11 @@ IsOfVerdict (faults.Damaged number (damages.Refused refusal) options) = IsRefuse
 IsOfVerdict fault = Unit {0}
 
 -- what holds where the disk is refused for what it holds
-abbrev pub OnRefused : StoreFault → Type 0 → Type 0
-OnRefused faults.NotAStore P = P
-OnRefused (faults.Damaged number cause options) P = P
-OnRefused faults.DiskFault P = Unit {0}
-OnRefused faults.Memory P = Unit {0}
+abbrev pub OnImageRefused : StoreFault → Type 0 → Type 0
+OnImageRefused faults.NotAStore P = P
+OnImageRefused (faults.Damaged number cause options) P = P
+OnImageRefused faults.DiskFault P = Unit {0}
+OnImageRefused faults.Memory P = Unit {0}
 
 -- the disk may fail, and memory may be wanting
 abbrev pub MayStop : ℕ → ℕ → StoreFault → Type 0

@@ -9,9 +9,9 @@ ghost use Rattle.cov_engine.specs.States.{receipt_number};
 ghost use Rattle.cov_history.specs.Verdict.{verdict};
 ghost use Rattle.cov_journal.specs.Gates.{HasGate};
 ghost use Rattle.cov_journal.specs.Reading.{IsNoStore};
-ghost use Rattle.cov_store.specs.Applying.{IsRefusedBy, HandsBack, OnRefused as OnRefusal, OnDiskFault};
+ghost use Rattle.cov_store.specs.Applying.{IsRefusedBy, HandsBack, OnCommandRefused, OnDiskFault};
 ghost use Rattle.cov_store.specs.Damages.{HasDamage};
-ghost use Rattle.cov_store.specs.Opening.{IsFaultOf, HasReason, IsOfVerdict, OnRefused, GivesHistory, TellsDamage, TellsNoStore};
+ghost use Rattle.cov_store.specs.Opening.{IsImageFaultOf, HasReason, IsOfVerdict, OnImageRefused, GivesHistory, TellsDamage, TellsNoStore};
 ghost use Rattle.cov_store.specs.Stands.{StandsFor, IsStored, IsJournalOf, gate_of};
 ghost use Rattle.cov_store.specs.declared.damage.StoreDamage.{StoreDamage};
 
@@ -69,12 +69,12 @@ impl Store {
         ensures no_store { IfSome (D.contents disk.old) (λ image. IsNoStore image →
             TellsNoStore (D.faults disk.old) (D.faults disk.new) result) }
         ensures opened { IfOk result (λ store. IfSome (D.contents disk.old) (λ image. StandsFor image store.history)) }
-        ensures faulty { IfErr result (λ fault. IfSome (D.contents disk.old) (λ image. IsFaultOf image fault)) }
+        ensures faulty { IfErr result (λ fault. IfSome (D.contents disk.old) (λ image. IsImageFaultOf image fault)) }
         ensures cause { IfErr result (HasReason (D.faults disk.old) (D.faults disk.new)) }
         ensures verdict { IfErr result IsOfVerdict }
         ensures written { IfOk result (λ store. IfSome (D.contents disk.new) (λ image. IsStored image store.history)) }
         ensures gate { IfOk result (λ store. HasGate (D.contents disk.new) (gate_of store.history)) }
-        ensures kept { IfErr result (λ fault. IfSome (D.contents disk.old) (λ image. OnRefused fault (D.contents disk.new ≡ D.contents disk.old))) }
+        ensures kept { IfErr result (λ fault. IfSome (D.contents disk.old) (λ image. OnImageRefused fault (D.contents disk.new ≡ D.contents disk.old))) }
         ensures stays { (history : List Command) → IfSome (D.contents disk.old) (λ image. StandsFor image history →
             IfSome (D.contents disk.new) (λ now. StandsFor now history)) }
         ensures stored { IfOk result (λ store. (image : List ℕ) → D.images disk.new image → IsStored image store.history) }
@@ -101,7 +101,7 @@ impl Store {
         ensures accepted { OnOk result (verdict self.history command ≡ None) }
         ensures refused { IfErr result (IsRefusedBy (verdict self.history command)) }
         ensures back { IfErr result (HandsBack self) }
-        ensures same { IfErr result (λ fault. OnRefusal fault (disk.new ≡ disk.old)) }
+        ensures same { IfErr result (λ fault. OnCommandRefused fault (disk.new ≡ disk.old)) }
         ensures failed { IfErr result (λ fault. OnDiskFault fault (Rose (D.faults disk.old) (D.faults disk.new))) }
         ensures written { IfSome (D.contents disk.old) (λ image. IsStored image self.history) →
             OnOk result (IfSome (D.contents disk.new) (λ image. IsStored image (self.history ++ command ∷ []))) }

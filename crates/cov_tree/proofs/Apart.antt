@@ -1,11 +1,10 @@
 -- Places of which no two have one directory and one name.
-use Rattle.std.proofs.Common.{◌≡◌, ◌&&◌, ◌||◌, ℕ, zero, suc, ◌+◌, ◌≤◌, nat_lt, Bool, true, false, cond, not, nat_eq, List, [], ◌∷◌, ◌++◌, set, get_or, length, Some, None, position, refl, sym, ap, ◌∙◌, arith}
-use Rattle.std.specs.List.{position_or_len}
+use Rattle.std.proofs.Common.{◌≡◌, ◌&&◌, ◌||◌, ℕ, zero, suc, Bool, true, false, nat_eq, List, [], ◌∷◌, ◌++◌, set, get_or, None, position, refl, sym, ap, ◌∙◌, arith}
 use Rattle.std.specs.Str.{bytes_eq}
 use Rattle.std.proofs.lemmas.Bool.Decides.{nat_tests}
 use Rattle.std.proofs.lemmas.Slice.Eq.{bytes_eq-Decides}
 use Rattle.std.proofs.lemmas.Bool.{or_parts}
-use Rattle.cov_base.proofs.CallerLemmas.{both_ways}
+use Rattle.cov_base.proofs.CallerLemmas.{both_ways, none-placed}
 use Rattle.cov_tree.specs.declared.entry.Place.{Place}
 use Rattle.cov_tree.specs.Entries.{is_one_place, has_place, AreApart}
 use Rattle.cov_tree.specs.Shifts.{place_at}
@@ -53,20 +52,5 @@ apart_set (p ∷ ps) zero d vis h = h
 apart_set (p ∷ ps) (suc i) d vis h = (has_set p.parent p.name ps i d vis ∙ h.0, apart_set ps i d vis h.1)
 
 -- where none is found, there is none
-missing : (p : ℕ) (n : List ℕ) (ps : List Place) → length ps ≤ position_or_len (λ q. is_one_place p n q.parent q.name) ps → has_place p n ps ≡ false
-missing p n [] h = refl
-missing p n (q ∷ ps) h = at (is_one_place p n q.parent q.name) h (missing p n ps)
-  where
-    at : (b : Bool) → suc (length ps) ≤ cond (not b) (1 + position_or_len (λ q. is_one_place p n q.parent q.name) ps) 0
-        → (length ps ≤ position_or_len (λ q. is_one_place p n q.parent q.name) ps → has_place p n ps ≡ false) → (b || has_place p n ps) ≡ false
-    at true k rest = absurd (omega (arith, k))
-    at false k rest = rest (omega (arith, k))
-
-not_found : (n len : ℕ) (b : Bool) → nat_lt n len ≡ b → cond b (Some n) None ≡ None → len ≤ n
-not_found n len true e h = absurd (cc)
-not_found n len false e h = grind (arith, nat_tests, e)
-
 pub none_there : (p : ℕ) (n : List ℕ) (ps : List Place) → position (λ q. is_one_place p n q.parent q.name) ps ≡ None → has_place p n ps ≡ false
-none_there p n ps h =
-    missing p n ps
-    (not_found (position_or_len (λ q. is_one_place p n q.parent q.name) ps) (length ps) (nat_lt (position_or_len (λ q. is_one_place p n q.parent q.name) ps) (length ps)) refl h)
+none_there p n ps h = none-placed (λ (q : Place). is_one_place p n q.parent q.name) ps h

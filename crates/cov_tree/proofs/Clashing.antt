@@ -11,7 +11,7 @@ use Rattle.cov_base.proofs.CallerLemmas.{all-map, same_place-sym}
 use Rattle.cov_base.specs.Reaching.{has_clash}
 use Rattle.cov_dd.specs.declared.triple.Triple.{Triple}
 use Rattle.cov_dd.specs.Diagrams.{diagram_size, value_in, Extends}
-use Rattle.cov_dd.proofs.CallerLemmas.{some_nodes}
+use Rattle.cov_dd.proofs.CallerLemmas.{some_nodes, value-constant}
 use Rattle.cov_tree.specs.declared.entry.Place.{Place}
 use Rattle.cov_tree.specs.declared.entry.Entry.{Entry}
 use Rattle.cov_tree.specs.declared.grouping.PlaceKey.{PlaceKey}
@@ -19,7 +19,6 @@ use Rattle.cov_tree.specs.Entries.{row_at, rows_of, rows_in, AreWithin, AllAreWi
 use Rattle.cov_tree.specs.Grouping.{joined_at, GroupsWithin, IsClash}
 use Rattle.cov_tree.proofs.Apart.{one_parts, one_of}
 use Rattle.cov_tree.proofs.Rows.{rows_of-append, row_of_place, rows_of-grown, rows_in-append, taken, holds_at}
-use Rattle.cov_tree.proofs.Parts.{false_node}
 
 -- whether two keys are one, as they are compared
 abbrev pub same_key : PlaceKey → PlaceKey → Bool
@@ -168,7 +167,7 @@ clash_same t groups clash rows rows' same known = record {
 
 -- before the first row
 pub none_noted : (t : List Triple) → IsClash t [] 0 (λ c. [])
-none_noted t = record { value = λ c. false_node t c; joined = λ c p n. false_node t c }
+none_noted t = record { value = λ c. value-constant t 0 c (omega arith); joined = λ c p n. value-constant t 0 c (omega arith) }
 
 -- the rows with those of one place more
 pub place_behind : (t0 t : List Triple) → Extends t0 t → (c : List Bool) (node : ℕ) (kind : Kind) (ps : List Place) (i : ℕ) (p : Place) → i < length ps → p ≡ get_or ps i p → AreWithin t0 ps → (rows : List Row)

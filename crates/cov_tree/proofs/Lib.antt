@@ -4,10 +4,10 @@ pub mod Carried
 pub mod Clashing
 pub mod Examples
 pub mod Losing
-pub mod Made
 pub mod Once
 pub mod Options
 pub mod Parts
+pub mod PlannedChange
 pub mod Plans
 pub mod Rows
 pub mod Shifting

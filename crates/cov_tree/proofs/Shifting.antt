@@ -1,10 +1,11 @@
 -- A node's places shifted among those of all nodes.
-use Rattle.std.proofs.Common.{◌≡◌, ℕ, zero, suc, ◌+◌, ◌<◌, ◌≤◌, Bool, true, false, cond, ◌||◌, not, nat_eq, nat_lt, List, [], ◌∷◌, ◌++◌, map, length, get_or, set, Some, None, position, refl, sym, ap, subst, ◌∙◌, arith}
+use Rattle.std.proofs.Common.{◌≡◌, ℕ, zero, suc, ◌+◌, ◌<◌, Bool, true, false, cond, not, nat_eq, nat_lt, List, [], ◌∷◌, ◌++◌, map, length, get_or, set, Some, None, position, refl, sym, ap, subst, ◌∙◌, arith}
 use Rattle.std.specs.List.{filter, position_or_len}
 use Rattle.std.proofs.lemmas.Bool.Decides.{nat_tests}
 use Rattle.std.proofs.lemmas.Bool.{or_parts, eqb-true}
 use Rattle.cov_base.specs.Rows.{changed, has_node, AreDistinct}
 use Rattle.cov_base.specs.declared.number.Kind.{Kind}
+use Rattle.cov_base.proofs.CallerLemmas.{any-map, none-placed}
 use Rattle.cov_dd.specs.declared.triple.Triple.{Triple}
 use Rattle.cov_dd.specs.Diagrams.{value_in, Extends}
 use Rattle.cov_tree.specs.declared.entry.Place.{Place}
@@ -125,24 +126,12 @@ shifted_found old new grows node shift ambition ps es i d is distinct within par
           (subst (λ k. Adds old new [] ps (λ c. true) (λ c' n kind. shifted old c' n shift ambition (rows_of old c' n kind (get_or es k d).places))) (sym f.0) parted);
     }
 
-missing_in : (node : ℕ) (es : List Entry) → length es ≤ place node es → has_node node (nodes_of es) ≡ false
-missing_in node [] h = refl
-missing_in node (e ∷ es) h = at (nat_eq e.node node) h (missing_in node es)
-  where
-    at : (b : Bool) → suc (length es) ≤ cond (not b) (1 + place node es) 0 → (length es ≤ place node es → has_node node (nodes_of es) ≡ false) → (b || has_node node (nodes_of es)) ≡ false
-    at true k rest = absurd (omega (arith, k))
-    at false k rest = rest (omega (arith, k))
-
-not_found : (n len : ℕ) (b : Bool) → nat_lt n len ≡ b → cond b (Some n) None ≡ None → len ≤ n
-not_found n len true e h = absurd (cc)
-not_found n len false e h = grind (arith, nat_tests, e)
-
 -- where none is found, nothing changes
 pub shifted_none : (table : List Triple) (node : ℕ) (shift : Shift) (ambition : ℕ) (es : List Entry) → position (λ e. nat_eq e.node node) es ≡ None → AllAreWithin table es
     → Becomes table table es es (change_of node shift) ambition
 shifted_none table node shift ambition es h within = record {
   within = within;
-  rows = λ c. sym (all_unshifted table c node shift ambition es (missing_in node es (not_found (place node es) (length es) (nat_lt (place node es) (length es)) refl h)));
+  rows = λ c. sym (all_unshifted table c node shift ambition es (any-map (λ n. nat_eq n node) (λ (e : Entry). e.node) es ∙ none-placed (λ (e : Entry). nat_eq e.node node) es h));
 }
 
 -- an entry that stands at a place is the same as another that does

@@ -10,13 +10,12 @@ use Rattle.cov_base.specs.Reaching.{root}
 use Rattle.cov_base.specs.Choices.{is_on}
 use Rattle.cov_dd.specs.declared.triple.Triple.{Triple}
 use Rattle.cov_dd.specs.Diagrams.{diagram_size, value_in, Extends, IsNode}
-use Rattle.cov_dd.proofs.CallerLemmas.{some_nodes}
+use Rattle.cov_dd.proofs.CallerLemmas.{some_nodes, value-constant}
 use Rattle.cov_tree.specs.declared.entry.Place.{Place}
 use Rattle.cov_tree.specs.declared.entry.Entry.{Entry}
 use Rattle.cov_tree.specs.Entries.{row_at, rows_of, rows_in, nodes_of, AllAreWithin}
 use Rattle.cov_tree.specs.Spreading.{node_at, reached_in, Holds, AreReached, Turns, Rounds, Relaxes, Spreads, IsReach}
 use Rattle.cov_tree.proofs.Rows.{rows_of-append, row_of_place, rows_of-grown, rows_in-append, rows_in-grown, taken, holds_at}
-use Rattle.cov_tree.proofs.Parts.{false_node}
 use Rattle.cov_tree.proofs.Spreading.{entry_more, step_more, right_in_time, right_at_rest, few_rows}
 
 -- one place more has its row where it is visible
@@ -49,7 +48,7 @@ pub reached_grown : (old new : List Triple) → Extends old new → (reach : Lis
 reached_grown old new grows reach h c x = grows.value (node_at reach x) (node_within old reach x h) c
 
 pub none_found : (t : List Triple) (f : List Bool → Bool) → ((c : List Bool) → f c ≡ false) → IsNode t 0 f
-none_found t f h = record { within = let two : 2 ≤ diagram_size t = some_nodes t in omega (arith, two); value = λ c. false_node t c ∙ sym (h c) }
+none_found t f h = record { within = let two : 2 ≤ diagram_size t = some_nodes t in omega (arith, two); value = λ c. value-constant t 0 c (omega arith) ∙ sym (h c) }
 
 -- one place more, of which the parent is reached
 pub arrival_more : (t0 t new : List Triple) → Extends t0 t → (reach : List ℕ) → AllByRecursion (λ n. n < diagram_size t0) reach
@@ -100,16 +99,13 @@ pub first_reached : (t : List Triple) (reach : List ℕ) → ((x : ℕ) → nat_
 first_reached t reach none rows c zero is = root
 first_reached t reach none rows c (suc m) is =
     let other : nat_eq (suc m) 0 ≡ false = grind (arith, nat_tests) in
-    absurd (let no = ap (λ n. value_in t n c) (none (suc m) other) ∙ false_node t c in cc)
+    absurd (let no = ap (λ n. value_in t n c) (none (suc m) other) ∙ value-constant t 0 c (omega arith) in cc)
 
 pub first_within : (t : List Triple) (reach : List ℕ) → AllByRecursion (λ n. n < 2) reach → AllByRecursion (λ n. n < diagram_size t) reach
 first_within t reach h = let two : 2 ≤ diagram_size t = some_nodes t in all_map_two two reach h
   where
     all_map_two : 2 ≤ diagram_size t → (ns : List ℕ) → AllByRecursion (λ n. n < 2) ns → AllByRecursion (λ n. n < diagram_size t) ns
     all_map_two two ns k = all-map (λ n. n < 2) (λ n. n < diagram_size t) (λ n l. omega (arith, l, two)) ns k
-
-pub once_grown : (old new : List Triple) → Extends old new → (es : List Entry) → AllAreWithin old es → ((c : List Bool) → AreOnce (rows_in old c es)) → (c : List Bool) → AreOnce (rows_in new c es)
-once_grown old new grows es within once c = subst AreOnce (sym (rows_in-grown old new grows c es within)) (once c)
 
 -- a round that changes nothing is the last
 pub reach_at_rest : (t0 t new : List Triple) → Extends t0 t → (es : List Entry) → AllAreWithin t0 es → (before after : List ℕ) (b : Bool) (k : ℕ) → b ≡ false

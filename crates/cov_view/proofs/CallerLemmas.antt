@@ -1,7 +1,9 @@
 -- Lemmas on refusals, references, trees and rows of a history's nodes, for the proofs of callers.
-pub use Rattle.cov_view.proofs.Ahead.{drop-at, drop-end}
+pub use Rattle.cov_base.proofs.CallerLemmas.{drop-at, drop-end}
 pub use Rattle.cov_view.proofs.Changes.{not_there}
+pub use Rattle.cov_view.proofs.Directories.{none_is}
 pub use Rattle.cov_view.proofs.FewRows.{few-tree}
+pub use Rattle.cov_view.proofs.Naming.{made-known, rows-same}
 pub use Rattle.cov_view.proofs.Placed.{old-append, rows-old}
 pub use Rattle.cov_view.proofs.Refusing.{fault-by}
 pub use Rattle.cov_view.proofs.Treeing.{length-tree, once-shown, tree_shown, whole-shown}

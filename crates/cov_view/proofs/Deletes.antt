@@ -17,8 +17,7 @@ use Rattle.cov_view.specs.Seen.{Seen, with_lines_by, seen_after, AreRows}
 use Rattle.cov_view.specs.Views.{line_by_number, by_number, ShowsLines, IsMade, Shows}
 use Rattle.cov_view.specs.declared.line.ViewLine.{ViewLine}
 use Rattle.cov_view.specs.declared.row.ViewRow.{ViewRow}
-use Rattle.cov_view.proofs.Naming.{same-node, same-line, node-same, made-known, made-known_line}
-use Rattle.cov_view.proofs.Inserts.{rows-same}
+use Rattle.cov_view.proofs.Naming.{same-node, same-line, node-same, made-known, made-known_line, rows-same}
 use Rattle.cov_view.proofs.Standing.{stand-once, all-at_row}
 
 filter-same : {X : Type 0} (p q : X → Bool) (xs : List X) → AllByRecursion (λ x. p x ≡ q x) xs → filter p xs ≡ filter q xs

@@ -9,7 +9,7 @@ use Rattle.std.specs.Str.{bytes_eq}
 use Rattle.std.proofs.lemmas.Bool.{and_parts}
 use Rattle.cov_base.proofs.CallerLemmas.{all-append, all-both, all-map}
 use Rattle.cov_base.specs.declared.number.NodeRef.{NodeRef}
-use Rattle.cov_view.specs.Keys.{is_child_key, is_child, ChildNodes, indexed, is_row_of, AreChildren, IsIndex, Leaves}
+use Rattle.cov_view.specs.Keys.{is_child_key, is_child, ChildNodes, indexed, is_row_of, AreChildren, IsIndex, RemovesName}
 use Rattle.cov_view.specs.References.{same_node}
 use Rattle.cov_view.specs.Seen.{row_at, has_row, child_in, at_row, without_node, StandOnce}
 use Rattle.cov_view.specs.declared.children.ChildKey.{ChildKey}
@@ -53,9 +53,9 @@ key_test : (dir : NodeRef) (name : List ℕ) → IsKeyTest same_child (is_asked 
 key_test dir name x y h = let is = asked_is dir name x h in (λ i. is_asked (is.0 i) (is.1 i) y)
 
 -- an index without a key no longer has its name, and has each other
-pub leaves_by : (dir : NodeRef) (name : List ℕ) (old new : ChildNodes) → lookup (is_asked dir name) new ≡ None → KeepsOthers same_child (is_asked dir name) old new → Leaves dir name old new
+pub removes_by : (dir : NodeRef) (name : List ℕ) (old new : ChildNodes) → lookup (is_asked dir name) new ≡ None → KeepsOthers same_child (is_asked dir name) old new → RemovesName dir name old new
 unfolding KeepsOthers
-leaves_by dir name old new gone kept = (
+removes_by dir name old new gone kept = (
   sym (asked_node new dir name) ∙ gone,
   λ other text apart. sym (asked_node new other text) ∙ kept (is_asked other text) (key_test other text) (differs other text apart) ∙ asked_node old other text,
 )
@@ -121,7 +121,7 @@ AreOthers node rows nodes =
     × ((m : NodeRef) → indexed nodes dir name ≡ Some m → (has_row rows m ≡ true) × (same_node m node ≡ false))
 
 -- after the key of a node was taken out
-others_left : (rows : List ViewRow) (node : NodeRef) (r : ViewRow) (old new : ChildNodes) → row_at rows node ≡ Some r → AreChildren rows old → Leaves r.parent r.name old new → AreOthers node rows new
+others_left : (rows : List ViewRow) (node : NodeRef) (r : ViewRow) (old new : ChildNodes) → row_at rows node ≡ Some r → AreChildren rows old → RemovesName r.parent r.name old new → AreOthers node rows new
 others_left rows node r old new at h left = λ dir name. by dir name (is_child dir name r) refl
   where
     same : same_node r.node node ≡ true
@@ -311,12 +311,12 @@ children_same rows nodes node f same place h = λ dir name. (
         at false rest = (k.0, rest)
 
 -- an index of rows without the row of a node
-pub index-leaves : (kept now : Bool) (rows : List ViewRow) (node : NodeRef) (r : ViewRow) (old new : ChildNodes) → row_at rows node ≡ Some r → Leaves r.parent r.name old new → now ≡ kept
+pub index-removes : (kept now : Bool) (rows : List ViewRow) (node : NodeRef) (r : ViewRow) (old new : ChildNodes) → row_at rows node ≡ Some r → RemovesName r.parent r.name old new → now ≡ kept
     → IsIndex kept rows old → IsIndex now (without_node node rows) new
-index-leaves true true rows node r old new at left same h = others_alone node rows new (others_left rows node r old new at h left)
-index-leaves true false rows node r old new at left same h = tt
-index-leaves false true rows node r old new at left same h = absurd (true≢false same)
-index-leaves false false rows node r old new at left same h = tt
+index-removes true true rows node r old new at left same h = others_alone node rows new (others_left rows node r old new at h left)
+index-removes true false rows node r old new at left same h = tt
+index-removes false true rows node r old new at left same h = absurd (true≢false same)
+index-removes false false rows node r old new at left same h = tt
 
 -- an index of rows that don't have a node
 pub index-stays : (kept : Bool) (rows : List ViewRow) (node : NodeRef) (nodes : ChildNodes) → row_at rows node ≡ None → IsIndex kept rows nodes → IsIndex kept (without_node node rows) nodes
@@ -343,7 +343,7 @@ index-joins kept true rows r old new key dir_is name_is fresh put h =
 
 -- an index of rows where a node got another name or directory
 pub index-changes : (kept mid_kept now : Bool) (rows : List ViewRow) (node : NodeRef) (f : ViewRow → ViewRow) (r : ViewRow) (old mid new : ChildNodes) (key : Key) → ((q : ViewRow) → (f q).node ≡ q.node) → row_at rows node ≡ Some r → StandOnce rows
-    → mid_kept ≡ kept → Leaves r.parent r.name old mid → key.dir ≡ (f r).parent → key.name.items ≡ (f r).name → IsPut mid_kept mid key node now new → IsIndex kept rows old → IsIndex now (at_row node f rows) new
+    → mid_kept ≡ kept → RemovesName r.parent r.name old mid → key.dir ≡ (f r).parent → key.name.items ≡ (f r).name → IsPut mid_kept mid key node now new → IsIndex kept rows old → IsIndex now (at_row node f rows) new
 index-changes kept mid_kept false rows node f r old mid new key same at once kept_is left dir_is name_is put h = tt
 index-changes kept mid_kept true rows node f r old mid new key same at once kept_is left dir_is name_is put h =
     let is = put refl in

@@ -13,23 +13,14 @@ use Rattle.cov_edit.specs.Numbering.{Numbers, Inserted, node_number, line_number
 use Rattle.cov_edit.specs.Variant.{Variant, Line, line_address, lines_of, edited}
 use Rattle.cov_view.specs.References.{is_head, same_node, same_line, is_known_line, is_made_node, is_made_line}
 use Rattle.cov_view.specs.Lines.{is_among, after_ref}
-use Rattle.cov_view.specs.Seen.{Seen, row_at, at_row, with_lines_by, seen_after, AreRows}
-use Rattle.cov_view.specs.Views.{row_by_number, line_by_number, by_number, ShowsLines, IsMade, Shows}
+use Rattle.cov_view.specs.Seen.{Seen, row_at, with_lines_by, seen_after, AreRows}
+use Rattle.cov_view.specs.Views.{line_by_number, by_number, ShowsLines, IsMade, Shows}
 use Rattle.cov_view.specs.declared.line.ViewLine.{ViewLine}
 use Rattle.cov_view.specs.declared.row.ViewRow.{ViewRow}
-use Rattle.cov_view.proofs.Naming.{same-node, same-line, node-same, line-same, made-known, made-known_line, made-number, made-line_number, made-more_line}
+use Rattle.cov_view.proofs.Naming.{same-node, same-line, node-same, line-same, made-known, made-known_line, made-number, made-line_number, made-more_line, rows-same}
 use Rattle.cov_view.proofs.CallerLemmas.{head-number}
 use Rattle.cov_view.proofs.Refusing.{among-known}
 use Rattle.cov_view.proofs.Standing.{stand-once, all-at_row, only-found}
-
-pub rows-same : (ns : Numbers) (file : NodeRef) (f : List ViewLine → List ViewLine) (rows : List ViewRow) → map (row_by_number ns) (at_row file (with_lines_by f) rows) ≡ map (row_by_number ns) rows
-rows-same ns file f [] = refl
-rows-same ns file f (r ∷ rows) = at (same_node r.node file) (rows-same ns file f rows)
-  where
-    at : (b : Bool) → map (row_by_number ns) (at_row file (with_lines_by f) rows) ≡ map (row_by_number ns) rows
-        → map (row_by_number ns) (cond b (with_lines_by f r ∷ rows) (r ∷ at_row file (with_lines_by f) rows)) ≡ map (row_by_number ns) (r ∷ rows)
-    at true rest = refl
-    at false rest = ap (λ l. row_by_number ns r ∷ l) rest
 
 after_first-same : {X : Type 0} (t u : X → Bool) (x : X) (ys : List X) → AllByRecursion (λ y. t y ≡ u y) ys → after_first t x ys ≡ after_first u x ys
 after_first-same t u x [] h = refl

@@ -14,8 +14,9 @@ use Rattle.cov_base.specs.Rows.{Row, row_of, is_present}
 use Rattle.cov_edit.specs.Numbering.{Numbers, node_number, line_number}
 use Rattle.cov_view.specs.References.{is_root, same_node, same_line, is_known_node, is_known_line, is_made_node, is_made_line}
 use Rattle.cov_view.specs.Refusals.{row_is_dir, is_dir, has_name}
-use Rattle.cov_view.specs.Seen.{Seen, row_at, kind_in, kind_is_dir, has_child}
+use Rattle.cov_view.specs.Seen.{Seen, row_at, at_row, with_lines_by, kind_in, kind_is_dir, has_child}
 use Rattle.cov_view.specs.Views.{row_by_number, IsMade}
+use Rattle.cov_view.specs.declared.line.ViewLine.{ViewLine}
 use Rattle.cov_view.specs.declared.row.ViewRow.{ViewRow}
 
 -- of references to what is made, two are the same where their numbers are
@@ -78,6 +79,16 @@ made-more n made (nodes.New i) h = grind (arith, nat_tests, h)
 pub made-more_line : (n made : ℕ) (a : LineRef) → is_made_line n made a ≡ true → is_made_line n (made + 1) a ≡ true
 made-more_line n made (lines.Old x) h = h
 made-more_line n made (lines.New i) h = grind (arith, nat_tests, h)
+
+-- rows whose file gets other lines have the same nodes
+pub rows-same : (ns : Numbers) (file : NodeRef) (f : List ViewLine → List ViewLine) (rows : List ViewRow) → map (row_by_number ns) (at_row file (with_lines_by f) rows) ≡ map (row_by_number ns) rows
+rows-same ns file f [] = refl
+rows-same ns file f (r ∷ rows) = at (same_node r.node file) (rows-same ns file f rows)
+  where
+    at : (b : Bool) → map (row_by_number ns) (at_row file (with_lines_by f) rows) ≡ map (row_by_number ns) rows
+        → map (row_by_number ns) (cond b (with_lines_by f r ∷ rows) (r ∷ at_row file (with_lines_by f) rows)) ≡ map (row_by_number ns) (r ∷ rows)
+    at true rest = refl
+    at false rest = ap (λ l. row_by_number ns r ∷ l) rest
 
 option_map-cond : {X Y : Type 0} (g : X → Y) (b : Bool) (x : X) (o : Option X) → option_map g (cond b (Some x) o) ≡ cond b (Some (g x)) (option_map g o)
 option_map-cond g true x o = refl

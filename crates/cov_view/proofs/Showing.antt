@@ -3,6 +3,7 @@ use Rattle.std.proofs.Common.{◌≡◌, ℕ, ◌+◌, ◌≤◌, Bool, true, fa
 use Rattle.std.specs.List.{filter, AllByRecursion}
 use Rattle.std.proofs.lemmas.Bool.Decides.{nat_tests}
 use Rattle.std.proofs.lemmas.Bool.{and_from, and_parts}
+use Rattle.std.proofs.lemmas.List.{map-append}
 use Rattle.cov_base.specs.declared.number.Kind.{Kind}
 use Rattle.cov_base.specs.declared.number.NodeRef.{NodeRef}
 use Rattle.cov_base.specs.declared.number.NodeRef.TheVariants as nodes
@@ -16,10 +17,6 @@ use Rattle.cov_view.specs.Seen.{Seen, seen_after}
 use Rattle.cov_view.specs.Views.{row_by_number, by_number, ShowsLines, IsMade, Shows}
 use Rattle.cov_view.specs.declared.row.ViewRow.{ViewRow}
 use Rattle.cov_view.proofs.Naming.{made-more}
-
-map-append : {X Y : Type 0} (g : X → Y) (xs : List X) (x : X) → map g (xs ++ x ∷ []) ≡ map g xs ++ g x ∷ []
-map-append g [] x = refl
-map-append g (y ∷ xs) x = ap (λ l. g y ∷ l) (map-append g xs x)
 
 filter-none : {X : Type 0} (p : X → Bool) (xs : List X) → AllByRecursion (λ x. p x ≡ false) xs → filter p xs ≡ []
 filter-none p [] h = refl
@@ -37,7 +34,7 @@ module _ (ns : Numbers) (table : List (List ℕ)) (s : Seen) (v : Variant) (show
     rows =
         ap (λ (rows : List Row). rows ++ (let r : Row = record { node = ns.nodes + s.nodes_made + 1; kind = kind; parent = node_number ns.nodes parent; name = name } in r) ∷ []) shows.rows
         ∙ ap (λ (n : ℕ). map (row_by_number ns) s.rows ++ (let r : Row = record { node = n; kind = kind; parent = node_number ns.nodes parent; name = name } in r) ∷ []) number
-        ∙ sym (map-append (row_by_number ns) s.rows (next_row s kind parent name));
+        ∙ sym (map-append (row_by_number ns) s.rows (next_row s kind parent name ∷ []));
     lines = all-append (ShowsLines ns v) s.rows (next_row s kind parent name ∷ []) shows.lines ((λ e. ap (map by_number) none), tt);
     made = all-append (IsMade ns (seen_after s (edits.New kind parent name))) s.rows (next_row s kind parent name ∷ [])
         (all-map (IsMade ns s) (IsMade ns (seen_after s (edits.New kind parent name))) (λ r h. (

@@ -48,7 +48,7 @@ IsIndex true rows nodes = AreChildren rows nodes
 IsIndex false rows nodes = Unit {0}
 
 -- an index no longer has a name in a directory, and has each other as before
-abbrev pub Leaves : NodeRef → List ℕ → ChildNodes → ChildNodes → Type 0
-Leaves dir name old new =
+abbrev pub RemovesName : NodeRef → List ℕ → ChildNodes → ChildNodes → Type 0
+RemovesName dir name old new =
     (indexed new dir name ≡ None)
     × ((other : NodeRef) (text : List ℕ) → (same_node dir other && bytes_eq name text) ≡ false → indexed new other text ≡ indexed old other text)

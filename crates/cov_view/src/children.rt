@@ -1,6 +1,6 @@
 // The names in directories, each found with one look-up.
 ghost use Rattle.std.specs.Prelude.{◌≡◌, ◌∷◌, ◌++◌, [], true, false, None, IfSome, OnOk, OnErr, position};
-ghost use Rattle.cov_view.specs.Keys.{is_child, indexed, IsIndex, Leaves};
+ghost use Rattle.cov_view.specs.Keys.{is_child, indexed, IsIndex, RemovesName};
 ghost use Rattle.cov_view.specs.References.{same_node};
 ghost use Rattle.cov_view.specs.Seen.{has_row, child_in, at_row, with_name_by, with_parent_by, without_node, StandOnce};
 
@@ -104,8 +104,8 @@ impl Children {
         Ok(())
     }
 
-    /// Notes that a node, whose row stands at a place, goes.
-    pub(crate) fn leave(&mut self, rows: &[ViewRow], node: &NodeRef, place: Option<usize>)
+    /// Notes that the row of a node, which stands at a place, is removed.
+    pub(crate) fn remove_row(&mut self, rows: &[ViewRow], node: &NodeRef, place: Option<usize>)
         requires index { IsIndex self.old.is_kept rows.now self.old.nodes.entries }
         requires place { place ≡ position (λ r. same_node r.node node.now) rows.now }
         ensures { IsIndex self.new.is_kept (without_node node.now rows.now) self.new.nodes.entries }
@@ -165,7 +165,7 @@ impl Children {
     // Takes the key of a row out, and gives its name.
     fn take(&mut self, row: &ViewRow) -> Option<Vec<u8>>
         ensures kept { self.new.is_kept ≡ self.old.is_kept }
-        ensures left { Leaves row.now.parent row.now.name self.old.nodes.entries self.new.nodes.entries }
+        ensures left { RemovesName row.now.parent row.now.name self.old.nodes.entries self.new.nodes.entries }
         ensures name { IfSome result (λ name. name.items ≡ row.now.name) }
     {
         let key = ChildKey {

@@ -250,7 +250,7 @@ impl Rows {
         ensures { self.new ≡ without_node node.now self.old }
     {
         let place = self.place(node);
-        self.children.leave(self.rows.as_slice(), node, place);
+        self.children.remove_row(self.rows.as_slice(), node, place);
         match place {
             Some(at) => {
                 self.keys.shift_remove_index(at);

@@ -1,5 +1,5 @@
 // The first fault of rows of nodes that a history has.
-ghost use Rattle.std.specs.Prelude.{◌≡◌, ◌∷◌, List, ℕ, true, map, position, IfOk};
+ghost use Rattle.std.specs.Prelude.{◌≡◌, ◌∷◌, List, ℕ, true, map, IfOk};
 ghost use Rattle.std.specs.List.{find};
 ghost use Rattle.std.specs.Option.{option_map, option_or};
 ghost use Rattle.cov_edit.specs.Numbering.{node_number};
@@ -124,18 +124,12 @@ fn put(
 fn least_orphan(rows: &Rows, order: &[u32]) -> Option<Fault>
     ensures { result ≡ orphan_among rows.now order.now }
 {
-    match find_orphan(rows, order) {
-        Some(at) => Some(Fault::Orphan {
-            node: NodeNo::new(order[at]),
+    match order.iter().find(|node| is_orphan(rows, **node)) {
+        Some(node) => Some(Fault::Orphan {
+            node: NodeNo::new(*node),
         }),
         None => None,
     }
-}
-
-fn find_orphan(rows: &Rows, order: &[u32]) -> Option<usize>
-    ensures { result ≡ position (is_orphan rows.now) order.now }
-{
-    order.iter().position(|node| is_orphan(rows, *node))
 }
 
 fn is_orphan(rows: &Rows, node: u32) -> bool
@@ -151,18 +145,12 @@ fn is_orphan(rows: &Rows, node: u32) -> bool
 fn least_loop(rows: &Rows, order: &[u32]) -> Option<Fault>
     ensures { result ≡ loop_among rows.now order.now }
 {
-    match find_lost(rows, order) {
-        Some(at) => Some(Fault::Loop {
-            node: NodeNo::new(order[at]),
+    match order.iter().find(|node| is_lost(rows, **node)) {
+        Some(node) => Some(Fault::Loop {
+            node: NodeNo::new(*node),
         }),
         None => None,
     }
-}
-
-fn find_lost(rows: &Rows, order: &[u32]) -> Option<usize>
-    ensures { result ≡ position (is_lost rows.now) order.now }
-{
-    order.iter().position(|node| is_lost(rows, *node))
 }
 
 fn is_lost(rows: &Rows, node: u32) -> bool

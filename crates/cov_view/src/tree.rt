@@ -31,7 +31,7 @@ pub(crate) fn tree(rows: &Rows) -> Result<TreeRows, Memory>
     let mut found = Found::new(rows.allocator());
     let mut tree = TreeRows::new(rows.allocator());
     put_nodes(rows, &mut found)?;
-    found.drain(&mut tree)?;
+    drain(&mut found.rows, &mut tree)?;
     Ok(tree)
 }
 
@@ -167,15 +167,9 @@ impl Found {
         self.rows.insert(path, Content { kind, bytes })?;
         Ok(())
     }
-
-    // Moves the rows to a list.
-    fn drain(&mut self, rows: &mut TreeRows) -> Result<(), Memory>
-        ensures { OnOk result (rows.new ≡ rows.old ++ self.old) }
-    {
-        drain(&mut self.rows, rows)
-    }
 }
 
+// Moves rows to a list.
 fn drain(found: &mut BTreeMap<Vec<u8>, Content>, rows: &mut TreeRows) -> Result<(), Memory>
     ensures { OnOk result (rows.new ≡ rows.old ++ map found_row found.old.entries) }
 {

@@ -117,13 +117,7 @@ impl View {
         ensures kind { result ≡ kind_in self.now.rows node }
         ensures shown { (ns : Numbers) (table : List (List ℕ)) (v : Variant) → Shows ns table self.now v → result ≡ shown_kind ns v node }
     {
-        self.kind_of(&node)
-    }
-
-    fn kind_of(&self, node: &NodeRef) -> Option<Kind>
-        ensures { result ≡ kind_in self.now.rows node.now }
-    {
-        self.rows.kind_of(node)
+        self.rows.kind_of(&node)
     }
 
     /// The node to which a path leads, None exactly where a name on it isn't there. It takes no memory, and time
@@ -214,7 +208,7 @@ impl View {
         ensures absent { IsErrOf result ListFault.NoSuchNode → kind_in self.now.rows dir.now ≡ None }
         ensures not_directory { IsErrOf result ListFault.NotDirectory → kind_in self.now.rows dir.now ≡ Some File }
     {
-        match self.kind_of(dir) {
+        match self.rows.kind_of(dir) {
             None => Err(ListFault::NoSuchNode),
             Some(Kind::File) => Err(ListFault::NotDirectory),
             Some(Kind::Dir) => match listing(self.rows.allocator(), self.rows.as_slice(), dir) {
@@ -293,7 +287,7 @@ impl View {
     fn new_fault(&self, parent: &NodeRef, name: &[u8]) -> Option<EditFault>
         ensures { result ≡ new_fault (kind_in self.now.rows parent.now) (has_child self.now.rows parent.now name.now) }
     {
-        match self.kind_of(parent) {
+        match self.rows.kind_of(parent) {
             None => Some(EditFault::NoSuchNode),
             Some(Kind::File) => Some(EditFault::NotDirectory),
             Some(Kind::Dir) => match self.rows.has_child(parent, name) {
@@ -306,7 +300,7 @@ impl View {
     fn line_fault(&self, file: &NodeRef, had: bool) -> Option<EditFault>
         ensures { result ≡ line_fault (kind_in self.now.rows file.now) had }
     {
-        match self.kind_of(file) {
+        match self.rows.kind_of(file) {
             None => Some(EditFault::NoSuchNode),
             Some(Kind::Dir) => Some(EditFault::NotFile),
             Some(Kind::File) => match had {
@@ -370,7 +364,7 @@ impl View {
     fn is_dir(&self, node: &NodeRef) -> bool
         ensures { result ≡ kind_is_dir (kind_in self.now.rows node.now) }
     {
-        match self.kind_of(node) {
+        match self.rows.kind_of(node) {
             Some(Kind::Dir) => true,
             Some(Kind::File) | None => false,
         }

@@ -1,10 +1,10 @@
 -- Listings whose options are below a number.
-use Rattle.std.proofs.Common.{◌≡◌, ℕ, zero, suc, ◌+◌, ◌<◌, ◌≤◌, Bool, true, cond, take, nat_lt, List, [], ◌∷◌, length, Option, Some, None, refl, sym, ◌∙◌, arith}
+use Rattle.std.proofs.Common.{◌≡◌, ℕ, zero, suc, ◌+◌, ◌<◌, ◌≤◌, Bool, true, cond, take, nat_lt, List, length, Option, Some, None, refl, sym, ◌∙◌, arith}
 use Rattle.std.specs.Prelude.{slice_get}
 use Rattle.std.proofs.lemmas.List.{length-take-le}
 use Rattle.std.proofs.lemmas.Bool.{lt-ltb, ltb-true}
-use Rattle.cov_base.specs.Choices.{is_on}
 use Rattle.cov_base.specs.declared.limits.TheConstants.{CHOICE_WIDTH}
+use Rattle.cov_base.proofs.CallerLemmas.{is_on-take}
 use Rattle.cov_vis.specs.declared.listing.Child.{Child}
 use Rattle.cov_vis.specs.declared.listing.Child.TheVariants.{F, T, At}
 use Rattle.cov_vis.specs.declared.listing.ListingEntry.{ListingEntry}
@@ -12,12 +12,6 @@ use Rattle.cov_vis.specs.Listings.{ListingValue, followed, has_options_below, is
 use Rattle.cov_vis.proofs.Reading.{all_at}
 use Rattle.cov_vis.proofs.Entries.{all_from}
 use Rattle.cov_vis.proofs.OneListing.{one_listing}
-
-is_on-take : (n : ℕ) (c : List Bool) (o : ℕ) → o < n → is_on (take n c) o ≡ is_on c o
-is_on-take zero c o h = absurd (omega (arith, h))
-is_on-take (suc n) [] o h = refl
-is_on-take (suc n) (b ∷ c) zero h = refl
-is_on-take (suc n) (b ∷ c) (suc o) h = is_on-take n c o (omega (arith, h))
 
 module _ (most : ℕ) (l : ListingValue) (low : has_options_below most l ≡ true) where
   low_at : (i : ℕ) (e : ListingEntry) → slice_get l.entries i ≡ Some e → e.option < most

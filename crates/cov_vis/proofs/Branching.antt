@@ -4,11 +4,10 @@ use Rattle.std.specs.Prelude.{nat_eq, ◌&&◌}
 use Rattle.std.specs.Bool.{Decides}
 use Rattle.std.specs.Cmp.{booleans_Decides}
 use Rattle.std.specs.List.{list_any, AllByRecursion}
-use Rattle.std.proofs.lemmas.Bool.{eqb-true, eq-eqb}
+use Rattle.std.proofs.lemmas.Bool.{and_parts, eqb-true, eq-eqb}
 use Rattle.cov_base.specs.Choices.{is_on}
 use Rattle.cov_base.proofs.CallerLemmas.{all-append}
 use Rattle.cov_vis.specs.Decisions.{Decision, Leaf, Branch, same_decision, decision_by, decision_of, decisions}
-use Rattle.cov_vis.proofs.Places.{and_left, and_right}
 use Rattle.cov_vis.proofs.Members.{IsMember, IsOnce, member_at, member_left, once-push}
 
 pub same_decision-is : (x y : Decision) → same_decision x y ≡ true → x ≡ y
@@ -16,10 +15,10 @@ same_decision-is (Leaf a) (Leaf b) h = ap Leaf ((booleans_Decides a b).0 h)
 same_decision-is (Leaf a) (Branch p c d) h = absurd (true≢false (sym h))
 same_decision-is (Branch o a b) (Leaf c) h = absurd (true≢false (sym h))
 same_decision-is (Branch o a b) (Branch p c d) h =
-    let rest = and_right (nat_eq o p) _ h in
-    let option = eqb-true o p (and_left _ _ h) in
-    let off = same_decision-is a c (and_left _ _ rest) in
-    let on = same_decision-is b d (and_right (same_decision a c) _ rest) in
+    let rest = (and_parts (nat_eq o p) _ h).1 in
+    let option = eqb-true o p (and_parts _ _ h).0 in
+    let off = same_decision-is a c (and_parts _ _ rest).0 in
+    let on = same_decision-is b d (and_parts (same_decision a c) _ rest).1 in
     (λ j. Branch (option j) (off j) (on j))
 
 pub same_decision-self : (x : Decision) → same_decision x x ≡ true

@@ -2,11 +2,10 @@
 use Rattle.std.proofs.Common.{◌≡◌, ℕ, suc, ◌+◌, Bool, true, false, List, [], ◌∷◌, ◌++◌, length, Option, Some, true≢false, refl, sym, ap, ◌∙◌, arith}
 use Rattle.std.specs.Prelude.{slice_get, nat_eq, ◌||◌, not}
 use Rattle.std.specs.List.{list_any, list_all}
-use Rattle.std.proofs.lemmas.Bool.{and_from, eqb-true}
+use Rattle.std.proofs.lemmas.Bool.{and_parts, and_from, eqb-true}
 use Rattle.cov_vis.specs.declared.listing.ListingEntry.{ListingEntry}
 use Rattle.cov_vis.specs.Listings.{same_child, same_entry, are_distinct}
 use Rattle.cov_vis.specs.Counting.{counted_on}
-use Rattle.cov_vis.proofs.Places.{and_left, and_right}
 use Rattle.cov_vis.proofs.Reading.{same_child-is}
 
 pub not_both : (b : Bool) → (b ≡ true → ⊥) → not b ≡ true
@@ -19,10 +18,10 @@ all_from p (e ∷ es) h = and_from (p e) (list_all p es) (h 0 e refl) (all_from 
 
 same_entry-is : (e f : ListingEntry) → same_entry e f ≡ true → e ≡ f
 same_entry-is e f h =
-    let o = eqb-true e.option f.option (and_left _ _ h) in
-    let r = and_right (nat_eq e.option f.option) _ h in
-    let off = same_child-is e.off f.off (and_left _ _ r) in
-    let on = same_child-is e.on f.on (and_right (same_child e.off f.off) _ r) in
+    let o = eqb-true e.option f.option (and_parts _ _ h).0 in
+    let r = (and_parts (nat_eq e.option f.option) _ h).1 in
+    let off = same_child-is e.off f.off (and_parts _ _ r).0 in
+    let on = same_child-is e.on f.on (and_parts (same_child e.off f.off) _ r).1 in
     (λ j. record { option = o j; off = off j; on = on j })
 
 any_get : (e : ListingEntry) (es : List ListingEntry) → list_any (same_entry e) es ≡ true → (i : ℕ) × (slice_get es i ≡ Some e)

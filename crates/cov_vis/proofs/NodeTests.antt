@@ -5,7 +5,7 @@ use Rattle.std.proofs.lemmas.List.{length-map, map-append}
 use Rattle.std.proofs.lemmas.Bool.{eqb-true, eq-eqb, ne_eqb}
 use Rattle.cov_base.specs.Choices.{is_on}
 use Rattle.cov_base.specs.declared.limits.TheConstants.{CHOICE_WIDTH}
-use Rattle.cov_base.proofs.CallerLemmas.{both_ways}
+use Rattle.cov_base.proofs.CallerLemmas.{both_ways, is_on-middle}
 use Rattle.cov_dd.specs.declared.triple.Triple.{Triple}
 use Rattle.cov_dd.specs.Diagrams.{diagram_size, entry_in, top, span, value_in, IsDiagram, IsEntry}
 use Rattle.cov_dd.proofs.CallerLemmas.{Order, above, below, level, ordered, canonical, entry_facts, top-most, value-constant}
@@ -73,10 +73,6 @@ decision_of-constant (suc n) o test b h =
     (λ j. decision_by o (decision_of-constant n (o + 1) (λ c. test (false ∷ c)) b (λ c. h (false ∷ c)) j) (decision_of-constant n (o + 1) (λ c. test (true ∷ c)) b (λ c. h (true ∷ c)) j))
     ∙ decision_by-same o (Leaf b)
 
-is_on-next : (before c : List Bool) (b : Bool) → is_on (before ++ b ∷ c) (length before) ≡ b
-is_on-next [] c b = refl
-is_on-next (x ∷ before) c b = is_on-next before c b
-
 -- no node has an option at or above the width of a choice
 span-most : (ts : List Triple) (a : ℕ) → IsDiagram ts → span ts a ≤ CHOICE_WIDTH
 span-most [] a d = omega arith
@@ -115,7 +111,7 @@ module _ (ts : List Triple) (d : IsDiagram ts) where
       child b = cond b t.on t.off
 
       read : (b : Bool) (c : List Bool) → value_in ts (child b) (before ++ b ∷ c) ≡ value_in ts a (before ++ b ∷ c)
-      read b c = sym (e.value (before ++ b ∷ c) ∙ ap (λ x. cond x (value_in ts t.on (before ++ b ∷ c)) (value_in ts t.off (before ++ b ∷ c))) (ap (is_on (before ++ b ∷ c)) (at ∙ sym long) ∙ is_on-next before c b) ∙ by b)
+      read b c = sym (e.value (before ++ b ∷ c) ∙ ap (λ x. cond x (value_in ts t.on (before ++ b ∷ c)) (value_in ts t.off (before ++ b ∷ c))) (ap (is_on (before ++ b ∷ c)) (at ∙ sym long) ∙ is_on-middle before c b) ∙ by b)
         where
           by : (x : Bool) → cond x (value_in ts t.on (before ++ b ∷ c)) (value_in ts t.off (before ++ b ∷ c)) ≡ value_in ts (child x) (before ++ b ∷ c)
           by true = refl

@@ -2,17 +2,18 @@
 use Rattle.std.proofs.Common.{◌≡◌, ℕ, zero, suc, ◌+◌, ◌<◌, ◌≤◌, Bool, true, false, cond, List, [], ◌∷◌, length, replicate, Option, Some, None, true≢false, refl, sym, ap, ◌∙◌, subst, arith}
 use Rattle.std.specs.Prelude.{slice_get, nat_eq, nat_lt, ◌&&◌}
 use Rattle.std.specs.List.{list_all}
-use Rattle.std.proofs.lemmas.Bool.{eqb-true, ltb-true}
+use Rattle.std.proofs.lemmas.Bool.{and_parts, eqb-true, ltb-true}
 use Rattle.std.proofs.lemmas.Option.{slice_get_within}
 use Rattle.cov_base.specs.Choices.{with_option}
-use Rattle.cov_dd.proofs.CallerLemmas.{Order, above, below, is_on-same, length-with_option, level, ordered}
+use Rattle.cov_base.proofs.CallerLemmas.{is_on-same, length-with_option}
+use Rattle.cov_dd.proofs.CallerLemmas.{Order, above, below, level, ordered}
 use Rattle.cov_base.specs.declared.limits.TheConstants.{CHOICE_WIDTH}
 use Rattle.cov_vis.specs.declared.listing.Child.{Child}
 use Rattle.cov_vis.specs.declared.listing.Child.TheVariants.{F, T, At}
 use Rattle.cov_vis.specs.declared.listing.ListingEntry.{ListingEntry}
 use Rattle.cov_vis.specs.Listings.{has_options_below, ListingValue, reads, reads_from, is_in_range, is_ordered, are_distinct, is_reduced, is_in_walk_order}
 use Rattle.cov_vis.specs.Counting.{count_walk, counted_on, counted_entry}
-use Rattle.cov_vis.proofs.Places.{and_left, and_right, get_some, some-same}
+use Rattle.cov_vis.proofs.Places.{get_some, some-same}
 use Rattle.cov_vis.proofs.Walking.{is_count, walk_by_count}
 use Rattle.cov_vis.proofs.Reading.{rank, rank_at, AreAbove, rank-most, unread, at_entry, above_from, distinct_at}
 
@@ -308,14 +309,14 @@ record IsKnown (l : ListingValue) : Type 0 where
 
 known : (l : ListingValue) → has_options_below CHOICE_WIDTH l ≡ true → is_reduced l ≡ true → IsKnown l
 known l small h = record {
-  ranked = root l.root (and_left _ _ h);
-  above = above_from l.entries small (and_left _ _ rest);
-  distinct = and_left _ _ (and_right _ _ rest);
-  walked = counted (count_walk l.entries CHOICE_WIDTH l.root 0) (walk_by_count l ∙ and_right _ _ (and_right _ _ rest));
+  ranked = root l.root (and_parts _ _ h).0;
+  above = above_from l.entries small (and_parts _ _ rest).0;
+  distinct = (and_parts _ _ (and_parts _ _ rest).1).0;
+  walked = counted (count_walk l.entries CHOICE_WIDTH l.root 0) (walk_by_count l ∙ (and_parts _ _ (and_parts _ _ rest).1).1);
 }
   where
     rest : (list_all (is_ordered l.entries) l.entries && (are_distinct l.entries && is_in_walk_order l)) ≡ true
-    rest = and_right (is_in_range l.entries l.root) _ h
+    rest = (and_parts (is_in_range l.entries l.root) _ h).1
 
     root : (x : Child) → is_in_range l.entries x ≡ true → 0 < rank l.entries x
     root F h = omega arith

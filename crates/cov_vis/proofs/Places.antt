@@ -1,14 +1,6 @@
 -- What stands at an index of a list.
-use Rattle.std.proofs.Common.{◌≡◌, ℕ, zero, suc, ◌<◌, Bool, true, false, List, [], ◌∷◌, ◌++◌, length, Some, refl, ap, inl, inr, ◌⊎◌, arith}
-use Rattle.std.specs.Prelude.{slice_get, ◌&&◌}
-
-pub and_left : (a b : Bool) → (a && b) ≡ true → a ≡ true
-and_left true b h = refl
-and_left false b h = absurd (cc)
-
-pub and_right : (a b : Bool) → (a && b) ≡ true → b ≡ true
-and_right true b h = h
-and_right false b h = absurd (cc)
+use Rattle.std.proofs.Common.{◌≡◌, ℕ, zero, suc, ◌<◌, List, [], ◌∷◌, ◌++◌, length, Some, refl, ap, inl, inr, ◌⊎◌, arith}
+use Rattle.std.specs.Prelude.{slice_get}
 
 module _ {A : Type 0} where
   pub get_left : (xs ys : List A) (j : ℕ) (z : A) → slice_get xs j ≡ Some z → slice_get (xs ++ ys) j ≡ Some z

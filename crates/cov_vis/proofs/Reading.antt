@@ -2,16 +2,15 @@
 use Rattle.std.proofs.Common.{◌≡◌, ◌≢◌, ℕ, zero, suc, ◌+◌, ◌<◌, ◌≤◌, Bool, true, false, cond, List, [], ◌∷◌, Option, Some, None, true≢false, refl, sym, ap, ◌∙◌, arith}
 use Rattle.std.specs.Prelude.{slice_get, nat_lt, ◌&&◌, ◌||◌, not}
 use Rattle.std.specs.List.{list_any, list_all}
-use Rattle.std.proofs.lemmas.Bool.{eqb-true, eq-eqb, ltb-true}
+use Rattle.std.proofs.lemmas.Bool.{and_parts, eqb-true, eq-eqb, ltb-true}
 use Rattle.std.proofs.Math.Bool.{or-true}
 use Rattle.cov_base.specs.Choices.{is_on, with_option}
-use Rattle.cov_dd.proofs.CallerLemmas.{is_on-other}
+use Rattle.cov_base.proofs.CallerLemmas.{is_on-other}
 use Rattle.cov_base.specs.declared.limits.TheConstants.{CHOICE_WIDTH}
 use Rattle.cov_vis.specs.declared.listing.Child.{Child}
 use Rattle.cov_vis.specs.declared.listing.Child.TheVariants.{F, T, At}
 use Rattle.cov_vis.specs.declared.listing.ListingEntry.{ListingEntry}
 use Rattle.cov_vis.specs.Listings.{reads_from, followed, option_above, is_below, is_ordered, same_child, same_entry, are_distinct}
-use Rattle.cov_vis.proofs.Places.{and_left, and_right}
 
 -- one more than the option of an entry, above all options for false and true, 0 where there is no entry
 abbrev pub rank_at : Option ListingEntry → ℕ
@@ -115,16 +114,16 @@ not_true true h = absurd (true≢false (sym h))
 -- what holds of all entries holds of each
 pub all_at : (p : ListingEntry → Bool) (es : List ListingEntry) (i : ℕ) (e : ListingEntry) → list_all p es ≡ true → slice_get es i ≡ Some e → p e ≡ true
 all_at p [] i e h at = absurd (cc)
-all_at p (f ∷ es) zero e h at = let same : f ≡ e = cc in ap p (sym same) ∙ and_left (p f) (list_all p es) h
-all_at p (f ∷ es) (suc i) e h at = all_at p es i e (and_right (p f) (list_all p es) h) at
+all_at p (f ∷ es) zero e h at = let same : f ≡ e = cc in ap p (sym same) ∙ (and_parts (p f) (list_all p es) h).0
+all_at p (f ∷ es) (suc i) e h at = all_at p es i e (and_parts (p f) (list_all p es) h).1 at
 
 -- ordered entries of options below CHOICE_WIDTH
 pub above_from : (es : List ListingEntry) → list_all (λ e. nat_lt e.option CHOICE_WIDTH) es ≡ true → list_all (is_ordered es) es ≡ true → AreAbove es
 above_from es small h i e at = record {
   small = few;
-  off_below = below e.off (and_left (is_below es e.option e.off) _ all);
-  on_below = below e.on (and_left (is_below es e.option e.on) _ rest);
-  differ = λ same. true≢false (sym (ap (same_child e.off) (sym same) ∙ same_child-self e.off) ∙ not_true (same_child e.off e.on) (and_right (is_below es e.option e.on) _ rest));
+  off_below = below e.off (and_parts (is_below es e.option e.off) _ all).0;
+  on_below = below e.on (and_parts (is_below es e.option e.on) _ rest).0;
+  differ = λ same. true≢false (sym (ap (same_child e.off) (sym same) ∙ same_child-self e.off) ∙ not_true (same_child e.off e.on) (and_parts (is_below es e.option e.on) _ rest).1);
 }
   where
     few : e.option < CHOICE_WIDTH
@@ -134,7 +133,7 @@ above_from es small h i e at = record {
     all = all_at (is_ordered es) es i e h at
 
     rest : (is_below es e.option e.on && not (same_child e.off e.on)) ≡ true
-    rest = and_right (is_below es e.option e.off) _ all
+    rest = (and_parts (is_below es e.option e.off) _ all).1
 
     below_at : (o : Option ListingEntry) → option_above e.option o ≡ true → suc e.option < rank_at o
     below_at None h = absurd (true≢false (sym h))
@@ -162,6 +161,6 @@ first_apart f es j e d s k = true≢false (sym (entry_found f es j (k ∙ sym s)
 pub distinct_at : (es : List ListingEntry) (i j : ℕ) (e : ListingEntry) → are_distinct es ≡ true → slice_get es i ≡ Some e → slice_get es j ≡ Some e → i ≡ j
 distinct_at [] i j e d h k = absurd (cc)
 distinct_at (f ∷ es) zero zero e d h k = refl
-distinct_at (f ∷ es) zero (suc j) e d h k = absurd (first_apart f es j e (and_left _ _ d) h k)
-distinct_at (f ∷ es) (suc i) zero e d h k = absurd (first_apart f es i e (and_left _ _ d) k h)
-distinct_at (f ∷ es) (suc i) (suc j) e d h k = ap suc (distinct_at es i j e (and_right _ _ d) h k)
+distinct_at (f ∷ es) zero (suc j) e d h k = absurd (first_apart f es j e (and_parts _ _ d).0 h k)
+distinct_at (f ∷ es) (suc i) zero e d h k = absurd (first_apart f es i e (and_parts _ _ d).0 k h)
+distinct_at (f ∷ es) (suc i) (suc j) e d h k = ap suc (distinct_at es i j e (and_parts _ _ d).1 h k)

@@ -5,7 +5,7 @@ use Rattle.std.specs.Cmp.Lexicographic.{pointwise}
 use Rattle.std.specs.List.{list_any, list_all, range_with_len}
 use Rattle.std.proofs.lemmas.Bool.{eqb-true, eqb-false, eq-eqb, ltb-true, ltb-false, lt-ltb, le-ltb}
 use Rattle.std.proofs.lemmas.Slice.Eq.{bytes_eq-Decides}
-use Rattle.cov_base.proofs.CallerLemmas.{both_ways}
+use Rattle.cov_base.proofs.CallerLemmas.{any-push, both_ways}
 use Rattle.cov_base.specs.declared.limits.TheConstants.{CHOICE_WIDTH}
 use Rattle.cov_vis.specs.declared.listing.Child.{Child}
 use Rattle.cov_vis.specs.declared.listing.Child.TheVariants.{F, T, At}
@@ -39,18 +39,6 @@ pub below-get : (n j i : ℕ) → slice_get (numbers_below n) j ≡ Some i → i
 below-get zero j i h = absurd (cc)
 below-get (suc n) j i h = elim (get_push (numbers_below n) n j i h) [ inl g ↦ below-get n j i g | inr g ↦ sym g.1 ∙ sym (length-below n) ∙ sym g.0 ]
 
-or_false : (b : Bool) → (b || false) ≡ b
-or_false true = refl
-or_false false = refl
-
-or_assoc : (a b c : Bool) → (a || (b || c)) ≡ ((a || b) || c)
-or_assoc true b c = refl
-or_assoc false b c = refl
-
-pub any_push : (i k : ℕ) (xs : List ℕ) → list_any (nat_eq i) (xs ++ k ∷ []) ≡ (list_any (nat_eq i) xs || nat_eq i k)
-any_push i k [] = or_false (nat_eq i k)
-any_push i k (x ∷ xs) = ap (λ b. nat_eq i x || b) (any_push i k xs) ∙ or_assoc (nat_eq i x) (list_any (nat_eq i) xs) (nat_eq i k)
-
 below_more : (i k : ℕ) → (nat_lt i k || nat_eq i k) ≡ nat_lt i (suc k)
 below_more i k = by (nat_lt i k) (nat_eq i k) refl refl
   where
@@ -61,7 +49,7 @@ below_more i k = by (nat_lt i k) (nat_eq i k) refl refl
 
 pub any_below : (i k : ℕ) → list_any (nat_eq i) (numbers_below k) ≡ nat_lt i k
 any_below i zero = sym (le-ltb i 0 (omega arith))
-any_below i (suc k) = any_push i k (numbers_below k) ∙ ap (λ b. b || nat_eq i k) (any_below i k) ∙ below_more i k
+any_below i (suc k) = any-push (nat_eq i) (numbers_below k) k ∙ ap (λ b. b || nat_eq i k) (any_below i k) ∙ below_more i k
 
 -- what was met: the numbers below the count, or a list that isn't 0, 1, 2 and so on
 abbrev Meets : List ℕ → Option ℕ → Type 0

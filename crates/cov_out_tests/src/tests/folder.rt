@@ -10,6 +10,7 @@ const OUTSIDE: [&[u8]; 9] = [
 
 #[test]
 fn writes_below_the_folder(rt: HostRuntime) -> Result<(), Fail> {
+    // There is none but after a run that was cut short.
     let _ = fs::remove_dir_all(&rt, "trees");
     let mut trees = FolderTrees::new(&rt);
     assert!(rt; fs::metadata(&rt, "trees").is_err());

@@ -9,7 +9,7 @@ ghost use Rattle.cov_edit.specs.History.{option_count, first_false_in};
 ghost use Rattle.cov_edit.specs.declared.command.Command.{Command as AnyCommand};
 ghost use Rattle.cov_history.specs.Completing.{completed_in};
 ghost use Rattle.cov_session.specs.Adding.{IsAdditionFault};
-ghost use Rattle.cov_session.specs.Calls.{IsFaultOf};
+ghost use Rattle.cov_session.specs.Calls.{IsSessionFaultOf};
 ghost use Rattle.cov_session.specs.Faults.{by_loss};
 ghost use Rattle.cov_session.specs.Open.{SessionValue, IsOpen};
 ghost use Rattle.cov_session.specs.Opening.{NamesDeclared};
@@ -38,7 +38,7 @@ impl OpenSession {
         ensures name { self.new.name ≡ self.old.name }
         ensures refreshed { OnOk result (refreshed engine.old.history self.old.session ≡ Ok self.new.session) }
         ensures open { OnOk result (IsOpen engine.old.history self.new) }
-        ensures refused { IfErr result (IsFaultOf (refreshed engine.old.history self.old.session)) }
+        ensures refused { IfErr result (IsSessionFaultOf (refreshed engine.old.history self.old.session)) }
         ensures declared { IfErr result (NamesDeclared (option_count engine.old.history)) }
         ensures same { OnErr result (self.new ≡ self.old) }
     {
@@ -59,7 +59,7 @@ impl OpenSession {
         ensures count { IfOk result (λ choice. length choice ≡ option_count engine.old.history) }
         ensures valid { IfOk result (λ choice. first_false_in engine.old.history choice ≡ None) }
         ensures inside { IfOk result (λ choice. value self.now.session.ambition choice ≡ true) }
-        ensures refused { IfErr result (IsFaultOf (refreshed engine.old.history self.now.session)) }
+        ensures refused { IfErr result (IsSessionFaultOf (refreshed engine.old.history self.now.session)) }
         ensures declared { IfErr result (NamesDeclared (option_count engine.old.history)) }
     {
         open_options_are_declared();

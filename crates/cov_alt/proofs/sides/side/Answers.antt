@@ -1,5 +1,5 @@
 use Rattle.std.proofs.Common.{length, ap, ◌∙◌, arith}
-use Rattle.cov_dd.proofs.CallerLemmas.{length-with_option}
+use Rattle.cov_base.proofs.CallerLemmas.{length-with_option}
 use Rattle.cov_alt.proofs.sides.side.Goals as goal
 
 pub valid-requires : goal.valid-requires

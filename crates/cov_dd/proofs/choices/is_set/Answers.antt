@@ -1,6 +1,6 @@
 use Rattle.std.proofs.Common.{arith, sym, ◌∙◌}
 use Rattle.std.proofs.lemmas.Bool.{le-ltb}
-use Rattle.cov_dd.proofs.Settings.{is_on-above}
+use Rattle.cov_base.proofs.CallerLemmas.{is_on-above}
 use Rattle.cov_dd.proofs.choices.is_set.Goals as goal
 
 pub returns-else-number-count : goal.returns-else-number-count

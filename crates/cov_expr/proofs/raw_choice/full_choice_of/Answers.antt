@@ -3,7 +3,9 @@ use Rattle.std.proofs.lemmas.Bool.{not-true, not-false}
 use Rattle.std.specs.Str.{bytes_eq}
 use Rattle.std.specs.Cmp.Lexicographic.{pointwise}
 use Rattle.cov_base.specs.Choices.{bits_of, with_option}
-use Rattle.cov_expr.proofs.FullChoices.{length-bits_of, length-with_option, with_option-next, names_next, full_choice-differs, full_choice-same}
+use Rattle.cov_base.specs.Bits.{length-bits_of}
+use Rattle.cov_base.proofs.CallerLemmas.{length-with_option}
+use Rattle.cov_expr.proofs.FullChoices.{with_option-next, names_next, full_choice-differs, full_choice-same}
 use Rattle.cov_expr.proofs.raw_choice.full_choice_of.Goals as goal
 
 pub loop-number-init : goal.loop-number-init

@@ -4,7 +4,8 @@ use Rattle.cov_base.specs.Lines.{lines_of}
 use Rattle.cov_loop.specs.Keeping.{IsEither, Reaches}
 use Rattle.cov_loop.specs.Turns.{output}
 use Rattle.cov_loop.proofs.Kept.{keeps_none, line_keeps, nothing_added, reaches_first}
-use Rattle.cov_loop.proofs.Moments.{left_now, weakened}
+use Rattle.cov_disk.proofs.CallerLemmas.{weakened}
+use Rattle.cov_loop.proofs.Moments.{left_now}
 use Rattle.cov_loop.proofs.Turning.{fault_turn, line_turn, next_line, next_long, turn_stopped}
 use Rattle.cov_loop.proofs.turn.serve_next.Goals as goal
 

@@ -1,5 +1,6 @@
+use Rattle.std.proofs.lemmas.Result.{on_ok_weaker}
 use Rattle.cov_dd.proofs.CallerLemmas.{extends_trans}
-use Rattle.cov_tree.proofs.Rows.{on_ok, within-grown}
+use Rattle.cov_tree.proofs.Rows.{within-grown}
 use Rattle.cov_tree.proofs.Parts.{adds_outside}
 use Rattle.cov_tree.proofs.parting.add_outside.Goals as goal
 
@@ -11,7 +12,7 @@ returns-clause-extends c = extends_trans c.args.table.now c.without.new.self c.a
 
 pub returns-clause-ok : goal.returns-clause-ok
 returns-clause-ok c =
-    on_ok c.add_place.result _ _
+    on_ok_weaker c.add_place.result
     (adds_outside c.args.table.now c.without.new.self c.add_place.new.table c.in_ok-vis.ensures.extends c.args.made.now c.add_place.new.made c.args.place.now c.in_ok-vis.vis c.args.ambition
     c.requires.made c.in_ok-vis.ensures.stands.value)
     c.add_place.ensures.ok

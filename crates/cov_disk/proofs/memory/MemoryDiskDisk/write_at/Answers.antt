@@ -1,7 +1,8 @@
 use Rattle.std.proofs.Common.{length, subst}
 use Rattle.cov_disk.specs.Images.{Torn, Follows}
 use Rattle.cov_disk.specs.Kept.{IsImageNow}
-use Rattle.cov_disk.specs.InMemory.{DiskState, counted, Misses}
+use Rattle.cov_io.specs.InMemory.{counted}
+use Rattle.cov_disk.specs.InMemory.{DiskState, Misses}
 use Rattle.cov_disk.proofs.memory.MemoryDiskDisk.write_at.Goals as goal
 
 pub returns-then-next_fails-clause-crash : goal.returns-then-next_fails-clause-crash

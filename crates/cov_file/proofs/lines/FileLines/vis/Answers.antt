@@ -1,10 +1,11 @@
-use Rattle.std.proofs.Common.{◌≡◌, ◌∙◌, ◌≤◌, sym, ap, subst, true, false, Some}
+use Rattle.std.proofs.Common.{◌≡◌, ◌∙◌, ◌≤◌, nat_eq, sym, ap, subst, true, false, Some}
 use Rattle.std.specs.Map.{keys_of}
+use Rattle.cov_base.proofs.CallerLemmas.{none-placed}
 use Rattle.cov_order.specs.Orders.{has_line}
 use Rattle.cov_file.specs.Dated.{newest_of, vis_of}
 use Rattle.cov_file.specs.Listing.{vis_in}
 use Rattle.cov_file.specs.Rooms.{DatedFile}
-use Rattle.cov_file.proofs.Nodes.{node_there, there, missing, length-keys}
+use Rattle.cov_file.proofs.Nodes.{node_there, there, length-keys}
 use Rattle.cov_file.proofs.Shown.{newest_there, newest_none, latest_there, latest_none}
 use Rattle.cov_file.proofs.lines.FileLines.vis.Goals as goal
 use Rattle.cov_file.proofs.lines.FileLines.vis.Goals.{In-None, After-get}
@@ -13,7 +14,7 @@ has : (c : After-get) → has_line c.args.line c.self.inside.order.lines ≡ tru
 has c = c.self.invariant.keys c.args.line ∙ there c.args.line (keys_of c.self.inside.texts.entries) c.in-Some.index (sym c.get_index_of.ensures.index ∙ c.in-Some.is)
 
 lacks : (c : In-None) → has_line c.args.line c.self.inside.order.lines ≡ false
-lacks c = c.self.invariant.keys c.args.line ∙ missing c.args.line (keys_of c.self.inside.texts.entries) (sym c.get_index_of.ensures.index ∙ c.in-None.is)
+lacks c = c.self.invariant.keys c.args.line ∙ none-placed (nat_eq c.args.line) (keys_of c.self.inside.texts.entries) (sym c.get_index_of.ensures.index ∙ c.in-None.is)
 
 read : (c : After-get) → c.get.result ≡ Some (vis_in (keys_of c.self.inside.texts.entries) c.self.inside.lists.newest c.args.line)
 read c =

@@ -3,7 +3,8 @@ use Rattle.cov_disk.specs.Images.{Written}
 use Rattle.cov_journal.specs.Journal.{State, Fits, FitsState, IsWritten, body, next_digest}
 use Rattle.cov_journal.specs.Gates.{HasGate}
 use Rattle.cov_journal.proofs.Anew.{appended_gate}
-use Rattle.cov_journal.proofs.Moments.{joined, weakened, told_after, all_after}
+use Rattle.cov_disk.proofs.CallerLemmas.{joined, weakened}
+use Rattle.cov_journal.proofs.Moments.{told_after, all_after}
 use Rattle.cov_journal.proofs.Records.{fits_push}
 use Rattle.cov_journal.proofs.Appending.{IsStaged, torn_behind, staged_behind, torn_gate, written_gate}
 use Rattle.cov_journal.proofs.journal.Journal.append.Goals as goal

@@ -1,10 +1,10 @@
 use Rattle.std.proofs.Common.{◌≡◌, sym, ap, subst, ◌∙◌}
+use Rattle.std.proofs.lemmas.Result.{IfErr-weaker, IfOk-weaker}
 use Rattle.cov_dd.proofs.CallerLemmas.{extends_trans}
 use Rattle.cov_rules.specs.Completion.{has_any, agreeing, IsRefusalBy, IsSet}
 use Rattle.cov_rules.proofs.Completed.{valid, left, invalid, answered, left_any, agreeing_found, valid_found}
 use Rattle.cov_rules.proofs.Holding.{holds_later}
 use Rattle.cov_rules.proofs.Narrowing.{set_later}
-use Rattle.cov_rules.proofs.Opening.{if_ok_also, if_err_also}
 use Rattle.cov_rules.proofs.rules.Rules.complete.Goals as goal
 use Rattle.cov_rules.proofs.rules.Rules.complete.Goals.{After-and, After-is_met, In-Ok-left}
 
@@ -72,11 +72,11 @@ only_choice-requires-clause-some c cs is =
 pub returns-clause-complete : goal.returns-clause-complete
 returns-clause-complete c =
     let at = goal.at.returns-clause-complete c in
-    if_ok_also c.only_choice.result _ _
+    IfOk-weaker c.only_choice.result _ _
     (λ choice h. answered c.args.count c.args.self.now.standing c.args.partial.now (found at.After-is_met ∙ c.if-not-is_met.false) ∙ h _ (lefts at.In-Ok-left (valids at.After-is_met))) c.only_choice.ensures.complete
 
 pub returns-clause-refused : goal.returns-clause-refused
 returns-clause-refused c =
     let at = goal.at.returns-clause-refused c in
-    if_err_also c.only_choice.result _ _
+    IfErr-weaker c.only_choice.result _ _
     (λ fault h. subst (λ a. IsRefusalBy a fault) (sym (answered c.args.count c.args.self.now.standing c.args.partial.now (found at.After-is_met ∙ c.if-not-is_met.false))) (h _ (lefts at.In-Ok-left (valids at.After-is_met)))) c.only_choice.ensures.refused

@@ -1,10 +1,10 @@
 use Rattle.std.proofs.Common.{◌≡◌, ℕ, ◌≤◌, Bool, List, sym, ap, subst, ◌∙◌}
+use Rattle.std.proofs.lemmas.Result.{IfOk-weaker}
 use Rattle.cov_dd.proofs.CallerLemmas.{extends_trans}
 use Rattle.cov_rules.specs.Completion.{fallbacks, keep_all, IsSet}
 use Rattle.cov_rules.specs.Installing.{RulesValue, expressions, reach_of, literal, AllStand}
 use Rattle.cov_rules.specs.declared.rules.Fallback.{Fallback}
 use Rattle.cov_rules.proofs.Holding.{all_stand_later}
-use Rattle.cov_rules.proofs.Opening.{if_ok_also}
 use Rattle.cov_rules.proofs.rules.Rules.left.Goals as goal
 
 pub left_after-requires-2-clause-wishes : goal.left_after-requires-2-clause-wishes
@@ -22,7 +22,7 @@ returns-clause-kept c =
     let vs = c.left_after-2.new.table in
     let prefers : c.as_slice.result.now ≡ s.preferences = c.as_slice.ensures.value ∙ ap (λ (v : RulesValue). v.standing.preferences) c.self.view_is in
     let falls : c.as_slice-2.result.now ≡ s.defaults = c.as_slice-2.ensures.value ∙ ap (λ (v : RulesValue). v.standing.defaults) c.self.view_is in
-    if_ok_also c.left_after-2.result
+    IfOk-weaker c.left_after-2.result
     (λ r. (count : ℕ) (cs : List (List Bool)) → IsSet us c.in_ok-preferred.preferred count cs → reach_of (fallbacks c.as_slice-2.result.now) ≤ count → IsSet vs r count (keep_all cs (fallbacks c.as_slice-2.result.now)))
     (λ r. (count : ℕ) (cs : List (List Bool)) → IsSet c.args.table.now c.args.node count cs → reach_of (expressions s.preferences) ≤ count → reach_of (fallbacks s.defaults) ≤ count
     → IsSet vs r count (keep_all (keep_all cs (expressions s.preferences)) (fallbacks s.defaults)))

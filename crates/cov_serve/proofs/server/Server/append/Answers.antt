@@ -4,7 +4,7 @@ use Rattle.cov_edit.specs.declared.command.Command.{Command}
 use Rattle.cov_engine.specs.States.{EngineValue}
 use Rattle.cov_history.specs.Verdict.{RefusedBy, verdict}
 use Rattle.cov_session.specs.Open.{as_named}
-use Rattle.cov_store.specs.Applying.{HandsBack, IsRefusedBy, OnRefused}
+use Rattle.cov_store.specs.Applying.{HandsBack, IsRefusedBy, OnCommandRefused}
 use Rattle.cov_store.specs.Stands.{IsStored}
 use Rattle.cov_store.specs.declared.store.ApplyFault.{ApplyFault}
 use Rattle.cov_serve.specs.Acting.{Stops}
@@ -63,14 +63,14 @@ returns-in-Err-Refused-clause-changes g c =
 
 pub returns-in-Err-Refused-clause-any_moment : goal.returns-in-Err-Refused-clause-any_moment
 returns-in-Err-Refused-clause-any_moment g c = λ all.
-    let same = subst (λ (fault : ApplyFault). OnRefused fault (c.apply.new.disk ≡ c.args.disk.now)) c.in-Err-Refused.field-0-is c.in-Err-Refused.ensures.same in
+    let same = subst (λ (fault : ApplyFault). OnCommandRefused fault (c.apply.new.disk ≡ c.args.disk.now)) c.in-Err-Refused.field-0-is c.in-Err-Refused.ensures.same in
     leaves-same g.D.Disk.moment g.D.Disk.images_since g.D.Disk.images c.args.disk.now c.apply.new.disk (g.met.D.Disk.only_now c.args.disk.now) same c.args.self
     (λ image. IsStored image (grown c.args.self.history c.args.command)) all
 
 pub returns-in-Err-Refused-clause-durable : goal.returns-in-Err-Refused-clause-durable
 returns-in-Err-Refused-clause-durable g c = λ all image now.
     let back = subst (λ (fault : ApplyFault). HandsBack c.from_parts.result fault) c.in-Err-Refused.field-0-is c.in-Err-Refused.ensures.back in
-    let same = subst (λ (fault : ApplyFault). OnRefused fault (c.apply.new.disk ≡ c.args.disk.now)) c.in-Err-Refused.field-0-is c.in-Err-Refused.ensures.same in
+    let same = subst (λ (fault : ApplyFault). OnCommandRefused fault (c.apply.new.disk ≡ c.args.disk.now)) c.in-Err-Refused.field-0-is c.in-Err-Refused.ensures.same in
     let base : c.from_parts.result.history ≡ c.args.self.history = ap (λ (e : EngineValue). e.history) c.from_parts.ensures ∙ ap (λ (st : State). st.history) (c.state.view_is ∙ c.self.view_is) in
     subst (λ (h : List Command). IsStored image h) (sym (ap (λ (st : State). st.history) c.of_parts-in-Err-Refused.ensures ∙ back.0 ∙ base))
     (all image (subst (λ disk. g.D.Disk.images disk image) same now))

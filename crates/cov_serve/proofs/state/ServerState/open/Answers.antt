@@ -1,6 +1,6 @@
 use Rattle.std.proofs.Common.{◌≡◌, ◌∙◌, sym, ap, subst, length, map, arith}
 use Rattle.cov_edit.specs.History.{option_count}
-use Rattle.cov_session.specs.Calls.{IsFaultOf, opened_among}
+use Rattle.cov_session.specs.Calls.{IsSessionFaultOf, opened_among}
 use Rattle.cov_session.specs.Open.{as_named}
 use Rattle.cov_session.specs.Opening.{NamesDeclared}
 use Rattle.cov_serve.specs.Acting.{Acts, Stops}
@@ -31,7 +31,7 @@ returns-in_err-opened c =
     (subst (λ wanted. Stops wanted st new (session_stop fault)) (sym (begun-as st name c.args.choice.now c.args.ambition.now partial within bound expr))
     (stops-later (by_code session_code (opened_among st.history st.sessions name partial within)) (with_opened st name c.args.choice.now c.args.ambition.now partial within bound expr) st new (session_stop fault)
     (fault-stops (opened_among st.history st.sessions name partial within) st new fault same
-    (subst (λ (t : State). IsFaultOf (opened_among t.history t.sessions name partial within) fault) c.self.view_is c.in_err-opened.ensures.refused)
+    (subst (λ (t : State). IsSessionFaultOf (opened_among t.history t.sessions name partial within) fault) c.self.view_is c.in_err-opened.ensures.refused)
     (subst (λ (t : State). NamesDeclared (option_count t.history) fault) c.self.view_is c.in_err-opened.ensures.declared))))
 
 pub reply_open-requires : goal.reply_open-requires

@@ -1,7 +1,7 @@
 use Rattle.std.proofs.Common.{◌∙◌, subst, List, map, Some, sym, ap, ◌∷◌, [], is_some, option_map, true≢false}
 use Rattle.std.specs.Option.{option_copied_mut}
 use Rattle.cov_edit.specs.declared.command.Command.{Command}
-use Rattle.cov_session.specs.Calls.{AreOpen, IsFaultOf, taken}
+use Rattle.cov_session.specs.Calls.{AreOpen, IsSessionFaultOf, taken}
 use Rattle.cov_session.specs.Counting.{line_made}
 use Rattle.cov_session.specs.Open.{NamedSession, as_named, IsOpen}
 use Rattle.cov_session.proofs.Changing.{there-is, changed-kept}
@@ -25,7 +25,7 @@ returns-in_err-edit-clause-open c = λ history are.
 
 pub returns-in_err-edit-clause-refused : goal.returns-in_err-edit-clause-refused
 returns-in_err-edit-clause-refused c =
-    passed-on (λ fault. (history : List Command) → AreOpen history c.args.self.now → IsFaultOf (taken history (map as_named c.args.self.now) c.args.name.now (c.args.edit ∷ [])) fault)
+    passed-on (λ fault. (history : List Command) → AreOpen history c.args.self.now → IsSessionFaultOf (taken history (map as_named c.args.self.now) c.args.name.now (c.args.edit ∷ [])) fault)
     c.in_err-edit.field-0.0 c.from_residual.result c.from_residual.ensures.1
     (refuses c.self.inside.keys.entries c.self.inside.sessions c.args.name.now c.self.invariant c.args.self.now c.self.view_is c.in-Some.key (sym c.in-Some.ensures) c.in-Some-get_mut.session.now (sym c.in-Some-get_mut.ensures.value)
     (c.args.edit ∷ []) c.in_err-edit.field-0.0 c.in_err-edit.ensures.refused)

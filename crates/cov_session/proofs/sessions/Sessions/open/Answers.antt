@@ -1,7 +1,7 @@
 use Rattle.std.proofs.Common.{◌≡◌, ◌∙◌, sym, ap, subst, ◌<◌, ◌≤◌, false, length, map, is_some, arith}
 use Rattle.std.specs.Map.{lookup}
 use Rattle.std.proofs.lemmas.Bool.Decides.{nat_tests}
-use Rattle.cov_session.specs.Calls.{IsFaultOf, opened_among}
+use Rattle.cov_session.specs.Calls.{IsSessionFaultOf, opened_among}
 use Rattle.cov_session.specs.Kept.{AreKept}
 use Rattle.cov_session.specs.Open.{as_named}
 use Rattle.cov_session.specs.declared.sessions.TheConstants.{MOST_SESSIONS}
@@ -38,7 +38,7 @@ returns-in_err-session-clause-refused c =
     let keys = c.self.inside.keys.entries in
     let free : is_some (lookup (is_of c.args.name) keys) ≡ false = ap (λ n. is_some (lookup (is_of n) keys)) (sym c.as_slice.ensures.bytes) ∙ sym c.contains_key.ensures ∙ c.if-contains_key.false in
     let few : length keys < MOST_SESSIONS = let n = c.len.ensures.len in let b = c.if-len-ge-MOST_SESSIONS.false in grind (arith, nat_tests, n, b) in
-    passed-on (IsFaultOf (opened_among c.args.engine.now.history (map as_named c.args.self.now) c.args.name c.args.partial.now c.args.ambition)) c.in_err-session.field-0.0 c.from_residual-in_err-session.result
+    passed-on (IsSessionFaultOf (opened_among c.args.engine.now.history (map as_named c.args.self.now) c.args.name c.args.partial.now c.args.ambition)) c.in_err-session.field-0.0 c.from_residual-in_err-session.result
     c.from_residual-in_err-session.ensures.1 (not_opened c.self.inside.keys.entries c.self.inside.sessions c.args.name c.self.invariant c.args.self.now c.self.view_is c.args.engine.now.history c.args.partial.now c.args.ambition free few c.in_err-session.field-0.0 c.in_err-session.ensures.refused)
 
 pub invariant_of-self-2 : goal.invariant_of-self-2

@@ -1,6 +1,6 @@
 use Rattle.std.proofs.Common.{◌∙◌, sym, ap, map, is_some, true≢false}
 use Rattle.std.specs.Option.{option_copied_mut}
-use Rattle.cov_session.specs.Calls.{IsFaultOf, refreshed_among}
+use Rattle.cov_session.specs.Calls.{IsSessionFaultOf, refreshed_among}
 use Rattle.cov_session.specs.Open.{as_named}
 use Rattle.cov_session.proofs.Changing.{there-is, changed-kept}
 use Rattle.cov_session.proofs.Faulting.{passed-on}
@@ -23,7 +23,7 @@ refresh-requires c = record {
 
 pub returns-in_err-refresh-clause-refused : goal.returns-in_err-refresh-clause-refused
 returns-in_err-refresh-clause-refused c =
-    passed-on (IsFaultOf (refreshed_among c.args.engine.now.history (map as_named c.args.self.now) c.args.name.now)) c.in_err-refresh.field-0.0 c.from_residual.result c.from_residual.ensures.1
+    passed-on (IsSessionFaultOf (refreshed_among c.args.engine.now.history (map as_named c.args.self.now) c.args.name.now)) c.in_err-refresh.field-0.0 c.from_residual.result c.from_residual.ensures.1
     (refuses-refresh c.self.inside.keys.entries c.self.inside.sessions c.args.name.now c.self.invariant c.args.self.now c.self.view_is c.in-Some.key (sym c.in-Some.ensures) c.in-Some-get_mut.session.now (sym c.in-Some-get_mut.ensures.value)
     c.args.engine.now.history c.in_err-refresh.field-0.0 c.in_err-refresh.ensures.refused)
 

@@ -1,14 +1,14 @@
 use Rattle.std.proofs.Common.{◌≡◌, Some, IfSome, [], ◌∷◌, ◌++◌, subst, sym, ap, ◌∙◌}
 use Rattle.std.specs.Prelude.{OnOk, OnErr}
 use Rattle.std.proofs.lemmas.List.{map-append}
+use Rattle.std.proofs.lemmas.Result.{on_err_weaker, on_ok_weaker}
 use Rattle.cov_base.specs.Rows.{Created, has_node, AreDistinct}
 use Rattle.cov_dd.proofs.CallerLemmas.{extends_none}
 use Rattle.cov_tree.specs.declared.entry.Entry.{Entry}
 use Rattle.cov_tree.specs.Dated.{planned}
 use Rattle.cov_tree.specs.Entries.{nodes_of, kinds_of}
 use Rattle.cov_tree.specs.Shifts.{place_at, Becomes}
-use Rattle.cov_tree.proofs.Made.{stays_with, made_with, alike_with}
-use Rattle.cov_tree.proofs.Rows.{on_ok, on_err}
+use Rattle.cov_tree.proofs.PlannedChange.{stays_with, made_with, alike_with}
 use Rattle.cov_tree.proofs.Once.{fresh_there}
 use Rattle.cov_tree.proofs.Plans.{created_behind, distinct_behind, by_result}
 use Rattle.cov_tree.proofs.plan.EntryPlan.created.Goals as goal
@@ -32,14 +32,14 @@ invariant_of-self c =
 becomes : (c : After-add_entry) → OnOk c.add_entry.result
     (Becomes c.args.table.now c.args.table.now (planned c.args.self.now c.args.entries.now.newest) c.add_entry.new.list.items (Created c.args.node c.args.kind c.args.parent c.args.name.now) c.args.ambition)
 becomes c =
-    on_ok c.add_entry.result (c.add_entry.new.list.items ≡ c.in-Some.list.items ++ new_entry c ∷ []) _
+    on_ok_weaker {P = (c.add_entry.new.list.items ≡ c.in-Some.list.items ++ new_entry c ∷ [])} c.add_entry.result
     (λ is.
     created_behind c.args.table.now (planned c.args.self.now c.args.entries.now.newest) c.add_entry.new.list.items c.args.node c.args.kind c.args.parent c.args.name.now c.args.ambition
     c.requires.may.within c.requires.may.ambition (is ∙ ap (λ es. es ++ new_entry c ∷ []) (list_is c)))
     c.add_entry.ensures.ok
 
 stays : (c : After-add_entry) → OnErr c.add_entry.result (c.add_entry.new.list.items ≡ planned c.args.self.now c.args.entries.now.newest)
-stays c = on_err c.add_entry.result (c.add_entry.new.list.items ≡ c.in-Some.list.items) _ (λ is. is ∙ list_is c) c.add_entry.ensures.err
+stays c = on_err_weaker {P = (c.add_entry.new.list.items ≡ c.in-Some.list.items)} c.add_entry.result (λ is. is ∙ list_is c) c.add_entry.ensures.err
 
 pub returns-clause-stays : goal.returns-clause-stays
 returns-clause-stays c =
@@ -52,8 +52,8 @@ returns-clause-ok c =
     let before = planned c.args.self.now c.args.entries.now.newest in
     made_with c.add_entry.result c.args.table.now c.args.table.now (extends_none c.args.table.now) c.args.entries.now c.args.self.now c.add_entry.new.list.items
     (Created c.args.node c.args.kind c.args.parent c.args.name.now) c.args.ambition c.requires.may (becomes c)
-    (on_ok c.add_entry.result _ _ (λ is. ap nodes_of (is ∙ ap (λ es. es ++ new_entry c ∷ []) (list_is c)) ∙ map-append (λ (e : Entry). e.node) before (new_entry c ∷ [])) c.add_entry.ensures.ok)
-    (on_ok c.add_entry.result _ _ (λ is. ap kinds_of (is ∙ ap (λ es. es ++ new_entry c ∷ []) (list_is c)) ∙ map-append (λ (e : Entry). (e.node, e.kind)) before (new_entry c ∷ [])) c.add_entry.ensures.ok)
+    (on_ok_weaker c.add_entry.result (λ is. ap nodes_of (is ∙ ap (λ es. es ++ new_entry c ∷ []) (list_is c)) ∙ map-append (λ (e : Entry). e.node) before (new_entry c ∷ [])) c.add_entry.ensures.ok)
+    (on_ok_weaker c.add_entry.result (λ is. ap kinds_of (is ∙ ap (λ es. es ++ new_entry c ∷ []) (list_is c)) ∙ map-append (λ (e : Entry). (e.node, e.kind)) before (new_entry c ∷ [])) c.add_entry.ensures.ok)
 
 pub returns-clause-err : goal.returns-clause-err
 returns-clause-err c =

@@ -1,15 +1,15 @@
 use Rattle.std.proofs.Common.{◌≡◌, ℕ, List, Some, refl, ap, subst, ◌∙◌}
 use Rattle.cov_base.specs.declared.number.Kind.{Kind}
 use Rattle.std.specs.Prelude.{OnOk, OnErr}
+use Rattle.std.proofs.lemmas.Result.{on_ok_weaker}
 use Rattle.cov_tree.specs.Dated.{planned}
 use Rattle.cov_tree.specs.Shifts.{change_of, Becomes}
 use Rattle.cov_tree.specs.declared.parting.Shift.{Shift}
 use Rattle.cov_tree.specs.declared.parting.Shift.TheVariants as shifts
 use Rattle.cov_tree.specs.Changes.{nodes_after, kinds_after}
 use Rattle.cov_tree.specs.Entries.{rows_in, nodes_of, kinds_of}
-use Rattle.cov_tree.proofs.Made.{stays_with, made_with, alike_with}
+use Rattle.cov_tree.proofs.PlannedChange.{stays_with, made_with, alike_with}
 use Rattle.cov_tree.proofs.Once.{shifts_fresh}
-use Rattle.cov_tree.proofs.Rows.{on_ok}
 use Rattle.cov_tree.proofs.plan.EntryPlan.shift.Goals as goal
 use Rattle.cov_tree.proofs.plan.EntryPlan.shift.Goals.{After-shift_entry}
 
@@ -47,8 +47,8 @@ returns-clause-ok c =
     let before = planned c.args.self.now c.args.entries.now.newest in
     made_with c.shift_entry.result c.args.table.now c.shift_entry.new.table c.shift_entry.ensures.extends c.args.entries.now c.args.self.now c.shift_entry.new.list.items
     (change_of c.args.node c.args.shift.now) c.args.ambition c.requires.may (becomes c)
-    (on_ok c.shift_entry.result _ _ (λ is. is ∙ ap nodes_of (list_is c) ∙ nodes_stay c.args.node c.args.shift.now (nodes_of before)) c.shift_entry.ensures.nodes)
-    (on_ok c.shift_entry.result _ _ (λ is. is ∙ ap kinds_of (list_is c) ∙ kinds_stay c.args.node c.args.shift.now (kinds_of before)) c.shift_entry.ensures.kinds)
+    (on_ok_weaker c.shift_entry.result (λ is. is ∙ ap nodes_of (list_is c) ∙ nodes_stay c.args.node c.args.shift.now (nodes_of before)) c.shift_entry.ensures.nodes)
+    (on_ok_weaker c.shift_entry.result (λ is. is ∙ ap kinds_of (list_is c) ∙ kinds_stay c.args.node c.args.shift.now (kinds_of before)) c.shift_entry.ensures.kinds)
 
 pub returns-clause-err : goal.returns-clause-err
 returns-clause-err c =

@@ -1,6 +1,6 @@
 use Rattle.std.proofs.Common.{List, ℕ, option_map, sym, ap, subst, ◌∙◌}
-use Rattle.cov_view.specs.Keys.{Leaves}
-use Rattle.cov_view.proofs.Directories.{key_found, leaves_by}
+use Rattle.cov_view.specs.Keys.{RemovesName}
+use Rattle.cov_view.proofs.Directories.{key_found, removes_by}
 use Rattle.cov_view.proofs.children.Children.take.Goals as goal
 
 pub returns-in-Some-clause-left : goal.returns-in-Some-clause-left
@@ -8,8 +8,8 @@ returns-in-Some-clause-left c =
     let old = c.args.self.now.nodes.entries in
     let new = c.swap_remove_entry.new.self.entries in
     let dir = c.args.row.now.parent in
-    subst (λ (name : List ℕ). Leaves dir name old new) c.as_slice.ensures.bytes
-    (leaves_by dir c.as_slice.result.now old new c.swap_remove_entry.ensures.updates.1 c.swap_remove_entry.ensures.updates.3)
+    subst (λ (name : List ℕ). RemovesName dir name old new) c.as_slice.ensures.bytes
+    (removes_by dir c.as_slice.result.now old new c.swap_remove_entry.ensures.updates.1 c.swap_remove_entry.ensures.updates.3)
 
 pub returns-in-Some-clause-name : goal.returns-in-Some-clause-name
 returns-in-Some-clause-name c =

@@ -27,14 +27,14 @@ pub invariant_of-self : goal.invariant_of-self
 invariant_of-self c = (
   c.shift_remove_index.ensures.keys ∙ ap (λ ks. remove ks c.in-Some.at) c.self.invariant.0 ∙ sym (keys-remove c.self.inside.rows.items c.in-Some.at) ∙ ap keys_of (sym c.remove.ensures.items),
   subst StandOnce (sym (left c)) (once-without c.args.node.now c.self.inside.rows.items c.self.invariant.1),
-  subst (λ (rows : List ViewRow). IsIndex c.leave.new.self.is_kept rows c.leave.new.self.nodes.entries) (ap (without_node c.args.node.now) c.as_slice.ensures.value ∙ sym (left c)) c.leave.ensures,
+  subst (λ (rows : List ViewRow). IsIndex c.remove_row.new.self.is_kept rows c.remove_row.new.self.nodes.entries) (ap (without_node c.args.node.now) c.as_slice.ensures.value ∙ sym (left c)) c.remove_row.ensures,
 )
 
 pub invariant_of-self-in-None : goal.invariant_of-self-in-None
 invariant_of-self-in-None c = (
   c.self.invariant.0,
   c.self.invariant.1,
-  subst (λ (rows : List ViewRow). IsIndex c.leave.new.self.is_kept rows c.leave.new.self.nodes.entries) (ap (without_node c.args.node.now) c.as_slice.ensures.value ∙ same c) c.leave.ensures,
+  subst (λ (rows : List ViewRow). IsIndex c.remove_row.new.self.is_kept rows c.remove_row.new.self.nodes.entries) (ap (without_node c.args.node.now) c.as_slice.ensures.value ∙ same c) c.remove_row.ensures,
 )
 
 pub returns-in-Some : goal.returns-in-Some

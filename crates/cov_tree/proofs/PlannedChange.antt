@@ -1,6 +1,7 @@
 -- A plan once it is to make a change more.
 use Rattle.std.specs.Prelude.{Result, Ok, Err, OnOk, OnErr}
 use Rattle.std.proofs.Common.{◌≡◌, ℕ, Bool, List, Option, Some}
+use Rattle.std.proofs.lemmas.Result.{on_err_weaker}
 use Rattle.cov_base.specs.Rows.{RowChange}
 use Rattle.cov_dd.specs.declared.triple.Triple.{Triple}
 use Rattle.cov_dd.specs.Diagrams.{Extends}
@@ -13,7 +14,6 @@ use Rattle.cov_tree.proofs.Carried.{alike}
 use Rattle.cov_tree.proofs.Once.{IsFresh, once_either, within_either}
 use Rattle.cov_tree.proofs.Options.{unread_either}
 use Rattle.cov_tree.proofs.Plans.{makes_more}
-use Rattle.cov_tree.proofs.Rows.{on_err}
 
 -- the nodes became those after the change, or stayed as they were
 module _ {A E : Type 0} (r : Result A E) (old new : List Triple) (grows : Extends old new) (d : Dated) (plan : Option (List Entry)) (fs : List Entry) (change : RowChange) (ambition : ℕ)
@@ -27,7 +27,7 @@ module _ {A E : Type 0} (r : Result A E) (old new : List Triple) (grows : Extend
   }
 
   pub alike_with : OnErr r (IsAlike d plan (Some fs))
-  alike_with = on_err r _ _ (alike d plan (Some fs)) same
+  alike_with = on_err_weaker r (alike d plan (Some fs)) same
 
 pub made_with : {A E : Type 0} (r : Result A E) (old new : List Triple) → Extends old new → (d : Dated) (plan : Option (List Entry)) (fs : List Entry) (change : RowChange) (ambition : ℕ)
     → MayChange old d plan ambition → OnOk r (Becomes old new (planned plan d.newest) fs change ambition)

@@ -3,7 +3,7 @@ use Rattle.cov_base.specs.Rows.{AreOnce}
 use Rattle.cov_view.specs.Seen.{Seen}
 use Rattle.cov_engine.specs.Showing.{AreFresh}
 use Rattle.cov_engine.proofs.Fresh.{once-fresh}
-use Rattle.cov_engine.proofs.store.show.Goals as goal
+use Rattle.cov_engine.proofs.engine.Engine.view.Goals as goal
 
 pub add_nodes-requires-clause-fresh : goal.add_nodes-requires-clause-fresh
 add_nodes-requires-clause-fresh c =

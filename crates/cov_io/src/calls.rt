@@ -1,7 +1,7 @@
 // The calls of a device in memory: which of them fail by their number, and how many did what.
-ghost use Rattle.std.specs.Prelude.{◌≡◌, ◌≤◌};
+ghost use Rattle.std.specs.Prelude.{◌≡◌, ◌≤◌, None};
 ghost use Rattle.cov_base.specs.Causes.{Rose};
-ghost use Rattle.cov_disk.specs.InMemory.{is_past, fails_next, counted, failed, starved};
+ghost use Rattle.cov_io.specs.InMemory.{is_next_in, is_past, fails_next, counted, failed, starved};
 
 use crate::count::raised;
 use cov_base::Numbers;
@@ -9,7 +9,7 @@ use std::marker::Model;
 
 /// The numbers of the calls that fail, how many calls come before every call fails, and the counts.
 #[derive(Debug, Drop)]
-pub(crate) struct Calls {
+pub struct Calls {
     fail: Numbers,
     fuse: Option<u64>,
     calls: u64,
@@ -18,7 +18,7 @@ pub(crate) struct Calls {
 }
 
 impl Model for Calls {
-    ghost use Rattle.cov_disk.specs.InMemory as memory;
+    ghost use Rattle.cov_io.specs.InMemory as memory;
 
     ghost Value = { memory.Calls };
 
@@ -42,7 +42,8 @@ fn is_past(fuse: Option<u64>, calls: u64) -> bool
 }
 
 impl Calls {
-    pub(crate) fn new(fail: Numbers, fuse: Option<u64>) -> Calls
+    /// No call was made. Those whose numbers are listed are to fail, and those after the fuse.
+    pub fn new(fail: Numbers, fuse: Option<u64>) -> Calls
         ensures { result ≡ record {
           fail = fail;
           fuse = fuse;
@@ -61,8 +62,9 @@ impl Calls {
     }
 
     /// Counts a call, and says whether it fails by its number.
-    pub(crate) fn next_fails(&mut self) -> bool
+    pub fn next_fails(&mut self) -> bool
         ensures fails { result ≡ fails_next self.old }
+        ensures listed { self.old.fuse ≡ None → result ≡ is_next_in self.old.fail self.old.calls }
         ensures counted { self.new ≡ counted self.old }
     {
         self.calls = raised(self.calls);
@@ -70,7 +72,7 @@ impl Calls {
     }
 
     /// Counts a failure.
-    pub(crate) fn fail(&mut self)
+    pub fn fail(&mut self)
         ensures failed { self.new ≡ failed self.old }
         ensures later { self.old.faults ≤ self.new.faults }
         ensures rose { Rose self.old.faults self.new.faults }
@@ -79,7 +81,7 @@ impl Calls {
     }
 
     /// Counts a failure for want of memory.
-    pub(crate) fn starve(&mut self)
+    pub fn starve(&mut self)
         ensures starved { self.new ≡ starved self.old }
         ensures later { self.old.faults ≤ self.new.faults }
         ensures rose { Rose self.old.faults self.new.faults }
@@ -89,7 +91,7 @@ impl Calls {
     }
 
     /// How many calls found no memory.
-    pub(crate) fn starved(&self) -> u64
+    pub fn starved(&self) -> u64
         ensures { result ≡ self.now.starved }
     {
         self.starved
