@@ -62,6 +62,16 @@ impl<T: Drop, Way> List<T, Way> {
         Ok(())
     }
 
+    /// Appends all the items or none.
+    pub fn append(&mut self, items: Self) -> Result<(), Memory>
+        ensures ok { OnOk result (self.new ≡ self.old ++ items) }
+        ensures err { OnErr result (self.new ≡ self.old) }
+    {
+        let mut items = items;
+        self.items.append(&mut items.items)?;
+        Ok(())
+    }
+
     /// Puts an item before the one at an index, or at the end.
     pub fn insert(&mut self, index: usize, item: T) -> Result<(), Memory>
         requires { index ≤ length self.old }
