@@ -11,7 +11,7 @@ use Rattle.cov_edit.specs.declared.command.Command.{Command}
 use Rattle.cov_edit.specs.Numbering.{numbers_of, line_count}
 use Rattle.cov_edit.specs.Replay.{replay}
 use Rattle.cov_edit.specs.Variant.{Variant, Line, lines_of}
-use Rattle.cov_line.specs.declared.row.FileRow.{FileRow}
+use Rattle.cov_base.specs.declared.file_row.FileRow.{FileRow}
 use Rattle.cov_history.specs.Files.{dated, file_dated}
 use Rattle.cov_history.specs.Kept.{Kept, is_seen, the_item, kept_address, kept_number, kept_of, lines_seen, file_kept}
 use Rattle.cov_history.proofs.CallerLemmas.{any-none, file-replay, holding-stands, holding-whole, replay-seen, replay-stands}

@@ -3,7 +3,7 @@ use Rattle.std.specs.Prelude.{ℕ, Bool, true, false, ◌&&◌, List, [], ◌∷
 use Rattle.cov_base.specs.Rows.{is_present}
 use Rattle.cov_edit.specs.declared.command.Command.{Command}
 use Rattle.cov_edit.specs.Replay.{replay}
-use Rattle.cov_line.specs.declared.row.FileRow.{FileRow}
+use Rattle.cov_base.specs.declared.file_row.FileRow.{FileRow}
 use Rattle.cov_engine.specs.Visibility.{has_line_number}
 use Rattle.cov_alt.specs.declared.line.AltLine.{AltLine}
 use Rattle.cov_alt.specs.declared.line.Mark.{Mark}

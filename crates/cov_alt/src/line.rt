@@ -1,6 +1,5 @@
 // Lines of both sides.
-use cov_base::{LineNo, List};
-use cov_line::SharedText;
+use cov_base::{LineNo, List, Text};
 
 /// On which of the two sides of an option a line is.
 #[derive(Clone, Copy, Debug, PartialEq, Eq)]
@@ -15,7 +14,7 @@ pub enum Mark {
 pub struct AltLine {
     pub mark: Mark,
     pub line: LineNo,
-    pub text: SharedText,
+    pub text: Text,
 }
 
 /// Lines of a file, in order.

@@ -5,10 +5,9 @@ ghost use Rattle.cov_dd.specs.Diagrams.{value_in};
 ghost use Rattle.cov_alt.specs.Marking.{is_on, mark_if, with_mark, with_marked};
 
 use crate::{AltLine, AltLines, Mark};
-use cov_base::{Choice, LineNo, Memory};
+use cov_base::{Choice, FileRow, LineNo, Memory};
 use cov_dd::{Node, Table};
 use cov_engine::Engine;
-use cov_line::FileRow;
 use std::alloc::Global;
 
 /// One side: its choice, and whether the file is in the variant of that choice.
@@ -56,7 +55,7 @@ fn add_marked(
 fn add(lines: &mut AltLines, row: &FileRow, mark: Mark) -> Result<(), Memory>
     ensures { OnOk result (lines.new ≡ with_mark lines.old row.now (Some mark)) }
 {
-    let text = row.text.share()?;
+    let text = row.text.copy()?;
     lines.push(AltLine {
         mark,
         line: row.line,

@@ -10,3 +10,4 @@ pub mod Older
 pub mod Reaching
 pub mod Rows
 pub mod Spelling
+pub mod Texts

@@ -4,6 +4,7 @@
 mod bytes;
 mod choice;
 mod error;
+mod file_row;
 pub mod laws;
 mod limits;
 mod line_text;
@@ -17,6 +18,7 @@ mod steps;
 pub use bytes::Text;
 pub use choice::Choice;
 pub use error::{BadName, Failed, Memory, MemoryOr};
+pub use file_row::{FileRow, FileRows};
 pub use limits::{
     CHOICE_WIDTH, LIMITS, Limits, MOST_NAME_BYTES, MOST_OPTION_NAME_BYTES, MOST_PARTS,
     MOST_SCRIPT_LINE_BYTES, MOST_TEXT_BYTES, MOST_TOKENS, TOO_MANY_SCRIPT_BYTES,

@@ -5,22 +5,22 @@ ghost use Rattle.std.specs.List.{list_any, list_all};
 ghost use Rattle.cov_base.specs.Bytes.{is_letter, is_digit};
 ghost use Rattle.cov_base.specs.Spelling.{is_word, is_option_name, reserved_words};
 
-use crate::{BadName, MOST_OPTION_NAME_BYTES, Memory, MemoryOr, Text};
+use crate::{BadName, MOST_OPTION_NAME_BYTES, Memory, MemoryOr};
 use std::alloc::Global;
 use std::marker::Model;
 
 /// The name of an option: `[A-Za-z_][A-Za-z0-9_]*` of 1 to `MOST_OPTION_NAME_BYTES` bytes, and none of the reserved words.
 #[derive(Debug, Drop)]
 pub struct OptionName {
-    text: Text,
+    bytes: Vec<u8>,
 }
 
 impl Model for OptionName {
     ghost Value = { List ℕ };
 
-    ghost view = { λ n. n.text };
+    ghost view = { λ n. n.bytes.items };
 
-    ghost invariant = { λ n. is_option_name n.text ≡ true };
+    ghost invariant = { λ n. is_option_name n.bytes.items ≡ true };
 }
 
 impl OptionName {
@@ -34,7 +34,7 @@ impl OptionName {
             return Err(MemoryOr::Refused(BadName));
         }
         Ok(OptionName {
-            text: Text::from_slice(alloc, bytes)?,
+            bytes: Vec::from_slice(alloc, bytes)?,
         })
     }
 
@@ -42,7 +42,7 @@ impl OptionName {
         ensures bytes { result.now ≡ self.now }
         ensures spelling { is_option_name self.now ≡ true }
     {
-        self.text.as_slice()
+        self.bytes.as_slice()
     }
 
     /// The bytes as a Vec. It takes no memory.
@@ -50,14 +50,14 @@ impl OptionName {
         ensures bytes { result.items ≡ self }
         ensures spelling { is_option_name self ≡ true }
     {
-        self.text.into_vec()
+        self.bytes
     }
 
     pub fn copy(&self) -> Result<OptionName, Memory>
         ensures { IfOk result (λ name. name ≡ self.now) }
     {
         Ok(OptionName {
-            text: self.text.copy()?,
+            bytes: Vec::from_slice(*self.bytes.allocator(), self.bytes.as_slice())?,
         })
     }
 }

@@ -3,7 +3,6 @@ ghost use Rattle.std.specs.Prelude.{◌≡◌, IfOk};
 ghost use Rattle.cov_edit.specs.EditFits.{has_line_text, fits_edit};
 
 use cov_base::{Kind, LineRef, Memory, Name, NodeRef, Text};
-use std::alloc::Global;
 
 /// One edit of a variant. The text of a line has at most `MOST_TEXT_BYTES` bytes and no byte 10.
 #[derive(Debug, Drop)]
@@ -42,8 +41,8 @@ pub enum Edit {
 }
 
 impl Edit {
-    /// The same edit, in memory of its own.
-    pub fn copy(&self, alloc: Global) -> Result<Edit, Memory>
+    /// The same edit.
+    pub fn copy(&self) -> Result<Edit, Memory>
         ensures { IfOk result (λ edit. edit ≡ self.now) }
     {
         match self {
@@ -55,7 +54,7 @@ impl Edit {
             Edit::Insert { file, after, text } => Ok(Edit::Insert {
                 file: *file,
                 after: *after,
-                text: Text::from_slice(alloc, text.as_slice())?,
+                text: text.copy()?,
             }),
             Edit::Delete { file, line } => Ok(Edit::Delete {
                 file: *file,

@@ -16,7 +16,7 @@ use Rattle.cov_edit.specs.History.{option_count}
 use Rattle.cov_edit.specs.Numbering.{Numbers, line_number}
 use Rattle.cov_edit.specs.Variant.{Variant, Line, lines_of}
 use Rattle.cov_edit.specs.Replay.{replay}
-use Rattle.cov_line.specs.declared.row.FileRow.{FileRow}
+use Rattle.cov_base.specs.declared.file_row.FileRow.{FileRow}
 use Rattle.cov_file.specs.Dated.{DatedLine as FileLine, file_row_of, is_visible, rows_at}
 use Rattle.cov_view.specs.declared.line.ViewLine.{ViewLine}
 use Rattle.cov_view.specs.declared.row.ViewRow.{ViewRow}

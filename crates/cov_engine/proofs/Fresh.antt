@@ -9,7 +9,7 @@ use Rattle.cov_base.specs.declared.number.NodeRef.{NodeRef}
 use Rattle.cov_base.specs.declared.number.NodeRef.TheVariants as nodes
 use Rattle.cov_base.proofs.CallerLemmas.{all-both}
 use Rattle.cov_dd.specs.declared.triple.Triple.{Triple}
-use Rattle.cov_line.specs.declared.row.FileRow.{FileRow}
+use Rattle.cov_base.specs.declared.file_row.FileRow.{FileRow}
 use Rattle.cov_file.specs.Dated.{rows_at}
 use Rattle.cov_view.specs.declared.row.ViewRow.{ViewRow}
 use Rattle.cov_view.specs.References.{is_root, same_node}

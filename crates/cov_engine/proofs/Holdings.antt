@@ -11,7 +11,7 @@ use Rattle.cov_view.specs.Soundness.{is_old_row, AreOld, old_row}
 use Rattle.cov_dd.specs.declared.triple.Triple.{Triple}
 use Rattle.cov_dd.specs.Diagrams.{Extends}
 use Rattle.cov_expr.specs.Formula.{value}
-use Rattle.cov_line.specs.declared.row.FileRow.{FileRow}
+use Rattle.cov_base.specs.declared.file_row.FileRow.{FileRow}
 use Rattle.cov_file.specs.Dated.{DatedLine as FileLine, vis_at, rows_at}
 use Rattle.cov_edit.specs.declared.command.Command.{Command}
 use Rattle.cov_edit.specs.declared.command.Command.TheVariants as commands

@@ -18,7 +18,7 @@ use Rattle.cov_edit.specs.Replay.{replay}
 use Rattle.cov_edit.specs.Touched.{has_number, touched, AreRising}
 use Rattle.cov_edit.specs.Variant.{Variant, line_address, lines_of}
 use Rattle.cov_edit.proofs.CallerLemmas.{touched-rising}
-use Rattle.cov_line.specs.declared.row.FileRow.{FileRow}
+use Rattle.cov_base.specs.declared.file_row.FileRow.{FileRow}
 use Rattle.cov_history.specs.Naming.{NamesOnlyMade}
 use Rattle.cov_history.specs.Verdict.{IsLegal}
 use Rattle.cov_history.proofs.CallerLemmas.{all-mapped, holding-stands, legal-named, legal-take, replay-once, replay-stands}

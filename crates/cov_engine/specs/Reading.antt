@@ -5,7 +5,7 @@ use Rattle.cov_base.specs.Rows.{Row}
 use Rattle.cov_dd.specs.declared.triple.Triple.{Triple}
 use Rattle.cov_edit.specs.Variant.{Variant, Line}
 use Rattle.cov_file.specs.Dated.{rows_at}
-use Rattle.cov_line.specs.declared.row.FileRow.{FileRow}
+use Rattle.cov_base.specs.declared.file_row.FileRow.{FileRow}
 use Rattle.cov_view.specs.Paths.{path_node}
 use Rattle.cov_view.specs.Refusals.{is_dir}
 use Rattle.cov_engine.specs.declared.file_part.FilePart.{FilePart}

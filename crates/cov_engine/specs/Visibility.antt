@@ -11,7 +11,7 @@ use Rattle.cov_edit.specs.History.{option_count}
 use Rattle.cov_edit.specs.Numbering.{line_count}
 use Rattle.cov_edit.specs.Variant.{Variant}
 use Rattle.cov_edit.specs.Replay.{replay}
-use Rattle.cov_line.specs.declared.row.FileRow.{FileRow}
+use Rattle.cov_base.specs.declared.file_row.FileRow.{FileRow}
 use Rattle.cov_history.specs.Files.{DatedLine}
 use Rattle.cov_vis.specs.Decisions.{listing_of}
 use Rattle.cov_vis.specs.Listings.{ListingValue}

@@ -7,9 +7,8 @@ ghost use Rattle.cov_engine.specs.Carrying.{CanCarryOutIn, AreCarriedOut, CanCar
 
 use crate::FilePart;
 use crate::places::index_of;
-use cov_base::{LineNo, NodeNo, Position};
+use cov_base::{LineNo, NodeNo, Position, Text};
 use cov_dd::Node;
-use cov_line::SharedText;
 use std::collections::VecDeque;
 
 /// What an edit does to a file: a line is put into it with its visibility, or gets another visibility.
@@ -19,7 +18,7 @@ pub(crate) enum EditPlan {
         file: NodeNo,
         anchor: LineNo,
         line: LineNo,
-        text: SharedText,
+        text: Text,
         vis: Node,
     },
     Delete {

@@ -5,10 +5,9 @@ ghost use Rattle.cov_file.specs.Rooms.{IsMade};
 ghost use Rattle.cov_engine.specs.Staging.{contents};
 ghost use Rattle.cov_engine.specs.Carrying.{CanInsert, CanDelete, IsInserted, IsChanged};
 
-use cov_base::{LineNo, Memory, NodeNo, Position};
+use cov_base::{LineNo, Memory, NodeNo, Position, Text};
 use cov_dd::Node;
 use cov_file::FileLines;
-use cov_line::SharedText;
 
 /// The lines ever inserted into a file. Something is expected of them only while a commit is staged.
 #[derive(Drop)]
@@ -50,7 +49,7 @@ impl FilePart {
         &mut self,
         anchor: LineNo,
         line: LineNo,
-        text: SharedText,
+        text: Text,
         vis: Node,
         at: Position,
     )

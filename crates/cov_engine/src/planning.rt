@@ -16,7 +16,6 @@ use crate::places::index_of;
 use cov_base::{LineNo, Memory, NodeNo, Position};
 use cov_dd::{FALSE, Node, Table};
 use cov_edit::Edit;
-use cov_line::SharedText;
 use cov_vis::take;
 use std::collections::VecDeque;
 
@@ -86,7 +85,7 @@ fn plan_edit(
                 file: node_number(site.nodes, file),
                 anchor: line_number(site.lines, after),
                 line: LineNo::new(line),
-                text: SharedText::from_slice(table.allocator(), text.as_slice())?,
+                text: text.copy()?,
                 vis: site.ambition,
             })?;
             Ok(line)

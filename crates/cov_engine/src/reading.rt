@@ -13,8 +13,7 @@ ghost use Rattle.cov_engine.specs.Parts.{part_node, part_of};
 ghost use Rattle.cov_engine.specs.Reading.{IsFileAmong, stored_rows};
 
 use crate::Visible;
-use cov_base::{Choice, Kind, Memory, Name, NodeNo, Position};
-use cov_line::FileRows;
+use cov_base::{Choice, FileRows, Kind, Memory, Name, NodeNo, Position};
 use cov_tree::NodeRow;
 use std::alloc::Global;
 

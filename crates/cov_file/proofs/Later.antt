@@ -6,7 +6,7 @@ use Rattle.cov_dd.specs.declared.triple.Triple.{Triple}
 use Rattle.cov_dd.proofs.CallerLemmas.{value-constant}
 use Rattle.cov_dd.specs.Diagrams.{value_in}
 use Rattle.cov_base.specs.Addresses.{after_first}
-use Rattle.cov_line.specs.declared.row.FileRow.{FileRow}
+use Rattle.cov_base.specs.declared.file_row.FileRow.{FileRow}
 use Rattle.cov_file.specs.Dated.{DatedLine, vis_at, dated_number, new_line, with_line, changed, with_change, file_row_of, is_visible, rows_at, AreAlike}
 use Rattle.cov_file.specs.Laws.{InsertIsLater, ChangeIsLater}
 

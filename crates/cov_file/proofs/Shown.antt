@@ -8,7 +8,7 @@ use Rattle.std.proofs.lemmas.Bool.Decides.{nat_tests}
 use Rattle.cov_dd.specs.declared.triple.Triple.{Triple}
 use Rattle.cov_dd.specs.Diagrams.{value_in}
 use Rattle.cov_order.specs.Orders.{has_line}
-use Rattle.cov_line.specs.declared.row.FileRow.{FileRow}
+use Rattle.cov_base.specs.declared.file_row.FileRow.{FileRow}
 use Rattle.cov_file.specs.Dated.{DatedLine, vis_at, newest_vis, newest_of, vis_of, file_row_of, is_visible, rows_at, all_rows}
 use Rattle.cov_base.specs.Older.{value_at}
 use Rattle.cov_base.proofs.CallerLemmas.{drop-at, drop-end}

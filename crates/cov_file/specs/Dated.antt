@@ -6,7 +6,7 @@ use Rattle.cov_base.specs.Addresses.{after_anchor_by}
 use Rattle.cov_base.specs.Older.{value_at}
 use Rattle.cov_dd.specs.declared.triple.Triple.{Triple}
 use Rattle.cov_dd.specs.Diagrams.{value_in}
-use Rattle.cov_line.specs.declared.row.FileRow.{FileRow}
+use Rattle.cov_base.specs.declared.file_row.FileRow.{FileRow}
 
 -- a line, its text, and the node on whose choices it is visible from each position of a change on, the newest first
 pub record DatedLine : Type 0 where

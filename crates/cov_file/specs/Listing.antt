@@ -5,7 +5,7 @@ use Rattle.std.specs.Map.{keys_of, lookup}
 use Rattle.cov_dd.specs.declared.triple.Triple.{Triple}
 use Rattle.cov_dd.specs.Diagrams.{value_in}
 use Rattle.cov_order.specs.Orders.{has_line}
-use Rattle.cov_line.specs.declared.row.FileRow.{FileRow}
+use Rattle.cov_base.specs.declared.file_row.FileRow.{FileRow}
 use Rattle.cov_file.specs.Dated.{DatedLine}
 
 -- the newest list and since when, the older ones with theirs, for how many nodes more there is room, and whether there is

@@ -10,9 +10,8 @@ ghost use Rattle.cov_file.specs.Listing.{row_in, visible_lines, vis_in};
 
 use crate::coming::Coming;
 use crate::lists::NodeLists;
-use cov_base::{Choice, LineNo, LineNos, Memory, Position};
+use cov_base::{Choice, FileRow, FileRows, LineNo, LineNos, Memory, Position, Text};
 use cov_dd::{FALSE, Node, Table};
-use cov_line::{FileRow, FileRows, SharedText};
 use cov_order::Order;
 use indexmap::IndexMap;
 use std::alloc::Global;
@@ -24,7 +23,7 @@ use std::marker::Model;
 #[derive(Drop)]
 pub struct FileLines {
     order: Order,
-    texts: IndexMap<LineNo, SharedText>,
+    texts: IndexMap<LineNo, Text>,
     lists: NodeLists,
     coming: Coming,
 }
@@ -119,14 +118,7 @@ impl FileLines {
 
     /// Puts a line directly after its anchor, or first where the anchor is the head, with its visibility from a position on. It
     /// takes time in the number of lines, and no memory.
-    pub fn insert(
-        &mut self,
-        anchor: LineNo,
-        line: LineNo,
-        text: SharedText,
-        vis: Node,
-        at: Position,
-    )
+    pub fn insert(&mut self, anchor: LineNo, line: LineNo, text: Text, vis: Node, at: Position)
         requires anchored { is_anchor anchor (line_numbers_of self.old.lines) ≡ true }
         requires line { 0 < line }
         requires fresh { has_line line (line_numbers_of self.old.lines) ≡ false }
@@ -202,7 +194,7 @@ impl FileLines {
 
 // The lines whose nodes in a list are true on a choice.
 fn visible_rows(
-    texts: &IndexMap<LineNo, SharedText>,
+    texts: &IndexMap<LineNo, Text>,
     lines: &LineNos,
     nodes: &[Node],
     table: &Table,
@@ -224,7 +216,7 @@ fn visible_rows(
 // Adds a line, if its node in a list is true on the choice. It looks the line up once.
 fn add_visible(
     rows: &mut FileRows,
-    texts: &IndexMap<LineNo, SharedText>,
+    texts: &IndexMap<LineNo, Text>,
     line: LineNo,
     nodes: &[Node],
     table: &Table,
@@ -242,28 +234,23 @@ fn add_visible(
 }
 
 // Adds a line, if it is shown.
-fn add_shown(
-    rows: &mut FileRows,
-    line: LineNo,
-    text: &SharedText,
-    shown: bool,
-) -> Result<(), Memory>
+fn add_shown(rows: &mut FileRows, line: LineNo, text: &Text, shown: bool) -> Result<(), Memory>
     ensures { OnOk result (rows.new ≡ rows.old ++ (if shown then record { line = line; text = text.now } ∷ [] else [])) }
 {
     if shown {
-        let text = text.share()?;
+        let text = text.copy()?;
         return rows.push(FileRow { line, text });
     }
     Ok(())
 }
 
 // The line with its text.
-fn copied_row(texts: &IndexMap<LineNo, SharedText>, line: LineNo) -> Result<FileRow, Memory>
+fn copied_row(texts: &IndexMap<LineNo, Text>, line: LineNo) -> Result<FileRow, Memory>
     ensures { IfOk result (λ row. row ≡ row_in texts.now.entries line) }
 {
     let text = match texts.get(&line) {
-        Some(text) => text.share()?,
-        None => SharedText::from_slice(*texts.allocator(), &[])?,
+        Some(text) => text.copy()?,
+        None => Text::new(*texts.allocator()),
     };
     Ok(FileRow { line, text })
 }

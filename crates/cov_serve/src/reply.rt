@@ -3,8 +3,7 @@ ghost use Rattle.std.specs.Prelude.{◌≡◌, ◌++◌, ℕ, List, IfOk, OnOk};
 ghost use Rattle.cov_serve.specs.Replies.{lines_reply, mark_byte};
 
 use cov_alt::{AltLine, Mark};
-use cov_base::{Memory, Text};
-use cov_line::FileRow;
+use cov_base::{FileRow, Memory, Text};
 use cov_script::{alt_line, append_cat_line, list_line, reply_count, show_line};
 use cov_view::{DirRow, ViewLine};
 use std::alloc::Global;

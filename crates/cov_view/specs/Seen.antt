@@ -11,7 +11,7 @@ use Rattle.cov_base.specs.declared.number.LineRef.{LineRef}
 use Rattle.cov_base.specs.declared.number.LineRef.TheVariants as lines
 use Rattle.cov_edit.specs.declared.edit.Edit.{Edit}
 use Rattle.cov_edit.specs.declared.edit.Edit.TheVariants as edits
-use Rattle.cov_line.specs.declared.row.FileRow.{FileRow}
+use Rattle.cov_base.specs.declared.file_row.FileRow.{FileRow}
 use Rattle.cov_view.specs.References.{is_root, is_head, is_dir_kind, same_node, is_new_below}
 use Rattle.cov_view.specs.Lines.{is_among, after_ref, without_ref}
 use Rattle.cov_view.specs.declared.fault.EditFault.{EditFault}

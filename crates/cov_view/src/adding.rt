@@ -5,8 +5,7 @@ ghost use Rattle.cov_view.specs.Seen.{old_line, with_row, AreRows};
 
 use crate::ViewLine;
 use crate::rows::Rows;
-use cov_base::{LineRef, Memory, NodeNo, NodeRef};
-use cov_line::{FileRow, FileRows};
+use cov_base::{FileRow, FileRows, LineRef, Memory, NodeNo, NodeRef};
 
 /// Puts lines that a history has at the end of a file, which is looked up once. At an `Err` some of them are there.
 pub(crate) fn append_lines(rows: &mut Rows, file: NodeNo, lines: &FileRows) -> Result<(), Memory>
@@ -30,6 +29,6 @@ fn old_line(row: &FileRow) -> Result<ViewLine, Memory>
 {
     Ok(ViewLine {
         line: LineRef::Old(row.line),
-        text: row.text.share()?,
+        text: row.text.copy()?,
     })
 }

@@ -4,14 +4,13 @@ ghost use Rattle.std.specs.List.{insert};
 ghost use Rattle.cov_view.specs.References.{is_head, same_line};
 ghost use Rattle.cov_view.specs.Lines.{is_among, after_ref, without_ref};
 
-use cov_base::{LineRef, List, Memory};
-use cov_line::SharedText;
+use cov_base::{LineRef, List, Memory, Text};
 
 /// A line of a file.
 #[derive(Debug, Drop)]
 pub struct ViewLine {
     pub line: LineRef,
-    pub text: SharedText,
+    pub text: Text,
 }
 
 impl ViewLine {
@@ -21,7 +20,7 @@ impl ViewLine {
     {
         Ok(ViewLine {
             line: self.line,
-            text: self.text.share()?,
+            text: self.text.copy()?,
         })
     }
 }

@@ -26,9 +26,8 @@ use crate::rows::Rows;
 use crate::soundness::first_fault;
 use crate::tree::tree;
 use crate::{DirRows, EditFault, Fault, ListFault, ReadFaultOfView, TreeRows, ViewLine, ViewLines};
-use cov_base::{Kind, LineRef, Memory, Name, NodeNo, NodeRef, Path, Text};
+use cov_base::{FileRows, Kind, LineRef, Memory, Name, NodeNo, NodeRef, Path, Text};
 use cov_edit::Edit;
-use cov_line::{FileRows, SharedText};
 use std::alloc::Global;
 use std::marker::Model;
 
@@ -400,7 +399,7 @@ impl View {
     {
         let line = ViewLine {
             line: LineRef::New(self.lines_made),
-            text: SharedText::from_slice(self.rows.allocator(), text.as_slice())?,
+            text: text.copy()?,
         };
         self.rows.insert_line(file, after, line)?;
         self.lines_made += 1;

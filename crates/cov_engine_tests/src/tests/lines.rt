@@ -8,12 +8,12 @@ ghost use Rattle.cov_engine_tests.specs.Trees.{commit_in};
 use crate::tests::steps::{close, commit, declare_d};
 use crate::tests::trees::making;
 use cov_base::{
-    Choice, Kind, LineNo, LineRef, Memory, MemoryOr, NodeNo, NodeRef, OptionId, Position, Text,
+    Choice, FileRows, Kind, LineNo, LineRef, Memory, MemoryOr, NodeNo, NodeRef, OptionId, Position,
+    Text,
 };
 use cov_dd::{FALSE, TRUE};
 use cov_edit::{Edit, Edits};
 use cov_engine::{Engine, NoSuchLine};
-use cov_line::FileRows;
 use cov_view::{View, ViewLines};
 use cov_vis::{Child, ListingEntry};
 use std::alloc::Global;

@@ -2,10 +2,9 @@
 ghost use Rattle.std.specs.Prelude.{◌≡◌, ◌≤◌, ◌∷◌, [], OnOk};
 ghost use Rattle.cov_file.specs.Dated.{line_numbers_of};
 
-use cov_base::{Choice, LineNo, LineNos, Memory, OptionId, Position};
+use cov_base::{Choice, LineNo, LineNos, Memory, OptionId, Position, Text};
 use cov_dd::{FALSE, Node, TRUE, Table};
 use cov_file::FileLines;
-use cov_line::SharedText;
 use cov_order::Order;
 use std::alloc::Global;
 use std::process::Abort;
@@ -37,7 +36,7 @@ fn add_line(alloc: Global, file: &mut FileLines) -> Result<(), Memory>
     ensures numbers { OnOk result (line_numbers_of file.new.lines ≡ 1 ∷ []) }
     ensures newest { OnOk result (file.new.newest ≡ 3) }
 {
-    let text = SharedText::from_slice(alloc, b"x")?;
+    let text = Text::from_slice(alloc, b"x")?;
     file.prepare(1, &LineNos::new(alloc))?;
     file.insert(LineNo::new(0), LineNo::new(1), text, TRUE, Position::new(3));
     Ok(())

@@ -1,6 +1,5 @@
-//! Texts that have several owners.
-use cov_base::{LineNo, Memory};
-use cov_line::{FileRow, FileRows, SharedText};
+//! Texts and their copies.
+use cov_base::{FileRow, FileRows, LineNo, Memory, Text};
 use std::alloc::Global;
 use std::process::Abort;
 use std::test::Fail;
@@ -10,22 +9,28 @@ pub(super) fn one_row(alloc: Global, line: u32, text: &[u8]) -> Result<FileRows,
     let mut rows = FileRows::new(alloc);
     rows.push(FileRow {
         line: LineNo::new(line),
-        text: SharedText::from_slice(alloc, text)?,
+        text: Text::from_slice(alloc, text)?,
     })?;
     Ok(rows)
 }
 
-// Another owner of a text whose first owner is gone.
-fn inherited(alloc: Global, bytes: &[u8]) -> Result<SharedText, Memory> {
-    let first = SharedText::from_slice(alloc, bytes)?;
-    first.share()
+// A copy of a text that is gone.
+fn inherited(alloc: Global, bytes: &[u8]) -> Result<Text, Memory> {
+    let first = Text::from_slice(alloc, bytes)?;
+    first.copy()
 }
 
 #[test]
-fn a_text_outlives_its_first_owner(rt: HostRuntime) -> Result<(), Fail> {
+fn a_copy_outlives_its_text_and_changes_alone(rt: HostRuntime) -> Result<(), Fail> {
     let text = inherited(rt.alloc(), b"one")?;
-    let other = text.share()?;
+    let mut longer = text.copy()?;
+    let mut other = text.copy()?;
+    longer.append(b"more")?;
+    other.overwrite(1, b"ff")?;
     assert!(rt; text.as_slice() == b"one".as_slice());
-    assert!(rt; other.as_text().as_slice() == b"one".as_slice());
+    assert!(rt; longer.as_slice() == b"onemore".as_slice());
+    assert!(rt; other.as_slice() == b"off".as_slice());
+    assert!(rt; longer.into_vec()?.as_slice() == b"onemore".as_slice());
+    assert!(rt; text.into_vec()?.as_slice() == b"one".as_slice());
     Ok(())
 }

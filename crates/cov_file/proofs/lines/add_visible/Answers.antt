@@ -3,7 +3,7 @@ use Rattle.std.specs.Map.{keys_of}
 use Rattle.cov_base.proofs.CallerLemmas.{none-placed}
 use Rattle.cov_dd.specs.Diagrams.{value_in}
 use Rattle.cov_dd.proofs.CallerLemmas.{value-constant}
-use Rattle.cov_line.specs.declared.row.FileRow.{FileRow}
+use Rattle.cov_base.specs.declared.file_row.FileRow.{FileRow}
 use Rattle.cov_file.specs.Listing.{row_in, text_in}
 use Rattle.cov_file.proofs.Nodes.{node_found, node_missing}
 use Rattle.cov_file.proofs.lines.add_visible.Goals as goal

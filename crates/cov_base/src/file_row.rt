@@ -1,12 +1,11 @@
 // Lines with their texts.
-use crate::SharedText;
-use cov_base::{LineNo, List};
+use crate::{LineNo, List, Text};
 
 /// A line of a file.
 #[derive(Debug, Drop)]
 pub struct FileRow {
     pub line: LineNo,
-    pub text: SharedText,
+    pub text: Text,
 }
 
 /// Lines of a file, in order.
