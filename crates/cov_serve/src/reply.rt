@@ -24,7 +24,7 @@ impl Told for FileRow {
     ghost line = { file_line };
 
     fn tell(&self, alloc: Global, reply: &mut Text) -> Result<(), Memory> {
-        append_cat_line(alloc, reply, self.line, self.text.as_text())
+        append_cat_line(alloc, reply, self.line, &self.text)
     }
 }
 
@@ -34,7 +34,7 @@ impl Told for ViewLine {
     ghost line = { view_line };
 
     fn tell(&self, alloc: Global, reply: &mut Text) -> Result<(), Memory> {
-        let line = show_line(alloc, self.line, self.text.as_text())?;
+        let line = show_line(alloc, self.line, &self.text)?;
         reply.append(line.as_slice())
     }
 }
@@ -56,7 +56,7 @@ impl Told for AltLine {
     ghost line = { marked_line };
 
     fn tell(&self, alloc: Global, reply: &mut Text) -> Result<(), Memory> {
-        let line = alt_line(alloc, mark_byte(self.mark), self.line, self.text.as_text())?;
+        let line = alt_line(alloc, mark_byte(self.mark), self.line, &self.text)?;
         reply.append(line.as_slice())
     }
 }
