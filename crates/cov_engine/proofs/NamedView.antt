@@ -36,7 +36,7 @@ use Rattle.cov_engine.specs.Holdings.{IsHeldBy}
 use Rattle.cov_engine.specs.Parts.{part_of}
 use Rattle.cov_engine.specs.Reading.{line_row, stored_rows}
 use Rattle.cov_engine.specs.Showing.{bare_row}
-use Rattle.cov_engine.specs.Trying.{named, with_lines_of, with_named, IsFirstRefused}
+use Rattle.cov_engine.specs.Trying.{seen_named, with_lines_of, with_named, IsFirstRefused}
 use Rattle.cov_engine.proofs.FileLines.{by-row, lines-made, pairs, row_pair, view_line}
 use Rattle.cov_engine.proofs.LinesRead.{lines-read}
 use Rattle.cov_engine.proofs.NamedFiles.{is_kept, lines-only, named-same, only}
@@ -238,7 +238,7 @@ module _ (ts : List Triple) (c : List Bool) (at : ℕ) (stored : List FilePart) 
 
 -- the first edit that is refused on what is shown of the files that edits name is the first that the variant refuses
 pub named-first : (history : List Command) (commits : List CommitMark) (file_of_line : List ℕ) (v : Visible) (c : List Bool) (at : ℕ) (es : List Edit) (found : Option ℕ) → IsLegal history
-    → IsHeldBy history v.table commits file_of_line v.entries v.files → IsFirstRefused (named v c at (touched es)) es found
+    → IsHeldBy history v.table commits file_of_line v.entries v.files → IsFirstRefused (seen_named v c at (touched es)) es found
     → found ≡ option_map (λ refused. refused.0) (first_refused (numbers_of (take at history)) (replay c (take at history)) es)
 named-first history commits file_of_line v c at es found legal held first =
     first ns (only ns.nodes (touched es) u) (holding-stands (take at history)).0 shows ∙ ap (option_map (λ refused. refused.0)) (named-same ns u es)
@@ -252,13 +252,13 @@ named-first history commits file_of_line v c at es found legal held first =
     rows : rows_at v.table c at v.entries ≡ u.rows
     rows = held.of_entries.rows c at
 
-    seen : named v c at (touched es) ≡ record { rows = map (row_with v.table c at v.files (λ y. has_number y (touched es))) u.rows; nodes_made = 0; lines_made = 0 }
+    seen : seen_named v c at (touched es) ≡ record { rows = map (row_with v.table c at v.files (λ y. has_number y (touched es))) u.rows; nodes_made = 0; lines_made = 0 }
     seen =
         ap (λ rs. record { rows = rs; nodes_made = 0; lines_made = 0 })
         (ap (λ rs. fold (with_named v.table c at v.files) (map bare_row rs) (touched es)) rows
         ∙ named-rows v.table c at v.files (touched es) u.rows (replay-once c (take at history)) (touched-rising es).0)
 
-    shows : Shows ns ns.addresses (named v c at (touched es)) (only ns.nodes (touched es) u)
+    shows : Shows ns ns.addresses (seen_named v c at (touched es)) (only ns.nodes (touched es) u)
     shows =
         subst (λ s. Shows ns ns.addresses s (only ns.nodes (touched es) u)) (sym seen)
         (shows-named v.table c at v.files ns u (touched es) (lines-read history v.table commits file_of_line v.entries v.files legal held c at) (lines-below c (take at history))

@@ -33,8 +33,8 @@ module _ (ts : List Triple) (c : List Bool) (at : ℕ) (stored : List FilePart) 
   with_named rows node = with_lines_of (kind_in rows (nodes.Old node)) rows node
 
 -- what is shown on a choice at a position of the files with these nodes: the rows of all entries, and the lines of these files alone
-abbrev pub named : Visible → List Bool → ℕ → List ℕ → Seen
-named v c at ns = record { rows = fold (with_named v.table c at v.files) (map bare_row (rows_at v.table c at v.entries)) ns; nodes_made = 0; lines_made = 0 }
+abbrev pub seen_named : Visible → List Bool → ℕ → List ℕ → Seen
+seen_named v c at ns = record { rows = fold (with_named v.table c at v.files) (map bare_row (rows_at v.table c at v.entries)) ns; nodes_made = 0; lines_made = 0 }
 
 -- an edit is refused with a fault, which isn't want of memory, and this is its place
 abbrev pub IsRefusedAt : ℕ → EditFault → Option ℕ → Type 0

@@ -6,7 +6,7 @@ ghost use Rattle.cov_base.specs.declared.limits.TheConstants.{LIMITS};
 ghost use Rattle.cov_edit.specs.Touched.{touched, AreRising};
 ghost use Rattle.cov_tree.specs.Dated.{rows_at};
 ghost use Rattle.cov_engine.specs.Parts.{part_node};
-ghost use Rattle.cov_engine.specs.Trying.{named, with_named, IsFirstRefused, IsRefusedAt};
+ghost use Rattle.cov_engine.specs.Trying.{seen_named, with_named, IsFirstRefused, IsRefusedAt};
 
 use crate::Visible;
 use crate::store::{add_lines, view_of_rows};
@@ -27,7 +27,7 @@ pub(crate) fn first_refused(
     requires rising { AreRising (map part_node visible.now.files) }
     requires once { AreOnce (rows_at visible.now.table choice at visible.now.entries) }
     requires few { length edits.now ≤ LIMITS.edits }
-    ensures { IfOk result (IsFirstRefused (named visible.now choice at (touched edits.now)) edits.now) }
+    ensures { IfOk result (IsFirstRefused (seen_named visible.now choice at (touched edits.now)) edits.now) }
 {
     let nodes = touched(edits)?;
     let mut view = named_view(alloc, visible, choice, at, nodes.as_slice())?;
@@ -44,7 +44,7 @@ fn named_view(
 ) -> Result<View, Memory>
     requires rising { AreRising (map part_node visible.now.files) }
     requires once { AreOnce (rows_at visible.now.table choice at visible.now.entries) }
-    ensures { IfOk result (λ view. view ≡ named visible.now choice at nodes.now) }
+    ensures { IfOk result (λ view. view ≡ seen_named visible.now choice at nodes.now) }
 {
     let rows = visible.entries.rows_at(&visible.table, choice, at)?;
     let mut view = view_of_rows(alloc, &visible.table, choice, rows.as_slice())?;

@@ -41,10 +41,10 @@ abbrev pub full_choice : List (List ℕ) → List (List ℕ × Bool) → Option 
 full_choice names bindings = if pointwise bytes_eq (map (λ b. b.0) bindings) names then Some (map (λ b. b.1) bindings) else None
 
 -- a fault is want of memory, or what the definition answers
-abbrev pub IsFaultOf : Result (List (ℕ × Bool)) BindFault → BindFault → Type 0
-IsFaultOf answer faults.Memory = Unit {0}
-IsFaultOf answer (faults.UnknownOption name) = answer ≡ Err (faults.UnknownOption name)
-IsFaultOf answer (faults.Repeated option) = answer ≡ Err (faults.Repeated option)
+abbrev pub IsBindFaultOf : Result (List (ℕ × Bool)) BindFault → BindFault → Type 0
+IsBindFaultOf answer faults.Memory = Unit {0}
+IsBindFaultOf answer (faults.UnknownOption name) = answer ≡ Err (faults.UnknownOption name)
+IsBindFaultOf answer (faults.Repeated option) = answer ≡ Err (faults.Repeated option)
 
 -- a fault is want of memory, or that of a name which no option has
 abbrev pub IsUnknown : Option (List ℕ) → BindFault → Type 0

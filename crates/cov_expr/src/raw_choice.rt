@@ -2,7 +2,7 @@
 ghost use Rattle.std.specs.Prelude.{◌≡◌, ◌<◌, ◌∷◌, [], ℕ, List, Bool, true, nat_eq, nat_lt, None, Some, map, length, position, is_some, IfSome, IfNone, IfOk, IfErr, IsErrOf};
 ghost use Rattle.std.specs.Option.{option_map, option_copied};
 ghost use Rattle.std.specs.List.{before_first, after_first, list_all, position_or_len, slice_split};
-ghost use Rattle.cov_expr.specs.Binding.{bound, full_choice, IsFaultOf};
+ghost use Rattle.cov_expr.specs.Binding.{bound, full_choice, IsBindFaultOf};
 ghost use Rattle.cov_expr.specs.ChoiceText.{switch_of, binding_of, bindings_between_commas, bindings_of};
 
 use crate::binding::{gather, resolve};
@@ -54,7 +54,7 @@ impl RawChoice {
     pub fn bind(&self, alloc: Global, options: &Options) -> Result<Partial, BindFault>
         ensures ok { IfOk result (λ partial. bound options.now.names self.now ≡ Ok partial) }
         ensures within { IfOk result (λ partial. list_all (λ b. nat_lt b.0 (length options.now.names)) partial ≡ true) }
-        ensures refused { IfErr result (IsFaultOf (bound options.now.names self.now)) }
+        ensures refused { IfErr result (IsBindFaultOf (bound options.now.names self.now)) }
     {
         match resolve(alloc, self.bindings.as_slice(), options) {
             Err(fault) => Err(fault),

@@ -72,7 +72,7 @@ pub record Passes (before : Place) (p : List ℕ) (after : Place) : Type 0 where
   pub given : after.given ≡ before.given + 1
 
 -- the journal whose closed gate is the next
-pub record Ends (before : Place) (journal : State) : Type 0 where
+pub record EndsJournal (before : Place) (journal : State) : Type 0 where
   pub at : journal.at ≡ before.at
   pub digest : journal.digest ≡ before.digest
 
@@ -100,7 +100,7 @@ MayFail before now (Refused f) = Rose before now
 -- what is given at a place
 abbrev pub IsNext : Place → Option (List ℕ) → Next → Type 0
 IsNext before contents (Record after payload) = Passes before payload after × IfSome contents (λ image. IsRecord before image payload after)
-IsNext before contents (End journal) = Ends before journal × IfSome contents (λ image. slice_index image before.at ≢ 1)
+IsNext before contents (End journal) = EndsJournal before journal × IfSome contents (λ image. slice_index image before.at ≢ 1)
 
 -- there is a gate behind what is given
 abbrev pub HasNextGate : Option (List ℕ) → Next → Type 0

@@ -8,7 +8,7 @@ use Rattle.cov_io.specs.Devices.{AppendsSome}
 use Rattle.cov_loop.specs.Answers.{is_refusal, kind_of}
 use Rattle.cov_loop.specs.Keeping.{AreAll, KeepsAnswered, Reaches}
 use Rattle.cov_loop.specs.Outcome.{Outcome, answers, followed_by}
-use Rattle.cov_loop.specs.Turns.{EndsWith, Ends, GoesOn, HasRows, HasStored, IsWhole, Output, RowsComeFirst, ServesFirst, StopsAmid, WritesAll, ahead_of, ending_at_end}
+use Rattle.cov_loop.specs.Turns.{EndsWith, ServesNone, GoesOn, HasRows, HasStored, IsWhole, Output, RowsComeFirst, ServesFirst, StopsAmid, WritesAll, ahead_of, ending_at_end}
 use Rattle.cov_loop.specs.declared.answer.Answer.{Answer}
 use Rattle.cov_loop.proofs.Appending.{all_some, all_then, all_then_some, same_all, told_all}
 use Rattle.cov_loop.proofs.Kept.{keeps_later, reaches_later}
@@ -78,10 +78,10 @@ pub record Ended {S : Type 0} (step : S → List ℕ → Outcome S) (start : S) 
 -- no line is left
 pub ended : {S : Type 0} {step : S → List ℕ → Outcome S} {start : S} {text : List ℕ} {state : S} {was : Bool} {ahead : Option (List ℕ)} {old mid : Output} (next : S) (ahead' : Option (List ℕ)) (new : Output)
     → GoesOn step start text state was ahead old mid
-    → ((t : List ℕ) → ahead ≡ Some t → Ends state t next ahead' mid new)
+    → ((t : List ℕ) → ahead ≡ Some t → ServesNone state t next ahead' mid new)
     → Ended step start text next was ahead' old new
 ended {S} {step} {start} {text} {state} {was} {ahead} {old} {mid} next ahead' new so_far turn =
-    let t : Ends state so_far.rest next ahead' mid new = turn so_far.rest so_far.ahead_is in
+    let t : ServesNone state so_far.rest next ahead' mid new = turn so_far.rest so_far.ahead_is in
     let whole : lines_of text ≡ so_far.served = so_far.lines ∙ ap (λ r. so_far.served ++ lines_of r) t.text_is ∙ append-nil so_far.served in
     record {
       state_is = t.next_is ∙ so_far.state_is ∙ ap (λ ls. (answers step start ls).state) (sym whole);

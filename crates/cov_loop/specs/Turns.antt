@@ -69,7 +69,7 @@ pub record WritesAll {S : Type 0} (outcome : Outcome S) (old new : Output) : Typ
   pub rows : AppendsAll outcome.rows old.rows new.rows
 
 -- no line of a text was served
-pub record Ends {S : Type 0} (state : S) (text : List ℕ) (next : S) (ahead : Option (List ℕ)) (old new : Output) : Type 0 where
+pub record ServesNone {S : Type 0} (state : S) (text : List ℕ) (next : S) (ahead : Option (List ℕ)) (old new : Output) : Type 0 where
   pub text_is : text ≡ []
   pub next_is : next ≡ state
   pub ahead_is : ahead ≡ Some []
@@ -93,7 +93,7 @@ pub record StopsAmid {S : Type 0} (step : S → List ℕ → Outcome S) (state :
 
 -- what one turn does with a text that is ahead, and the state after it
 abbrev pub Turned : {S : Type 0} → (S → List ℕ → Outcome S) → S → List ℕ → S → Option (List ℕ) → Output → Output → Turn → Type 0
-Turned step state text next ahead old new Ended = Ends state text next ahead old new
+Turned step state text next ahead old new Ended = ServesNone state text next ahead old new
 Turned step state text next ahead old new (Served answer) = ServesFirst step state text next answer ahead old new
 
 -- what one turn does with a text that is ahead, or a stop within it

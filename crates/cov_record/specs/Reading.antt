@@ -289,10 +289,10 @@ joined before None = None
 joined before (Some p) = Some (before ++ p.0, p.1)
 
 -- a call came to what stands at the front, or there is nothing of the kind, or memory was wanting
-abbrev pub Ends : {X E : Type 0} → Front X → X → Option (MemoryOr E) → List ℕ → Type 0
-Ends front after None rest = front ≡ Some (after, rest)
-Ends front after (Some (Refused e)) rest = front ≡ None
-Ends front after (Some Memory) rest = Unit {0}
+abbrev pub EndsReading : {X E : Type 0} → Front X → X → Option (MemoryOr E) → List ℕ → Type 0
+EndsReading front after None rest = front ≡ Some (after, rest)
+EndsReading front after (Some (Refused e)) rest = front ≡ None
+EndsReading front after (Some Memory) rest = Unit {0}
 
 -- a call put what stands at the front behind others
 abbrev pub Puts : {X E : Type 0} → Front X → List X → List X → Option (MemoryOr E) → List ℕ → Type 0

@@ -2,7 +2,7 @@
 ghost use Rattle.std.specs.Prelude.{◌≡◌, ◌≤◌, true, length, drop, IfOk};
 ghost use Rattle.cov_base.specs.Spelling.{is_line_text};
 ghost use Rattle.cov_edit.specs.EditFits.{has_line_text};
-ghost use Rattle.cov_record.specs.Reading.{Takes, Gives, front_kind, front_node, front_line, front_name, front_option_name, front_text, front_new, front_insert, front_delete, front_rename, front_move, front_remove, front_edit, front_edits, front_counted, Ends, Puts, joined};
+ghost use Rattle.cov_record.specs.Reading.{Takes, Gives, front_kind, front_node, front_line, front_name, front_option_name, front_text, front_new, front_insert, front_delete, front_rename, front_move, front_remove, front_edit, front_edits, front_counted, EndsReading, Puts, joined};
 
 use crate::ahead::Ahead;
 use crate::fault::{Fault, NotARecord};
@@ -199,7 +199,7 @@ pub(crate) fn take_edits(alloc: Global, ahead: &mut Ahead<'_>, count: u32) -> Re
 }
 
 fn fill(alloc: Global, ahead: &mut Ahead<'_>, edits: &mut Edits, count: u32) -> Option<Fault>
-    ensures { Ends (joined edits.old (front_edits count ahead.old)) edits.new result ahead.new }
+    ensures { EndsReading (joined edits.old (front_edits count ahead.old)) edits.new result ahead.new }
 {
     for read in 0..count {
         if let Some(fault) = take_one(alloc, ahead, edits) {

@@ -9,7 +9,7 @@ use Rattle.cov_dd.specs.Diagrams.{span, value_in, Extends, Stands}
 use Rattle.cov_dd.proofs.CallerLemmas.{stands_later, stands_weaker, constant_stands}
 use Rattle.cov_expr.specs.Formula.{Formula, value, reach}
 use Rattle.cov_expr.specs.Validity.{is_valid}
-use Rattle.cov_rules.specs.Installing.{Standing, literal, installed, with_rule, expressions, reach_of, StandsFor, StandsForAll, AllStand, Holds, Plans}
+use Rattle.cov_rules.specs.Installing.{Standing, literal, installed, with_rule, expressions, reach_of, IsNodeOf, StandsForAll, AllStand, Holds, Plans}
 use Rattle.cov_rules.specs.declared.rules.Installed.{Installed}
 use Rattle.cov_rules.specs.declared.rules.Rule.{Rule}
 use Rattle.cov_rules.specs.declared.rules.Rule.TheVariants as rules
@@ -17,10 +17,10 @@ use Rattle.cov_rules.specs.declared.rules.RulePlan.{RulePlan}
 
 module _ {X : Type 0} (node : X → ℕ) (expr : X → Formula ℕ) where
   pub all_stand_later : {ts us : List Triple} → Extends ts us → (xs : List X) → AllStand ts xs node expr → AllStand us xs node expr
-  all_stand_later {ts} {us} x xs h = all-map (λ y. StandsFor ts (node y) (expr y)) (λ y. StandsFor us (node y) (expr y)) (λ y s. stands_later x s) xs h
+  all_stand_later {ts} {us} x xs h = all-map (λ y. IsNodeOf ts (node y) (expr y)) (λ y. IsNodeOf us (node y) (expr y)) (λ y s. stands_later x s) xs h
 
-  pub all_stand_more : (ts : List Triple) (xs : List X) (x : X) → AllStand ts xs node expr → StandsFor ts (node x) (expr x) → AllStand ts (xs ++ x ∷ []) node expr
-  all_stand_more ts xs x h new = all-append (λ y. StandsFor ts (node y) (expr y)) xs (x ∷ []) h (new, tt)
+  pub all_stand_more : (ts : List Triple) (xs : List X) (x : X) → AllStand ts xs node expr → IsNodeOf ts (node x) (expr x) → AllStand ts (xs ++ x ∷ []) node expr
+  all_stand_more ts xs x h new = all-append (λ y. IsNodeOf ts (node y) (expr y)) xs (x ∷ []) h (new, tt)
 
 -- rules hold in a table that has grown
 pub holds_later : {ts us : List Triple} {s : Standing} → Extends ts us → Holds ts s → Holds us s

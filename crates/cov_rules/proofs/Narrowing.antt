@@ -11,7 +11,7 @@ use Rattle.cov_dd.proofs.CallerLemmas.{stands_later, stands_weaker}
 use Rattle.cov_expr.specs.Formula.{Formula, value, reach}
 use Rattle.cov_expr.specs.Validity.{is_valid}
 use Rattle.cov_rules.specs.Completion.{has_any, or_else, keep, keep_all, IsSet}
-use Rattle.cov_rules.specs.Installing.{literal, reach_of, StandsFor, StandsForAll, AllStand}
+use Rattle.cov_rules.specs.Installing.{literal, reach_of, IsNodeOf, StandsForAll, AllStand}
 use Rattle.cov_rules.proofs.Holding.{reach_of-more, is_valid-more}
 use Rattle.cov_rules.proofs.Deciding.{none_short, none_wide}
 
@@ -78,7 +78,7 @@ module _ (ts : List Triple) (node count : ℕ) (cs : List (List Bool)) (is : IsS
       by false e = absurd (true≢false (sym (h.1 (none_wide count (span ts node) (value_in ts node) is.few (value_in_same ts node) is.options e))))
 
 -- the choices of a set on which an expression is true, and what a wish keeps
-module _ (ts us : List Triple) (a b both count first : ℕ) (cs : List (List Bool)) (e : Formula ℕ) (is : IsSet ts a count cs) (wish : StandsFor ts b e) (low : reach e ≤ count)
+module _ (ts us : List Triple) (a b both count first : ℕ) (cs : List (List Bool)) (e : Formula ℕ) (is : IsSet ts a count cs) (wish : IsNodeOf ts b e) (low : reach e ≤ count)
     (s : Stands us both first (joint_span ts a b) (λ c. value_in ts a c && value_in ts b c)) where
   pub both_set : IsSet us both count (filter (value e) cs)
   both_set = record {
@@ -101,7 +101,7 @@ keep_all-more cs [] e = refl
 keep_all-more cs (d ∷ es) e = keep_all-more (keep cs d) es e
 
 -- the conjunction of expressions and one more
-pub and_more : (ts us vs : List Triple) (node literal r first : ℕ) (es : List (Formula ℕ)) (e : Formula ℕ) → StandsForAll ts node es → Extends ts us → StandsFor us literal e
+pub and_more : (ts us vs : List Triple) (node literal r first : ℕ) (es : List (Formula ℕ)) (e : Formula ℕ) → StandsForAll ts node es → Extends ts us → IsNodeOf us literal e
     → Stands vs r first (joint_span us node literal) (λ c. value_in us node c && value_in us literal c) → StandsForAll vs r (es ++ e ∷ [])
 and_more ts us vs node literal r first es e old x new s =
     let later : StandsForAll us node es = stands_later x old in
@@ -115,9 +115,9 @@ all_at P (x ∷ xs) (suc i) d h lt = all_at P xs i d h.1 (omega (arith, lt))
 
 -- the node of an item, in a table that has grown
 pub next_stands : {X : Type 0} (ts us : List Triple) → Extends ts us → (node : X → ℕ) (expr : X → Formula ℕ) (xs : List X) (i : ℕ) (x : X)
-    → AllStand ts xs node expr → i < length xs → x ≡ get_or xs i x → StandsFor us (node x) (expr x)
+    → AllStand ts xs node expr → i < length xs → x ≡ get_or xs i x → IsNodeOf us (node x) (expr x)
 next_stands ts us grown node expr xs i x h lt at =
-    stands_later grown (subst (λ y. StandsFor ts (node y) (expr y)) (sym at) (all_at (λ y. StandsFor ts (node y) (expr y)) xs i x h lt))
+    stands_later grown (subst (λ y. IsNodeOf ts (node y) (expr y)) (sym at) (all_at (λ y. IsNodeOf ts (node y) (expr y)) xs i x h lt))
 
 -- the statements of the first elements and one more
 module _ {X : Type 0} (f : X → Formula ℕ) (xs : List X) (i : ℕ) (x : X) (here : i < length xs) (at : x ≡ get_or xs i x) where
@@ -125,8 +125,8 @@ module _ {X : Type 0} (f : X → Formula ℕ) (xs : List X) (i : ℕ) (x : X) (h
   stated_more = ap (map f) (take_more xs i x here ∙ ap (λ y. take i xs ++ y ∷ []) (sym at)) ∙ map-append f (take i xs) (x ∷ [])
 
   -- what is left after the wishes so far and one more
-  pub kept_more : (ts us vs : List Triple) (node left r wish : ℕ) (narrows : (count : ℕ) (cs : List (List Bool)) (e : Formula ℕ) → IsSet us left count cs → StandsFor us wish e → reach e ≤ count → IsSet vs r count (keep cs e))
-      → StandsFor us wish (f x)
+  pub kept_more : (ts us vs : List Triple) (node left r wish : ℕ) (narrows : (count : ℕ) (cs : List (List Bool)) (e : Formula ℕ) → IsSet us left count cs → IsNodeOf us wish e → reach e ≤ count → IsSet vs r count (keep cs e))
+      → IsNodeOf us wish (f x)
       → ((count : ℕ) (cs : List (List Bool)) → IsSet ts node count cs → reach_of (map f (take i xs)) ≤ count → IsSet us left count (keep_all cs (map f (take i xs))))
       → (count : ℕ) (cs : List (List Bool)) → IsSet ts node count cs → reach_of (map f (take (i + 1) xs)) ≤ count → IsSet vs r count (keep_all cs (map f (take (i + 1) xs)))
   kept_more ts us vs node left r wish narrows stands before count cs is low =

@@ -8,7 +8,7 @@ use Rattle.cov_dd.specs.Combinations.{joint_span}
 use Rattle.cov_dd.specs.Diagrams.{value_in, Extends, Stands}
 use Rattle.cov_expr.specs.Formula.{value, reach}
 use Rattle.cov_rules.specs.Completion.{Complete, Incomplete, has_any, first_open, answer_of, is_open, IsSet}
-use Rattle.cov_rules.specs.Installing.{literal, StandsFor}
+use Rattle.cov_rules.specs.Installing.{literal, IsNodeOf}
 use Rattle.cov_rules.proofs.Alone.{at_most_one}
 use Rattle.cov_rules.proofs.Narrowing.{any_filter, both_set, set_later}
 
@@ -17,7 +17,7 @@ literal_reach o count true h = omega (arith, h)
 literal_reach o count false h = omega (arith, h)
 
 -- whether an option has a value on a choice of a node
-pub has_some : (ts us vs : List Triple) (node wish both first o : ℕ) (on : Bool) (b : Bool) → Extends ts us → StandsFor us wish (literal o on)
+pub has_some : (ts us vs : List Triple) (node wish both first o : ℕ) (on : Bool) (b : Bool) → Extends ts us → IsNodeOf us wish (literal o on)
     → Stands vs both first (joint_span us node wish) (λ c. value_in us node c && value_in us wish c)
     → ((count : ℕ) (cs : List (List Bool)) → IsSet vs both count cs → b ≡ has_any cs)
     → (count : ℕ) (cs : List (List Bool)) → o < count → IsSet ts node count cs → b ≡ list_any (value (literal o on)) cs

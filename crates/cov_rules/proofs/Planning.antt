@@ -6,8 +6,8 @@ use Rattle.cov_dd.specs.declared.triple.Triple.{Triple}
 use Rattle.cov_dd.specs.Diagrams.{span, value_in, Stands}
 use Rattle.cov_expr.specs.Formula.{Formula, value, reach}
 use Rattle.cov_expr.specs.Validity.{is_valid}
-use Rattle.cov_rules.specs.Installing.{Standing, RulesValue, count_of, expressions, StandsFor, StandsForAll, Holds, IsPlan}
-use Rattle.cov_rules.specs.Refusals.{leaves_variant, AreOptions, IsAccepted, IsFaultOf}
+use Rattle.cov_rules.specs.Installing.{Standing, RulesValue, count_of, expressions, IsNodeOf, StandsForAll, Holds, IsPlan}
+use Rattle.cov_rules.specs.Refusals.{leaves_variant, AreOptions, IsAccepted, IsRuleFaultOf}
 use Rattle.cov_rules.specs.declared.rules.Rule.{Rule}
 use Rattle.cov_rules.specs.declared.rules.Rule.TheVariants as rules
 use Rattle.cov_rules.specs.declared.rules.RuleFault.{RuleFault}
@@ -21,13 +21,13 @@ module _ (s : Standing) (rule : Rule) where
   abbrev by : Bool → Bool → Option RuleFault
   by many left = if many then Some faults.Full else (if left then None else Some faults.NoVariantLeft)
 
-  pub full : LIMITS.rules ≤ count_of rule s → IsFaultOf s rule faults.Full
+  pub full : LIMITS.rules ≤ count_of rule s → IsRuleFaultOf s rule faults.Full
   full h count fits = ap (λ b. by b (leaves_variant count (expressions s.constraints) rule)) (le-leb LIMITS.rules (count_of rule s) h)
 
   pub taken : count_of rule s < LIMITS.rules → ((count : ℕ) → AreOptions count s rule → leaves_variant count (expressions s.constraints) rule ≡ true) → IsAccepted s rule
   taken few left count fits = λ j. by (lt-leb LIMITS.rules (count_of rule s) few j) (left count fits j)
 
-  pub left_none : count_of rule s < LIMITS.rules → ((count : ℕ) → AreOptions count s rule → leaves_variant count (expressions s.constraints) rule ≡ false) → IsFaultOf s rule faults.NoVariantLeft
+  pub left_none : count_of rule s < LIMITS.rules → ((count : ℕ) → AreOptions count s rule → leaves_variant count (expressions s.constraints) rule ≡ false) → IsRuleFaultOf s rule faults.NoVariantLeft
   left_none few left count fits = λ j. by (lt-leb LIMITS.rules (count_of rule s) few j) (left count fits j)
 
 module _ (ts us : List Triple) (r s : RulesValue) (e : Formula ℕ) (plan : RulePlan) (h : Holds ts r.standing) (few : length r.standing.constraints < LIMITS.rules)
@@ -35,7 +35,7 @@ module _ (ts us : List Triple) (r s : RulesValue) (e : Formula ℕ) (plan : Rule
   decided : (c : List Bool) → value_in us plan.conjunction c ≡ (is_valid (expressions r.standing.constraints) c && value e c)
   decided c = all.value c ∙ ap (λ b. b && value e c) (h.conjunction.value c)
 
-  pub planned : (answer : Result RulePlan RuleFault) → 0 < s.spare → s.standing ≡ r.standing → StandsFor us plan.node e → IfOk answer (λ a. a ≡ plan) → IfOk answer (IsPlan us s (rules.Constraint e))
+  pub planned : (answer : Result RulePlan RuleFault) → 0 < s.spare → s.standing ≡ r.standing → IsNodeOf us plan.node e → IfOk answer (λ a. a ≡ plan) → IfOk answer (IsPlan us s (rules.Constraint e))
   planned (Err fault) room same node is = tt
   planned (Ok a) room same node is = subst (IsPlan us s (rules.Constraint e)) (sym is) (record {
     few = omega (arith, few, ap (λ (t : Standing). length t.constraints) same);
@@ -51,7 +51,7 @@ module _ (ts us : List Triple) (r s : RulesValue) (e : Formula ℕ) (plan : Rule
   accepted (Err fault) some = tt
   accepted (Ok a) some = taken r.standing (rules.Constraint e) few (λ count fits. deciding.met (expressions r.standing.constraints) e us plan.conjunction decided some count fits)
 
-  pub refused : (answer : Result RulePlan RuleFault) → IfErr answer (λ fault. (fault ≡ faults.NoVariantLeft) × ((c : List Bool) → length c ≡ CHOICE_WIDTH → value_in us plan.conjunction c ≡ false)) → IfErr answer (IsFaultOf r.standing (rules.Constraint e))
+  pub refused : (answer : Result RulePlan RuleFault) → IfErr answer (λ fault. (fault ≡ faults.NoVariantLeft) × ((c : List Bool) → length c ≡ CHOICE_WIDTH → value_in us plan.conjunction c ≡ false)) → IfErr answer (IsRuleFaultOf r.standing (rules.Constraint e))
   refused (Ok a) none = tt
-  refused (Err fault) none = subst (IsFaultOf r.standing (rules.Constraint e)) (sym none.0)
+  refused (Err fault) none = subst (IsRuleFaultOf r.standing (rules.Constraint e)) (sym none.0)
       (left_none r.standing (rules.Constraint e) few (λ count fits. deciding.unmet (expressions r.standing.constraints) e us plan.conjunction decided none.1 count fits.0))

@@ -8,7 +8,7 @@ use Rattle.cov_dd.specs.Combinations.{joint_span}
 use Rattle.cov_dd.specs.Diagrams.{value_in, Stands}
 use Rattle.cov_expr.specs.Formula.{Formula, value, reach}
 use Rattle.cov_rules.specs.Completion.{has_any, least_unmet, IsSet}
-use Rattle.cov_rules.specs.Installing.{expressions, reach_of, StandsFor}
+use Rattle.cov_rules.specs.Installing.{expressions, reach_of, IsNodeOf}
 use Rattle.cov_rules.specs.declared.rules.Installed.{Installed}
 use Rattle.cov_rules.proofs.Narrowing.{stated_more, both_set}
 use Rattle.std.specs.Prelude.{◌&&◌}
@@ -54,7 +54,7 @@ module _ (ts us : List Triple) (node left rule : ℕ) (rs : List Installed) (i :
       let here : has_any (meeting cs (expressions (take i rs))) ≡ false = sym (met count _ (counts.met count cs is low)) ∙ unmet in
       omega (arith, counts.ahead count cs is low, none_unmet (expressions (drop i rs)) (meeting cs (expressions (take i rs))) here)
 
-  pub counts_more : b ≡ true → (vs : List Triple) (r : Installed) (below : i < length rs) (at : r ≡ get_or rs i r) (both first : ℕ) → StandsFor us r.node r.expr
+  pub counts_more : b ≡ true → (vs : List Triple) (r : Installed) (below : i < length rs) (at : r ≡ get_or rs i r) (both first : ℕ) → IsNodeOf us r.node r.expr
       → Stands vs both first (joint_span us left r.node) (λ c. value_in us left c && value_in us r.node c) → Counts ts vs node both (rule + 1) rs (i + 1)
   counts_more some vs r below at both first stands s = record {
     met = λ count cs is low.

@@ -63,8 +63,8 @@ reach_of [] = 0
 reach_of (e ∷ es) = max (reach e) (reach_of es)
 
 -- a node has the options and the values of an expression
-abbrev pub StandsFor : List Triple → ℕ → Formula ℕ → Type 0
-StandsFor ts node e = Stands ts node 0 (reach e) (value e)
+abbrev pub IsNodeOf : List Triple → ℕ → Formula ℕ → Type 0
+IsNodeOf ts node e = Stands ts node 0 (reach e) (value e)
 
 -- a node is true on exactly the choices that constraints allow
 abbrev pub StandsForAll : List Triple → ℕ → List (Formula ℕ) → Type 0
@@ -72,7 +72,7 @@ StandsForAll ts node es = Stands ts node 0 (reach_of es) (is_valid es)
 
 -- the node of each item stands for its expression
 abbrev pub AllStand : {X : Type 0} → List Triple → List X → (X → ℕ) → (X → Formula ℕ) → Type 0
-AllStand ts items node expr = AllByRecursion (λ x. StandsFor ts (node x) (expr x)) items
+AllStand ts items node expr = AllByRecursion (λ x. IsNodeOf ts (node x) (expr x)) items
 
 -- each node that is kept has in this table the value of its rules
 pub record Holds (ts : List Triple) (s : Standing) : Type 0 where
@@ -83,9 +83,9 @@ pub record Holds (ts : List Triple) (s : Standing) : Type 0 where
 
 -- the nodes of a plan are those of a rule
 abbrev pub Plans : List Triple → Standing → Rule → RulePlan → Type 0
-Plans ts s (rules.Constraint e) plan = StandsFor ts plan.node e × StandsForAll ts plan.conjunction (expressions s.constraints ++ e ∷ [])
-Plans ts s (rules.Prefer e) plan = StandsFor ts plan.node e
-Plans ts s (rules.Default o on) plan = StandsFor ts plan.node (literal o on)
+Plans ts s (rules.Constraint e) plan = IsNodeOf ts plan.node e × StandsForAll ts plan.conjunction (expressions s.constraints ++ e ∷ [])
+Plans ts s (rules.Prefer e) plan = IsNodeOf ts plan.node e
+Plans ts s (rules.Default o on) plan = IsNodeOf ts plan.node (literal o on)
 
 -- a plan is one of this rule as the next of its kind, and there is room for it
 pub record IsPlan (ts : List Triple) (r : RulesValue) (rule : Rule) (plan : RulePlan) : Type 0 where

@@ -42,7 +42,7 @@ abbrev pub IsAccepted : Standing → Rule → Type 0
 IsAccepted s rule = (count : ℕ) → AreOptions count s rule → refusal count s rule ≡ None
 
 -- a fault is the refusal, whatever options are declared, or want of memory where there may be one more rule of the kind
-abbrev pub IsFaultOf : Standing → Rule → RuleFault → Type 0
-IsFaultOf s rule faults.Memory = count_of rule s < LIMITS.rules
-IsFaultOf s rule faults.Full = (count : ℕ) → AreOptions count s rule → refusal count s rule ≡ Some faults.Full
-IsFaultOf s rule faults.NoVariantLeft = (count : ℕ) → AreOptions count s rule → refusal count s rule ≡ Some faults.NoVariantLeft
+abbrev pub IsRuleFaultOf : Standing → Rule → RuleFault → Type 0
+IsRuleFaultOf s rule faults.Memory = count_of rule s < LIMITS.rules
+IsRuleFaultOf s rule faults.Full = (count : ℕ) → AreOptions count s rule → refusal count s rule ≡ Some faults.Full
+IsRuleFaultOf s rule faults.NoVariantLeft = (count : ℕ) → AreOptions count s rule → refusal count s rule ≡ Some faults.NoVariantLeft

@@ -5,7 +5,7 @@ ghost use Rattle.cov_base.specs.declared.limits.TheConstants.{CHOICE_WIDTH, LIMI
 ghost use Rattle.cov_dd.specs.Diagrams.{diagram_size, span, Extends};
 ghost use Rattle.cov_expr.specs.Formula.{Formula, reach, value};
 ghost use Rattle.cov_rules.specs.Completion.{Complete, answer_of, literals, has_any, keep, keep_all, least_unmet, first_open, is_open, IsSet, IsRefusalBy};
-ghost use Rattle.cov_rules.specs.Installing.{literal, expressions, reach_of, StandsFor, StandsForAll, AllStand};
+ghost use Rattle.cov_rules.specs.Installing.{literal, expressions, reach_of, IsNodeOf, StandsForAll, AllStand};
 
 use crate::rules::{Installed, literal_node};
 use cov_base::{Choice, Memory, OptionId, Steps, Uncounted};
@@ -61,7 +61,7 @@ fn narrowed(table: &mut Table, node: Node, wish: Node) -> Result<Node, Memory>
     requires wish { wish < diagram_size table.old }
     ensures extends { Extends table.old table.new }
     ensures within { IfOk result (λ r. r < diagram_size table.new) }
-    ensures kept { IfOk result (λ r. (count : ℕ) (cs : List (List Bool)) (e : Formula ℕ) → IsSet table.old node count cs → StandsFor table.old wish e → reach e ≤ count → IsSet table.new r count (keep cs e)) }
+    ensures kept { IfOk result (λ r. (count : ℕ) (cs : List (List Bool)) (e : Formula ℕ) → IsSet table.old node count cs → IsNodeOf table.old wish e → reach e ≤ count → IsSet table.new r count (keep cs e)) }
 {
     let both = table.and(node, wish, &mut Steps::<Uncounted>::new())?;
     if is_met(table, both) {

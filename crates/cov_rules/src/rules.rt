@@ -6,9 +6,9 @@ ghost use Rattle.cov_expr.specs.Formula.{reach, value};
 ghost use Rattle.cov_expr.specs.Validity.{is_valid, first_false};
 ghost use Rattle.cov_dd.specs.declared.triple.Triple.{Triple};
 ghost use Rattle.cov_dd.specs.Diagrams.{diagram_size, span, value_in, Extends, Stands};
-ghost use Rattle.cov_rules.specs.Installing.{expressions, expressions_at, reach_of, count_of, literal, with_rule, StandsFor, Holds, Plans, IsPlan};
+ghost use Rattle.cov_rules.specs.Installing.{expressions, expressions_at, reach_of, count_of, literal, with_rule, IsNodeOf, Holds, Plans, IsPlan};
 ghost use Rattle.cov_rules.specs.Completion.{Complete, Invalid as Broken, completed, fallbacks, keep_all, least_unmet, AreBelow, IsRefusalBy, IsSet};
-ghost use Rattle.cov_rules.specs.Refusals.{reach_of_rule, IsAccepted, IsFaultOf};
+ghost use Rattle.cov_rules.specs.Refusals.{reach_of_rule, IsAccepted, IsRuleFaultOf};
 ghost use Rattle.cov_rules.specs.Growth.{Follows};
 ghost use Rattle.cov_rules.specs.declared.rules.RuleFault.TheVariants.{NoVariantLeft as no_variant_left, Memory as want_of_memory};
 ghost use Rattle.cov_rules.specs.declared.rules.Rule.TheVariants.{Constraint as a_constraint, Prefer as a_preference, Default as a_default};
@@ -145,7 +145,7 @@ impl Rules {
         ensures same { self.new.standing ≡ self.old.standing }
         ensures planned { IfOk result (IsPlan table.new self.new rule.now) }
         ensures accepted { IfOk result (λ _. IsAccepted self.old.standing rule.now) }
-        ensures refused { IfErr result (IsFaultOf self.old.standing rule.now) }
+        ensures refused { IfErr result (IsRuleFaultOf self.old.standing rule.now) }
     {
         match rule {
             Rule::Constraint(expr) => self.prepare_constraint(table, expr),
@@ -160,7 +160,7 @@ impl Rules {
         ensures same { self.new.standing ≡ self.old.standing }
         ensures planned { IfOk result (IsPlan table.new self.new (a_constraint expr.now)) }
         ensures accepted { IfOk result (λ _. IsAccepted self.old.standing (a_constraint expr.now)) }
-        ensures refused { IfErr result (IsFaultOf self.old.standing (a_constraint expr.now)) }
+        ensures refused { IfErr result (IsRuleFaultOf self.old.standing (a_constraint expr.now)) }
     {
         if self.constraints.len() >= LIMITS.rules {
             return Err(RuleFault::Full);
@@ -181,7 +181,7 @@ impl Rules {
         ensures same { self.new.standing ≡ self.old.standing }
         ensures planned { IfOk result (IsPlan table.new self.new (a_preference expr.now)) }
         ensures accepted { IfOk result (λ _. IsAccepted self.old.standing (a_preference expr.now)) }
-        ensures refused { IfErr result (IsFaultOf self.old.standing (a_preference expr.now)) }
+        ensures refused { IfErr result (IsRuleFaultOf self.old.standing (a_preference expr.now)) }
     {
         if self.preferences.len() >= LIMITS.rules {
             return Err(RuleFault::Full);
@@ -203,7 +203,7 @@ impl Rules {
         ensures same { self.new.standing ≡ self.old.standing }
         ensures planned { IfOk result (IsPlan table.new self.new (a_default option on)) }
         ensures accepted { IfOk result (λ _. IsAccepted self.old.standing (a_default option on)) }
-        ensures refused { IfErr result (IsFaultOf self.old.standing (a_default option on)) }
+        ensures refused { IfErr result (IsRuleFaultOf self.old.standing (a_default option on)) }
     {
         if self.defaults.len() >= LIMITS.rules {
             return Err(RuleFault::Full);
@@ -384,7 +384,7 @@ impl Rules {
 fn conjoined(table: &mut Table, all: Node, expr: &Expr) -> Result<RulePlan, Memory>
     requires { all < diagram_size table.old }
     ensures extends { Extends table.old table.new }
-    ensures node { IfOk result (λ plan. StandsFor table.new plan.node expr.now) }
+    ensures node { IfOk result (λ plan. IsNodeOf table.new plan.node expr.now) }
     ensures conjunction { IfOk result (λ plan. Stands table.new plan.conjunction 0 (max (span table.old all) (reach expr.now)) (λ c. value_in table.old all c && value expr.now c)) }
 {
     let node = compile(table, expr)?;
@@ -395,7 +395,7 @@ fn conjoined(table: &mut Table, all: Node, expr: &Expr) -> Result<RulePlan, Memo
 // The node that is true where an option has a value.
 pub(crate) fn literal_node(table: &mut Table, option: OptionId, on: bool) -> Result<Node, Memory>
     ensures extends { Extends table.old table.new }
-    ensures stands { IfOk result (λ node. StandsFor table.new node (literal option on)) }
+    ensures stands { IfOk result (λ node. IsNodeOf table.new node (literal option on)) }
 {
     let node = table.literal(option)?;
     if on {

@@ -1,7 +1,7 @@
 -- How refusals are handed on.
 use Rattle.std.proofs.Common.{◌≡◌, refl, sym, ap, subst, ℕ, Bool, List, Result, Ok, Err}
 use Rattle.std.specs.Result.{IsErrAnd}
-use Rattle.cov_expr.specs.Binding.{bound, IsFaultOf}
+use Rattle.cov_expr.specs.Binding.{bound, IsBindFaultOf}
 use Rattle.cov_expr.specs.declared.binding.BindFault.{BindFault}
 use Rattle.cov_expr.specs.declared.binding.BindFault.TheVariants as binds
 use Rattle.cov_rules.specs.Completion.{IsRefusalBy}
@@ -30,7 +30,7 @@ stops-later wanted later old new stops.Memory h = tt
 stops-later wanted later old new (stops.Refused code) h = record { is = ap (λ found. found >>= later) h.is; same = h.same; told = h.told }
 
 -- bindings that are no partial choice
-pub bind-stops : (st : State) (bindings : List (List ℕ × Bool)) (fault : BindFault) → IsFaultOf (bound (options_of st.history) bindings) fault
+pub bind-stops : (st : State) (bindings : List (List ℕ × Bool)) (fault : BindFault) → IsBindFaultOf (bound (options_of st.history) bindings) fault
     → Stops (found_partial st.history bindings) st st (bind_stop fault)
 bind-stops st bindings (binds.UnknownOption name) h = record { is = ap (by_code bind_code) h; same = refl; told = tt }
 bind-stops st bindings (binds.Repeated option) h = record { is = ap (by_code bind_code) h; same = refl; told = repeated_below (options_of st.history) bindings option h }

@@ -6,6 +6,6 @@ use Rattle.cov_store.specs.Opening.{MayStop}
 use Rattle.cov_store.specs.declared.damage.StoreFault.{StoreFault}
 
 -- the run begins with this history, unless the opening stops
-abbrev pub Begins : List Command → ℕ → ℕ → Result State StoreFault → Type 0
-Begins history before now (Ok server) = server ≡ starting history
-Begins history before now (Err fault) = MayStop before now fault
+abbrev pub BeginsWith : List Command → ℕ → ℕ → Result State StoreFault → Type 0
+BeginsWith history before now (Ok server) = server ≡ starting history
+BeginsWith history before now (Err fault) = MayStop before now fault

@@ -4,7 +4,7 @@ ghost use Rattle.cov_disk.specs.Images.{LeavesOnly};
 ghost use Rattle.cov_edit.specs.declared.command.Command.{Command};
 ghost use Rattle.cov_journal.specs.Gates.{HasGate};
 ghost use Rattle.cov_journal.specs.Reading.{IsNoStore};
-ghost use Rattle.cov_serve.specs.Opening.{Begins};
+ghost use Rattle.cov_serve.specs.Opening.{BeginsWith};
 ghost use Rattle.cov_serve.specs.States.{starting};
 ghost use Rattle.cov_store.specs.Damages.{HasDamage};
 ghost use Rattle.cov_store.specs.Opening.{IsImageFaultOf, HasReason, IsOfVerdict, OnImageRefused, TellsDamage, TellsNoStore};
@@ -44,7 +44,7 @@ impl Server {
     /// Opens the store of a disk, as `Store::open` does. The run begins with its history, no session and no name of a tree.
     pub fn open<D: Disk>(alloc: Global, disk: &mut D) -> Result<Server, StoreFault>
         ensures stands { (history : List Command) → IfSome (D.contents disk.old) (λ image. StandsFor image history →
-            Begins history (D.faults disk.old) (D.faults disk.new) result) }
+            BeginsWith history (D.faults disk.old) (D.faults disk.new) result) }
         ensures damage { (number : ℕ) (cause : StoreDamage) → IfSome (D.contents disk.old) (λ image. (damage : HasDamage image number cause) →
             TellsDamage damage.history number cause (D.faults disk.old) (D.faults disk.new) result) }
         ensures no_store { IfSome (D.contents disk.old) (λ image. IsNoStore image →

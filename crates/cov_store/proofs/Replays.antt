@@ -18,7 +18,7 @@ use Rattle.cov_record.specs.Laws.{IsRecordOf}
 use Rattle.cov_record.specs.Payload.{payload}
 use Rattle.cov_store.specs.Damages.{Begins, HasCause, IsDamagedAfter}
 use Rattle.cov_store.specs.Opening.{HasReason, IsNoWant, IsOfVerdict}
-use Rattle.cov_store.specs.Replaying.{StandsBehind, IsDamaged, IsRefused, IsStop, IsUnread, Reads, Ends, IsFoundIn, Steps}
+use Rattle.cov_store.specs.Replaying.{StandsBehind, IsDamaged, IsRefused, IsStop, IsUnread, Reads, HoldsHistory, IsFoundIn, Steps}
 use Rattle.cov_store.specs.Stands.{payloads, IsStored}
 use Rattle.cov_store.specs.declared.damage.StoreDamage.{StoreDamage}
 use Rattle.cov_store.specs.declared.damage.StoreDamage.TheVariants as damages
@@ -110,7 +110,7 @@ module _ (o : Option (List ℕ)) (before : Place) (history : List Command) (s : 
     step_read (Err fault) gate given read reads = unread_found fault reads read
 
   -- no record is left
-  pub ends_here : IfSome o (λ image. get_or image before.at 0 ≢ 1) → Ends o history
+  pub ends_here : IfSome o (λ image. get_or image before.at 0 ≢ 1) → HoldsHistory o history
   ends_here closed = (
     some_both o (λ image. (image ≡ stored (payloads history) (drop before.at image)) × (before.at < length image)) (λ image. get_or image before.at 0 ≢ 1) (λ image. IsStored image history)
         (λ image is closed. record {

@@ -64,7 +64,7 @@ pub record IsInstalled (prepared : Pending) (done : EngineValue × Receipt) : Ty
   pub number : done.1.number ≡ receipt_number prepared.history prepared.command
 
 -- a command is prepared after a history, and there is room for its record
-pub record IsReady (before : EngineValue) (command : Command) (ready : Ready) : Type 0 where
+pub record IsReadyToWrite (before : EngineValue) (command : Command) (ready : Ready) : Type 0 where
   pub history : ready.prepared.history ≡ before.history
   pub command_is : ready.prepared.command ≡ command
   pub extends : Extends before.table ready.prepared.table

@@ -80,8 +80,8 @@ Reads history payload after (Ok (steps.End store)) = ⊥
 Reads history payload after (Err fault) = IsUnread history payload fault
 
 -- the disk holds a history, and has a gate behind it
-abbrev pub Ends : Option (List ℕ) → List Command → Type 0
-Ends contents history = IfSome contents (λ image. IsStored image history) × HasGate contents (gate_of history)
+abbrev pub HoldsHistory : Option (List ℕ) → List Command → Type 0
+HoldsHistory contents history = IfSome contents (λ image. IsStored image history) × HasGate contents (gate_of history)
 
 -- the fault is the image's damage, if it is one of the image
 abbrev pub IsFoundIn : List ℕ → StoreFault → Type 0
@@ -93,10 +93,10 @@ IsFoundIn image faults.Memory = Unit {0}
 -- one record more stands before the reader, or none is left, or the next is damaged
 abbrev pub Steps : Option (List ℕ) → List Command → Result Step StoreFault → Type 0
 Steps contents history (Ok (steps.On replay)) = (length replay.engine.history ≡ length history + 1) × StandsBehind contents replay.reader replay.engine.history
-Steps contents history (Ok (steps.End store)) = Ends contents store.history
+Steps contents history (Ok (steps.End store)) = HoldsHistory contents store.history
 Steps contents history (Err fault) = IfSome contents (λ image. IsFoundIn image fault)
 
 -- all records were read, or one is damaged
 abbrev pub Replays : Option (List ℕ) → Result EngineValue StoreFault → Type 0
-Replays contents (Ok store) = Ends contents store.history
+Replays contents (Ok store) = HoldsHistory contents store.history
 Replays contents (Err fault) = IfSome contents (λ image. IsFoundIn image fault)

@@ -5,7 +5,7 @@ ghost use Rattle.cov_dd.specs.Diagrams.{Extends};
 ghost use Rattle.cov_disk.specs.Images.{LeavesOnly};
 ghost use Rattle.cov_history.specs.Verdict.{IsLegal, verdict};
 ghost use Rattle.cov_journal.specs.Gates.{HasGate};
-ghost use Rattle.cov_store.specs.Applying.{IsAccepted, IsReady, IsReadyFor, IsGivenBack, IsGivenUp, IsInstalled, with_command};
+ghost use Rattle.cov_store.specs.Applying.{IsAccepted, IsReadyToWrite, IsReadyFor, IsGivenBack, IsGivenUp, IsInstalled, with_command};
 ghost use Rattle.cov_store.specs.Stands.{IsStored, IsJournalOf, gate_of};
 
 use crate::Store;
@@ -27,7 +27,7 @@ pub(crate) struct Ready {
 
 /// Makes all ready for a command, so that only the disk can fail.
 pub(crate) fn make_ready(store: Store, command: Command) -> Result<Ready, (Store, Refusal)>
-    ensures ready { IfOk result (IsReady store command) }
+    ensures ready { IfOk result (IsReadyToWrite store command) }
     ensures back { IfErr result (IsGivenBack store command) }
 {
     let alloc = store.engine.table().allocator();

@@ -14,7 +14,7 @@ use Rattle.cov_dd.specs.Diagrams.{diagram_size, value_in, Extends, IsNode}
 use Rattle.cov_tree.specs.declared.entry.Place.{Place}
 use Rattle.cov_tree.specs.declared.entry.Entry.{Entry}
 use Rattle.cov_tree.specs.Entries.{row_at, rows_of, rows_in, AreWithin, AllAreWithin}
-use Rattle.cov_tree.specs.Spreading.{node_at, reached_in, IsReach}
+use Rattle.cov_tree.specs.Spreading.{reach_node, reached_in, IsReach}
 use Rattle.cov_tree.proofs.Rows.{rows_of-grown, rows_in-append, rows_in-grown, taken, holds_at}
 use Rattle.cov_tree.proofs.Turning.{any_more, reached_grown}
 
@@ -43,7 +43,7 @@ own_node f node kind (p ∷ ps) = ap (λ b. f node || b) (own_node f node kind p
 
 -- one node more
 pub lost_more : (t0 t new : List Triple) → Extends t0 t → (es : List Entry) (i : ℕ) (e : Entry) → i < length es → e ≡ get_or es i e → AllAreWithin t0 es
-    → (reach : List ℕ) → AllByRecursion (λ n. n < diagram_size t0) reach → (lost r n : ℕ) → n ≡ node_at reach e.node
+    → (reach : List ℕ) → AllByRecursion (λ n. n < diagram_size t0) reach → (lost r n : ℕ) → n ≡ reach_node reach e.node
     → IsNode t lost (λ c. list_any (λ row. not (reached_in t0 reach c row.node)) (rows_in t0 c (take i es)))
     → IsNode new r (λ c. value_in t lost c || list_any (λ row. not (value_in t n c)) (rows_of t c e.node e.kind e.places))
     → IsNode new r (λ c. list_any (λ row. not (reached_in t0 reach c row.node)) (rows_in t0 c (take (i + 1) es)))

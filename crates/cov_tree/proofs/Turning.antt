@@ -14,7 +14,7 @@ use Rattle.cov_dd.proofs.CallerLemmas.{some_nodes, value-constant}
 use Rattle.cov_tree.specs.declared.entry.Place.{Place}
 use Rattle.cov_tree.specs.declared.entry.Entry.{Entry}
 use Rattle.cov_tree.specs.Entries.{row_at, rows_of, rows_in, nodes_of, AllAreWithin}
-use Rattle.cov_tree.specs.Spreading.{node_at, reached_in, Holds, AreReached, Turns, Rounds, Relaxes, Spreads, IsReach}
+use Rattle.cov_tree.specs.Spreading.{reach_node, reached_in, Holds, AreReached, Turns, Rounds, Relaxes, Spreads, IsReach}
 use Rattle.cov_tree.proofs.Rows.{rows_of-append, row_of_place, rows_of-grown, rows_in-append, rows_in-grown, taken, holds_at}
 use Rattle.cov_tree.proofs.Spreading.{entry_more, step_more, right_in_time, right_at_rest, few_rows}
 
@@ -32,7 +32,7 @@ any_more t c test node kind ps i p here at =
     by true false e = ap (λ x. x || false) e
     by false b e = refl
 
-pub node_within : (t : List Triple) (reach : List ℕ) (x : ℕ) → AllByRecursion (λ n. n < diagram_size t) reach → node_at reach x < diagram_size t
+pub node_within : (t : List Triple) (reach : List ℕ) (x : ℕ) → AllByRecursion (λ n. n < diagram_size t) reach → reach_node reach x < diagram_size t
 node_within t [] x h = let two : 2 ≤ diagram_size t = some_nodes t in omega (arith, two)
 node_within t (n ∷ reach) zero h = h.0
 node_within t (n ∷ reach) (suc x) h = node_within t reach x h.1
@@ -41,11 +41,11 @@ pub within_grown : (old new : List Triple) → Extends old new → (reach : List
 within_grown old new grows reach h = all-map (λ n. n < diagram_size old) (λ n. n < diagram_size new) (λ n k. omega (arith, k, grows.count)) reach h
 
 -- the node of a directory is one of the table, also once the table grew
-pub reach_within : (old new : List Triple) → Extends old new → (reach : List ℕ) (x node : ℕ) → AllByRecursion (λ n. n < diagram_size old) reach → node ≡ node_at reach x → node < diagram_size new
+pub reach_within : (old new : List Triple) → Extends old new → (reach : List ℕ) (x node : ℕ) → AllByRecursion (λ n. n < diagram_size old) reach → node ≡ reach_node reach x → node < diagram_size new
 reach_within old new grows reach x node h is = subst (λ n. n < diagram_size new) (sym is) (node_within new reach x (within_grown old new grows reach h))
 
 pub reached_grown : (old new : List Triple) → Extends old new → (reach : List ℕ) → AllByRecursion (λ n. n < diagram_size old) reach → (c : List Bool) (x : ℕ) → reached_in new reach c x ≡ reached_in old reach c x
-reached_grown old new grows reach h c x = grows.value (node_at reach x) (node_within old reach x h) c
+reached_grown old new grows reach h c x = grows.value (reach_node reach x) (node_within old reach x h) c
 
 pub none_found : (t : List Triple) (f : List Bool → Bool) → ((c : List Bool) → f c ≡ false) → IsNode t 0 f
 none_found t f h = record { within = let two : 2 ≤ diagram_size t = some_nodes t in omega (arith, two); value = λ c. value-constant t 0 c (omega arith) ∙ sym (h c) }
@@ -54,7 +54,7 @@ none_found t f h = record { within = let two : 2 ≤ diagram_size t = some_nodes
 pub arrival_more : (t0 t new : List Triple) → Extends t0 t → (reach : List ℕ) → AllByRecursion (λ n. n < diagram_size t0) reach
     → (node : ℕ) (kind : Kind) (ps : List Place) (i : ℕ) (p : Place) → i < length ps → p ≡ get_or ps i p → p.vis < diagram_size t0 → (found r b : ℕ)
     → IsNode t found (λ c. list_any (λ row. reached_in t0 reach c row.parent) (rows_of t0 c node kind (take i ps)))
-    → b ≡ node_at reach p.parent
+    → b ≡ reach_node reach p.parent
     → IsNode new r (λ c. value_in t found c || (value_in t p.vis c && value_in t b c))
     → IsNode new r (λ c. list_any (λ row. reached_in t0 reach c row.parent) (rows_of t0 c node kind (take (i + 1) ps)))
 arrival_more t0 t new grows reach within node kind ps i p here at inside found r b f is n = record {
@@ -91,11 +91,11 @@ true_node (t ∷ ts) c =
     ap (λ b. cond b (cond (is_on c t.option) (value_in ts t.on c) (value_in ts t.off c)) (value_in ts 1 c)) other ∙ true_node ts c
 
 -- at first the root alone is reached
-pub first_holds : (t : List Triple) (reach : List ℕ) → node_at reach 0 ≡ 1 → (rows : List Row) (c : List Bool) → Holds rows 0 (reached_in t reach c)
+pub first_holds : (t : List Triple) (reach : List ℕ) → reach_node reach 0 ≡ 1 → (rows : List Row) (c : List Bool) → Holds rows 0 (reached_in t reach c)
 first_holds t reach one rows c zero is = ap (λ n. value_in t n c) one ∙ true_node t c
 first_holds t reach one rows c (suc m) is = absurd (cc)
 
-pub first_reached : (t : List Triple) (reach : List ℕ) → ((x : ℕ) → nat_eq x 0 ≡ false → node_at reach x ≡ 0) → (rows : List Row) (c : List Bool) → AreReached rows (reached_in t reach c)
+pub first_reached : (t : List Triple) (reach : List ℕ) → ((x : ℕ) → nat_eq x 0 ≡ false → reach_node reach x ≡ 0) → (rows : List Row) (c : List Bool) → AreReached rows (reached_in t reach c)
 first_reached t reach none rows c zero is = root
 first_reached t reach none rows c (suc m) is =
     let other : nat_eq (suc m) 0 ≡ false = grind (arith, nat_tests) in

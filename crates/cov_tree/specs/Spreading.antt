@@ -10,12 +10,12 @@ use Rattle.cov_tree.specs.declared.entry.Entry.{Entry}
 use Rattle.cov_tree.specs.Entries.{rows_of, rows_in}
 
 -- the choices of a node, FALSE where there are none
-abbrev pub node_at : List ℕ → ℕ → ℕ
-node_at reach x = unwrap_or (slice_get reach x) 0
+abbrev pub reach_node : List ℕ → ℕ → ℕ
+reach_node reach x = unwrap_or (slice_get reach x) 0
 
 -- whether a node is reached on a choice
 abbrev pub reached_in : List Triple → List ℕ → List Bool → ℕ → Bool
-reached_in table reach c x = value_in table (node_at reach x) c
+reached_in table reach c x = value_in table (reach_node reach x) c
 
 -- each node from which the root is reached in so many steps is in the set, and the root is reached from each node in it
 abbrev pub Holds : List Row → ℕ → (ℕ → Bool) → Type 0

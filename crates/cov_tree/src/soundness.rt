@@ -8,7 +8,7 @@ ghost use Rattle.cov_base.specs.Reaching.{has_lost};
 ghost use Rattle.cov_dd.specs.Diagrams.{diagram_size, span, value_in, Extends, IsNode};
 ghost use Rattle.cov_tree.specs.Carried.{AreUnread};
 ghost use Rattle.cov_tree.specs.Entries.{rows_of, rows_in, nodes_of, AreWithin, AllAreWithin};
-ghost use Rattle.cov_tree.specs.Spreading.{node_at, reached_in, Relaxes, Spreads, IsReach};
+ghost use Rattle.cov_tree.specs.Spreading.{reach_node, reached_in, Relaxes, Spreads, IsReach};
 
 use crate::entry::Entry;
 use crate::grouping::clashes;
@@ -112,8 +112,8 @@ fn reached(table: &mut Table, alloc: Global, entries: &[Entry]) -> Result<Vec<No
 
 // The root, reached on each choice, and the other nodes, on none.
 fn root_alone(alloc: Global, entries: &[Entry]) -> Result<Vec<Node>, Memory>
-    ensures root { IfOk result (λ reach. node_at reach.items 0 ≡ 1) }
-    ensures others { IfOk result (λ reach. (x : ℕ) → nat_eq x 0 ≡ false → node_at reach.items x ≡ 0) }
+    ensures root { IfOk result (λ reach. reach_node reach.items 0 ≡ 1) }
+    ensures others { IfOk result (λ reach. (x : ℕ) → nat_eq x 0 ≡ false → reach_node reach.items x ≡ 0) }
     ensures within { IfOk result (λ reach. AllByRecursion (λ n. n < 2) reach.items) }
     ensures room { IfOk result (λ reach. AllByRecursion (λ e. e.node < length reach.items) entries.now) }
 {
@@ -198,7 +198,7 @@ fn arrival(table: &mut Table, entry: &Entry, reach: &[Node]) -> Result<Node, Mem
 
 // The choices on which a node is reached; a node without a number there isn't on any.
 fn reach_of(reach: &[Node], node: NodeNo) -> Node
-    ensures { result ≡ node_at reach.now node }
+    ensures { result ≡ reach_node reach.now node }
 {
     reach.get(node.number() as usize).copied().unwrap_or(FALSE)
 }

@@ -2,16 +2,16 @@ use Rattle.std.proofs.Common.{map, subst, ap, sym, arith}
 use Rattle.std.proofs.lemmas.List.{take_all}
 use Rattle.cov_dd.proofs.CallerLemmas.{extends_trans}
 use Rattle.cov_rules.specs.Completion.{keep_all, IsSet}
-use Rattle.cov_rules.specs.Installing.{reach_of, StandsFor}
+use Rattle.cov_rules.specs.Installing.{reach_of, IsNodeOf}
 use Rattle.cov_rules.proofs.Narrowing.{next_stands, kept_more}
 use Rattle.cov_rules.proofs.completing.left_after.Given.{Over}
 use Rattle.cov_rules.proofs.completing.left_after.Goals as goal
 use Rattle.cov_rules.proofs.completing.left_after.Goals.{After-node}
 
 -- the node of the next wish stands for it
-stands : (g : Over) (c : After-node g) → StandsFor c.loop-wish.table c.node.result (g.W.Wish.wished c.wish-item.result)
+stands : (g : Over) (c : After-node g) → IsNodeOf c.loop-wish.table c.node.result (g.W.Wish.wished c.wish-item.result)
 stands g c =
-    subst (λ n. StandsFor c.loop-wish.table n (g.W.Wish.wished c.wish-item.result)) (sym c.node.ensures)
+    subst (λ n. IsNodeOf c.loop-wish.table n (g.W.Wish.wished c.wish-item.result)) (sym c.node.ensures)
     (next_stands c.args.table.now c.loop-wish.table c.loop-wish.invariant.extends g.W.Wish.told g.W.Wish.wished c.args.wishes.now c.loop-wish.wish-index c.wish-item.result c.requires.wishes c.loop-wish-test.true c.wish-item.is)
 
 pub narrowed-requires-clause-wish : goal.narrowed-requires-clause-wish

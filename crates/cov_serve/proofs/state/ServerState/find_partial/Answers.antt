@@ -1,5 +1,5 @@
 use Rattle.std.proofs.Common.{◌∙◌, ap, subst}
-use Rattle.cov_expr.specs.Binding.{bound, IsFaultOf}
+use Rattle.cov_expr.specs.Binding.{bound, IsBindFaultOf}
 use Rattle.cov_edit.specs.History.{options_of}
 use Rattle.cov_serve.specs.Acting.{Finds}
 use Rattle.cov_serve.specs.States.{State}
@@ -11,4 +11,4 @@ returns-in_err-bind-clause-found c =
     let st = c.args.self.now in
     stopped (Finds _ st) c.from_residual.result _ c.from_residual.ensures.1
     (bind-stops st c.args.choice.now c.in_err-bind.field-0.0
-    (subst (λ names. IsFaultOf (bound names c.args.choice.now) c.in_err-bind.field-0.0) (c.options.ensures ∙ ap (λ (t : State). options_of t.history) c.self.view_is) c.in_err-bind.ensures.refused))
+    (subst (λ names. IsBindFaultOf (bound names c.args.choice.now) c.in_err-bind.field-0.0) (c.options.ensures ∙ ap (λ (t : State). options_of t.history) c.self.view_is) c.in_err-bind.ensures.refused))
