@@ -7,7 +7,7 @@ use std::marker::Model;
 use std::rc::Rc;
 
 /// A list of bytes. Copies of a copy share its bytes, until one of them is changed.
-#[derive(Debug, Drop)]
+#[derive(Debug)]
 pub struct Text {
     bytes: Bytes,
 }
@@ -26,6 +26,14 @@ impl Model for Text {
     ghost Value = { List ℕ };
 
     ghost view = { λ t. bytes_of t.bytes };
+}
+
+// A text is dropped by a call, so that whoever drops one needn't know how its bytes are owned.
+impl Drop for Text {
+    fn drop(self) {
+        let Text { bytes } = self;
+        drop(bytes);
+    }
 }
 
 impl Text {
@@ -125,7 +133,8 @@ impl Text {
     pub fn into_vec(self) -> Result<Vec<u8>, Memory>
         ensures { IfOk result (λ bytes. bytes.items ≡ self) }
     {
-        match self.bytes {
+        let Text { bytes } = self;
+        match bytes {
             Bytes::Own(own) => Ok(own),
             Bytes::Shared(shared) => match Rc::try_unwrap(shared) {
                 Ok(own) => Ok(own),
