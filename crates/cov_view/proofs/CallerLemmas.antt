@@ -1,5 +1,6 @@
 -- Lemmas on refusals, references, trees and rows of a history's nodes, for the proofs of callers.
 pub use Rattle.cov_base.proofs.CallerLemmas.{drop-at, drop-end}
+pub use Rattle.cov_view.proofs.Added.{lines-added}
 pub use Rattle.cov_view.proofs.Changes.{not_there}
 pub use Rattle.cov_view.proofs.Directories.{none_is}
 pub use Rattle.cov_view.proofs.FewRows.{few-tree}

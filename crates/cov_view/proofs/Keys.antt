@@ -9,8 +9,7 @@ use Rattle.indexmap.specs.IndexSet.{insert_key}
 use Rattle.cov_base.specs.declared.number.NodeRef.{NodeRef}
 use Rattle.cov_base.specs.declared.number.NodeRef.TheVariants as nodes
 use Rattle.cov_view.specs.References.{same_node}
-use Rattle.cov_view.specs.Seen.{has_row, at_row, with_lines_by, without_node, StandOnce}
-use Rattle.cov_view.specs.declared.line.ViewLine.{ViewLine}
+use Rattle.cov_view.specs.Seen.{has_row, at_row, without_node, StandOnce}
 use Rattle.cov_view.specs.declared.row.ViewRow.{ViewRow}
 use Rattle.cov_view.proofs.Naming.{node-same}
 use Rattle.cov_view.proofs.Standing.{none-without}
@@ -122,10 +121,3 @@ removed_row node rows i once h = at (nat_lt (position_or_len (λ r. same_node r.
         let same : position_or_len (λ r. same_node r.node node) rows ≡ i = cc in
         ap (remove rows) (sym same) ∙ removed_first node rows once (grind (arith, nat_tests, e))
     at false e k = absurd (cc)
-
--- a row stands where it stood, whichever row has other lines
-pub place-kept : (file node : NodeRef) (f : List ViewLine → List ViewLine) (rows : List ViewRow) → position (λ r. same_node r.node node) (at_row file (with_lines_by f) rows) ≡ position (λ r. same_node r.node node) rows
-place-kept file node f rows =
-    sym (keyed same_key agrees node (at_row file (with_lines_by f) rows))
-    ∙ ap (position (same_key node)) (keys-changed file (with_lines_by f) (λ r. refl) rows)
-    ∙ keyed same_key agrees node rows

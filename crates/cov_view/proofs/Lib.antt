@@ -1,4 +1,4 @@
-pub mod Ahead
+pub mod Added
 pub mod Applying
 pub mod Below
 pub mod CallerLemmas

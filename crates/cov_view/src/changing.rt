@@ -1,27 +1,27 @@
 // Changes of one row.
-ghost use Rattle.std.specs.Prelude.{◌≡◌, [], ◌∷◌, ◌++◌, OnOk, OnErr, position};
+ghost use Rattle.std.specs.Prelude.{◌≡◌, ◌++◌, OnOk, OnErr, position};
 ghost use Rattle.cov_view.specs.Lines.{after_ref, without_ref};
 ghost use Rattle.cov_view.specs.References.{same_node};
 ghost use Rattle.cov_view.specs.Seen.{at_row, with_lines_by, with_name_by, with_parent_by};
 
-use crate::ViewLine;
 use crate::line::{delete, insert_after};
 use crate::row::ViewRow;
+use crate::{ViewLine, ViewLines};
 use cov_base::{LineRef, Memory, Name, NodeRef};
 
-/// Puts a line at the end of a file, whose row stands at a place.
-pub(crate) fn append_line(
+/// Puts lines at the end of a file, whose row stands at a place.
+pub(crate) fn append_lines(
     rows: &mut [ViewRow],
     file: &NodeRef,
     place: Option<usize>,
-    line: ViewLine,
+    lines: ViewLines,
 ) -> Result<(), Memory>
     requires { place ≡ position (λ r. same_node r.node file.now) rows.old }
-    ensures ok { OnOk result (rows.new ≡ at_row file.now (with_lines_by (λ ls. ls ++ line ∷ [])) rows.old) }
+    ensures ok { OnOk result (rows.new ≡ at_row file.now (with_lines_by (λ ls. ls ++ lines)) rows.old) }
     ensures err { OnErr result (rows.new ≡ rows.old) }
 {
     match place {
-        Some(at) => rows[at].lines.push(line),
+        Some(at) => rows[at].lines.append(lines),
         None => Ok(()),
     }
 }

@@ -5,10 +5,10 @@ ghost use Rattle.cov_view.specs.Lines.{after_ref, without_ref};
 ghost use Rattle.cov_view.specs.References.{same_node};
 ghost use Rattle.cov_view.specs.Seen.{row_at, has_row, kind_in, is_there, has_child, child_in, has_child_beside, has_child_of, has_children, lies_within, StandOnce, at_row, with_lines_by, with_name_by, with_parent_by, without_node};
 
-use crate::ViewLine;
-use crate::changing::{append_line, delete_line, insert_line, set_name, set_parent};
+use crate::changing::{append_lines, delete_line, insert_line, set_name, set_parent};
 use crate::children::Children;
 use crate::row::{ViewRow, is_root, same_node};
+use crate::{ViewLine, ViewLines};
 use cov_base::{Kind, LineRef, Memory, Name, NodeRef};
 use indexmap::IndexSet;
 use std::alloc::Global;
@@ -185,18 +185,13 @@ impl Rows {
         self.rows.as_slice()
     }
 
-    /// Puts a line at the end of a file, whose row stands at a place.
-    pub(crate) fn append_line(
-        &mut self,
-        file: &NodeRef,
-        place: Option<usize>,
-        line: ViewLine,
-    ) -> Result<(), Memory>
-        requires { place ≡ position (λ r. same_node r.node file.now) self.old }
-        ensures ok { OnOk result (self.new ≡ at_row file.now (with_lines_by (λ ls. ls ++ line ∷ [])) self.old) }
+    /// Puts lines at the end of a file, all of them or none.
+    pub(crate) fn append_lines(&mut self, file: &NodeRef, lines: ViewLines) -> Result<(), Memory>
+        ensures ok { OnOk result (self.new ≡ at_row file.now (with_lines_by (λ ls. ls ++ lines)) self.old) }
         ensures err { OnErr result (self.new ≡ self.old) }
     {
-        append_line(&mut self.rows, file, place, line)
+        let place = self.place(file);
+        append_lines(&mut self.rows, file, place, lines)
     }
 
     /// Puts a line directly after its anchor in a file, or first where that is the head.

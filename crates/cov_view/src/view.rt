@@ -5,6 +5,7 @@ ghost use Rattle.cov_base.specs.Addresses.{IsTable};
 ghost use Rattle.cov_base.specs.Faults.{fault_of};
 ghost use Rattle.cov_base.specs.declared.number.Kind.TheVariants.{File, Dir};
 ghost use Rattle.cov_base.specs.declared.number.NodeRef.TheVariants.{Old};
+ghost use Rattle.cov_base.specs.declared.number.LineRef.TheVariants as lines;
 ghost use Rattle.cov_edit.specs.Numbering.{Numbers, node_number, nodes_made, anchors_of};
 ghost use Rattle.cov_edit.specs.Variant.{Variant, edited};
 ghost use Rattle.cov_view.specs.References.{is_made_node};
@@ -18,7 +19,7 @@ ghost use Rattle.cov_view.specs.Soundness.{AreOld, old_row, fault_in};
 ghost use Rattle.cov_view.specs.Tree.{tree_of, IsTreeOf};
 ghost use Rattle.cov_view.specs.Views.{Shows, table_after, next_by_number, FaultBy};
 
-use crate::adding::append_lines;
+use crate::adding::old_lines;
 use crate::line::copied;
 use crate::listing::listing;
 use crate::row::{ViewRow, is_root, shows_anchor, shows_line};
@@ -26,7 +27,7 @@ use crate::rows::Rows;
 use crate::soundness::first_fault;
 use crate::tree::tree;
 use crate::{DirRows, EditFault, Fault, ListFault, ReadFaultOfView, TreeRows, ViewLine, ViewLines};
-use cov_base::{FileRows, Kind, LineRef, Memory, Name, NodeNo, NodeRef, Path, Text};
+use cov_base::{FileRows, Kind, LineNo, LineRef, Memory, Name, NodeNo, NodeRef, Path, Text};
 use cov_edit::Edit;
 use std::alloc::Global;
 use std::marker::Model;
@@ -86,15 +87,33 @@ impl View {
         self.rows.push(row)
     }
 
-    /// Appends lines that a history has to their file, which was added before. It looks the file up once and copies no text; at an
-    /// `Err` some of the lines are there.
+    /// Appends a line that a history has to its file, which was added before.
+    pub fn add_line(&mut self, file: NodeNo, line: LineNo, text: &Text) -> Result<(), Memory>
+        requires { kind_in self.old.rows (NodeRef.Old file) ≡ Some File }
+        ensures rows { OnOk result (self.new.rows ≡ at_row (NodeRef.Old file) (with_lines_by (λ ls. ls ++ record { line = lines.Old line; text = text.now } ∷ [])) self.old.rows) }
+        ensures nodes { self.new.nodes_made ≡ self.old.nodes_made }
+        ensures lines { self.new.lines_made ≡ self.old.lines_made }
+        ensures err { OnErr result (self.new ≡ self.old) }
+    {
+        let mut one = ViewLines::new(self.rows.allocator());
+        one.push(ViewLine {
+            line: LineRef::Old(line),
+            text: text.copy()?,
+        })?;
+        self.rows.append_lines(&NodeRef::Old(file), one)
+    }
+
+    /// Appends lines that a history has to their file, which was added before: all of them or, at `Memory`, none. It looks
+    /// the file up once and copies no text.
     pub fn add_lines(&mut self, file: NodeNo, lines: &FileRows) -> Result<(), Memory>
         requires { kind_in self.old.rows (NodeRef.Old file) ≡ Some File }
         ensures rows { OnOk result (self.new.rows ≡ fold (with_row file) self.old.rows lines.now) }
         ensures nodes { self.new.nodes_made ≡ self.old.nodes_made }
         ensures lines { self.new.lines_made ≡ self.old.lines_made }
+        ensures err { OnErr result (self.new ≡ self.old) }
     {
-        append_lines(&mut self.rows, file, lines)
+        let added = old_lines(lines)?;
+        self.rows.append_lines(&NodeRef::Old(file), added)
     }
 
     /// How many nodes edits have made.

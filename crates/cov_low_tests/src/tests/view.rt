@@ -2,7 +2,6 @@
 ghost use Rattle.std.specs.Prelude.{OnOk};
 ghost use Rattle.cov_view.specs.Soundness.{AreOld};
 
-use super::texts::one_row;
 use cov_base::{Kind, LineNo, LineRef, Name, NodeNo, NodeRef, Path, Text};
 use cov_edit::Edit;
 use cov_view::{DirRows, Fault, View, ViewLines};
@@ -27,9 +26,9 @@ fn add_file(alloc: Global, view: &mut View) -> Result<(), Fail> {
 
 // Adds a line to that file.
 fn add_line(alloc: Global, view: &mut View, line: u32, text: &[u8]) -> Result<(), Fail> {
-    let rows = one_row(alloc, line, text)?;
+    let text = Text::from_slice(alloc, text)?;
     match view.kind(NodeRef::Old(NodeNo::new(1))) {
-        Some(Kind::File) => Ok(view.add_lines(NodeNo::new(1), &rows)?),
+        Some(Kind::File) => Ok(view.add_line(NodeNo::new(1), LineNo::new(line), &text)?),
         Some(Kind::Dir) | None => Err(Fail::from("no file")),
     }
 }
