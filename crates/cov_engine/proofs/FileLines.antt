@@ -21,7 +21,7 @@ use Rattle.cov_file.specs.Dated.{DatedLine as FileLine, file_row_of, is_visible,
 use Rattle.cov_view.specs.declared.line.ViewLine.{ViewLine}
 use Rattle.cov_view.specs.declared.row.ViewRow.{ViewRow}
 use Rattle.cov_view.specs.References.{is_dir_kind, same_node, is_made_line}
-use Rattle.cov_view.specs.Seen.{has_row, kind_in, at_row, with_lines_by, with_row}
+use Rattle.cov_view.specs.Seen.{has_row, kind_in, at_row, with_lines_by, with_file_row}
 use Rattle.cov_view.specs.Views.{ShowsLines, line_by_number, by_number}
 use Rattle.cov_view.proofs.CallerLemmas.{not_there}
 use Rattle.cov_base.specs.Rows.{Row}
@@ -86,10 +86,10 @@ view_line r = record { line = lines.Old r.line; text = r.text }
 
 -- a row that is last gets the lines that are shown
 file-last : (file : ℕ) (rows : List ViewRow) (r : ViewRow) (shown : List FileRow) → has_row rows (nodes.Old file) ≡ false → same_node r.node (nodes.Old file) ≡ true
-    → fold (with_row file) (rows ++ r ∷ []) shown ≡ rows ++ with_lines_by (λ l. l ++ map view_line shown) r ∷ []
+    → fold (with_file_row file) (rows ++ r ∷ []) shown ≡ rows ++ with_lines_by (λ l. l ++ map view_line shown) r ∷ []
 file-last file rows r [] h same = ap (λ l. rows ++ with_lines_by (λ x. l) r ∷ []) (sym (append-nil r.lines))
 file-last file rows r (s ∷ shown) h same =
-    ap (λ rs. fold (with_row file) rs shown) (last-changed rows r (nodes.Old file) (with_lines_by (λ l. l ++ view_line s ∷ [])) h same)
+    ap (λ rs. fold (with_file_row file) rs shown) (last-changed rows r (nodes.Old file) (with_lines_by (λ l. l ++ view_line s ∷ [])) h same)
     ∙ file-last file rows (with_lines_by (λ l. l ++ view_line s ∷ []) r) shown h same
     ∙ ap (λ l. rows ++ with_lines_by (λ x. l) r ∷ []) (append_assoc r.lines (view_line s ∷ []) (map view_line shown))
 

@@ -13,7 +13,7 @@ use Rattle.cov_base.specs.declared.file_row.FileRow.{FileRow}
 use Rattle.cov_file.specs.Dated.{rows_at}
 use Rattle.cov_view.specs.declared.row.ViewRow.{ViewRow}
 use Rattle.cov_view.specs.References.{is_root, same_node}
-use Rattle.cov_view.specs.Seen.{row_at, kind_in, with_row}
+use Rattle.cov_view.specs.Seen.{row_at, kind_in, with_file_row}
 use Rattle.cov_engine.specs.declared.file_part.FilePart.{FilePart}
 use Rattle.cov_engine.specs.Showing.{bare_row, with_lines, with_node, AreFresh}
 use Rattle.cov_engine.specs.Parts.{part_of}
@@ -50,9 +50,9 @@ differs node (r ∷ rs) h = (first (nat_eq r.node node) h, differs node rs (seco
     second false k = k
 
 module _ (ts : List Triple) (c : List Bool) (at : ℕ) (stored : List FilePart) where
-  lines-same : (node : NodeRef) (file : ℕ) (rows : List ViewRow) (shown : List FileRow) → kind_in (fold (with_row file) rows shown) node ≡ kind_in rows node
+  lines-same : (node : NodeRef) (file : ℕ) (rows : List ViewRow) (shown : List FileRow) → kind_in (fold (with_file_row file) rows shown) node ≡ kind_in rows node
   lines-same node file rows [] = refl
-  lines-same node file rows (s ∷ shown) = lines-same node file (with_row file rows s) shown ∙ kind-still (nodes.Old file) node _ rows
+  lines-same node file rows (s ∷ shown) = lines-same node file (with_file_row file rows s) shown ∙ kind-still (nodes.Old file) node _ rows
 
   kinds-same : (node : NodeRef) (k : Kind) (file : ℕ) (e : Option FilePart) (rows : List ViewRow) → kind_in (with_lines ts c at k file e rows) node ≡ kind_in rows node
   kinds-same node kinds.File file (Some e) rows = lines-same node file rows (rows_at ts c at e.lines.lines)

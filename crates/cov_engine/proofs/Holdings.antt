@@ -20,7 +20,7 @@ use Rattle.cov_edit.specs.Numbering.{Numbers, no_numbers, numbers_of}
 use Rattle.cov_edit.specs.Variant.{Variant}
 use Rattle.cov_edit.specs.Replay.{replay}
 use Rattle.cov_view.specs.declared.row.ViewRow.{ViewRow}
-use Rattle.cov_view.specs.Seen.{with_row}
+use Rattle.cov_view.specs.Seen.{with_file_row}
 use Rattle.cov_view.specs.Views.{row_by_number}
 use Rattle.cov_engine.specs.declared.store.CommitMark.{CommitMark}
 use Rattle.cov_engine.specs.declared.file_part.FilePart.{FilePart}
@@ -47,9 +47,9 @@ abbrev pub no_files : List FilePart
 no_files = []
 
 module _ (ns : Numbers) (ts : List Triple) (c : List Bool) (at : ℕ) (stored : List FilePart) where
-  file-same : (file : ℕ) (rows : List ViewRow) (shown : List FileRow) → map (row_by_number ns) (fold (with_row file) rows shown) ≡ map (row_by_number ns) rows
+  file-same : (file : ℕ) (rows : List ViewRow) (shown : List FileRow) → map (row_by_number ns) (fold (with_file_row file) rows shown) ≡ map (row_by_number ns) rows
   file-same file rows [] = refl
-  file-same file rows (r ∷ shown) = file-same file (with_row file rows r) shown ∙ rows-same ns _ _ rows
+  file-same file rows (r ∷ shown) = file-same file (with_file_row file rows r) shown ∙ rows-same ns _ _ rows
 
   kinds-same : (kind : Kind) (node : ℕ) (e : Option FilePart) (rows : List ViewRow) → map (row_by_number ns) (with_lines ts c at kind node e rows) ≡ map (row_by_number ns) rows
   kinds-same kinds.File node (Some e) rows = file-same node rows (rows_at ts c at e.lines.lines)

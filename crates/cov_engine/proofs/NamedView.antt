@@ -25,7 +25,7 @@ use Rattle.cov_history.proofs.CallerLemmas.{all-mapped, holding-stands, legal-na
 use Rattle.cov_tree.specs.Dated.{rows_at}
 use Rattle.cov_view.specs.References.{is_dir_kind, is_made_line, is_made_node, same_node}
 use Rattle.cov_view.specs.Refusals.{first_refused}
-use Rattle.cov_view.specs.Seen.{Seen, row_at, with_lines_by, with_row}
+use Rattle.cov_view.specs.Seen.{Seen, row_at, with_lines_by, with_file_row}
 use Rattle.cov_view.specs.Views.{by_number, line_by_number, row_by_number, IsMade, Shows, ShowsLines}
 use Rattle.cov_view.specs.declared.line.ViewLine.{ViewLine}
 use Rattle.cov_view.specs.declared.row.ViewRow.{ViewRow}
@@ -76,10 +76,10 @@ module _ (ts : List Triple) (c : List Bool) (at : ℕ) (stored : List FilePart) 
       none kinds.Dir = refl
 
   -- the lines of another node change nothing of a row
-  skip-lines : (x : ℕ) (r : ViewRow) (rows : List ViewRow) (ls : List FileRow) → same_node r.node (nodes.Old x) ≡ false → fold (with_row x) (r ∷ rows) ls ≡ r ∷ fold (with_row x) rows ls
+  skip-lines : (x : ℕ) (r : ViewRow) (rows : List ViewRow) (ls : List FileRow) → same_node r.node (nodes.Old x) ≡ false → fold (with_file_row x) (r ∷ rows) ls ≡ r ∷ fold (with_file_row x) rows ls
   skip-lines x r rows [] h = refl
   skip-lines x r rows (l ∷ ls) h =
-      ap (λ rs. fold (with_row x) rs ls) (ap (λ b. cond b (with_lines_by (λ m. m ++ view_line l ∷ []) r ∷ rows) (r ∷ with_row x rows l)) h) ∙ skip-lines x r (with_row x rows l) ls h
+      ap (λ rs. fold (with_file_row x) rs ls) (ap (λ b. cond b (with_lines_by (λ m. m ++ view_line l ∷ []) r ∷ rows) (r ∷ with_file_row x rows l)) h) ∙ skip-lines x r (with_file_row x rows l) ls h
 
   skip-one : (x : ℕ) (r : ViewRow) (rows : List ViewRow) (k : Option Kind) → same_node r.node (nodes.Old x) ≡ false → with_lines_of ts c at stored k (r ∷ rows) x ≡ r ∷ with_lines_of ts c at stored k rows x
   skip-one x r rows (Some kinds.File) h = skip-lines x r rows (read x) h
@@ -88,7 +88,7 @@ module _ (ts : List Triple) (c : List Bool) (at : ℕ) (stored : List FilePart) 
 
   -- a row gets the lines of its own node
   first-lines : (x : ℕ) (r : ViewRow) (rows : List ViewRow) (ls : List FileRow) → same_node r.node (nodes.Old x) ≡ true
-      → fold (with_row x) (r ∷ rows) ls ≡ record { node = r.node; kind = r.kind; parent = r.parent; name = r.name; lines = r.lines ++ map view_line ls } ∷ rows
+      → fold (with_file_row x) (r ∷ rows) ls ≡ record { node = r.node; kind = r.kind; parent = r.parent; name = r.name; lines = r.lines ++ map view_line ls } ∷ rows
   first-lines x r rows [] h = ap (λ l. record { node = r.node; kind = r.kind; parent = r.parent; name = r.name; lines = l } ∷ rows) (sym (none r.lines))
     where
       none : (l : List ViewLine) → l ++ [] ≡ l
@@ -96,7 +96,7 @@ module _ (ts : List Triple) (c : List Bool) (at : ℕ) (stored : List FilePart) 
       none (y ∷ l) = ap (λ m. y ∷ m) (none l)
   first-lines x r rows (l ∷ ls) h =
       let next : ViewRow = record { node = r.node; kind = r.kind; parent = r.parent; name = r.name; lines = r.lines ++ view_line l ∷ [] } in
-      ap (λ rs. fold (with_row x) rs ls) (ap (λ b. cond b (next ∷ rows) (r ∷ with_row x rows l)) h)
+      ap (λ rs. fold (with_file_row x) rs ls) (ap (λ b. cond b (next ∷ rows) (r ∷ with_file_row x rows l)) h)
       ∙ first-lines x next rows ls h
       ∙ ap (λ m. record { node = r.node; kind = r.kind; parent = r.parent; name = r.name; lines = m } ∷ rows) (append_assoc r.lines (view_line l ∷ []) (map view_line ls))
 

@@ -8,7 +8,7 @@ use Rattle.cov_base.specs.declared.number.NodeRef.TheVariants as nodes
 use Rattle.cov_dd.specs.declared.triple.Triple.{Triple}
 use Rattle.cov_file.specs.Dated.{rows_at}
 use Rattle.cov_view.specs.declared.row.ViewRow.{ViewRow}
-use Rattle.cov_view.specs.Seen.{kind_in, with_row}
+use Rattle.cov_view.specs.Seen.{kind_in, with_file_row}
 use Rattle.cov_engine.specs.Parts.{part_of}
 use Rattle.cov_engine.specs.declared.file_part.FilePart.{FilePart}
 
@@ -19,7 +19,7 @@ bare_row r = record { node = nodes.Old r.node; kind = r.kind; parent = nodes.Old
 module _ (ts : List Triple) (c : List Bool) (at : ℕ) where
   -- the rows with the lines of a node that are seen, if it is a file's and they are stored
   abbrev pub with_lines : Kind → ℕ → Option FilePart → List ViewRow → List ViewRow
-  with_lines kinds.File node (Some e) rows = fold (with_row node) rows (rows_at ts c at e.lines.lines)
+  with_lines kinds.File node (Some e) rows = fold (with_file_row node) rows (rows_at ts c at e.lines.lines)
   with_lines kinds.File node None rows = rows
   with_lines kinds.Dir node stored rows = rows
 

@@ -13,7 +13,7 @@ use Rattle.cov_tree.specs.Dated.{rows_at}
 use Rattle.cov_view.specs.declared.fault.EditFault.{EditFault}
 use Rattle.cov_view.specs.declared.row.ViewRow.{ViewRow}
 use Rattle.cov_view.specs.Refusals.{first_refused}
-use Rattle.cov_view.specs.Seen.{Seen, kind_in, with_row}
+use Rattle.cov_view.specs.Seen.{Seen, kind_in, with_file_row}
 use Rattle.cov_view.specs.Views.{FaultBy, Shows}
 use Rattle.cov_engine.specs.Parts.{part_of}
 use Rattle.cov_engine.specs.Reading.{stored_rows}
@@ -24,7 +24,7 @@ use Rattle.cov_engine.specs.declared.visible.Visible.{Visible}
 module _ (ts : List Triple) (c : List Bool) (at : ℕ) (stored : List FilePart) where
   -- the rows with the lines of a node that are seen, if it is a file
   abbrev pub with_lines_of : Option Kind → List ViewRow → ℕ → List ViewRow
-  with_lines_of (Some kinds.File) rows node = fold (with_row node) rows (stored_rows ts c at (part_of stored node))
+  with_lines_of (Some kinds.File) rows node = fold (with_file_row node) rows (stored_rows ts c at (part_of stored node))
   with_lines_of (Some kinds.Dir) rows node = rows
   with_lines_of None rows node = rows
 

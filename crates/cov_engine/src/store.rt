@@ -7,7 +7,7 @@ ghost use Rattle.std.specs.Option.{option_copied};
 ghost use Rattle.cov_base.specs.declared.number.Kind.TheVariants.{File};
 ghost use Rattle.cov_base.specs.declared.number.NodeRef.TheVariants.{Old};
 ghost use Rattle.cov_file.specs.Dated.{rows_at as file_rows_at};
-ghost use Rattle.cov_view.specs.Seen.{kind_in, with_row};
+ghost use Rattle.cov_view.specs.Seen.{kind_in, with_file_row};
 ghost use Rattle.cov_engine.specs.Showing.{bare_row, with_node, AreFresh};
 ghost use Rattle.cov_edit.specs.Touched.{AreRising};
 ghost use Rattle.cov_engine.specs.Parts.{part_node};
@@ -114,7 +114,7 @@ pub(crate) fn add_lines(
     at: Position,
 ) -> Result<(), Memory>
     requires file { kind_in view.old.rows (Old node) ≡ Some File }
-    ensures rows { OnOk result (view.new.rows ≡ fold (with_row node) view.old.rows (file_rows_at table.now choice at file.now.lines)) }
+    ensures rows { OnOk result (view.new.rows ≡ fold (with_file_row node) view.old.rows (file_rows_at table.now choice at file.now.lines)) }
     ensures nodes { view.new.nodes_made ≡ view.old.nodes_made }
     ensures lines { view.new.lines_made ≡ view.old.lines_made }
 {

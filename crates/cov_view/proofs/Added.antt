@@ -5,7 +5,7 @@ use Rattle.cov_base.specs.declared.number.NodeRef.{NodeRef}
 use Rattle.cov_base.specs.declared.number.NodeRef.TheVariants as nodes
 use Rattle.cov_base.specs.declared.file_row.FileRow.{FileRow}
 use Rattle.cov_view.specs.References.{same_node}
-use Rattle.cov_view.specs.Seen.{at_row, old_line, with_lines_by, with_row}
+use Rattle.cov_view.specs.Seen.{at_row, old_line, with_lines_by, with_file_row}
 use Rattle.cov_view.specs.declared.line.ViewLine.{ViewLine}
 use Rattle.cov_view.specs.declared.row.ViewRow.{ViewRow}
 
@@ -36,6 +36,6 @@ module _ (node : NodeRef) where
       at false e rest = ap (λ b. cond b (with_lines_by (λ m. m ++ ms) r ∷ added ls rows) (r ∷ added ms (added ls rows))) e ∙ ap (λ rs. r ∷ rs) rest
 
 -- lines added one by one are added at once
-pub lines-added : (file : ℕ) (ls : List FileRow) (rows : List ViewRow) → fold (with_row file) rows ls ≡ at_row (nodes.Old file) (with_lines_by (λ m. m ++ map old_line ls)) rows
+pub lines-added : (file : ℕ) (ls : List FileRow) (rows : List ViewRow) → fold (with_file_row file) rows ls ≡ at_row (nodes.Old file) (with_lines_by (λ m. m ++ map old_line ls)) rows
 lines-added file [] rows = none-added (nodes.Old file) rows
-lines-added file (l ∷ ls) rows = lines-added file ls (with_row file rows l) ∙ added-twice (nodes.Old file) (old_line l ∷ []) (map old_line ls) rows
+lines-added file (l ∷ ls) rows = lines-added file ls (with_file_row file rows l) ∙ added-twice (nodes.Old file) (old_line l ∷ []) (map old_line ls) rows

@@ -9,7 +9,7 @@ use Rattle.cov_base.proofs.CallerLemmas.{rest_of, rest-is}
 use Rattle.cov_base.specs.declared.number.NodeRef.{NodeRef}
 use Rattle.cov_view.specs.Seen.{row_at}
 use Rattle.cov_view.specs.SeenTree.{climbed_by, path_by, found_row}
-use Rattle.cov_view.specs.Tree.{joined, row_bytes, with_row}
+use Rattle.cov_view.specs.Tree.{joined, row_bytes, with_tree_row}
 use Rattle.cov_view.specs.declared.row.ViewRow.{ViewRow}
 use Rattle.cov_view.specs.declared.tree.Content.{Content}
 use Rattle.cov_view.specs.declared.tree.TreeRow.{TreeRow}
@@ -40,13 +40,13 @@ climb_more rows (suc s) node r name path more whole h at named is path_is =
 
 -- a row put in its place in the map is put in its place in the list
 pub put_more : (es : List (Vec ℕ × Content)) (k : Vec ℕ) (v : Content)
-    → map found_row (insert_entry (λ x y. slice_cmp nat_cmp x.items y.items) es k v) ≡ with_row (found_row (k, v)) (map found_row es)
+    → map found_row (insert_entry (λ x y. slice_cmp nat_cmp x.items y.items) es k v) ≡ with_tree_row (found_row (k, v)) (map found_row es)
 put_more [] k v = refl
 put_more (e ∷ es) k v = by (slice_cmp nat_cmp k.items e.0.items) (put_more es k v)
   where
-    by : (o : Ordering) → map found_row (insert_entry (λ x y. slice_cmp nat_cmp x.items y.items) es k v) ≡ with_row (found_row (k, v)) (map found_row es)
+    by : (o : Ordering) → map found_row (insert_entry (λ x y. slice_cmp nat_cmp x.items y.items) es k v) ≡ with_tree_row (found_row (k, v)) (map found_row es)
         → map found_row (match_ordering o ((k, v) ∷ e ∷ es) ((e.0, v) ∷ es) (e ∷ insert_entry (λ x y. slice_cmp nat_cmp x.items y.items) es k v))
-        ≡ match_ordering o (found_row (k, v) ∷ found_row e ∷ map found_row es) (found_row (e.0, v) ∷ map found_row es) (found_row e ∷ with_row (found_row (k, v)) (map found_row es))
+        ≡ match_ordering o (found_row (k, v) ∷ found_row e ∷ map found_row es) (found_row (e.0, v) ∷ map found_row es) (found_row e ∷ with_tree_row (found_row (k, v)) (map found_row es))
     by Less rec = refl
     by Equal rec = refl
     by Greater rec = ap (λ l. found_row e ∷ l) rec

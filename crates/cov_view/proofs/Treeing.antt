@@ -17,7 +17,7 @@ use Rattle.cov_view.specs.References.{is_known_node, is_made_node, is_dir_kind}
 use Rattle.cov_view.specs.Seen.{Seen, row_at, has_row, AreRows}
 use Rattle.cov_view.specs.Views.{row_by_number, line_by_number, by_number, ShowsLines, IsMade, Shows}
 use Rattle.cov_view.specs.SeenTree.{climbed_by, path_by, ended_lines, file_bytes, tree_row, with_view_rows, tree_in, AreNamed}
-use Rattle.cov_view.specs.Tree.{joined, climbed, path_to, bytes_of, row_of_tree, with_row, with_tree_rows, tree_of, AreSpelt, IsTreeOf}
+use Rattle.cov_view.specs.Tree.{joined, climbed, path_to, bytes_of, row_of_tree, with_tree_row, with_tree_rows, tree_of, AreSpelt, IsTreeOf}
 use Rattle.cov_view.specs.declared.line.ViewLine.{ViewLine}
 use Rattle.cov_view.specs.declared.row.ViewRow.{ViewRow}
 use Rattle.cov_view.specs.declared.tree.TreeRow.{TreeRow}
@@ -65,8 +65,8 @@ module _ (ns : Numbers) (table : List (List ℕ)) (s : Seen) (v : Variant) (show
       → with_view_rows s.rows rs done ≡ with_tree_rows v (map (row_by_number ns) rs) done
   rows-in-tree [] done made lines = refl
   rows-in-tree (r ∷ rs) done made lines =
-      ap (λ e. with_view_rows s.rows rs (with_row e done)) (row-in-tree r made.0 lines.0)
-      ∙ rows-in-tree rs (with_row (row_of_tree v (row_by_number ns r)) done) made.1 lines.1
+      ap (λ e. with_view_rows s.rows rs (with_tree_row e done)) (row-in-tree r made.0 lines.0)
+      ∙ rows-in-tree rs (with_tree_row (row_of_tree v (row_by_number ns r)) done) made.1 lines.1
 
   pub tree_shown : tree_in s.rows ≡ tree_of v
   tree_shown = rows-in-tree s.rows [] shows.made shows.lines ∙ ap (λ rs. with_tree_rows v rs []) (sym shows.rows)
@@ -107,12 +107,12 @@ whole-shown ns table s v shows once named sound =
     (tree_whole v (once-shown ns table s v shows once) (subst AreSpelt (sym shows.rows) (spelt-shown ns s.rows named)) sound)
 
 -- a tree has no more rows than its variant
-length-with : (e : TreeRow) (done : List TreeRow) → length (with_row e done) ≤ suc (length done)
+length-with : (e : TreeRow) (done : List TreeRow) → length (with_tree_row e done) ≤ suc (length done)
 length-with e [] = omega arith
 length-with e (f ∷ fs) = by (slice_cmp nat_cmp e.path f.path) (length-with e fs)
   where
-    by : (o : Ordering) → length (with_row e fs) ≤ suc (length fs)
-        → length (match_ordering o (e ∷ f ∷ fs) (record { path = f.path; kind = e.kind; bytes = e.bytes } ∷ fs) (f ∷ with_row e fs)) ≤ suc (suc (length fs))
+    by : (o : Ordering) → length (with_tree_row e fs) ≤ suc (length fs)
+        → length (match_ordering o (e ∷ f ∷ fs) (record { path = f.path; kind = e.kind; bytes = e.bytes } ∷ fs) (f ∷ with_tree_row e fs)) ≤ suc (suc (length fs))
     by Less rec = omega arith
     by Equal rec = omega arith
     by Greater rec = omega (arith, rec)
@@ -120,7 +120,7 @@ length-with e (f ∷ fs) = by (slice_cmp nat_cmp e.path f.path) (length-with e f
 length-rows : (v : Variant) (rs : List Row) (done : List TreeRow) → length (with_tree_rows v rs done) ≤ length rs + length done
 length-rows v [] done = omega arith
 length-rows v (r ∷ rs) done =
-    let rest = length-rows v rs (with_row (row_of_tree v r) done) in
+    let rest = length-rows v rs (with_tree_row (row_of_tree v r) done) in
     let more = length-with (row_of_tree v r) done in
     omega (arith, rest, more)
 

@@ -20,7 +20,7 @@ use Rattle.cov_base.specs.declared.limits.TheConstants.{MOST_NAME_BYTES}
 use Rattle.cov_base.proofs.CallerLemmas.{faults_are_found, nat_eq-sym, same_place-sym}
 use Rattle.cov_edit.specs.Variant.{Variant}
 use Rattle.cov_view.specs.Laws.{TreeIsWhole}
-use Rattle.cov_view.specs.Tree.{path_to, row_of_tree, with_row, with_tree_rows, tree_of, AreSpelt, DoPathsRise, IsTreeOf}
+use Rattle.cov_view.specs.Tree.{path_to, row_of_tree, with_tree_row, with_tree_rows, tree_of, AreSpelt, DoPathsRise, IsTreeOf}
 use Rattle.cov_view.specs.declared.tree.TreeRow.{TreeRow}
 use Rattle.cov_view.proofs.OnePath.{IsPart, one_path}
 
@@ -29,30 +29,30 @@ same_path : (p q : List ℕ) → slice_cmp nat_cmp p q ≡ Equal → p ≡ q
 same_path p q h = (bytes_eq-Decides p q).0 (sym (is_eq-slice_cmp p q) ∙ ap is_eq h)
 
 -- what holds of the path of a row and of the others' holds of them all
-all_with : (P : List ℕ → Type 0) (e : TreeRow) (done : List TreeRow) → P e.path → AllByRecursion (λ f. P f.path) done → AllByRecursion (λ f. P f.path) (with_row e done)
+all_with : (P : List ℕ → Type 0) (e : TreeRow) (done : List TreeRow) → P e.path → AllByRecursion (λ f. P f.path) done → AllByRecursion (λ f. P f.path) (with_tree_row e done)
 all_with P e [] own h = (own, tt)
 all_with P e (f ∷ fs) own h = by (slice_cmp nat_cmp e.path f.path) (all_with P e fs own h.1)
   where
-    by : (o : Ordering) → AllByRecursion (λ f. P f.path) (with_row e fs)
-        → AllByRecursion (λ f. P f.path) (match_ordering o (e ∷ f ∷ fs) (record { path = f.path; kind = e.kind; bytes = e.bytes } ∷ fs) (f ∷ with_row e fs))
+    by : (o : Ordering) → AllByRecursion (λ f. P f.path) (with_tree_row e fs)
+        → AllByRecursion (λ f. P f.path) (match_ordering o (e ∷ f ∷ fs) (record { path = f.path; kind = e.kind; bytes = e.bytes } ∷ fs) (f ∷ with_tree_row e fs))
     by Less rec = (own, h)
     by Equal rec = (h.0, h.1)
     by Greater rec = (h.0, rec)
 
 -- a row with another path is one more
-each_with : (e : TreeRow) (done : List TreeRow) → AllByRecursion (λ f. e.path ≢ f.path) done → IsPermutation (e ∷ done) (with_row e done)
+each_with : (e : TreeRow) (done : List TreeRow) → AllByRecursion (λ f. e.path ≢ f.path) done → IsPermutation (e ∷ done) (with_tree_row e done)
 each_with e [] h = IsPermutation-refl (e ∷ [])
 each_with e (f ∷ fs) h = by (slice_cmp nat_cmp e.path f.path) refl (each_with e fs h.1)
   where
-    by : (o : Ordering) → slice_cmp nat_cmp e.path f.path ≡ o → IsPermutation (e ∷ fs) (with_row e fs)
-        → IsPermutation (e ∷ f ∷ fs) (match_ordering o (e ∷ f ∷ fs) (record { path = f.path; kind = e.kind; bytes = e.bytes } ∷ fs) (f ∷ with_row e fs))
+    by : (o : Ordering) → slice_cmp nat_cmp e.path f.path ≡ o → IsPermutation (e ∷ fs) (with_tree_row e fs)
+        → IsPermutation (e ∷ f ∷ fs) (match_ordering o (e ∷ f ∷ fs) (record { path = f.path; kind = e.kind; bytes = e.bytes } ∷ fs) (f ∷ with_tree_row e fs))
     by Less at rec = IsPermutation-refl (e ∷ f ∷ fs)
     by Equal at rec = absurd (h.0 (same_path e.path f.path at))
     by Greater at rec =
-        IsPermutation-trans (e ∷ f ∷ fs) (f ∷ e ∷ fs) (f ∷ with_row e fs) (IsPermutation-middle (e ∷ []) f fs) (IsPermutation-cons f (e ∷ fs) (with_row e fs) rec)
+        IsPermutation-trans (e ∷ f ∷ fs) (f ∷ e ∷ fs) (f ∷ with_tree_row e fs) (IsPermutation-middle (e ∷ []) f fs) (IsPermutation-cons f (e ∷ fs) (with_tree_row e fs) rec)
 
 -- and stands where paths rise
-rising_with : (e : TreeRow) (done : List TreeRow) → AllByRecursion (λ f. e.path ≢ f.path) done → DoPathsRise done → DoPathsRise (with_row e done)
+rising_with : (e : TreeRow) (done : List TreeRow) → AllByRecursion (λ f. e.path ≢ f.path) done → DoPathsRise done → DoPathsRise (with_tree_row e done)
 rising_with e [] h up = (tt, tt)
 rising_with e (f ∷ fs) h up = by (slice_cmp nat_cmp e.path f.path) refl (rising_with e fs h.1 up.1)
   where
@@ -60,8 +60,8 @@ rising_with e (f ∷ fs) h up = by (slice_cmp nat_cmp e.path f.path) refl (risin
     later [] at up = tt
     later (g ∷ gs) at up = (nat_list_cmp_total.trans e.path f.path g.path at up.0, later gs at up.1)
 
-    by : (o : Ordering) → slice_cmp nat_cmp e.path f.path ≡ o → DoPathsRise (with_row e fs)
-        → DoPathsRise (match_ordering o (e ∷ f ∷ fs) (record { path = f.path; kind = e.kind; bytes = e.bytes } ∷ fs) (f ∷ with_row e fs))
+    by : (o : Ordering) → slice_cmp nat_cmp e.path f.path ≡ o → DoPathsRise (with_tree_row e fs)
+        → DoPathsRise (match_ordering o (e ∷ f ∷ fs) (record { path = f.path; kind = e.kind; bytes = e.bytes } ∷ fs) (f ∷ with_tree_row e fs))
     by Less at rec = ((at, later fs at up.0), up)
     by Equal at rec = absurd (h.0 (same_path e.path f.path at))
     by Greater at rec =
@@ -80,23 +80,23 @@ module _ (v : Variant) where
   abbrev AreNew : List Row → List TreeRow → Type 0
   AreNew rs done = AllByRecursion (λ s. AllByRecursion (λ f. own_path s ≢ f.path) done) rs
 
-  more_apart : (r : Row) (done : List TreeRow) (rs : List Row) → AllByRecursion (λ s. own_path s ≢ own_path r) rs → AreNew rs done → AreNew rs (with_row (row_of_tree v r) done)
+  more_apart : (r : Row) (done : List TreeRow) (rs : List Row) → AllByRecursion (λ s. own_path s ≢ own_path r) rs → AreNew rs done → AreNew rs (with_tree_row (row_of_tree v r) done)
   more_apart r done [] h k = tt
   more_apart r done (s ∷ rs) h k = (all_with (λ p. own_path s ≢ p) (row_of_tree v r) done h.0 k.0, more_apart r done rs h.1 k.1)
 
   all_rise : (rs : List Row) (done : List TreeRow) → ArePathsApart rs → AreNew rs done → DoPathsRise done → DoPathsRise (with_tree_rows v rs done)
   all_rise [] done apart new up = up
   all_rise (r ∷ rs) done apart new up =
-      all_rise rs (with_row (row_of_tree v r) done) apart.1 (more_apart r done rs apart.0 new.1) (rising_with (row_of_tree v r) done new.0 up)
+      all_rise rs (with_tree_row (row_of_tree v r) done) apart.1 (more_apart r done rs apart.0 new.1) (rising_with (row_of_tree v r) done new.0 up)
 
   all_each : (rs : List Row) (done : List TreeRow) → ArePathsApart rs → AreNew rs done → IsPermutation (map (row_of_tree v) rs ++ done) (with_tree_rows v rs done)
   all_each [] done apart new = IsPermutation-refl done
   all_each (r ∷ rs) done apart new =
       IsPermutation-trans (row_of_tree v r ∷ (map (row_of_tree v) rs ++ done)) (map (row_of_tree v) rs ++ row_of_tree v r ∷ done) (with_tree_rows v (r ∷ rs) done)
       (IsPermutation-sym (map (row_of_tree v) rs ++ row_of_tree v r ∷ done) (row_of_tree v r ∷ (map (row_of_tree v) rs ++ done)) (IsPermutation-middle (map (row_of_tree v) rs) (row_of_tree v r) done))
-      (IsPermutation-trans (map (row_of_tree v) rs ++ row_of_tree v r ∷ done) (map (row_of_tree v) rs ++ with_row (row_of_tree v r) done) (with_tree_rows v (r ∷ rs) done)
-      (IsPermutation-append_right (map (row_of_tree v) rs) (row_of_tree v r ∷ done) (with_row (row_of_tree v r) done) (each_with (row_of_tree v r) done new.0))
-      (all_each rs (with_row (row_of_tree v r) done) apart.1 (more_apart r done rs apart.0 new.1)))
+      (IsPermutation-trans (map (row_of_tree v) rs ++ row_of_tree v r ∷ done) (map (row_of_tree v) rs ++ with_tree_row (row_of_tree v r) done) (with_tree_rows v (r ∷ rs) done)
+      (IsPermutation-append_right (map (row_of_tree v) rs) (row_of_tree v r ∷ done) (with_tree_row (row_of_tree v r) done) (each_with (row_of_tree v r) done new.0))
+      (all_each rs (with_tree_row (row_of_tree v r) done) apart.1 (more_apart r done rs apart.0 new.1)))
 
   none_done : (rs : List Row) → AreNew rs []
   none_done [] = tt

@@ -168,8 +168,8 @@ at_row node f [] = []
 at_row node f (r ∷ rows) = if same_node r.node node then f r ∷ rows else r ∷ at_row node f rows
 
 -- the rows with a line that a history has at the end of a file
-abbrev pub with_row : ℕ → List ViewRow → FileRow → List ViewRow
-with_row file rows r = at_row (nodes.Old file) (with_lines_by (λ ls. ls ++ old_line r ∷ [])) rows
+abbrev pub with_file_row : ℕ → List ViewRow → FileRow → List ViewRow
+with_file_row file rows r = at_row (nodes.Old file) (with_lines_by (λ ls. ls ++ old_line r ∷ [])) rows
 
 -- what is seen after an edit
 abbrev pub seen_after : Seen → Edit → Seen

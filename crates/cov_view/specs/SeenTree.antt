@@ -7,7 +7,7 @@ use Rattle.cov_base.specs.declared.number.Kind.TheVariants.{File, Dir}
 use Rattle.cov_base.specs.declared.number.NodeRef.{NodeRef}
 use Rattle.cov_base.specs.Spelling.{is_name}
 use Rattle.cov_view.specs.Seen.{row_at}
-use Rattle.cov_view.specs.Tree.{joined, with_row}
+use Rattle.cov_view.specs.Tree.{joined, with_tree_row}
 use Rattle.cov_view.specs.declared.line.ViewLine.{ViewLine}
 use Rattle.cov_view.specs.declared.row.ViewRow.{ViewRow}
 use Rattle.cov_view.specs.declared.tree.Content.{Content}
@@ -39,7 +39,7 @@ tree_row rows r = record { path = path_by rows (length rows) r.node []; kind = r
 -- rows of a tree with those of more nodes
 abbrev pub with_view_rows : List ViewRow → List ViewRow → List TreeRow → List TreeRow
 with_view_rows rows [] done = done
-with_view_rows rows (r ∷ rs) done = with_view_rows rows rs (with_row (tree_row rows r) done)
+with_view_rows rows (r ∷ rs) done = with_view_rows rows rs (with_tree_row (tree_row rows r) done)
 
 -- the tree of a view
 abbrev pub tree_in : List ViewRow → List TreeRow

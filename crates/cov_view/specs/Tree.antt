@@ -40,14 +40,14 @@ abbrev pub row_of_tree : Variant → Row → TreeRow
 row_of_tree v r = record { path = path_to v.rows (length v.rows) r.node []; kind = r.kind; bytes = bytes_of r.kind (lines_of v r.node) }
 
 -- rows in byte order of their paths with one more, in the place of one with its path, which no sound variant has
-abbrev pub with_row : TreeRow → List TreeRow → List TreeRow
-with_row e [] = e ∷ []
-with_row e (f ∷ fs) = match_ordering (slice_cmp nat_cmp e.path f.path) (e ∷ f ∷ fs) (record { path = f.path; kind = e.kind; bytes = e.bytes } ∷ fs) (f ∷ with_row e fs)
+abbrev pub with_tree_row : TreeRow → List TreeRow → List TreeRow
+with_tree_row e [] = e ∷ []
+with_tree_row e (f ∷ fs) = match_ordering (slice_cmp nat_cmp e.path f.path) (e ∷ f ∷ fs) (record { path = f.path; kind = e.kind; bytes = e.bytes } ∷ fs) (f ∷ with_tree_row e fs)
 
 -- rows of a tree with those of more nodes
 abbrev pub with_tree_rows : Variant → List Row → List TreeRow → List TreeRow
 with_tree_rows v [] done = done
-with_tree_rows v (r ∷ rs) done = with_tree_rows v rs (with_row (row_of_tree v r) done)
+with_tree_rows v (r ∷ rs) done = with_tree_rows v rs (with_tree_row (row_of_tree v r) done)
 
 -- the tree of a sound variant: all nodes but the root, in byte order of their paths
 abbrev pub tree_of : Variant → List TreeRow

@@ -2,7 +2,7 @@
 ghost use Rattle.std.specs.Prelude.{◌≡◌, true, ◌∷◌, ◌++◌, [], length, map, reverse, IfOk, OnOk};
 ghost use Rattle.cov_base.specs.Spelling.{is_name};
 ghost use Rattle.cov_view.specs.SeenTree.{path_by, ended_lines, file_bytes, tree_row, with_view_rows, tree_in, found_row, AreNamed};
-ghost use Rattle.cov_view.specs.Tree.{joined, with_row};
+ghost use Rattle.cov_view.specs.Tree.{joined, with_tree_row};
 
 use crate::ViewLines;
 use crate::row::ViewRow;
@@ -48,7 +48,7 @@ fn put_nodes(rows: &Rows, found: &mut Found) -> Result<(), Memory>
 }
 
 fn put_node(rows: &Rows, row: &ViewRow, found: &mut Found) -> Result<(), Memory>
-    ensures row { OnOk result (found.new ≡ with_row (tree_row rows.now row.now) found.old) }
+    ensures row { OnOk result (found.new ≡ with_tree_row (tree_row rows.now row.now) found.old) }
     ensures named { OnOk result (is_name row.now.name ≡ true) }
 {
     row.name_is_spelt();
@@ -162,7 +162,7 @@ impl Found {
     }
 
     fn put(&mut self, path: Vec<u8>, kind: Kind, bytes: Text) -> Result<(), Memory>
-        ensures { OnOk result (self.new ≡ with_row (record { path = path.items; kind = kind; bytes = bytes }) self.old) }
+        ensures { OnOk result (self.new ≡ with_tree_row (record { path = path.items; kind = kind; bytes = bytes }) self.old) }
     {
         self.rows.insert(path, Content { kind, bytes })?;
         Ok(())

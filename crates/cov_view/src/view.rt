@@ -13,7 +13,7 @@ ghost use Rattle.cov_view.specs.Lines.{after_ref, without_ref};
 ghost use Rattle.cov_view.specs.Listing.{IsListingOf, listed_in};
 ghost use Rattle.cov_view.specs.Refusals.{shows_node, is_dir, refusal, takes_memory};
 ghost use Rattle.cov_view.specs.Paths.{path_node, shown_kind, AreLinesOf};
-ghost use Rattle.cov_view.specs.Seen.{Seen, kind_in, node_at, lines_in, has_child, is_there, kind_is_dir, new_fault, line_fault, rename_fault, move_fault, remove_fault, seen_fault, seen_after, at_row, with_lines_by, with_name_by, with_parent_by, with_row, without_node, AreRows};
+ghost use Rattle.cov_view.specs.Seen.{Seen, kind_in, node_at, lines_in, has_child, is_there, kind_is_dir, new_fault, line_fault, rename_fault, move_fault, remove_fault, seen_fault, seen_after, at_row, with_lines_by, with_name_by, with_parent_by, with_file_row, without_node, AreRows};
 ghost use Rattle.cov_view.specs.SeenTree.{tree_in};
 ghost use Rattle.cov_view.specs.Soundness.{AreOld, old_row, fault_in};
 ghost use Rattle.cov_view.specs.Tree.{tree_of, IsTreeOf};
@@ -107,7 +107,7 @@ impl View {
     /// the file up once and copies no text.
     pub fn add_lines(&mut self, file: NodeNo, lines: &FileRows) -> Result<(), Memory>
         requires { kind_in self.old.rows (NodeRef.Old file) ≡ Some File }
-        ensures rows { OnOk result (self.new.rows ≡ fold (with_row file) self.old.rows lines.now) }
+        ensures rows { OnOk result (self.new.rows ≡ fold (with_file_row file) self.old.rows lines.now) }
         ensures nodes { self.new.nodes_made ≡ self.old.nodes_made }
         ensures lines { self.new.lines_made ≡ self.old.lines_made }
         ensures err { OnErr result (self.new ≡ self.old) }

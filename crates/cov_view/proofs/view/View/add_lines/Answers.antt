@@ -2,7 +2,7 @@ use Rattle.std.proofs.Common.{◌++◌, refl, ap, sym, ◌∙◌}
 use Rattle.std.proofs.lemmas.Result.{on_ok_weaker}
 use Rattle.std.specs.List.{fold}
 use Rattle.cov_base.specs.declared.number.NodeRef.TheVariants as nodes
-use Rattle.cov_view.specs.Seen.{Seen, at_row, with_lines_by, with_row}
+use Rattle.cov_view.specs.Seen.{Seen, at_row, with_lines_by, with_file_row}
 use Rattle.cov_view.proofs.Added.{lines-added}
 use Rattle.cov_view.proofs.Changes.{rows-kept}
 use Rattle.cov_view.proofs.view.View.add_lines.Goals as goal
@@ -17,5 +17,5 @@ returns-clause-rows c =
     (λ is. is
     ∙ ap (λ ls. at_row (nodes.Old c.args.file) (with_lines_by (λ m. m ++ ls)) c.self.inside.rows) c.in_ok-added.ensures
     ∙ sym (lines-added c.args.file c.args.lines.now c.self.inside.rows)
-    ∙ ap (λ (v : Seen). fold (with_row c.args.file) v.rows c.args.lines.now) c.self.view_is)
+    ∙ ap (λ (v : Seen). fold (with_file_row c.args.file) v.rows c.args.lines.now) c.self.view_is)
     c.append_lines.ensures.ok
