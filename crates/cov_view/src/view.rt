@@ -104,7 +104,7 @@ impl View {
     }
 
     /// Appends lines that a history has to their file, which was added before: all of them or, at `Memory`, none. It looks
-    /// the file up once and copies no text.
+    /// the file up once, and the lines share their texts with those that are handed in.
     pub fn add_lines(&mut self, file: NodeNo, lines: &FileRows) -> Result<(), Memory>
         requires { kind_in self.old.rows (NodeRef.Old file) ≡ Some File }
         ensures rows { OnOk result (self.new.rows ≡ fold (with_file_row file) self.old.rows lines.now) }
