@@ -1,6 +1,6 @@
 -- The lines of the files that are shown.
 use Rattle.std.specs.List.{fold, filter, AllByRecursion}
-use Rattle.std.proofs.Common.{◌≡◌, refl, ap, sym, subst, ◌∙◌, ℕ, Bool, true, false, cond, ◌||◌, List, [], ◌∷◌, ◌++◌, map, take, Some, None, nat_eq, length, ◌+◌, ◌≤◌, append-nil, append_assoc, arith}
+use Rattle.std.proofs.Common.{◌≡◌, refl, ap, sym, subst, ◌∙◌, ℕ, Bool, true, false, cond, ◌||◌, List, [], ◌∷◌, ◌++◌, map, take, Some, None, nat_eq, length, ◌+◌, ◌≤◌, arith}
 use Rattle.std.proofs.lemmas.Bool.Decides.{nat_tests}
 use Rattle.cov_base.specs.declared.number.Kind.{Kind}
 use Rattle.cov_base.specs.declared.number.Kind.TheVariants as kinds
@@ -21,9 +21,9 @@ use Rattle.cov_file.specs.Dated.{DatedLine as FileLine, file_row_of, is_visible,
 use Rattle.cov_view.specs.declared.line.ViewLine.{ViewLine}
 use Rattle.cov_view.specs.declared.row.ViewRow.{ViewRow}
 use Rattle.cov_view.specs.References.{is_dir_kind, same_node, is_made_line}
-use Rattle.cov_view.specs.Seen.{has_row, kind_in, at_row, with_lines_by, with_file_row}
+use Rattle.cov_view.specs.Seen.{has_row, kind_in, at_row, old_line, with_lines_by, with_file_row}
 use Rattle.cov_view.specs.Views.{ShowsLines, line_by_number, by_number}
-use Rattle.cov_view.proofs.CallerLemmas.{not_there}
+use Rattle.cov_view.proofs.CallerLemmas.{lines-added, not_there}
 use Rattle.cov_base.specs.Rows.{Row}
 use Rattle.cov_engine.specs.declared.file_part.FilePart.{FilePart}
 use Rattle.cov_history.specs.Kept.{kept_of}
@@ -62,16 +62,16 @@ pub all-unmapped : {X Y : Type 0} (Q : Y → Type 0) (f : X → Y) (xs : List X)
 all-unmapped Q f [] h = tt
 all-unmapped Q f (x ∷ xs) h = (h.0, all-unmapped Q f xs h.1)
 
-old-line : (count : ℕ) (line : LineRef) → line_number count line ≤ count → is_made_line count 0 line ≡ true
-old-line count (lines.Old x) h = let le : x ≤ count = h in grind (arith, nat_tests, le)
-old-line count (lines.New i) h = let le : count + 1 + i ≤ count = h in absurd (omega (arith, le))
+low-line : (count : ℕ) (line : LineRef) → line_number count line ≤ count → is_made_line count 0 line ≡ true
+low-line count (lines.Old x) h = let le : x ≤ count = h in grind (arith, nat_tests, le)
+low-line count (lines.New i) h = let le : count + 1 + i ≤ count = h in absurd (omega (arith, le))
 
 -- lines with the numbers of a variant's are made
 pub lines-made : (numbers : Numbers) (v : Variant) (file : ℕ) (ls : List ViewLine) → AllByRecursion (λ l. line_of l.address ≤ length numbers.addresses) v.lines
     → map by_number (lines_of v file) ≡ map (line_by_number numbers) ls → AllByRecursion (λ l. is_made_line (length numbers.addresses) 0 l.line ≡ true) ls
 lines-made numbers v file ls low e =
     all-map (λ l. line_number (length numbers.addresses) l.line ≤ length numbers.addresses) (λ l. is_made_line (length numbers.addresses) 0 l.line ≡ true)
-    (λ l h. old-line (length numbers.addresses) l.line h) ls
+    (λ l h. low-line (length numbers.addresses) l.line h) ls
     (all-unmapped (λ (p : ℕ × List ℕ). p.0 ≤ length numbers.addresses) (line_by_number numbers) ls
     (subst (AllByRecursion (λ (p : ℕ × List ℕ). p.0 ≤ length numbers.addresses)) e
     (all-mapped (λ l. line_of l.address ≤ length numbers.addresses) (λ (p : ℕ × List ℕ). p.0 ≤ length numbers.addresses) by_number (λ l h. h) (lines_of v file)
@@ -81,19 +81,12 @@ all-one : (P : ViewRow → Type 0) (rows : List ViewRow) (r : ViewRow) → AllBy
 all-one P [] r h p = (p, tt)
 all-one P (s ∷ rows) r h p = (h.0, all-one P rows r h.1 p)
 
-abbrev pub view_line : FileRow → ViewLine
-view_line r = record { line = lines.Old r.line; text = r.text }
-
 -- a row that is last gets the lines that are shown
 file-last : (file : ℕ) (rows : List ViewRow) (r : ViewRow) (shown : List FileRow) → has_row rows (nodes.Old file) ≡ false → same_node r.node (nodes.Old file) ≡ true
-    → fold (with_file_row file) (rows ++ r ∷ []) shown ≡ rows ++ with_lines_by (λ l. l ++ map view_line shown) r ∷ []
-file-last file rows r [] h same = ap (λ l. rows ++ with_lines_by (λ x. l) r ∷ []) (sym (append-nil r.lines))
-file-last file rows r (s ∷ shown) h same =
-    ap (λ rs. fold (with_file_row file) rs shown) (last-changed rows r (nodes.Old file) (with_lines_by (λ l. l ++ view_line s ∷ [])) h same)
-    ∙ file-last file rows (with_lines_by (λ l. l ++ view_line s ∷ []) r) shown h same
-    ∙ ap (λ l. rows ++ with_lines_by (λ x. l) r ∷ []) (append_assoc r.lines (view_line s ∷ []) (map view_line shown))
+    → fold (with_file_row file) (rows ++ r ∷ []) shown ≡ rows ++ with_lines_by (λ l. l ++ map old_line shown) r ∷ []
+file-last file rows r shown h same = lines-added file shown (rows ++ r ∷ []) ∙ last-changed rows r (nodes.Old file) (with_lines_by (λ l. l ++ map old_line shown)) h same
 
-pub by-row : (numbers : Numbers) (shown : List FileRow) → map (line_by_number numbers) (map view_line shown) ≡ map row_pair shown
+pub by-row : (numbers : Numbers) (shown : List FileRow) → map (line_by_number numbers) (map old_line shown) ≡ map row_pair shown
 by-row numbers [] = refl
 by-row numbers (s ∷ shown) = ap (λ ps. row_pair s ∷ ps) (by-row numbers shown)
 
@@ -131,7 +124,7 @@ module _ (ts : List Triple) (c : List Bool) (at : ℕ) (stored : List FilePart) 
   IsShown = Shown c at numbers history low
 
   file-lines : (file : ℕ) (ls : List FileLine) → AreDated ts (option_count history) (file_dated file (kept_of history)) ls
-      → map by_number (lines_of (replay c (take at history)) file) ≡ map (line_by_number numbers) (map view_line (rows_at ts c at ls))
+      → map by_number (lines_of (replay c (take at history)) file) ≡ map (line_by_number numbers) (map old_line (rows_at ts c at ls))
   file-lines file ls are =
       sym (pairs (lines_of (replay c (take at history)) file))
       ∙ ap (map row_pair) (sym (file-rows ts c at file history ls are))
@@ -152,9 +145,9 @@ module _ (ts : List Triple) (c : List Bool) (at : ℕ) (stored : List FilePart) 
       subst (λ n. AreDated ts (option_count history) (file_dated n (kept_of history)) file.0.lines.lines) file.2 file.3.lines in
       subst (λ o. AllByRecursion IsShown (with_lines ts c at kinds.File node o (rows ++ r ∷ []))) (sym file.1)
       (subst (AllByRecursion IsShown) (sym (file-last node rows r own (not_there rows (nodes.Old node) fresh).1 same))
-      (all-one IsShown rows (with_lines_by (λ l. l ++ map view_line own) r) shown (
+      (all-one IsShown rows (with_lines_by (λ l. l ++ map old_line own) r) shown (
         (λ f. file-lines node file.0.lines.lines lines),
-        lines-made numbers (replay c (take at history)) node (map view_line own) low (file-lines node file.0.lines.lines lines),
+        lines-made numbers (replay c (take at history)) node (map old_line own) low (file-lines node file.0.lines.lines lines),
       )))
   kinds-lines kinds.Dir node parent name rows fresh shown file =
       all-one IsShown rows (bare_row (record { node = node; kind = kinds.Dir; parent = parent; name = name })) shown ((λ f. absurd (dir f)), tt)

@@ -1,5 +1,5 @@
 -- What is shown of the files with some nodes is the variant with the lines of these files alone.
-use Rattle.std.proofs.Common.{◌≡◌, refl, ap, sym, subst, ◌∙◌, ℕ, zero, suc, ◌+◌, ◌<◌, ◌≤◌, Bool, true, false, cond, ◌&&◌, ◌||◌, nat_eq, nat_lt, List, [], ◌∷◌, ◌++◌, length, map, take, append_assoc, Option, Some, None, option_map, arith}
+use Rattle.std.proofs.Common.{◌≡◌, refl, ap, sym, subst, ◌∙◌, ℕ, zero, suc, ◌+◌, ◌<◌, ◌≤◌, Bool, true, false, cond, ◌&&◌, ◌||◌, nat_eq, nat_lt, List, [], ◌∷◌, ◌++◌, length, map, take, Option, Some, None, option_map, arith}
 use Rattle.std.specs.List.{fold, AllByRecursion}
 use Rattle.std.proofs.lemmas.Bool.{or_from, or_parts}
 use Rattle.std.proofs.lemmas.Bool.Decides.{nat_tests}
@@ -25,10 +25,11 @@ use Rattle.cov_history.proofs.CallerLemmas.{all-mapped, holding-stands, legal-na
 use Rattle.cov_tree.specs.Dated.{rows_at}
 use Rattle.cov_view.specs.References.{is_dir_kind, is_made_line, is_made_node, same_node}
 use Rattle.cov_view.specs.Refusals.{first_refused}
-use Rattle.cov_view.specs.Seen.{Seen, row_at, with_lines_by, with_file_row}
+use Rattle.cov_view.specs.Seen.{Seen, at_row, old_line, row_at, with_lines_by, with_file_row}
 use Rattle.cov_view.specs.Views.{by_number, line_by_number, row_by_number, IsMade, Shows, ShowsLines}
 use Rattle.cov_view.specs.declared.line.ViewLine.{ViewLine}
 use Rattle.cov_view.specs.declared.row.ViewRow.{ViewRow}
+use Rattle.cov_view.proofs.CallerLemmas.{lines-added}
 use Rattle.cov_engine.specs.declared.file_part.FilePart.{FilePart}
 use Rattle.cov_engine.specs.declared.store.CommitMark.{CommitMark}
 use Rattle.cov_engine.specs.declared.visible.Visible.{Visible}
@@ -37,7 +38,7 @@ use Rattle.cov_engine.specs.Parts.{part_of}
 use Rattle.cov_engine.specs.Reading.{line_row, stored_rows}
 use Rattle.cov_engine.specs.Showing.{bare_row}
 use Rattle.cov_engine.specs.Trying.{seen_named, with_lines_of, with_named, IsFirstRefused}
-use Rattle.cov_engine.proofs.FileLines.{by-row, lines-made, pairs, row_pair, view_line}
+use Rattle.cov_engine.proofs.FileLines.{by-row, lines-made, pairs, row_pair}
 use Rattle.cov_engine.proofs.LinesRead.{lines-read}
 use Rattle.cov_engine.proofs.NamedFiles.{is_kept, lines-only, named-same, only}
 use Rattle.cov_engine.proofs.StoredFiles.{equal}
@@ -54,7 +55,7 @@ module _ (ts : List Triple) (c : List Bool) (at : ℕ) (stored : List FilePart) 
 
   -- the lines that a row has, if it is a file's and is to have them
   abbrev row_lines : Kind → Bool → ℕ → List ViewLine
-  row_lines kinds.File true node = map view_line (read node)
+  row_lines kinds.File true node = map old_line (read node)
   row_lines kinds.File false node = []
   row_lines kinds.Dir b node = []
 
@@ -77,9 +78,9 @@ module _ (ts : List Triple) (c : List Bool) (at : ℕ) (stored : List FilePart) 
 
   -- the lines of another node change nothing of a row
   skip-lines : (x : ℕ) (r : ViewRow) (rows : List ViewRow) (ls : List FileRow) → same_node r.node (nodes.Old x) ≡ false → fold (with_file_row x) (r ∷ rows) ls ≡ r ∷ fold (with_file_row x) rows ls
-  skip-lines x r rows [] h = refl
-  skip-lines x r rows (l ∷ ls) h =
-      ap (λ rs. fold (with_file_row x) rs ls) (ap (λ b. cond b (with_lines_by (λ m. m ++ view_line l ∷ []) r ∷ rows) (r ∷ with_file_row x rows l)) h) ∙ skip-lines x r (with_file_row x rows l) ls h
+  skip-lines x r rows ls h =
+      let added = with_lines_by (λ m. m ++ map old_line ls) in
+      lines-added x ls (r ∷ rows) ∙ ap (λ b. cond b (added r ∷ rows) (r ∷ at_row (nodes.Old x) added rows)) h ∙ ap (λ rs. r ∷ rs) (sym (lines-added x ls rows))
 
   skip-one : (x : ℕ) (r : ViewRow) (rows : List ViewRow) (k : Option Kind) → same_node r.node (nodes.Old x) ≡ false → with_lines_of ts c at stored k (r ∷ rows) x ≡ r ∷ with_lines_of ts c at stored k rows x
   skip-one x r rows (Some kinds.File) h = skip-lines x r rows (read x) h
@@ -88,17 +89,10 @@ module _ (ts : List Triple) (c : List Bool) (at : ℕ) (stored : List FilePart) 
 
   -- a row gets the lines of its own node
   first-lines : (x : ℕ) (r : ViewRow) (rows : List ViewRow) (ls : List FileRow) → same_node r.node (nodes.Old x) ≡ true
-      → fold (with_file_row x) (r ∷ rows) ls ≡ record { node = r.node; kind = r.kind; parent = r.parent; name = r.name; lines = r.lines ++ map view_line ls } ∷ rows
-  first-lines x r rows [] h = ap (λ l. record { node = r.node; kind = r.kind; parent = r.parent; name = r.name; lines = l } ∷ rows) (sym (none r.lines))
-    where
-      none : (l : List ViewLine) → l ++ [] ≡ l
-      none [] = refl
-      none (y ∷ l) = ap (λ m. y ∷ m) (none l)
-  first-lines x r rows (l ∷ ls) h =
-      let next : ViewRow = record { node = r.node; kind = r.kind; parent = r.parent; name = r.name; lines = r.lines ++ view_line l ∷ [] } in
-      ap (λ rs. fold (with_file_row x) rs ls) (ap (λ b. cond b (next ∷ rows) (r ∷ with_file_row x rows l)) h)
-      ∙ first-lines x next rows ls h
-      ∙ ap (λ m. record { node = r.node; kind = r.kind; parent = r.parent; name = r.name; lines = m } ∷ rows) (append_assoc r.lines (view_line l ∷ []) (map view_line ls))
+      → fold (with_file_row x) (r ∷ rows) ls ≡ record { node = r.node; kind = r.kind; parent = r.parent; name = r.name; lines = r.lines ++ map old_line ls } ∷ rows
+  first-lines x r rows ls h =
+      let added = with_lines_by (λ m. m ++ map old_line ls) in
+      lines-added x ls (r ∷ rows) ∙ ap (λ b. cond b (added r ∷ rows) (r ∷ at_row (nodes.Old x) added rows)) h
 
   -- rows of other nodes are as they were
   others : (x : ℕ) (has : ℕ → Bool) (rs : List Row) → has_node x (map (λ r. r.node) rs) ≡ false → map (row_with has) rs ≡ map (row_with (also x has)) rs
@@ -134,7 +128,7 @@ module _ (ts : List Triple) (c : List Bool) (at : ℕ) (stored : List FilePart) 
           let is : nat_eq x r.node ≡ true = grind (arith, nat_tests, same) in
           first-lines x (row_by kinds.File (has r.node)) tail (read x) e
           ∙ ap (λ ls. record { node = nodes.Old r.node; kind = kinds.File; parent = nodes.Old r.parent; name = r.name; lines = ls } ∷ tail)
-          (ap (λ b. row_lines kinds.File b r.node ++ map view_line (read x)) none ∙ ap (λ y. map view_line (read y)) (sym same) ∙ ap (λ b. row_lines kinds.File (b || has r.node) r.node) (sym is))
+          (ap (λ b. row_lines kinds.File b r.node ++ map old_line (read x)) none ∙ ap (λ y. map old_line (read y)) (sym same) ∙ ap (λ b. row_lines kinds.File (b || has r.node) r.node) (sym is))
 
       by : (b : Bool) → nat_eq r.node x ≡ b → with_lines_of ts c at stored (kind_at tail (nodes.Old x)) tail x ≡ map (row_with (also x has)) rs
           → with_lines_of ts c at stored (option_map (λ (s : ViewRow). s.kind) (cond b (Some (row_with has r)) (row_at tail (nodes.Old x)))) (row_with has r ∷ tail) x ≡ row_with (also x has) r ∷ map (row_with (also x has)) rs
