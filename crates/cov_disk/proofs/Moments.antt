@@ -1,5 +1,5 @@
 -- What images a crash may leave at the moments of a run of calls.
-use Rattle.std.proofs.Common.{◌≤◌, inr, inl, ⊎_elim, ℕ, List, arith}
+use Rattle.std.proofs.Common.{inr, inl, ⊎_elim, ℕ, List, arith}
 use Rattle.cov_disk.specs.Images.{Elapses, LeavesOnly}
 
 module _ {D : Type 0} (moment : D → ℕ) (images_since : D → ℕ → List ℕ → Type 0) where
