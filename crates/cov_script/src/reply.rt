@@ -217,7 +217,7 @@ pub fn reply_refused(alloc: Global, options: &Options, code: &Code) -> Reply
 pub fn whole(first: &Text, lines: &Texts) -> Reply
     ensures { IfOk result (λ text. text ≡ first.now ++ concat lines.now) }
 {
-    let mut text = Text::from_slice(first.allocator(), first.as_slice())?;
+    let mut text = first.copy()?;
     for index in 0..lines.len() {
         append_line(&mut text, lines, index)?;
     }
