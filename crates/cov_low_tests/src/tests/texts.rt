@@ -24,12 +24,9 @@ fn inherited(alloc: Global, bytes: &[u8]) -> Result<Text, Memory> {
 fn a_copy_outlives_its_text_and_changes_alone(rt: HostRuntime) -> Result<(), Fail> {
     let text = inherited(rt.alloc(), b"one")?;
     let mut longer = text.copy()?;
-    let mut other = text.copy()?;
     longer.append(b"more")?;
-    other.overwrite(1, b"ff")?;
     assert!(rt; text.as_slice() == b"one".as_slice());
     assert!(rt; longer.as_slice() == b"onemore".as_slice());
-    assert!(rt; other.as_slice() == b"off".as_slice());
     assert!(rt; longer.into_vec()?.as_slice() == b"onemore".as_slice());
     assert!(rt; text.into_vec()?.as_slice() == b"one".as_slice());
     Ok(())
