@@ -1,23 +1,22 @@
 -- The lines ever inserted into a file, marked by their visibility, are the lines of both sides.
-use Rattle.std.proofs.Common.{◌≡◌, ℕ, suc, ◌+◌, ◌<◌, ◌≤◌, Bool, true, false, cond, ◌||◌, ◌&&◌, nat_eq, nat_lt, List, [], ◌∷◌, ◌++◌, length, map, take, append-nil, append_assoc, refl, sym, ap, subst, ◌∙◌, arith}
+use Rattle.std.proofs.Common.{◌≡◌, ℕ, suc, ◌+◌, ◌<◌, Bool, true, false, cond, ◌||◌, ◌&&◌, nat_eq, nat_lt, List, [], ◌∷◌, ◌++◌, length, map, take, append-nil, append_assoc, refl, sym, ap, ◌∙◌, arith}
 use Rattle.std.specs.List.{filter, fold, list_any, AllByRecursion}
 use Rattle.std.proofs.Math.Seq.{take-length}
 use Rattle.std.proofs.lemmas.Bool.Decides.{nat_tests}
-use Rattle.cov_base.specs.Addresses.{line_of, IsTable, IsLineOf, AreInOrder}
+use Rattle.cov_base.specs.Addresses.{line_of, IsLineOf, AreInOrder}
 use Rattle.cov_base.specs.Rows.{is_present}
 use Rattle.cov_base.proofs.CallerLemmas.{all-both, all-filter, all-map, any-map, in_order-filter, line_of-in, nat_eq-sym}
 use Rattle.cov_order.specs.Orders.{has_line, AreLines}
 use Rattle.cov_edit.specs.declared.command.Command.{Command}
-use Rattle.cov_edit.specs.Numbering.{numbers_of, line_count}
+use Rattle.cov_edit.specs.Numbering.{numbers_of}
 use Rattle.cov_edit.specs.Replay.{replay}
 use Rattle.cov_edit.specs.Variant.{Variant, Line, lines_of}
-use Rattle.cov_base.specs.declared.file_row.FileRow.{FileRow}
 use Rattle.cov_history.specs.Files.{dated, file_dated}
-use Rattle.cov_history.specs.Kept.{Kept, is_seen, the_item, kept_address, kept_number, kept_of, lines_seen, file_kept}
+use Rattle.cov_history.specs.Kept.{Kept, is_seen, the_item, kept_address, kept_number, kept_of, file_kept}
 use Rattle.cov_history.proofs.CallerLemmas.{any-none, file-replay, holding-stands, holding-whole, replay-seen, replay-stands}
 use Rattle.cov_engine.specs.Visibility.{has_line_number, is_no_line, as_row}
 use Rattle.cov_alt.specs.Marking.{on_choice, is_on, mark_if, with_mark, with_marked}
-use Rattle.cov_alt.specs.Sides.{lines_if_present, has_address, merged, mark_of, marked, both_sides, sides}
+use Rattle.cov_alt.specs.Sides.{lines_if_present, has_address, mark_of, marked, both_sides, sides}
 use Rattle.cov_alt.specs.declared.line.AltLine.{AltLine}
 use Rattle.cov_alt.specs.declared.marking.Side.{Side}
 use Rattle.cov_alt.proofs.Merging.{AreApart, any_same, has_kept, merged_kept}

@@ -1,6 +1,6 @@
 -- What callers cite.
 pub use Rattle.cov_base.proofs.Choosing.{drop-is_on, is_on-above, is_on-middle, is_on-other, is_on-same, is_on-take, length-with_option, with_option-middle}
-pub use Rattle.cov_base.proofs.Faulty.{any-map, both_ways, faults_are_found, is_some-find, is_some-map, length-order, own_rows, same_place-sym}
+pub use Rattle.cov_base.proofs.Faulty.{any-map, both_ways, faults_are_found, is_some-find, is_some-map, length-order, own_rows, row_of-order, same_place-sym}
 pub use Rattle.cov_base.proofs.Inserting.{insert_behind, insert_last}
 pub use Rattle.cov_base.proofs.Lists.{all-rest, any-filter, any-push, drop-at, drop-end, nat_eq-sym, none-is, none-placed, opened, or_left_comm, or_second, place-absent, place-found, rest-is, rest_of, split-absent, value_older}
 pub use Rattle.cov_base.proofs.Ordered.{all-append, all-both, all-filter, all-map, all-placed, before-itself, before-not, filter-placed, in_order-filter, new_after, placed-first, placed-in_order}

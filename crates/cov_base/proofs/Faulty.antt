@@ -221,7 +221,8 @@ row_of-with r (s ∷ rows) h x = at (nat_lt r.node s.node) (row_of-with r rows (
     at true rest = refl
     at false rest = ap (λ o. cond (nat_eq s.node x) (Some s) o) rest ∙ either (nat_eq s.node x) (nat_eq r.node x) refl refl
 
-row_of-order : (rows : List Row) → AreDistinct (map (λ s. s.node) rows) → (x : ℕ) → row_of (in_node_order rows) x ≡ row_of rows x
+-- in the order of nodes, each row is the same node's
+pub row_of-order : (rows : List Row) → AreDistinct (map (λ s. s.node) rows) → (x : ℕ) → row_of (in_node_order rows) x ≡ row_of rows x
 row_of-order [] d x = refl
 row_of-order (r ∷ rows) d x =
     row_of-with r (in_node_order rows) (has_node-order r.node rows ∙ d.0) x

@@ -1,5 +1,5 @@
 -- The parts of a path.
-use Rattle.std.proofs.Common.{◌≡◌, ℕ, ◌+◌, ◌<◌, Bool, true, false, cond, nat_eq, List, [], ◌∷◌, length, take, drop, Some, None, Result, Ok, Err, IfOk, position, refl, sym, ap, subst, ◌∙◌, arith}
+use Rattle.std.proofs.Common.{◌≡◌, ℕ, ◌+◌, ◌==◌, Bool, true, false, true≢false, cond, nat_eq, List, [], ◌∷◌, length, take, drop, Some, None, Result, Ok, Err, IfOk, position, refl, sym, ap, subst, ◌∙◌, arith}
 use Rattle.std.specs.List.{list_all, onto_first, join_with_byte}
 use Rattle.std.specs.Str.{is_utf8, IsUtf8}
 use Rattle.std.proofs.lemmas.Str.{IsUtf8-from_is_utf8}
@@ -26,16 +26,15 @@ not_utf8 bs none = tested (is_utf8 bs) refl
     tested true e = absurd (none (IsUtf8-from_is_utf8 bs e))
     tested false e = refl
 
-module _ (rest : List ℕ) (some : 0 < length rest) where
-  from_parts : (ps : List (List ℕ)) → join_with_byte 47 ps ≡ rest → path_from ([] ∷ ps) ≡ if_names ps
-  from_parts [] h = absurd (omega (arith, ap length h))
-  from_parts ([] ∷ []) h = absurd (omega (arith, ap length h))
-  from_parts ([] ∷ q ∷ ps) h = refl
-  from_parts ((b ∷ bs) ∷ ps) h = refl
-
 -- behind the first slash there are names, unless there is nothing
-pub path_behind_slash : (rest : List ℕ) → 0 < length rest → path_of (47 ∷ rest) ≡ if_names (parts_of rest)
-path_behind_slash rest some = from_parts rest some (parts_of rest) (join_with_byte-slice_split 47 rest)
+pub path_behind_slash : (bytes rest : List ℕ) (first : ℕ) → bytes ≡ first ∷ rest → first ≡ 47 → (length rest == 0) ≡ false → path_of bytes ≡ if_names (parts_of rest)
+path_behind_slash bytes rest first is slash some = ap path_of (is ∙ ap (λ b. b ∷ rest) slash) ∙ from_parts (parts_of rest) (join_with_byte-slice_split 47 rest)
+  where
+    from_parts : (ps : List (List ℕ)) → join_with_byte 47 ps ≡ rest → path_from ([] ∷ ps) ≡ if_names ps
+    from_parts [] h = absurd (let e : (length rest == 0) ≡ true = ap (λ xs. length xs == 0) (sym h) in true≢false (sym e ∙ some))
+    from_parts ([] ∷ []) h = absurd (let e : (length rest == 0) ≡ true = ap (λ xs. length xs == 0) (sym h) in true≢false (sym e ∙ some))
+    from_parts ([] ∷ q ∷ ps) h = refl
+    from_parts ((b ∷ bs) ∷ ps) h = refl
 
 pub no_slash_first : (b : ℕ) (bs : List ℕ) → nat_eq b 47 ≡ false → path_of (b ∷ bs) ≡ None
 no_slash_first b bs h = ap (λ t. path_from (cond t ([] ∷ parts_of bs) (onto_first b (parts_of bs)))) h ∙ onto (parts_of bs)
@@ -50,7 +49,7 @@ named names h = ap (λ b. cond b (Some names) None) h
 pub unnamed : (names : List (List ℕ)) → list_all is_name names ≡ false → if_names names ≡ None
 unnamed names h = ap (λ b. cond b (Some names) None) h
 
-pub path_read : {F : Type 0} (rest : List ℕ) (result : Result (List (List ℕ)) F) → 0 < length rest → IfOk result (λ path. path ≡ parts_of rest) → IfOk result (λ path. list_all is_name path ≡ true)
-    → IfOk result (λ path. path_of (47 ∷ rest) ≡ Some path)
-path_read rest (Ok path) some parts spelling = path_behind_slash rest some ∙ ap if_names (sym parts) ∙ named path spelling
-path_read rest (Err e) some parts spelling = tt
+pub path_read : {F : Type 0} (bytes : List ℕ) (names : List (List ℕ)) (result : Result (List (List ℕ)) F) → path_of bytes ≡ if_names names → IfOk result (λ path. path ≡ names)
+    → IfOk result (λ path. list_all is_name path ≡ true) → IfOk result (λ path. path_of bytes ≡ Some path)
+path_read bytes names (Ok path) is parts spelling = is ∙ ap if_names (sym parts) ∙ named path spelling
+path_read bytes names (Err e) is parts spelling = tt

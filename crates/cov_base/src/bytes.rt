@@ -1,5 +1,6 @@
 // Texts.
-ghost use Rattle.std.specs.Prelude.{◌≡◌, ◌≤◌, ◌+◌, List, ℕ, [], ◌∷◌, ◌++◌, length, take, drop, IfOk, OnOk, OnErr, slice_get, ◌==◌};
+ghost use Rattle.std.specs.Prelude.{◌≡◌, ◌≤◌, [], ◌∷◌, ◌++◌, length, IfOk, OnOk, OnErr, slice_get, ◌==◌};
+ghost use Rattle.cov_base.specs.Texts.{Written};
 
 use crate::Memory;
 use std::alloc::Global;
@@ -92,7 +93,7 @@ impl Text {
     /// Puts bytes over those from a place on, and past the end: all of them or none.
     pub fn overwrite(&mut self, at: usize, bytes: &[u8]) -> Result<(), Memory>
         requires { at ≤ length self.old }
-        ensures ok { OnOk result (self.new ≡ take at self.old ++ bytes.now ++ drop (at + length bytes.now) self.old) }
+        ensures ok { OnOk result (Written at bytes.now self.old self.new) }
         ensures err { OnErr result (self.new ≡ self.old) }
     {
         if let Bytes::Own(own) = &mut self.bytes {
@@ -171,7 +172,7 @@ fn copied(bytes: &Vec<u8>) -> Result<Vec<u8>, Memory>
 
 fn overwrite(bytes: &mut Vec<u8>, at: usize, with: &[u8]) -> Result<(), Memory>
     requires { at ≤ length bytes.old.items }
-    ensures ok { OnOk result (bytes.new.items ≡ take at bytes.old.items ++ with.now ++ drop (at + length with.now) bytes.old.items) }
+    ensures ok { OnOk result (Written at with.now bytes.old.items bytes.new.items) }
     ensures err { OnErr result (bytes.new.items ≡ bytes.old.items) }
 {
     let within = bytes.len() - at;

@@ -103,20 +103,11 @@ impl Path {
         ensures ok { IfOk result (λ path. path_of bytes.now ≡ Some path) }
         ensures refused { IsErrOf result (MemoryOr.Refused (record {})) → path_of bytes.now ≡ None }
     {
-        match bytes {
-            [b'/'] => Ok(Path::new(alloc)),
-            [b'/', rest @ ..] => Path::read_behind_slash(alloc, rest),
+        match bytes.split_first() {
+            Some((b'/', rest)) if rest.is_empty() => Ok(Path::new(alloc)),
+            Some((b'/', rest)) => Path::read_names(alloc, rest),
             _ => Err(MemoryOr::Refused(BadName)),
         }
-    }
-
-    // The path that a slash and these bytes spell.
-    fn read_behind_slash(alloc: Global, rest: &[u8]) -> Result<Path, MemoryOr<BadName>>
-        requires { 0 < length rest.now }
-        ensures ok { IfOk result (λ path. path_of (47 ∷ rest.now) ≡ Some path) }
-        ensures refused { IsErrOf result (MemoryOr.Refused (record {})) → path_of (47 ∷ rest.now) ≡ None }
-    {
-        Path::read_names(alloc, rest)
     }
 
     // The path of the names between slashes.

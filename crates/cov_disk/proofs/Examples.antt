@@ -1,6 +1,7 @@
 -- Worked cases of the definitions.
 use Rattle.std.proofs.Common.{◌≡◌, ◌⊎◌, inl, inr, refl, ℕ, zero, suc, ◌<◌, ◌≤◌, true, false, [], ◌∷◌, slice_index, Some, arith}
-use Rattle.cov_disk.specs.Images.{Written, Torn}
+use Rattle.cov_base.specs.Texts.{Written}
+use Rattle.cov_disk.specs.Images.{Torn}
 use Rattle.cov_disk.specs.Kept.{undone, unsynced, IsImageNow}
 use Rattle.cov_io.specs.InMemory.{fails_next}
 use Rattle.cov_disk.specs.declared.kept.Logged.TheVariants.{Wrote, Missed, Synced}

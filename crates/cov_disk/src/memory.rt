@@ -1,7 +1,8 @@
 // A disk in memory, of which each call and what it did can be told.
 ghost use Rattle.std.specs.Prelude.{◌≡◌, ◌≤◌, ◌+◌, Some, [], length, slice_range, IfOk, OnOk, OnErr};
 ghost use Rattle.cov_base.specs.Causes.{Rose, HasCause};
-ghost use Rattle.cov_disk.specs.Images.{Torn, Follows, AddsNone, Elapses, Written, Only};
+ghost use Rattle.cov_base.specs.Texts.{Written};
+ghost use Rattle.cov_disk.specs.Images.{Torn, Follows, AddsNone, Elapses, Only};
 ghost use Rattle.cov_disk.specs.Kept.{IsImageNow, IsImageSince, IsPicked};
 ghost use Rattle.cov_disk.specs.InMemory.{Counts, Misses, Leaves, LogsWrite, LogsSync};
 

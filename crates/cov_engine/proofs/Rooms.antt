@@ -1,11 +1,11 @@
 -- Room for what edits do to files, counted edit by edit.
-use Rattle.std.proofs.Common.{◌≡◌, ℕ, suc, ◌+◌, ◌-◌, ◌<◌, ◌≤◌, Bool, true, false, cond, ◌&&◌, ◌||◌, nat_eq, List, [], ◌∷◌, ◌++◌, length, map, take, drop, get_or, is_none, Option, Some, None, refl, sym, ap, subst, ◌∙◌, arith}
+use Rattle.std.proofs.Common.{◌≡◌, ℕ, suc, ◌+◌, ◌-◌, ◌<◌, ◌≤◌, Bool, true, false, cond, ◌&&◌, ◌||◌, nat_eq, List, [], ◌∷◌, ◌++◌, length, map, take, drop, get_or, is_none, is_some, refl, sym, ap, subst, ◌∙◌, arith}
 use Rattle.std.specs.List.{AllByRecursion}
 use Rattle.std.proofs.lemmas.List.{map-append, take-map, take-append-drop}
-use Rattle.std.proofs.lemmas.Bool.{or_right}
+use Rattle.std.proofs.lemmas.Bool.{not-true, or_right}
 use Rattle.std.proofs.lemmas.Bool.Decides.{nat_tests}
 use Rattle.std.proofs.lemmas.List.Folds.{list_any-append}
-use Rattle.cov_base.proofs.CallerLemmas.{all-map}
+use Rattle.cov_base.proofs.CallerLemmas.{all-map, none-is}
 use Rattle.cov_edit.proofs.CallerLemmas.{rest_of, opened}
 use Rattle.cov_base.specs.declared.number.NodeRef.{NodeRef}
 use Rattle.cov_base.specs.declared.number.LineRef.{LineRef}
@@ -191,15 +191,11 @@ pub ready-rest : (n m : ℕ) (es ahead : List Edit) (edit d : Edit) (old new : L
 ready-rest n m es ahead edit d old new is h expects few ready =
     expected n m es (rest_of ahead) edit old new expects few (subst (λ xs. AllByRecursion (IsReadyBut n m es xs) old) (opened edit d ahead is h) ready)
 
-none-is : (o : Option ℕ) → is_none o ≡ true → o ≡ None
-none-is None h = refl
-none-is (Some p) h = absurd (cc)
-
 ready-all : (n m : ℕ) (es : List Edit) (e : FilePart) → IsReadyBut n m es [] e → HasRoom n m es e
 ready-all n m es e ready = record {
   inserts = let enough = ready.inserts in omega (arith, enough);
   changes = ready.changes;
-  position = λ touched. none-is e.lines.room.position (ready.position touched);
+  position = λ touched. none-is e.lines.room.position (not-true (is_some e.lines.room.position) (ready.position touched));
 }
 
 pub ready-end : (n m : ℕ) (es ahead : List Edit) (stored : List FilePart) → length ahead < 1 → AllByRecursion (IsReadyBut n m es ahead) stored → AllByRecursion (HasRoom n m es) stored

@@ -1,8 +1,10 @@
 -- Stored files by their nodes.
-use Rattle.std.proofs.Common.{◌≡◌, ℕ, zero, suc, ◌<◌, ◌≤◌, Bool, true, false, ◌||◌, nat_eq, List, [], ◌∷◌, length, map, get_or, set, slice_get, Some, Ok, Err, true≢false, refl, sym, ap, subst, ◌∙◌, arith}
+use Rattle.std.proofs.Common.{◌≡◌, ℕ, zero, suc, ◌<◌, ◌≤◌, Bool, true, false, ◌||◌, nat_eq, List, [], ◌∷◌, ◌++◌, length, map, take, drop, get_or, set, slice_get, Some, Ok, Err, true≢false, refl, sym, ap, subst, ◌∙◌, arith}
 use Rattle.std.specs.Prelude.{Result, OnOk}
 use Rattle.std.specs.List.{AllByRecursion, AllZip}
 use Rattle.std.proofs.lemmas.Bool.{or_parts}
+use Rattle.std.proofs.lemmas.List.{length-map}
+use Rattle.std.proofs.Math.Seq.{take-append_seam}
 use Rattle.std.proofs.lemmas.Bool.Decides.{nat_tests}
 use Rattle.cov_base.specs.Rows.{has_node}
 use Rattle.cov_edit.specs.Touched.{AreRising}
@@ -93,6 +95,13 @@ new-nodes (x ∷ xs) = ap (λ ns. x ∷ ns) (new-nodes xs)
 -- stored files that are the same but for their room have the same nodes
 pub same-nodes : (xs ys : List FilePart) → map contents ys ≡ map contents xs → map part_node ys ≡ map part_node xs
 same-nodes xs ys e = sym (contents-nodes ys) ∙ ap (map (λ (s : Contents). s.node)) e ∙ contents-nodes xs
+
+pub same-length : (xs ys : List FilePart) → map contents ys ≡ map contents xs → length ys ≡ length xs
+same-length xs ys e = sym (length-map ys contents) ∙ ap length e ∙ length-map xs contents
+
+-- a slice of a whole vector, written back into it
+pub written-back : (old new : List FilePart) (n : ℕ) → length new ≡ n → take n (new ++ drop (length new) old) ≡ new
+written-back old new n same = ap (λ k. take k (new ++ drop (length new) old)) (sym same) ∙ take-append_seam new (drop (length new) old)
 
 pub same-rising : (xs ys : List FilePart) → map contents ys ≡ map contents xs → AreRising (map part_node xs) → AreRising (map part_node ys)
 same-rising xs ys e = subst AreRising (sym (same-nodes xs ys e))

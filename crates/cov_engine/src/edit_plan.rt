@@ -28,19 +28,8 @@ pub(crate) enum EditPlan {
     },
 }
 
-/// Carries out plans in order. It takes for each at most time in the lines of its file, and no memory.
-pub(crate) fn carry_out_all(files: &mut [FilePart], plans: VecDeque<EditPlan>, at: Position)
-    requires rising { AreRising (map part_node files.old) }
-    requires can { CanCarryOutAll at plans.items files.old }
-    ensures { AreAllCarriedOut at plans.items files.old files.new }
-{
-    let mut plans = plans;
-    while let Some(plan) = plans.pop_front() {
-        carry_out(files, plan, at);
-    }
-}
-
-fn carry_out(files: &mut [FilePart], plan: EditPlan, at: Position)
+/// Carries out a plan. It takes at most time in the lines of its file, and no memory.
+pub(crate) fn carry_out(files: &mut [FilePart], plan: EditPlan, at: Position)
     requires rising { AreRising (map part_node files.old) }
     requires can { AllByRecursion (CanCarryOutIn at plan) files.old }
     ensures { AreCarriedOut at plan files.old files.new }

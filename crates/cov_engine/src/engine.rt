@@ -22,6 +22,7 @@ ghost use Rattle.cov_engine.specs.Visible.{IsWhole, shown};
 
 use crate::commits::Commits;
 use crate::installing::add_ready;
+use crate::places::part_of;
 use crate::state::{EngineState, make_ready};
 use crate::store::{Store, add_nodes, file_of};
 use crate::{Counts, FileFault, FileParts, Prepared, Receipt, Refusal, Visible, reading};
@@ -166,7 +167,7 @@ impl Engine {
     pub fn file_lines(&self, file: NodeNo) -> Result<FileRows, Memory>
         ensures { IfOk result (λ rows. rows ≡ map as_row (file_dated file (kept_of self.now.history))) }
     {
-        match self.state.visible.files.find(file) {
+        match part_of(self.state.visible.files.as_slice(), file) {
             Some(part) => part.lines.all(),
             None => Ok(FileRows::new(self.state.store.commits.allocator())),
         }

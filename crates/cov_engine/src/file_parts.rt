@@ -6,13 +6,12 @@ ghost use Rattle.cov_base.specs.declared.limits.TheConstants.{LIMITS};
 ghost use Rattle.cov_edit.specs.Numbering.{nodes_made};
 ghost use Rattle.cov_edit.specs.Touched.{AreRising};
 ghost use Rattle.cov_engine.specs.Carrying.{CanCarryOutAll, AreAllCarriedOut};
-ghost use Rattle.cov_engine.specs.Parts.{part_node, part_of, count_below};
+ghost use Rattle.cov_engine.specs.Parts.{part_node};
 ghost use Rattle.cov_engine.specs.Staging.{contents, new_files, AreNear, AreLow, HasRoom};
 
 use crate::FilePart;
-use crate::edit_plan::{EditPlan, carry_out_all};
-use crate::file_staging::{add_rooms, settle_files, stage_files};
-use crate::places::{count_below, part_of};
+use crate::edit_plan::{EditPlan, carry_out};
+use crate::file_staging::{add_room_for, settle_file_of, stage_file};
 use cov_base::{Memory, NodeNo, Position};
 use cov_edit::Edit;
 use std::alloc::Global;
@@ -75,29 +74,19 @@ impl FileParts {
         self.parts.as_slice()
     }
 
-    /// The file with a node, where the nodes rise. It looks at as many files as halvings leave.
-    pub fn find(&self, node: NodeNo) -> Option<&FilePart>
-        requires rising { AreRising (map part_node self.now) }
-        ensures { option_copied result ≡ part_of self.now node }
-    {
-        part_of(self.parts.as_slice(), node)
-    }
-
-    /// How many files have lower nodes, where the nodes rise.
-    pub(crate) fn count_below(&self, node: NodeNo) -> usize
-        requires rising { AreRising (map part_node self.now) }
-        ensures { result ≡ count_below node (map part_node self.now) }
-    {
-        count_below(self.parts.as_slice(), node)
-    }
-
     /// Adds the files that a commit's edits make, so many nodes having been made before.
     pub(crate) fn stage(&mut self, before: u32, edits: &[Edit]) -> Result<(), Memory>
         requires few { before + nodes_made edits.now < 2 ^ 32 - 1 }
         ensures ok { OnOk result (map contents self.new ≡ map contents self.old ++ new_files before edits.now) }
         ensures front { take (length self.old) self.new ≡ self.old }
     {
-        stage_files(&mut self.parts, before, edits)
+        let mut made = before;
+        let mut ahead = edits;
+        while let [edit, rest @ ..] = ahead {
+            made = stage_file(&mut self.parts, made, edit)?;
+            ahead = rest;
+        }
+        Ok(())
     }
 
     /// Makes room in each file for what edits do to it, so many nodes and lines having been made before.
@@ -109,7 +98,13 @@ impl FileParts {
         ensures same { map contents self.new ≡ map contents self.old }
         ensures room { OnOk result (AllByRecursion (HasRoom nodes lines edits.now) self.new) }
     {
-        add_rooms(&mut self.parts, nodes, lines, edits)
+        let files = self.parts.as_mut_slice();
+        let mut ahead = edits;
+        while let [edit, rest @ ..] = ahead {
+            add_room_for(files, nodes, lines, edit)?;
+            ahead = rest;
+        }
+        Ok(())
     }
 
     /// Takes back what was expected of files for edits, so many nodes having been made before.
@@ -118,7 +113,12 @@ impl FileParts {
         requires near { AreNear before edits.now }
         ensures { map contents self.new ≡ map contents self.old }
     {
-        settle_files(&mut self.parts, before, edits);
+        let files = self.parts.as_mut_slice();
+        let mut ahead = edits;
+        while let [edit, rest @ ..] = ahead {
+            settle_file_of(files, before, edit);
+            ahead = rest;
+        }
     }
 
     /// Cuts off all but the first so many files.
@@ -134,6 +134,10 @@ impl FileParts {
         requires can { CanCarryOutAll at plans.items self.old }
         ensures { AreAllCarriedOut at plans.items self.old self.new }
     {
-        carry_out_all(&mut self.parts, plans, at);
+        let files = self.parts.as_mut_slice();
+        let mut plans = plans;
+        while let Some(plan) = plans.pop_front() {
+            carry_out(files, plan, at);
+        }
     }
 }

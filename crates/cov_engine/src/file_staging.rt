@@ -16,27 +16,8 @@ use cov_base::{Kind, LineNo, Memory, NodeNo};
 use cov_edit::Edit;
 use cov_file::FileLines;
 
-/// Adds the files that a commit's edits make, so many nodes having been made before.
-pub(crate) fn stage_files(
-    files: &mut Vec<FilePart>,
-    before: u32,
-    edits: &[Edit],
-) -> Result<(), Memory>
-    requires few { before + nodes_made edits.now < 2 ^ 32 - 1 }
-    ensures ok { OnOk result (map contents files.new.items ≡ map contents files.old.items ++ new_files before edits.now) }
-    ensures front { take (length files.old.items) files.new.items ≡ files.old.items }
-{
-    let mut made = before;
-    let mut ahead = edits;
-    while let [edit, rest @ ..] = ahead {
-        made = stage_file(files, made, edit)?;
-        ahead = rest;
-    }
-    Ok(())
-}
-
-// Adds the file that an edit makes, if it makes one, so many nodes having been made before it, and answers how many there are then.
-fn stage_file(files: &mut Vec<FilePart>, made: u32, edit: &Edit) -> Result<u32, Memory>
+/// Adds the file that an edit makes, if it makes one, so many nodes having been made before it, and answers how many there are then.
+pub(crate) fn stage_file(files: &mut Vec<FilePart>, made: u32, edit: &Edit) -> Result<u32, Memory>
     requires few { made < 2 ^ 32 - 1 }
     ensures next { IfOk result (λ next. next ≡ made + nodes_made (edit.now ∷ [])) }
     ensures ok { OnOk result (map contents files.new.items ≡ map contents files.old.items ++ new_files made (edit.now ∷ [])) }
@@ -70,29 +51,13 @@ fn add_file(files: &mut Vec<FilePart>, node: NodeNo, kind: Kind) -> Result<(), M
     }
 }
 
-/// Makes room in each file for what edits do to it, so many nodes and lines having been made before.
-pub(crate) fn add_rooms(
+/// Makes room in each file for what an edit does to it, so many nodes and lines having been made before.
+pub(crate) fn add_room_for(
     files: &mut [FilePart],
     nodes: u32,
     lines: u32,
-    edits: &[Edit],
+    edit: &Edit,
 ) -> Result<(), Memory>
-    requires rising { AreRising (map part_node files.old) }
-    requires near { AreNear nodes edits.now }
-    requires low { AreLow lines edits.now }
-    requires few { length edits.now ≤ LIMITS.edits }
-    ensures same { map contents files.new ≡ map contents files.old }
-    ensures room { OnOk result (AllByRecursion (HasRoom nodes lines edits.now) files.new) }
-{
-    let mut ahead = edits;
-    while let [edit, rest @ ..] = ahead {
-        add_room_for(files, nodes, lines, edit)?;
-        ahead = rest;
-    }
-    Ok(())
-}
-
-fn add_room_for(files: &mut [FilePart], nodes: u32, lines: u32, edit: &Edit) -> Result<(), Memory>
     requires rising { AreRising (map part_node files.old) }
     requires near { AreNear nodes (edit.now ∷ []) }
     requires low { AreLow lines (edit.now ∷ []) }
@@ -134,20 +99,8 @@ fn expect_delete(files: &mut [FilePart], file: NodeNo, line: LineNo) -> Result<(
     }
 }
 
-/// Takes back what was expected of files for edits, so many nodes having been made before.
-pub(crate) fn settle_files(files: &mut [FilePart], before: u32, edits: &[Edit])
-    requires rising { AreRising (map part_node files.old) }
-    requires near { AreNear before edits.now }
-    ensures { map contents files.new ≡ map contents files.old }
-{
-    let mut ahead = edits;
-    while let [edit, rest @ ..] = ahead {
-        settle_file_of(files, before, edit);
-        ahead = rest;
-    }
-}
-
-fn settle_file_of(files: &mut [FilePart], before: u32, edit: &Edit)
+/// Takes back what was expected of files for an edit, so many nodes having been made before.
+pub(crate) fn settle_file_of(files: &mut [FilePart], before: u32, edit: &Edit)
     requires rising { AreRising (map part_node files.old) }
     requires near { AreNear before (edit.now ∷ []) }
     ensures { map contents files.new ≡ map contents files.old }

@@ -9,6 +9,7 @@ ghost use Rattle.cov_engine.specs.States.{IsStateOf, receipt_number};
 ghost use Rattle.cov_engine.specs.declared.ready.Ready.TheVariants as ready;
 
 use crate::edit_plan::EditPlan;
+use crate::places::count_below;
 use crate::ready::Ready;
 use crate::staging::{install, unstage};
 use crate::state::EngineState;
@@ -137,7 +138,7 @@ fn cut_off(store: &mut Store, visible: &mut Visible, counts: Counts, edits: &[Ed
     ensures file_of_line { store.new.file_of_line.items ≡ take counts.lines store.old.file_of_line.items }
     ensures files { map contents visible.new.files ≡ map contents (take (count_below counts.nodes (map part_node visible.old.files)) visible.old.files) }
 {
-    let files = visible.files.count_below(NodeNo::new(counts.nodes));
+    let files = count_below(visible.files.as_slice(), NodeNo::new(counts.nodes));
     unstage(store, visible, files, counts.nodes - 1, counts.lines, edits);
 }
 

@@ -13,6 +13,7 @@ ghost use Rattle.cov_engine.specs.Parts.{part_node, part_of};
 ghost use Rattle.cov_engine.specs.Reading.{IsFileAmong, stored_rows};
 
 use crate::Visible;
+use crate::places::part_of;
 use cov_base::{Choice, FileRows, Kind, Memory, Name, NodeNo, Position};
 use cov_tree::NodeRow;
 use std::alloc::Global;
@@ -126,7 +127,7 @@ pub(crate) fn lines_at(
     requires rising { AreRising (map part_node visible.now.files) }
     ensures { IfOk result (λ rows. rows ≡ stored_rows visible.now.table choice at (part_of visible.now.files file)) }
 {
-    match visible.files.find(file) {
+    match part_of(visible.files.as_slice(), file) {
         Some(part) => part.lines.lines_at(&visible.table, choice, at),
         None => Ok(FileRows::new(alloc)),
     }

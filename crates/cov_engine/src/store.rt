@@ -128,7 +128,7 @@ pub(crate) fn file_of<'a>(store: &Store, visible: &'a Visible, line: LineNo) -> 
     ensures { option_copied result ≡ stored_file_of visible.now.files (item_of store.now.file_of_line.items line) }
 {
     match item_of(&store.file_of_line, line.number() as usize) {
-        Some(file) => visible.files.find(*file),
+        Some(file) => part_of(visible.files.as_slice(), *file),
         None => None,
     }
 }

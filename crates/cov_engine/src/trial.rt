@@ -9,6 +9,7 @@ ghost use Rattle.cov_engine.specs.Parts.{part_node};
 ghost use Rattle.cov_engine.specs.Trying.{seen_named, with_named, IsFirstRefused, IsRefusedAt};
 
 use crate::Visible;
+use crate::places::part_of;
 use crate::store::{add_lines, view_of_rows};
 use cov_base::{Choice, Kind, Memory, NodeNo, NodeRef, Position};
 use cov_edit::{Edit, Edits, touched};
@@ -87,7 +88,7 @@ fn add_lines_of(
     ensures lines { view.new.lines_made ≡ view.old.lines_made }
 {
     match view.kind(NodeRef::Old(node)) {
-        Some(Kind::File) => match visible.files.find(node) {
+        Some(Kind::File) => match part_of(visible.files.as_slice(), node) {
             Some(part) => add_lines(view, &visible.table, node, &part.lines, choice, at),
             None => Ok(()),
         },

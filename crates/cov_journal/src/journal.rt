@@ -1,7 +1,8 @@
 // The journal, to which records are appended.
 ghost use Rattle.std.specs.Prelude.{◌≡◌, ◌≤◌, ◌<◌, ◌+◌, ◌^◌, ◌⊎◌, ◌++◌, ◌∷◌, [], List, ℕ, length, OnOk, IfOk, IfSome, vec_capacity, vec_len};
 ghost use Rattle.cov_base.specs.Causes.{HasCause};
-ghost use Rattle.cov_disk.specs.Images.{Told, Written, Only, LeavesOnly};
+ghost use Rattle.cov_base.specs.Texts.{Written};
+ghost use Rattle.cov_disk.specs.Images.{Told, Only, LeavesOnly};
 ghost use Rattle.cov_journal.specs.Gates.{HasGate};
 ghost use Rattle.cov_journal.specs.Moments.{IsTornFrom};
 ghost use Rattle.cov_journal.specs.Journal.{next_digest, body, IsWritten, FitsState};

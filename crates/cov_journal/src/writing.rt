@@ -1,7 +1,8 @@
 // Writes that are on the disk at their end.
 ghost use Rattle.std.specs.Prelude.{◌≤◌, length, OnOk, IfSome};
 ghost use Rattle.cov_base.specs.Causes.{HasCause};
-ghost use Rattle.cov_disk.specs.Images.{Told, Written, Only, LeavesOnly};
+ghost use Rattle.cov_base.specs.Texts.{Written};
+ghost use Rattle.cov_disk.specs.Images.{Told, Only, LeavesOnly};
 ghost use Rattle.cov_journal.specs.Moments.{IsTornFrom};
 
 use cov_base::Failed;

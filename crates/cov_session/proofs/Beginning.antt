@@ -14,7 +14,7 @@ use Rattle.cov_session.specs.Calls.{AreOpen, IsSessionFaultOf, Makes, opened_amo
 use Rattle.cov_session.specs.Kept.{Keys, AreKept, same_name, kept}
 use Rattle.cov_session.specs.Named.{named}
 use Rattle.cov_session.specs.Open.{SessionValue, as_named, IsOpen}
-use Rattle.cov_view.proofs.CallerLemmas.{none_is}
+use Rattle.cov_base.proofs.CallerLemmas.{none-is}
 use Rattle.cov_session.specs.Opening.{opened, IsOpeningFault}
 use Rattle.cov_session.specs.declared.fault.SessionFault.{SessionFault}
 use Rattle.cov_session.specs.declared.fault.SessionFault.TheVariants as faults
@@ -29,7 +29,7 @@ pub key-added : {S : Type 0} (keys : Keys) (room : IndexMap (Vec ℕ) ℕ S) (na
     → entries ≡ insert_entry same_name room.entries own key → entries ≡ keys ++ (own, key) ∷ []
 key-added keys room name own key entries free called same added =
     added
-    ∙ insert_entry-new same_name room own key ((λ i. lookup (is_of (called i)) (same i)) ∙ none_is (lookup (is_of name) keys) free)
+    ∙ insert_entry-new same_name room own key ((λ i. lookup (is_of (called i)) (same i)) ∙ none-is (lookup (is_of name) keys) free)
     ∙ ap (λ es. es ++ (own, key) ∷ []) same
 
 module _ (keys : Keys) (slab : Slab SessionValue) (name : List ℕ) (here : AreKept keys slab) (ss : List SessionValue) (is : kept keys slab ≡ ss)

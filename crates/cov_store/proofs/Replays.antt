@@ -15,7 +15,6 @@ use Rattle.cov_journal.specs.declared.reader.ReadRecordFault.{ReadRecordFault}
 use Rattle.cov_journal.specs.declared.reader.ReadRecordFault.TheVariants as reads
 use Rattle.cov_journal.proofs.CallerLemmas.{length-digest, some_to, stored_push}
 use Rattle.cov_record.specs.Laws.{IsRecordOf}
-use Rattle.cov_record.specs.Payload.{payload}
 use Rattle.cov_store.specs.Damages.{Begins, HasCause, IsDamagedAfter}
 use Rattle.cov_store.specs.Opening.{HasReason, IsNoWant, IsOfVerdict}
 use Rattle.cov_store.specs.Replaying.{StandsBehind, IsDamaged, IsRefused, IsStop, IsUnread, Reads, HoldsHistory, IsFoundIn, Steps}

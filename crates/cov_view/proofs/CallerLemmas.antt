@@ -2,7 +2,6 @@
 pub use Rattle.cov_base.proofs.CallerLemmas.{drop-at, drop-end}
 pub use Rattle.cov_view.proofs.Added.{lines-added}
 pub use Rattle.cov_view.proofs.Changes.{not_there}
-pub use Rattle.cov_view.proofs.Directories.{none_is}
 pub use Rattle.cov_view.proofs.FewRows.{few-tree}
 pub use Rattle.cov_view.proofs.Naming.{made-known, rows-same}
 pub use Rattle.cov_view.proofs.Placed.{old-append, rows-old}

@@ -1,6 +1,6 @@
 -- The index of names in directories.
 use Rattle.std.specs.Global.{Vec}
-use Rattle.std.proofs.Common.{◌≡◌, ℕ, Bool, true, false, cond, ◌&&◌, not, List, [], ◌∷◌, ◌++◌, Option, Some, None, is_some, option_map, true≢false, refl, sym, ap, subst, ◌∙◌}
+use Rattle.std.proofs.Common.{◌≡◌, ℕ, Bool, true, false, cond, ◌&&◌, not, List, [], ◌∷◌, ◌++◌, Option, Some, None, option_map, true≢false, refl, sym, ap, subst, ◌∙◌}
 use Rattle.std.specs.Cmp.Lexicographic.{nat_list_eq_equiv, bytes_decides}
 use Rattle.std.specs.List.{find, AllByRecursion}
 use Rattle.std.specs.Map.{lookup, lookup_key, IsKeyTest, AreApart, KeepsOthers}
@@ -75,10 +75,6 @@ key_found dir name (e ∷ nodes) key h = at (is_asked dir name e.0) refl h (λ k
         → (lookup_key (is_asked dir name) nodes ≡ Some key → (dir ≡ key.dir) × (name ≡ key.name.items)) → (dir ≡ key.dir) × (name ≡ key.name.items)
     at true t k rest = let same : e.0 ≡ key = cc in subst (λ (x : Key). (dir ≡ x.dir) × (name ≡ x.name.items)) same (asked_is dir name e.0 t)
     at false t k rest = rest k
-
-pub none_is : {A : Type 0} (o : Option A) → is_some o ≡ false → o ≡ None
-none_is None e = refl
-none_is (Some x) e = absurd (cc)
 
 find-same : (p q : ViewRow → Bool) (rows : List ViewRow) → AllByRecursion (λ r. p r ≡ q r) rows → find p rows ≡ find q rows
 find-same p q [] h = refl

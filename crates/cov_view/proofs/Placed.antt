@@ -4,17 +4,17 @@ use Rattle.std.specs.List.{find, list_any, AllByRecursion}
 use Rattle.std.specs.Map.{lookup}
 use Rattle.std.specs.Option.{option_map_or, option_or}
 use Rattle.std.specs.Str.{bytes_eq}
-use Rattle.std.proofs.lemmas.Bool.{and_parts, or_parts}
+use Rattle.std.proofs.lemmas.Bool.{and_parts, or_from, or_parts}
 use Rattle.std.proofs.lemmas.Bool.Decides.{nat_tests}
 use Rattle.std.proofs.Math.Seq.{take-suc}
 use Rattle.std.proofs.lemmas.List.{length-map, map-append}
 use Rattle.indexmap.specs.IndexMap.{insert_entry}
-use Rattle.cov_base.proofs.CallerLemmas.{all-append, all-map, is_some-find, is_some-map, length-order}
+use Rattle.cov_base.proofs.CallerLemmas.{all-append, all-map, is_some-find, is_some-map, length-order, row_of-order}
 use Rattle.cov_base.specs.declared.number.NodeRef.{NodeRef}
 use Rattle.cov_base.specs.declared.number.NodeRef.TheVariants as nodes
 use Rattle.cov_base.specs.Faults as base
-use Rattle.cov_base.specs.Faults.{Clash, Orphan, Loop, from_parent, is_reached, is_same_place, with_row, in_node_order, first_clash, first_fault}
-use Rattle.cov_base.specs.Rows.{Row, row_of, is_present}
+use Rattle.cov_base.specs.Faults.{Clash, Orphan, Loop, from_parent, is_reached, is_same_place, with_row, in_node_order, first_clash}
+use Rattle.cov_base.specs.Rows.{Row, row_of, is_present, has_node, AreDistinct}
 use Rattle.cov_edit.specs.Numbering.{Numbers, node_number}
 use Rattle.cov_view.specs.Keys.{Places}
 use Rattle.cov_view.specs.Ordering.{nodes_of, old_at, share_place, clash_among, is_orphan, is_lost, fault_among, ArePlaces}
@@ -60,39 +60,36 @@ all-order : (P : Row → Type 0) (rows : List Row) → AllByRecursion P rows →
 all-order P [] all = tt
 all-order P (r ∷ rows) all = all-with P r (in_node_order rows) all.0 (all-order P rows all.1)
 
-row-with : (r : Row) (rows : List Row) (x : ℕ) → AllByRecursion (λ s. nat_eq s.node r.node ≡ false) rows → row_of (with_row r rows) x ≡ cond (nat_eq r.node x) (Some r) (row_of rows x)
-row-with r [] x apart = refl
-row-with r (s ∷ rows) x apart = at (nat_lt r.node s.node) (row-with r rows x apart.1)
-  where
-    turned : (a b : Bool) → nat_eq s.node x ≡ a → nat_eq r.node x ≡ b → cond a (Some s) (cond b (Some r) (row_of rows x)) ≡ cond b (Some r) (cond a (Some s) (row_of rows x))
-    turned true true e f = absurd (let no = apart.0 in let same : nat_eq s.node r.node ≡ true = grind (arith, nat_tests, e, f) in true≢false (sym same ∙ no))
-    turned true false e f = refl
-    turned false b e f = refl
-
-    at : (b : Bool) → row_of (with_row r rows) x ≡ cond (nat_eq r.node x) (Some r) (row_of rows x)
-        → row_of (cond b (r ∷ s ∷ rows) (s ∷ with_row r rows)) x ≡ cond (nat_eq r.node x) (Some r) (cond (nat_eq s.node x) (Some s) (row_of rows x))
-    at true h = refl
-    at false h = ap (cond (nat_eq s.node x) (Some s)) h ∙ turned (nat_eq s.node x) (nat_eq r.node x) refl refl
-
 fresh-numbers : (r : ViewRow) (rows : List ViewRow) → is_old r.node ≡ true → AreOld rows → has_row rows r.node ≡ false → AllByRecursion (λ (s : Row). nat_eq s.node (old_row r).node ≡ false) (map old_row rows)
 fresh-numbers r [] old olds fresh = tt
 fresh-numbers r (s ∷ rows) old olds fresh =
     let parts = or_parts (same_node s.node r.node) (has_row rows r.node) fresh in
     (sym (old-both s.node r.node (and_parts (is_old s.node) (is_old s.parent) olds.0).0 old) ∙ parts.0, fresh-numbers r rows old olds.1 parts.1)
 
--- the row of a number is that of the node
-pub row-order : (rows : List ViewRow) (x : ℕ) → AreOld rows → StandOnce rows → row_of (in_node_order (map old_row rows)) x ≡ option_map old_row (old_at rows x)
-row-order [] x olds once = refl
-row-order (r ∷ rows) x olds once =
+none-numbered : (x : ℕ) (rows : List Row) → AllByRecursion (λ s. nat_eq s.node x ≡ false) rows → has_node x (map (λ (s : Row). s.node) rows) ≡ false
+none-numbered x [] h = refl
+none-numbered x (s ∷ rows) h = or_from (nat_eq s.node x) (has_node x (map (λ (t : Row). t.node) rows)) h.0 (none-numbered x rows h.1)
+
+numbers-once : (rows : List ViewRow) → AreOld rows → StandOnce rows → AreDistinct (map (λ (s : Row). s.node) (map old_row rows))
+numbers-once [] olds once = tt
+numbers-once (r ∷ rows) olds once =
     let old = (and_parts (is_old r.node) (is_old r.parent) olds.0).0 in
-    row-with (old_row r) (in_node_order (map old_row rows)) x (all-order (λ s. nat_eq s.node (old_row r).node ≡ false) (map old_row rows) (fresh-numbers r rows old olds.1 once.0))
-    ∙ ap (λ b. cond b (Some (old_row r)) (row_of (in_node_order (map old_row rows)) x)) (sym (old-same r.node x old))
-    ∙ ap (cond (same_node r.node (nodes.Old x)) (Some (old_row r))) (row-order rows x olds.1 once.1)
+    (none-numbered (old_row r).node (map old_row rows) (fresh-numbers r rows old olds.1 once.0), numbers-once rows olds.1 once.1)
+
+row-found : (rows : List ViewRow) (x : ℕ) → AreOld rows → row_of (map old_row rows) x ≡ option_map old_row (old_at rows x)
+row-found [] x olds = refl
+row-found (r ∷ rows) x olds =
+    ap (λ b. cond b (Some (old_row r)) (row_of (map old_row rows) x)) (sym (old-same r.node x (and_parts (is_old r.node) (is_old r.parent) olds.0).0))
+    ∙ ap (cond (same_node r.node (nodes.Old x)) (Some (old_row r))) (row-found rows x olds.1)
     ∙ at (same_node r.node (nodes.Old x))
   where
     at : (b : Bool) → cond b (Some (old_row r)) (option_map old_row (old_at rows x)) ≡ option_map old_row (cond b (Some r) (old_at rows x))
     at true = refl
     at false = refl
+
+-- the row of a number is that of the node
+pub row-order : (rows : List ViewRow) (x : ℕ) → AreOld rows → StandOnce rows → row_of (in_node_order (map old_row rows)) x ≡ option_map old_row (old_at rows x)
+row-order rows x olds once = row_of-order (map old_row rows) (numbers-once rows olds once) x ∙ row-found rows x olds
 
 -- each row by number is that of a node
 abbrev IsOf : List ViewRow → Row → Type 0

@@ -1,7 +1,6 @@
-use Rattle.std.proofs.Common.{◌≡◌, ℕ, Bool, true, false, ◌&&◌, List, None, is_none, refl, sym, ap, ◌∙◌}
+use Rattle.std.proofs.Common.{◌≡◌, true, sym}
 use Rattle.cov_engine.specs.Visibility.{is_no_line}
-use Rattle.cov_alt.specs.Marking.{is_on, mark_if}
-use Rattle.cov_alt.specs.declared.marking.Side.{Side}
+use Rattle.cov_alt.specs.Marking.{mark_if}
 use Rattle.cov_alt.proofs.Seen.{no_line_on}
 use Rattle.cov_alt.proofs.marking.mark_of.Goals as goal
 

@@ -1,5 +1,5 @@
 use Rattle.std.proofs.Common.{◌≡◌, ◌⊎◌, inl, ℕ, ◌+◌, List, [], ◌∷◌, ◌++◌, length, ap, sym, ◌∙◌, subst}
-use Rattle.cov_disk.specs.Images.{Written}
+use Rattle.cov_base.specs.Texts.{Written}
 use Rattle.cov_journal.specs.Journal.{State, Fits, FitsState, IsWritten, body, next_digest}
 use Rattle.cov_journal.specs.Gates.{HasGate}
 use Rattle.cov_journal.proofs.Anew.{appended_gate}

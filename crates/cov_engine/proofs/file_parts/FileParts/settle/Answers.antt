@@ -2,7 +2,7 @@ use Rattle.std.proofs.Common.{◌∙◌}
 use Rattle.cov_edit.proofs.CallerLemmas.{all-rest}
 use Rattle.cov_engine.specs.Staging.{IsNear}
 use Rattle.cov_engine.proofs.StoredFiles.{same-rising}
-use Rattle.cov_engine.proofs.file_staging.settle_files.Goals as goal
+use Rattle.cov_engine.proofs.file_parts.FileParts.settle.Goals as goal
 
 pub loop-ahead-preserved : goal.loop-ahead-preserved
 loop-ahead-preserved c = record {

@@ -4,7 +4,7 @@ use Rattle.cov_engine.specs.Staging.{contents, AreNear, AreLow}
 use Rattle.cov_edit.specs.Touched.{AreRising}
 use Rattle.cov_engine.specs.Parts.{part_node}
 use Rattle.cov_engine.proofs.Rooms.{IsReadyBut}
-use Rattle.cov_engine.proofs.file_staging.add_rooms.Given as goal
+use Rattle.cov_engine.proofs.file_parts.FileParts.add_rooms.Given as goal
 
 abbrev pub invariant-loop-ahead : goal.invariant-loop-ahead
 invariant-loop-ahead l = record {

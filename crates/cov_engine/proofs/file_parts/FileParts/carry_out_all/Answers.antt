@@ -1,5 +1,5 @@
 use Rattle.cov_engine.proofs.StoredFiles.{carried-rising, can-rest, carried-rest}
-use Rattle.cov_engine.proofs.edit_plan.carry_out_all.Goals as goal
+use Rattle.cov_engine.proofs.file_parts.FileParts.carry_out_all.Goals as goal
 
 pub loop-plan-preserved : goal.loop-plan-preserved
 loop-plan-preserved c = record {

@@ -3,7 +3,7 @@ use Rattle.cov_engine.specs.declared.file_part.FilePart.{FilePart}
 use Rattle.cov_edit.specs.Touched.{AreRising}
 use Rattle.cov_engine.specs.Parts.{part_node}
 use Rattle.cov_engine.specs.Carrying.{CanCarryOutAll, AreAllCarriedOut}
-use Rattle.cov_engine.proofs.edit_plan.carry_out_all.Given as goal
+use Rattle.cov_engine.proofs.file_parts.FileParts.carry_out_all.Given as goal
 
 abbrev pub invariant-loop-plan : goal.invariant-loop-plan
 invariant-loop-plan l = record {

@@ -1,9 +1,10 @@
-use Rattle.std.proofs.Common.{◌<◌, ◌^◌, ◌∙◌}
-use Rattle.cov_engine.specs.Staging.{IsNear, named_line}
-use Rattle.cov_engine.proofs.StoredFiles.{same-rising}
+use Rattle.std.proofs.Common.{◌<◌, ◌^◌, subst, sym, ◌∙◌}
+use Rattle.std.specs.List.{AllByRecursion}
+use Rattle.cov_engine.specs.Staging.{HasRoom, IsNear, named_line}
+use Rattle.cov_engine.proofs.StoredFiles.{same-length, same-rising, written-back}
 use Rattle.cov_edit.proofs.CallerLemmas.{all-rest}
 use Rattle.cov_engine.proofs.Rooms.{ready-rest, ready-end}
-use Rattle.cov_engine.proofs.file_staging.add_rooms.Goals as goal
+use Rattle.cov_engine.proofs.file_parts.FileParts.add_rooms.Goals as goal
 
 pub loop-ahead-preserved : goal.loop-ahead-preserved
 loop-ahead-preserved c = record {
@@ -18,4 +19,7 @@ loop-ahead-preserved c = record {
 
 pub returns-clause-room : goal.returns-clause-room
 returns-clause-room c =
-    ready-end c.args.nodes c.args.lines c.args.edits.now c.loop-ahead.ahead.now c.loop-ahead.files c.in_default.len_below c.loop-ahead.invariant.ready
+    let files = c.loop-ahead.files in
+    subst (AllByRecursion (HasRoom c.args.nodes c.args.lines c.args.edits.now))
+        (sym (written-back c.self.inside.parts.items files c.self.inside.parts.len (same-length c.as_mut_slice-files.result.now files c.loop-ahead.invariant.same ∙ c.as_mut_slice-files.ensures.len)))
+        (ready-end c.args.nodes c.args.lines c.args.edits.now c.loop-ahead.ahead.now files c.in_default.len_below c.loop-ahead.invariant.ready)
