@@ -1,6 +1,6 @@
 -- What is shown of the files with some nodes is the variant with the lines of these files alone.
 use Rattle.std.proofs.Common.{◌≡◌, refl, ap, sym, subst, ◌∙◌, ℕ, zero, suc, ◌+◌, ◌<◌, ◌≤◌, Bool, true, false, cond, ◌&&◌, ◌||◌, nat_eq, nat_lt, List, [], ◌∷◌, ◌++◌, length, map, take, Option, Some, None, option_map, arith}
-use Rattle.std.specs.List.{fold, AllByRecursion}
+use Rattle.std.specs.List.{fold, list_all, AllByRecursion}
 use Rattle.std.proofs.lemmas.Bool.{or_from, or_parts}
 use Rattle.std.proofs.lemmas.Bool.Decides.{nat_tests}
 use Rattle.cov_base.specs.Addresses.{line_of, AreInOrder, IsLineOf}
@@ -22,7 +22,8 @@ use Rattle.cov_base.specs.declared.file_row.FileRow.{FileRow}
 use Rattle.cov_history.specs.Naming.{NamesOnlyMade}
 use Rattle.cov_history.specs.Verdict.{IsLegal}
 use Rattle.cov_history.proofs.CallerLemmas.{all-mapped, holding-stands, legal-named, legal-take, replay-once, replay-stands}
-use Rattle.cov_tree.specs.Dated.{rows_at}
+use Rattle.cov_tree.specs.Dated.{among}
+use Rattle.cov_tree.proofs.CallerLemmas.{among_all, among_once}
 use Rattle.cov_view.specs.References.{is_dir_kind, is_made_line, is_made_node, same_node}
 use Rattle.cov_view.specs.Refusals.{first_refused}
 use Rattle.cov_view.specs.Seen.{Seen, at_row, old_line, row_at, with_lines_by, with_file_row}
@@ -37,10 +38,10 @@ use Rattle.cov_engine.specs.Holdings.{IsHeldBy}
 use Rattle.cov_engine.specs.Parts.{part_of}
 use Rattle.cov_engine.specs.Reading.{line_row, stored_rows}
 use Rattle.cov_engine.specs.Showing.{bare_row}
-use Rattle.cov_engine.specs.Trying.{seen_named, with_lines_of, with_named, IsFirstRefused}
+use Rattle.cov_engine.specs.Trying.{is_of_lines, seen_tried, with_lines_of, with_named, IsFirstRefused}
 use Rattle.cov_engine.proofs.FileLines.{by-row, lines-made, pairs, row_pair}
 use Rattle.cov_engine.proofs.LinesRead.{lines-read}
-use Rattle.cov_engine.proofs.NamedFiles.{is_kept, lines-only, named-same, only}
+use Rattle.cov_engine.proofs.NamedFiles.{is_kept, lines-only, only, rows-of, tried-same}
 use Rattle.cov_engine.proofs.StoredFiles.{equal}
 use Rattle.cov_engine.proofs.Views.{lines-below, rows-made}
 
@@ -230,12 +231,37 @@ module _ (ts : List Triple) (c : List Bool) (at : ℕ) (stored : List FilePart) 
         files : AllByRecursion (λ l. l.file ≤ numbers.nodes) part.lines
         files = all-filter (λ l. l.file ≤ numbers.nodes) (λ l. is_kept numbers.nodes ns l.file) v.lines names.files
 
--- the first edit that is refused on what is shown of the files that edits name is the first that the variant refuses
-pub named-first : (history : List Command) (commits : List CommitMark) (file_of_line : List ℕ) (v : Visible) (c : List Bool) (at : ℕ) (es : List Edit) (found : Option ℕ) → IsLegal history
-    → IsHeldBy history v.table commits file_of_line v.entries v.files → IsFirstRefused (seen_named v c at (touched es)) es found
+-- rising numbers stand once
+rising-once : (xs : List ℕ) → AreRising xs → AreDistinct xs
+rising-once [] rising = tt
+rising-once (x ∷ xs) rising = (above xs rising.0, rising-once xs rising.1)
+  where
+    above : (ys : List ℕ) → AllByRecursion (λ y. x < y) ys → has_node x ys ≡ false
+    above [] h = refl
+    above (y ∷ ys) h = let more = h.0 in let differs : nat_eq y x ≡ false = grind (arith, nat_tests, more) in or_from (nat_eq y x) (has_node x ys) differs (above ys h.1)
+
+-- what all rows have, those have that edits are tried on
+rows-have : (P : Row → Type 0) (es : List Edit) (rows : List Row) → AllByRecursion P rows → AllByRecursion P (rows-of es rows)
+rows-have P es rows all = by (list_all is_of_lines es)
+  where
+    by : (b : Bool) → AllByRecursion P (cond b (among (touched es) rows) rows)
+    by true = among_all P (touched es) rows all
+    by false = all
+
+-- and they are of different nodes
+pub rows-once : (es : List Edit) (rows : List Row) → AreOnce rows → AreOnce (rows-of es rows)
+rows-once es rows once = by (list_all is_of_lines es)
+  where
+    by : (b : Bool) → AreOnce (cond b (among (touched es) rows) rows)
+    by true = among_once (touched es) rows (rising-once (touched es) (touched-rising es).0) once
+    by false = once
+
+-- the first edit that is refused on what is shown of what edits are tried on is the first that the variant refuses
+pub tried-first : (history : List Command) (commits : List CommitMark) (file_of_line : List ℕ) (v : Visible) (c : List Bool) (at : ℕ) (es : List Edit) (found : Option ℕ) → IsLegal history
+    → IsHeldBy history v.table commits file_of_line v.entries v.files → IsFirstRefused (seen_tried v c at es) es found
     → found ≡ option_map (λ refused. refused.0) (first_refused (numbers_of (take at history)) (replay c (take at history)) es)
-named-first history commits file_of_line v c at es found legal held first =
-    first ns (only ns.nodes (touched es) u) (holding-stands (take at history)).0 shows ∙ ap (option_map (λ refused. refused.0)) (named-same ns u es)
+tried-first history commits file_of_line v c at es found legal held first =
+    first ns (only ns.nodes (touched es) w) (holding-stands (take at history)).0 shows ∙ ap (option_map (λ refused. refused.0)) (tried-same ns w u es names.nodes refl refl)
   where
     ns : Numbers
     ns = numbers_of (take at history)
@@ -243,17 +269,21 @@ named-first history commits file_of_line v c at es found legal held first =
     u : Variant
     u = replay c (take at history)
 
-    rows : rows_at v.table c at v.entries ≡ u.rows
-    rows = held.of_entries.rows c at
+    w : Variant
+    w = record { rows = rows-of es u.rows; lines = u.lines }
 
-    seen : seen_named v c at (touched es) ≡ record { rows = map (row_with v.table c at v.files (λ y. has_number y (touched es))) u.rows; nodes_made = 0; lines_made = 0 }
+    names : NamesOnlyMade ns.nodes u
+    names = legal-named c (take at history) (legal-take at [] history legal)
+
+    seen : seen_tried v c at es ≡ record { rows = map (row_with v.table c at v.files (λ y. has_number y (touched es))) w.rows; nodes_made = 0; lines_made = 0 }
     seen =
         ap (λ rs. record { rows = rs; nodes_made = 0; lines_made = 0 })
-        (ap (λ rs. fold (with_named v.table c at v.files) (map bare_row rs) (touched es)) rows
-        ∙ named-rows v.table c at v.files (touched es) u.rows (replay-once c (take at history)) (touched-rising es).0)
+        (ap (λ rs. fold (with_named v.table c at v.files) (map bare_row (rows-of es rs)) (touched es)) (held.of_entries.rows c at)
+        ∙ named-rows v.table c at v.files (touched es) w.rows (rows-once es u.rows (replay-once c (take at history))) (touched-rising es).0)
 
-    shows : Shows ns ns.addresses (seen_named v c at (touched es)) (only ns.nodes (touched es) u)
+    shows : Shows ns ns.addresses (seen_tried v c at es) (only ns.nodes (touched es) w)
     shows =
-        subst (λ s. Shows ns ns.addresses s (only ns.nodes (touched es) u)) (sym seen)
-        (shows-named v.table c at v.files ns u (touched es) (lines-read history v.table commits file_of_line v.entries v.files legal held c at) (lines-below c (take at history))
-        (legal-named c (take at history) (legal-take at [] history legal)) (replay-stands c (take at history)).1 (replay-stands c (take at history)).0)
+        subst (λ s. Shows ns ns.addresses s (only ns.nodes (touched es) w)) (sym seen)
+        (shows-named v.table c at v.files ns w (touched es) (lines-read history v.table commits file_of_line v.entries v.files legal held c at) (lines-below c (take at history))
+        (record { nodes = rows-have (λ r. r.node ≤ ns.nodes) es u.rows names.nodes; parents = rows-have (λ r. r.parent ≤ ns.nodes) es u.rows names.parents; files = names.files })
+        (replay-stands c (take at history)).1 (replay-stands c (take at history)).0)

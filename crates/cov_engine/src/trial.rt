@@ -1,23 +1,24 @@
-// Edits that are tried on a variant, of which only the files that they name have their lines.
+// Edits that are tried on as much of a variant as they depend on.
 ghost use Rattle.std.specs.Prelude.{◌≡◌, ◌≤◌, length, map, IfOk, OnOk};
-ghost use Rattle.std.specs.List.{fold};
+ghost use Rattle.std.specs.List.{fold, list_all};
 ghost use Rattle.cov_base.specs.Rows.{AreOnce};
 ghost use Rattle.cov_base.specs.declared.limits.TheConstants.{LIMITS};
 ghost use Rattle.cov_edit.specs.Touched.{touched, AreRising};
 ghost use Rattle.cov_tree.specs.Dated.{rows_at};
 ghost use Rattle.cov_engine.specs.Parts.{part_node};
-ghost use Rattle.cov_engine.specs.Trying.{seen_named, with_named, IsFirstRefused, IsRefusedAt};
+ghost use Rattle.cov_engine.specs.Trying.{is_of_lines, rows_tried, seen_tried, with_named, IsFirstRefused, IsRefusedAt};
 
 use crate::Visible;
 use crate::places::part_of;
 use crate::store::{add_lines, view_of_rows};
 use cov_base::{Choice, Kind, Memory, NodeNo, NodeRef, Position};
 use cov_edit::{Edit, Edits, touched};
+use cov_tree::NodeRows;
 use cov_view::{EditFault, View};
 use std::alloc::Global;
 
-/// The first edit, from 0, that is refused on a choice at a position. It takes time in the rows that are kept and in the lines of
-/// the files that the edits name, and for each edit that of `View::apply`.
+/// The first edit, from 0, that is refused on a choice at a position. It takes time in the lines of the files that the edits name,
+/// in the rows that are kept unless all edits change lines alone, and for each edit that of `View::apply`.
 pub(crate) fn first_refused(
     alloc: Global,
     visible: &Visible,
@@ -28,29 +29,73 @@ pub(crate) fn first_refused(
     requires rising { AreRising (map part_node visible.now.files) }
     requires once { AreOnce (rows_at visible.now.table choice at visible.now.entries) }
     requires few { length edits.now ≤ LIMITS.edits }
-    ensures { IfOk result (IsFirstRefused (seen_named visible.now choice at (touched edits.now)) edits.now) }
+    ensures { IfOk result (IsFirstRefused (seen_tried visible.now choice at edits.now) edits.now) }
 {
     let nodes = touched(edits)?;
-    let mut view = named_view(alloc, visible, choice, at, nodes.as_slice())?;
+    let mut view = tried_view(
+        alloc,
+        visible,
+        choice,
+        at,
+        edits.as_slice(),
+        nodes.as_slice(),
+    )?;
     try_all(&mut view, edits.as_slice())
 }
 
-// The rows that are seen, with the lines of the files with these nodes.
-fn named_view(
+// What edits are tried on, which touch these nodes.
+fn tried_view(
     alloc: Global,
     visible: &Visible,
     choice: Choice,
     at: Position,
+    edits: &[Edit],
     nodes: &[NodeNo],
 ) -> Result<View, Memory>
     requires rising { AreRising (map part_node visible.now.files) }
     requires once { AreOnce (rows_at visible.now.table choice at visible.now.entries) }
-    ensures { IfOk result (λ view. view ≡ seen_named visible.now choice at nodes.now) }
+    requires touched { nodes.now ≡ touched edits.now }
+    ensures { IfOk result (λ view. view ≡ seen_tried visible.now choice at edits.now) }
 {
-    let rows = visible.entries.rows_at(&visible.table, choice, at)?;
+    let rows = rows_tried(visible, choice, at, edits, nodes)?;
     let mut view = view_of_rows(alloc, &visible.table, choice, rows.as_slice())?;
     add_named(&mut view, visible, nodes, choice, at)?;
     Ok(view)
+}
+
+// The rows that edits are tried on, which touch these nodes.
+fn rows_tried(
+    visible: &Visible,
+    choice: Choice,
+    at: Position,
+    edits: &[Edit],
+    nodes: &[NodeNo],
+) -> Result<NodeRows, Memory>
+    requires touched { nodes.now ≡ touched edits.now }
+    ensures { IfOk result (λ rows. rows ≡ rows_tried visible.now choice at edits.now) }
+{
+    match are_of_lines(edits) {
+        true => visible
+            .entries
+            .rows_among(nodes, &visible.table, choice, at),
+        false => visible.entries.rows_at(&visible.table, choice, at),
+    }
+}
+
+fn are_of_lines(edits: &[Edit]) -> bool
+    ensures { result ≡ list_all is_of_lines edits.now }
+{
+    edits.iter().all(|edit| is_of_lines(edit))
+}
+
+// Whether an edit changes lines alone.
+fn is_of_lines(edit: &Edit) -> bool
+    ensures { result ≡ is_of_lines edit.now }
+{
+    match edit {
+        Edit::Insert { .. } | Edit::Delete { .. } => true,
+        Edit::New { .. } | Edit::Rename { .. } | Edit::Move { .. } | Edit::Remove { .. } => false,
+    }
 }
 
 // Adds the lines that are seen of the files with these nodes.

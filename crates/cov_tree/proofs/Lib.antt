@@ -1,3 +1,4 @@
+pub mod Among
 pub mod Apart
 pub mod CallerLemmas
 pub mod Carried

@@ -19,7 +19,7 @@ use Rattle.cov_tree.specs.Shifts.{change_of, Becomes}
 use Rattle.cov_tree.proofs.Plans.{distinct_more}
 use Rattle.cov_tree.proofs.Rows.{rows_in-grown, all_within-grown}
 
-abbrev nodes : List Row → List ℕ
+abbrev pub nodes : List Row → List ℕ
 nodes rows = map (λ r. r.node) rows
 
 -- what a change asks of the rows: a node that is made isn't there, and isn't the root
@@ -45,7 +45,7 @@ moved node parent (r ∷ rows) = λ j. at (nat_eq r.node node) j ∷ moved node 
     at true = refl
     at false = refl
 
-has_filtered : (p : Row → Bool) (x : ℕ) (rows : List Row) → has_node x (nodes rows) ≡ false → has_node x (nodes (filter p rows)) ≡ false
+pub has_filtered : (p : Row → Bool) (x : ℕ) (rows : List Row) → has_node x (nodes rows) ≡ false → has_node x (nodes (filter p rows)) ≡ false
 has_filtered p x [] h = refl
 has_filtered p x (r ∷ rows) h = at (p r) (has_filtered p x rows (or_parts (nat_eq r.node x) (has_node x (nodes rows)) h).1)
   where
@@ -53,7 +53,7 @@ has_filtered p x (r ∷ rows) h = at (p r) (has_filtered p x rows (or_parts (nat
     at true k = (λ j. (or_parts (nat_eq r.node x) (has_node x (nodes rows)) h).0 j || has_node x (nodes (filter p rows))) ∙ k
     at false k = k
 
-distinct_filtered : (p : Row → Bool) (rows : List Row) → AreDistinct (nodes rows) → AreDistinct (nodes (filter p rows))
+pub distinct_filtered : (p : Row → Bool) (rows : List Row) → AreDistinct (nodes rows) → AreDistinct (nodes (filter p rows))
 distinct_filtered p [] h = tt
 distinct_filtered p (r ∷ rows) h = at (p r) (distinct_filtered p rows h.1)
   where

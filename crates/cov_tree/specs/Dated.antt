@@ -1,7 +1,8 @@
 -- The nodes of a store at each position, and as a plan has them.
-use Rattle.std.specs.Prelude.{ℕ, ◌<◌, Bool, List, [], ◌∷◌, Option, unwrap_or}
+use Rattle.std.specs.Prelude.{ℕ, ◌<◌, nat_eq, Bool, List, [], ◌∷◌, ◌++◌, Option, unwrap_or}
+use Rattle.std.specs.List.{filter, AllByRecursion}
 use Rattle.cov_base.specs.Older.{value_at}
-use Rattle.cov_base.specs.Rows.{Row}
+use Rattle.cov_base.specs.Rows.{Row, AreDistinct}
 use Rattle.cov_base.specs.declared.number.Kind.{Kind}
 use Rattle.cov_dd.specs.declared.triple.Triple.{Triple}
 use Rattle.cov_tree.specs.declared.entry.Entry.{Entry}
@@ -22,6 +23,19 @@ nodes_at p d = value_at [] ((d.from, d.newest) ∷ d.older) p
 -- the rows on a choice at a position
 abbrev pub rows_at : List Triple → List Bool → ℕ → Dated → List Row
 rows_at table c p d = rows_in table c (nodes_at p d)
+
+-- the rows of these nodes, in the order of the nodes
+abbrev pub among : List ℕ → List Row → List Row
+among [] rows = []
+among (n ∷ ns) rows = filter (λ r. nat_eq r.node n) rows ++ among ns rows
+
+-- those on a choice at a position
+abbrev pub rows_among : List Triple → List Bool → ℕ → List ℕ → Dated → List Row
+rows_among table c p ns d = among ns (rows_at table c p d)
+
+-- in each older list each node stands once
+abbrev pub AreOlderOnce : List (ℕ × List Entry) → Type 0
+AreOlderOnce older = AllByRecursion (λ l. AreDistinct (0 ∷ nodes_of l.1)) older
 
 -- the numbers of all nodes that were ever made, in order, and the same with their kinds
 abbrev pub nodes_in : Dated → List ℕ

@@ -1,12 +1,13 @@
 // The nodes of a store at each position.
-ghost use Rattle.std.specs.Prelude.{◌≡◌, ◌<◌, ◌≤◌, ℕ, List, Bool, [], ◌∷◌, ◌++◌, ◌&&◌, IfOk, OnOk};
-ghost use Rattle.std.specs.Option.{is_some};
+ghost use Rattle.std.specs.Prelude.{◌≡◌, ◌<◌, ◌≤◌, ℕ, nat_eq, List, Bool, [], ◌∷◌, ◌++◌, ◌&&◌, IfOk, OnOk};
+ghost use Rattle.std.specs.List.{filter, find};
+ghost use Rattle.std.specs.Option.{is_some, option_copied};
 ghost use Rattle.cov_base.specs.Faults.{fault_of};
 ghost use Rattle.cov_base.specs.Rows.{RowChange, AreDistinct};
 ghost use Rattle.cov_dd.specs.Diagrams.{diagram_size, span, value_in, Extends, IsNode};
 ghost use Rattle.cov_dd.specs.declared.triple.Triple.{Triple};
 ghost use Rattle.cov_tree.specs.Entries.{rows_of, rows_in, row_at, nodes_of};
-ghost use Rattle.cov_tree.specs.Dated.{nodes_at, rows_at, nodes_in, kinds_in, rows_with, nodes_with, kinds_with, without_room, HasRoom};
+ghost use Rattle.cov_tree.specs.Dated.{nodes_at, rows_at, among, rows_among, nodes_in, kinds_in, rows_with, nodes_with, kinds_with, without_room, HasRoom};
 ghost use Rattle.cov_tree.specs.Carried.{AreNodesAt, AreNodesWith, AreOnceAt, AreOnceWith, AreUnreadAt, AreUnreadWith};
 ghost use Rattle.cov_tree.specs.Changes.{all_changed, Makes};
 
@@ -36,13 +37,13 @@ impl Model for Entries {
     ghost use Rattle.std.specs.Prelude.{◌∷◌};
     ghost use Rattle.cov_base.specs.Rows.{AreDistinct};
     ghost use Rattle.cov_tree.specs.Entries.{nodes_of};
-    ghost use Rattle.cov_tree.specs.Dated.{Dated};
+    ghost use Rattle.cov_tree.specs.Dated.{Dated, AreOlderOnce};
 
     ghost Value = { Dated };
 
     ghost view = { λ e. record { from = e.from; newest = e.newest.items; older = e.older.lists; room = e.older.room } };
 
-    ghost invariant = { λ e. AreDistinct (0 ∷ nodes_of e.newest.items) };
+    ghost invariant = { λ e. AreDistinct (0 ∷ nodes_of e.newest.items) × AreOlderOnce e.older.lists };
 }
 
 impl Entries {
@@ -152,6 +153,21 @@ impl Entries {
         visible_rows(alloc, self.at(at), table, choice)
     }
 
+    /// The rows of these nodes alone on a choice at a position, in the order of the nodes. It takes no time in other nodes where each
+    /// node has the number behind that of the one made before it.
+    pub fn rows_among(
+        &self,
+        nodes: &[NodeNo],
+        table: &Table,
+        choice: Choice,
+        at: Position,
+    ) -> Result<NodeRows, Memory>
+        ensures { IfOk result (λ rows. rows ≡ rows_among table.now choice at nodes.now self.now) }
+    {
+        let alloc = *self.newest.allocator();
+        visible_rows_among(alloc, self.at(at), nodes, table, choice)
+    }
+
     /// The newest nodes.
     pub(crate) fn newest(&self) -> &[Entry]
         ensures nodes { result.now ≡ self.now.newest }
@@ -170,7 +186,8 @@ impl Entries {
 
     // The nodes at a position.
     fn at(&self, position: Position) -> &[Entry]
-        ensures { result.now ≡ nodes_at position self.now }
+        ensures nodes { result.now ≡ nodes_at position self.now }
+        ensures distinct { AreDistinct (0 ∷ nodes_of result.now) }
     {
         if self.from <= position {
             return self.newest.as_slice();
@@ -193,6 +210,52 @@ fn visible_rows(
         add_rows(&mut rows, entry, table, choice)?;
     }
     Ok(rows)
+}
+
+// The rows that these nodes have on a choice.
+fn visible_rows_among(
+    alloc: Global,
+    entries: &[Entry],
+    nodes: &[NodeNo],
+    table: &Table,
+    choice: Choice,
+) -> Result<NodeRows, Memory>
+    requires distinct { AreDistinct (nodes_of entries.now) }
+    ensures { IfOk result (λ rows. rows ≡ among nodes.now (rows_in table.now choice entries.now)) }
+{
+    let mut rows = NodeRows::new(alloc);
+    'nodes: for node in nodes {
+        add_rows_of(&mut rows, entries, *node, table, choice)?;
+    }
+    Ok(rows)
+}
+
+// Adds the rows that one of these entries has on a choice.
+fn add_rows_of(
+    rows: &mut NodeRows,
+    entries: &[Entry],
+    node: NodeNo,
+    table: &Table,
+    choice: Choice,
+) -> Result<(), Memory>
+    requires distinct { AreDistinct (nodes_of entries.now) }
+    ensures { OnOk result (rows.new ≡ rows.old ++ filter (λ r. nat_eq r.node node) (rows_in table.now choice entries.now)) }
+{
+    match entry_of(entries, node) {
+        Some(entry) => add_rows(rows, entry, table, choice),
+        None => Ok(()),
+    }
+}
+
+// The entry of a node. It is found at once where the entries are those of nodes 1, 2 and so on.
+fn entry_of(entries: &[Entry], node: NodeNo) -> Option<&Entry>
+    requires distinct { AreDistinct (nodes_of entries.now) }
+    ensures { option_copied result ≡ find (λ e. nat_eq e.node node) entries.now }
+{
+    match entries.get((node.number() as usize).saturating_sub(1)) {
+        Some(entry) if entry.node == node => Some(entry),
+        _ => entries.iter().find(|entry| entry.node == node),
+    }
 }
 
 // Adds the rows that a node has on a choice.

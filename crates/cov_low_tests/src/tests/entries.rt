@@ -149,6 +149,18 @@ fn rows_there(rt: &impl Abort, entries: &Entries, table: &Table) -> Result<(), F
     last_row(rt, &off, 1, 2, 1, b"m");
     let after = entries.rows_at(table, on, Position::new(5))?;
     last_row(rt, &after, 0, 2, 0, b"n");
+    rows_of_one(rt, entries, table)
+}
+
+// The rows of a node alone, before the change and after it where option 0 is on.
+fn rows_of_one(rt: &impl Abort, entries: &Entries, table: &Table) -> Result<(), Fail> {
+    let on = Choice::new(1, 1);
+    let dir = entries.rows_among(&[NodeNo::new(1)], table, on, Position::new(4))?;
+    last_row(rt, &dir, 0, 1, 0, b"d");
+    let none = entries.rows_among(&[NodeNo::new(1)], table, on, Position::new(5))?;
+    assert_eq!(rt; none.len(), 0);
+    let file = entries.rows_among(&[NodeNo::new(2)], table, on, Position::new(5))?;
+    last_row(rt, &file, 0, 2, 0, b"n");
     Ok(())
 }
 

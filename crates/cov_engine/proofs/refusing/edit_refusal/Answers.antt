@@ -2,7 +2,6 @@ use Rattle.std.proofs.Common.{◌≡◌, ℕ, Bool, List, Option, false, nat_eq,
 use Rattle.std.proofs.lemmas.Bool.Decides.{nat_tests}
 use Rattle.cov_base.specs.Rows.{AreOnce}
 use Rattle.cov_edit.specs.declared.edit.Edit.{Edit}
-use Rattle.cov_edit.specs.Touched.{touched}
 use Rattle.cov_history.specs.declared.refusal.Refusal.TheVariants as refusals
 use Rattle.cov_history.proofs.CallerLemmas.{replay-once}
 use Rattle.cov_view.specs.Refusals.{first_of}
@@ -10,8 +9,8 @@ use Rattle.cov_engine.specs.declared.state.EngineState.{EngineState}
 use Rattle.cov_engine.specs.Holdings.{IsHeldBy}
 use Rattle.cov_engine.specs.Refusing.{edit_refusals}
 use Rattle.cov_engine.specs.States.{IsStateOf}
-use Rattle.cov_engine.specs.Trying.{seen_named, IsFirstRefused}
-use Rattle.cov_engine.proofs.NamedView.{named-first}
+use Rattle.cov_engine.specs.Trying.{seen_tried, IsFirstRefused}
+use Rattle.cov_engine.proofs.NamedView.{tried-first}
 use Rattle.cov_engine.proofs.Refused.{edits-found}
 use Rattle.cov_engine.proofs.Wholes.{held-rise}
 use Rattle.cov_engine.proofs.refusing.edit_refusal.Goals as goal
@@ -27,12 +26,12 @@ first_refused-requires-clause-once c =
 module _ (state : EngineState) (base : ℕ) (choice : List Bool) (es : List Edit)
     (told : IsStateOf state.commands.commands state.options.names state.visible.table state.rules.standing state.counts)
     (held : IsHeldBy state.commands.commands state.visible.table state.store.commits.items state.store.file_of_line.items state.visible.entries state.visible.files)
-    (tests : Bool) (none : tests ≡ nat_eq (length es) 0) (some : tests ≡ false) (found : Option ℕ) (first : IsFirstRefused (seen_named state.visible choice base (touched es)) es found) where
+    (tests : Bool) (none : tests ≡ nat_eq (length es) 0) (some : tests ≡ false) (found : Option ℕ) (first : IsFirstRefused (seen_tried state.visible choice base es) es found) where
   told-found : option_map refusals.BadRecord found ≡ first_of (edit_refusals (take base state.commands.commands) choice es)
   told-found =
       let is : nat_eq (length es) 0 ≡ false = sym none ∙ some in
       edits-found (take base state.commands.commands) choice es (grind (arith, nat_tests, is)) found
-      (named-first state.commands.commands state.store.commits.items state.store.file_of_line.items state.visible choice base es found told.legal held first)
+      (tried-first state.commands.commands state.store.commits.items state.store.file_of_line.items state.visible choice base es found told.legal held first)
 
 pub returns-in-Some : goal.returns-in-Some
 returns-in-Some c =

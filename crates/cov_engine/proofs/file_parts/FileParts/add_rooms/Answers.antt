@@ -21,5 +21,5 @@ pub returns-clause-room : goal.returns-clause-room
 returns-clause-room c =
     let files = c.loop-ahead.files in
     subst (AllByRecursion (HasRoom c.args.nodes c.args.lines c.args.edits.now))
-        (sym (written-back c.self.inside.parts.items files c.self.inside.parts.len (same-length c.as_mut_slice-files.result.now files c.loop-ahead.invariant.same ∙ c.as_mut_slice-files.ensures.len)))
-        (ready-end c.args.nodes c.args.lines c.args.edits.now c.loop-ahead.ahead.now files c.in_default.len_below c.loop-ahead.invariant.ready)
+    (sym (written-back c.self.inside.parts.items files c.self.inside.parts.len (same-length c.as_mut_slice-files.result.now files c.loop-ahead.invariant.same ∙ c.as_mut_slice-files.ensures.len)))
+    (ready-end c.args.nodes c.args.lines c.args.edits.now c.loop-ahead.ahead.now files c.in_default.len_below c.loop-ahead.invariant.ready)
