@@ -1,9 +1,9 @@
 -- A variant with the lines of the files that edits touch, and of no others, refuses the same edit first, and with the rows of the nodes
 -- that they touch alone, if all of them change lines.
 use Rattle.std.proofs.Common.{◌≡◌, refl, ap, sym, ◌∙◌, ℕ, zero, suc, ◌+◌, ◌<◌, ◌≤◌, Bool, true, false, cond, ◌&&◌, ◌||◌, not, nat_eq, nat_lt, List, [], ◌∷◌, length, is_some, Option, Some, None, arith}
-use Rattle.std.specs.List.{list_all, list_any, filter, filter_map, cons_option, AllByRecursion}
+use Rattle.std.specs.List.{list_any, filter, filter_map, cons_option, AllByRecursion}
 use Rattle.std.specs.Str.{bytes_eq}
-use Rattle.std.proofs.lemmas.Bool.{and_parts}
+use Rattle.std.proofs.lemmas.Bool.{or_parts}
 use Rattle.std.proofs.lemmas.Bool.Decides.{nat_tests}
 use Rattle.cov_base.specs.Addresses.{line_of, placed, stands_before}
 use Rattle.cov_base.specs.Rows.{Row, changed, row_of}
@@ -17,12 +17,12 @@ use Rattle.cov_edit.specs.Numbering.{Numbers, NumberedEdit, OnRows, Inserted, De
 use Rattle.cov_edit.specs.Touched.{has_number, touched, touched_by}
 use Rattle.cov_edit.specs.Variant.{Variant, Line, edited, is_line, line_address, lines_of}
 use Rattle.cov_edit.proofs.CallerLemmas.{touched-rising}
+use Rattle.cov_history.specs.RowChanges.{changes_rows}
 use Rattle.cov_tree.specs.Dated.{among}
 use Rattle.cov_tree.proofs.CallerLemmas.{among_row}
 use Rattle.cov_view.specs.References.{is_head, is_known_line, is_known_node}
 use Rattle.cov_view.specs.Refusals.{when, first_of, shows_node, shows_line, is_dir, row_is_dir, refusal, refused_at, refused_from, first_refused}
 use Rattle.cov_view.specs.declared.fault.EditFault.TheVariants as faults
-use Rattle.cov_engine.specs.Trying.{is_of_lines}
 use Rattle.cov_engine.proofs.StoredFiles.{equal}
 
 swapped : (a b : Bool) → (a && b) ≡ (b && a)
@@ -83,7 +83,7 @@ module _ (kept : ℕ → Bool) where
     dir-same (suc x) own = ap row_is_dir (rows (suc x) own)
 
     -- they refuse the same edits of lines
-    refusal-of_lines : (e : Edit) → is_of_lines e ≡ true → IsKept ns.nodes e → refusal ns v e ≡ refusal ns w e
+    refusal-of_lines : (e : Edit) → changes_rows e ≡ false → IsKept ns.nodes e → refusal ns v e ≡ refusal ns w e
     refusal-of_lines (edits.New kind parent name) is own = absurd (cc)
     refusal-of_lines (edits.Insert file after text) is own = λ i.
         first_of (when (not (node-same file own i)) faults.NoSuchNode ∷ when (dir-same (node_number ns.nodes file) own i) faults.NotFile
@@ -138,7 +138,7 @@ module _ (kept : ℕ → Bool) where
   all-edited v w (Deleted file address) same = same
 
   -- and the rows that they had after an edit of lines
-  rows-edited : (ns : Numbers) (table : List (List ℕ)) (n l : ℕ) (v w : Variant) (e : Edit) → is_of_lines e ≡ true → HaveRows v w
+  rows-edited : (ns : Numbers) (table : List (List ℕ)) (n l : ℕ) (v w : Variant) (e : Edit) → changes_rows e ≡ false → HaveRows v w
       → HaveRows (edited v (numbered_edit ns table n l e)) (edited w (numbered_edit ns table n l e))
   rows-edited ns table n l v w (edits.New kind parent name) is rows = absurd (cc)
   rows-edited ns table n l v w (edits.Insert file after text) is rows = rows
@@ -156,11 +156,11 @@ module _ (kept : ℕ → Bool) where
       refused_at i (refusal-same ns v w e same lines own.0 j) (refused-same ns (edited v d) (edited w d) (i + 1) es ds (all-edited v w d same) (lines-edited v w d lines) own.1 j)
 
   -- so of edits of lines, if they have the same rows of kept nodes
-  refused-of_lines : (ns : Numbers) (table : List (List ℕ)) (n l : ℕ) (v w : Variant) (i : ℕ) (es : List Edit) → list_all is_of_lines es ≡ true → HaveRows v w → HaveLines v w
+  refused-of_lines : (ns : Numbers) (table : List (List ℕ)) (n l : ℕ) (v w : Variant) (i : ℕ) (es : List Edit) → list_any changes_rows es ≡ false → HaveRows v w → HaveLines v w
       → AllByRecursion (IsKept ns.nodes) es → refused_from ns v i es (numbered_from ns table n l es) ≡ refused_from ns w i es (numbered_from ns table n l es)
   refused-of_lines ns table n l v w i [] all rows lines own = refl
   refused-of_lines ns table n l v w i (e ∷ es) all rows lines own =
-      let are = and_parts (is_of_lines e) (list_all is_of_lines es) all in
+      let are = or_parts (changes_rows e) (list_any changes_rows es) all in
       let d = numbered_edit ns table n l e in λ j.
       refused_at i (refusal-of_lines ns v w rows lines e are.0 own.0 j)
       (refused-of_lines ns table (node_count_after n e) (line_count_after l e) (edited v d) (edited w d) (i + 1) es are.1 (rows-edited ns table n l v w e are.0 rows) (lines-edited v w d lines) own.1 j)
@@ -240,12 +240,12 @@ all-kept n es = from es (λ x h. (touched-rising es).1 x ∙ h)
 
 -- the rows of a variant that edits are tried on
 abbrev pub rows-of : List Edit → List Row → List Row
-rows-of es rows = cond (list_all is_of_lines es) (among (touched es) rows) rows
+rows-of es rows = cond (list_any changes_rows es) rows (among (touched es) rows)
 
 -- a variant with these rows, and the lines of the files that edits touch, refuses the same of them first
 pub tried-same : (ns : Numbers) (v w : Variant) (es : List Edit) → AllByRecursion (λ r. r.node ≤ ns.nodes) w.rows → v.rows ≡ rows-of es w.rows → v.lines ≡ w.lines
     → first_refused ns (only ns.nodes (touched es) v) es ≡ first_refused ns w es
-tried-same ns v w es made rows lines = by (list_all is_of_lines es) refl
+tried-same ns v w es made rows lines = by (list_any changes_rows es) refl
   where
     tried : Variant
     tried = only ns.nodes (touched es) v
@@ -256,14 +256,14 @@ tried-same ns v w es made rows lines = by (list_all is_of_lines es) refl
     have : HaveLines kept tried w
     have = only-lines ns.nodes (touched es) v w lines
 
-    are : (b : Bool) → list_all is_of_lines es ≡ b → v.rows ≡ cond b (among (touched es) w.rows) w.rows
-    are b e = rows ∙ ap (λ k. cond k (among (touched es) w.rows) w.rows) e
+    are : (b : Bool) → list_any changes_rows es ≡ b → v.rows ≡ cond b w.rows (among (touched es) w.rows)
+    are b e = rows ∙ ap (λ k. cond k w.rows (among (touched es) w.rows)) e
 
-    by : (b : Bool) → list_all is_of_lines es ≡ b → first_refused ns tried es ≡ first_refused ns w es
-    by true e =
+    by : (b : Bool) → list_any changes_rows es ≡ b → first_refused ns tried es ≡ first_refused ns w es
+    by true e = refused-same kept ns tried w 0 es (numbered ns es) (are true e) have (all-kept ns.nodes es)
+    by false e =
         refused-of_lines kept ns (numbers_after ns es).addresses ns.nodes (length ns.addresses) tried w 0 es e
-        (only-rows ns.nodes (touched es) tried w made (are true e)) have (all-kept ns.nodes es)
-    by false e = refused-same kept ns tried w 0 es (numbered ns es) (are false e) have (all-kept ns.nodes es)
+        (only-rows ns.nodes (touched es) tried w made (are false e)) have (all-kept ns.nodes es)
 
 -- of a kept file it has all lines, and of another none
 pub lines-only : (n : ℕ) (xs : List ℕ) (v : Variant) (file : ℕ) (b : Bool) → is_kept n xs file ≡ b → lines_of (only n xs v) file ≡ cond b (lines_of v file) []

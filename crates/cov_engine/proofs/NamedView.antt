@@ -1,6 +1,6 @@
 -- What is shown of the files with some nodes is the variant with the lines of these files alone.
 use Rattle.std.proofs.Common.{◌≡◌, refl, ap, sym, subst, ◌∙◌, ℕ, zero, suc, ◌+◌, ◌<◌, ◌≤◌, Bool, true, false, cond, ◌&&◌, ◌||◌, nat_eq, nat_lt, List, [], ◌∷◌, ◌++◌, length, map, take, Option, Some, None, option_map, arith}
-use Rattle.std.specs.List.{fold, list_all, AllByRecursion}
+use Rattle.std.specs.List.{fold, list_any, AllByRecursion}
 use Rattle.std.proofs.lemmas.Bool.{or_from, or_parts}
 use Rattle.std.proofs.lemmas.Bool.Decides.{nat_tests}
 use Rattle.cov_base.specs.Addresses.{line_of, AreInOrder, IsLineOf}
@@ -20,6 +20,7 @@ use Rattle.cov_edit.specs.Variant.{Variant, line_address, lines_of}
 use Rattle.cov_edit.proofs.CallerLemmas.{touched-rising}
 use Rattle.cov_base.specs.declared.file_row.FileRow.{FileRow}
 use Rattle.cov_history.specs.Naming.{NamesOnlyMade}
+use Rattle.cov_history.specs.RowChanges.{changes_rows}
 use Rattle.cov_history.specs.Verdict.{IsLegal}
 use Rattle.cov_history.proofs.CallerLemmas.{all-mapped, holding-stands, legal-named, legal-take, replay-once, replay-stands}
 use Rattle.cov_tree.specs.Dated.{among}
@@ -38,7 +39,7 @@ use Rattle.cov_engine.specs.Holdings.{IsHeldBy}
 use Rattle.cov_engine.specs.Parts.{part_of}
 use Rattle.cov_engine.specs.Reading.{line_row, stored_rows}
 use Rattle.cov_engine.specs.Showing.{bare_row}
-use Rattle.cov_engine.specs.Trying.{is_of_lines, seen_tried, with_lines_of, with_named, IsFirstRefused}
+use Rattle.cov_engine.specs.Trying.{seen_tried, with_lines_of, with_named, IsFirstRefused}
 use Rattle.cov_engine.proofs.FileLines.{by-row, lines-made, pairs, row_pair}
 use Rattle.cov_engine.proofs.LinesRead.{lines-read}
 use Rattle.cov_engine.proofs.NamedFiles.{is_kept, lines-only, only, rows-of, tried-same}
@@ -242,19 +243,19 @@ rising-once (x ∷ xs) rising = (above xs rising.0, rising-once xs rising.1)
 
 -- what all rows have, those have that edits are tried on
 rows-have : (P : Row → Type 0) (es : List Edit) (rows : List Row) → AllByRecursion P rows → AllByRecursion P (rows-of es rows)
-rows-have P es rows all = by (list_all is_of_lines es)
+rows-have P es rows all = by (list_any changes_rows es)
   where
-    by : (b : Bool) → AllByRecursion P (cond b (among (touched es) rows) rows)
-    by true = among_all P (touched es) rows all
-    by false = all
+    by : (b : Bool) → AllByRecursion P (cond b rows (among (touched es) rows))
+    by true = all
+    by false = among_all P (touched es) rows all
 
 -- and they are of different nodes
 pub rows-once : (es : List Edit) (rows : List Row) → AreOnce rows → AreOnce (rows-of es rows)
-rows-once es rows once = by (list_all is_of_lines es)
+rows-once es rows once = by (list_any changes_rows es)
   where
-    by : (b : Bool) → AreOnce (cond b (among (touched es) rows) rows)
-    by true = among_once (touched es) rows (rising-once (touched es) (touched-rising es).0) once
-    by false = once
+    by : (b : Bool) → AreOnce (cond b rows (among (touched es) rows))
+    by true = once
+    by false = among_once (touched es) rows (rising-once (touched es) (touched-rising es).0) once
 
 -- the first edit that is refused on what is shown of what edits are tried on is the first that the variant refuses
 pub tried-first : (history : List Command) (commits : List CommitMark) (file_of_line : List ℕ) (v : Visible) (c : List Bool) (at : ℕ) (es : List Edit) (found : Option ℕ) → IsLegal history

@@ -1,6 +1,6 @@
 -- What is seen of the files that edits name, and the first edit that it refuses.
-use Rattle.std.specs.Prelude.{◌≡◌, ℕ, Bool, true, false, List, map, Option, Some, None, option_map, if◌then◌else◌}
-use Rattle.std.specs.List.{fold, list_all}
+use Rattle.std.specs.Prelude.{◌≡◌, ℕ, Bool, List, map, Option, Some, None, option_map, if◌then◌else◌}
+use Rattle.std.specs.List.{fold, list_any}
 use Rattle.cov_base.specs.Addresses.{IsTable}
 use Rattle.cov_base.specs.Rows.{Row}
 use Rattle.cov_base.specs.declared.number.Kind.{Kind}
@@ -8,10 +8,10 @@ use Rattle.cov_base.specs.declared.number.Kind.TheVariants as kinds
 use Rattle.cov_base.specs.declared.number.NodeRef.TheVariants as nodes
 use Rattle.cov_dd.specs.declared.triple.Triple.{Triple}
 use Rattle.cov_edit.specs.declared.edit.Edit.{Edit}
-use Rattle.cov_edit.specs.declared.edit.Edit.TheVariants as edits
 use Rattle.cov_edit.specs.Numbering.{Numbers}
 use Rattle.cov_edit.specs.Touched.{touched}
 use Rattle.cov_edit.specs.Variant.{Variant}
+use Rattle.cov_history.specs.RowChanges.{changes_rows}
 use Rattle.cov_tree.specs.Dated.{rows_among, rows_at}
 use Rattle.cov_view.specs.declared.fault.EditFault.{EditFault}
 use Rattle.cov_view.specs.declared.row.ViewRow.{ViewRow}
@@ -35,19 +35,10 @@ module _ (ts : List Triple) (c : List Bool) (at : ℕ) (stored : List FilePart) 
   abbrev pub with_named : List ViewRow → ℕ → List ViewRow
   with_named rows node = with_lines_of (kind_in rows (nodes.Old node)) rows node
 
--- whether an edit changes lines alone
-abbrev pub is_of_lines : Edit → Bool
-is_of_lines (edits.New kind parent name) = false
-is_of_lines (edits.Insert file after text) = true
-is_of_lines (edits.Delete file line) = true
-is_of_lines (edits.Rename node name) = false
-is_of_lines (edits.Move node parent) = false
-is_of_lines (edits.Remove node) = false
-
--- the rows that edits are tried on, on a choice at a position: those of the nodes that they touch, where they change lines alone, and
--- else all
+-- the rows that edits are tried on, on a choice at a position: all where one of them changes rows, and else those of the nodes that
+-- they touch
 abbrev pub rows_tried : Visible → List Bool → ℕ → List Edit → List Row
-rows_tried v c at es = if list_all is_of_lines es then rows_among v.table c at (touched es) v.entries else rows_at v.table c at v.entries
+rows_tried v c at es = if list_any changes_rows es then rows_at v.table c at v.entries else rows_among v.table c at (touched es) v.entries
 
 -- what edits are tried on: these rows, with the lines of the files that they touch and of no others
 abbrev pub seen_tried : Visible → List Bool → ℕ → List Edit → Seen

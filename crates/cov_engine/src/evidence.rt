@@ -18,8 +18,8 @@ use cov_tree::{Entries, EntryPlan};
 use cov_view::Fault;
 use std::alloc::Global;
 
-// Whether edits change rows.
-fn change_rows(edits: &[Edit]) -> bool
+/// Whether edits change rows.
+pub(crate) fn change_rows(edits: &[Edit]) -> bool
     ensures { result ≡ list_any changes_rows edits.now }
 {
     edits.iter().any(changes_rows)

@@ -1,14 +1,15 @@
 // Edits that are tried on as much of a variant as they depend on.
 ghost use Rattle.std.specs.Prelude.{◌≡◌, ◌≤◌, length, map, IfOk, OnOk};
-ghost use Rattle.std.specs.List.{fold, list_all};
+ghost use Rattle.std.specs.List.{fold};
 ghost use Rattle.cov_base.specs.Rows.{AreOnce};
 ghost use Rattle.cov_base.specs.declared.limits.TheConstants.{LIMITS};
 ghost use Rattle.cov_edit.specs.Touched.{touched, AreRising};
 ghost use Rattle.cov_tree.specs.Dated.{rows_at};
 ghost use Rattle.cov_engine.specs.Parts.{part_node};
-ghost use Rattle.cov_engine.specs.Trying.{is_of_lines, rows_tried, seen_tried, with_named, IsFirstRefused, IsRefusedAt};
+ghost use Rattle.cov_engine.specs.Trying.{rows_tried, seen_tried, with_named, IsFirstRefused, IsRefusedAt};
 
 use crate::Visible;
+use crate::evidence::change_rows;
 use crate::places::part_of;
 use crate::store::{add_lines, view_of_rows};
 use cov_base::{Choice, Kind, Memory, NodeNo, NodeRef, Position};
@@ -18,7 +19,7 @@ use cov_view::{EditFault, View};
 use std::alloc::Global;
 
 /// The first edit, from 0, that is refused on a choice at a position. It takes time in the lines of the files that the edits name,
-/// in the rows that are kept unless all edits change lines alone, and for each edit that of `View::apply`.
+/// in the rows that are kept if an edit changes rows, and for each edit that of `View::apply`.
 pub(crate) fn first_refused(
     alloc: Global,
     visible: &Visible,
@@ -74,27 +75,11 @@ fn rows_tried(
     requires touched { nodes.now ≡ touched edits.now }
     ensures { IfOk result (λ rows. rows ≡ rows_tried visible.now choice at edits.now) }
 {
-    match are_of_lines(edits) {
-        true => visible
+    match change_rows(edits) {
+        true => visible.entries.rows_at(&visible.table, choice, at),
+        false => visible
             .entries
             .rows_among(nodes, &visible.table, choice, at),
-        false => visible.entries.rows_at(&visible.table, choice, at),
-    }
-}
-
-fn are_of_lines(edits: &[Edit]) -> bool
-    ensures { result ≡ list_all is_of_lines edits.now }
-{
-    edits.iter().all(|edit| is_of_lines(edit))
-}
-
-// Whether an edit changes lines alone.
-fn is_of_lines(edit: &Edit) -> bool
-    ensures { result ≡ is_of_lines edit.now }
-{
-    match edit {
-        Edit::Insert { .. } | Edit::Delete { .. } => true,
-        Edit::New { .. } | Edit::Rename { .. } | Edit::Move { .. } | Edit::Remove { .. } => false,
     }
 }
 

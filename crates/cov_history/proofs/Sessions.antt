@@ -26,6 +26,7 @@ use Rattle.cov_history.specs.declared.refusal.Refusal.TheVariants as refusals
 use Rattle.cov_history.specs.BadChoices.{unsound_refusal}
 use Rattle.cov_history.specs.Kept.{Holding, variant_seen, kept_number, file_kept}
 use Rattle.cov_history.specs.Verdict.{verdict, as_invalid, as_bad_record, as_overtaken, has_no_edits, size_refusals, when_full}
+use Rattle.cov_history.specs.Laws.{GoodCommitsPass}
 use Rattle.cov_history.specs.Overtaking.{overtaken}
 use Rattle.cov_history.specs.Sessions.{Session, IsGood, seen, commit_of, has_commit}
 use Rattle.cov_history.proofs.Files.{any-seen}
@@ -71,14 +72,7 @@ none-false c es h =
     let e : nat_lt (position_or_len (λ f. not (value f c)) es) (length es) ≡ false = grind (arith, nat_tests, all) in
     ap (λ b. as_invalid (option_map (λ n. n + 1) (cond b (Some (position_or_len (λ f. not (value f c)) es)) None))) e
 
-pub good-passes : (history : List Command) (s : Session) → IsGood history s
-    → verdict history (commit_of s)
-    ≡ first_of (when_full history
-    ∷ (size_refusals history s.edits
-    ++ when (has_no_edits s.edits) refusals.Empty
-    ∷ as_overtaken (overtaken history s.base s.ambition s.edits)
-    ∷ unsound_refusal history s.ambition (commit_of s)
-    ∷ []))
+pub good-passes : GoodCommitsPass
 good-passes history s good =
     let within : s.base ≤ length history = good.within in
     let count : length s.choice ≡ option_count (take s.base history) = good.of_all_options in

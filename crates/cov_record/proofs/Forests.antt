@@ -25,6 +25,18 @@ regroup : (f : Front (List (Formula ℕ))) (g h : List (Formula ℕ) → List (F
 regroup None g h = refl
 regroup (Some p) g h = refl
 
+-- two expressions in front are read first, if each is
+two_first : (a b : Formula ℕ) (left need : ℕ) (r : List ℕ) (g : List (Formula ℕ) → List (Formula ℕ)) → (let inner = part_count a + (part_count b + left) in
+    front_forest inner (suc (suc need)) (expression_spelling a ++ (expression_spelling b ++ r)) ≡ in_front (front_forest (part_count b + left) (suc need) (expression_spelling b ++ r)) (λ es. a ∷ es)
+    → front_forest (part_count b + left) (suc need) (expression_spelling b ++ r) ≡ in_front (front_forest left need r) (λ es. b ∷ es)
+    → in_front (front_forest inner (suc (suc need)) ((expression_spelling a ++ expression_spelling b) ++ r)) g ≡ in_front (front_forest left need r) (λ es. g (a ∷ b ∷ es)))
+two_first a b left need r g first second =
+    ap (λ bs. in_front (front_forest (part_count a + (part_count b + left)) (suc (suc need)) bs) g) (append_assoc (expression_spelling a) (expression_spelling b) r)
+    ∙ ap (λ f. in_front f g) first
+    ∙ ap (λ f. in_front (in_front f (λ es. a ∷ es)) g) second
+    ∙ ap (λ f. in_front f g) (regroup (front_forest left need r) (λ es. b ∷ es) (λ es. a ∷ es))
+    ∙ regroup (front_forest left need r) (λ es. a ∷ b ∷ es) g
+
 -- an expression in front is read first
 pub expression_first : (e : Formula ℕ) (room left need : ℕ) (r : List ℕ) → room ≡ part_count e + left → reach e ≤ CHOICE_WIDTH
     → front_forest room (suc need) (expression_spelling e ++ r) ≡ in_front (front_forest left need r) (λ es. e ∷ es)
@@ -40,19 +52,13 @@ expression_first (Not a) room left need r e h =
 expression_first (And a b) room left need r e h =
     let inner = part_count a + (part_count b + left) in
     ap (λ n. front_forest n (suc need) (4 ∷ ((expression_spelling a ++ expression_spelling b) ++ r))) {y = suc inner} (omega (arith, e))
-    ∙ ap (λ bs. in_front (front_forest inner (suc (suc need)) bs) (taken Joins)) (append_assoc (expression_spelling a) (expression_spelling b) r)
-    ∙ ap (λ f. in_front f (taken Joins)) (expression_first a inner (part_count b + left) (suc need) (expression_spelling b ++ r) refl (omega (arith, h)))
-    ∙ ap (λ f. in_front (in_front f (λ es. a ∷ es)) (taken Joins)) (expression_first b (part_count b + left) left need r refl (omega (arith, h)))
-    ∙ ap (λ f. in_front f (taken Joins)) (regroup (front_forest left need r) (λ es. b ∷ es) (λ es. a ∷ es))
-    ∙ regroup (front_forest left need r) (λ es. a ∷ b ∷ es) (taken Joins)
+    ∙ two_first a b left need r (taken Joins) (expression_first a inner (part_count b + left) (suc need) (expression_spelling b ++ r) refl (omega (arith, h)))
+    (expression_first b (part_count b + left) left need r refl (omega (arith, h)))
 expression_first (Or a b) room left need r e h =
     let inner = part_count a + (part_count b + left) in
     ap (λ n. front_forest n (suc need) (5 ∷ ((expression_spelling a ++ expression_spelling b) ++ r))) {y = suc inner} (omega (arith, e))
-    ∙ ap (λ bs. in_front (front_forest inner (suc (suc need)) bs) (taken Chooses)) (append_assoc (expression_spelling a) (expression_spelling b) r)
-    ∙ ap (λ f. in_front f (taken Chooses)) (expression_first a inner (part_count b + left) (suc need) (expression_spelling b ++ r) refl (omega (arith, h)))
-    ∙ ap (λ f. in_front (in_front f (λ es. a ∷ es)) (taken Chooses)) (expression_first b (part_count b + left) left need r refl (omega (arith, h)))
-    ∙ ap (λ f. in_front f (taken Chooses)) (regroup (front_forest left need r) (λ es. b ∷ es) (λ es. a ∷ es))
-    ∙ regroup (front_forest left need r) (λ es. a ∷ b ∷ es) (taken Chooses)
+    ∙ two_first a b left need r (taken Chooses) (expression_first a inner (part_count b + left) (suc need) (expression_spelling b ++ r) refl (omega (arith, h)))
+    (expression_first b (part_count b + left) left need r refl (omega (arith, h)))
 
 -- what a fitting expression has at most
 pub fits_both : (e : Formula ℕ) → fits_expr e ≡ true → (part_count e ≤ MOST_PARTS) × (reach e ≤ CHOICE_WIDTH)

@@ -6,7 +6,7 @@ ghost use Rattle.cov_tree.specs.Shifts.{place_at, shifted, Puts, Adds};
 
 use crate::entry::{Place, Places};
 use cov_base::{Memory, Name, NodeNo, Steps, Uncounted};
-use cov_dd::{FALSE, Node, Table};
+use cov_dd::{Node, Table};
 use std::alloc::Global;
 
 /// What becomes of a place where an ambition is true.
@@ -93,7 +93,7 @@ fn add_outside(
     ensures ok { OnOk result (Adds table.old table.new made.old made.new (λ c. value_in table.old place.now.vis c) (λ c node kind. if value_in table.old ambition c then [] else rows_of table.old c node kind (place.now ∷ []))) }
 {
     let vis = table.without(place.vis, ambition)?;
-    add_place(table, made, place.parent, &place.name, vis)
+    made.put(table, place.parent, &place.name, vis)
 }
 
 // Adds a place of the visibility where the ambition is true.
@@ -112,24 +112,5 @@ fn add_within(
     ensures ok { OnOk result (Adds table.old table.new made.old made.new (λ c. value_in table.old vis c && value_in table.old ambition c) (λ c node kind. if value_in table.old ambition c then rows_of table.old c node kind (place_at parent name.now vis ∷ []) else [])) }
 {
     let vis = table.and(vis, ambition, &mut Steps::<Uncounted>::new())?;
-    add_place(table, made, parent, name, vis)
-}
-
-// Adds a place, unless it is visible on no choice.
-fn add_place(
-    table: &mut Table,
-    made: &mut Places,
-    parent: NodeNo,
-    name: &Name,
-    vis: Node,
-) -> Result<(), Memory>
-    requires made { AreWithin table.old made.old }
-    requires vis { vis < diagram_size table.old }
-    ensures extends { Extends table.old table.new }
-    ensures ok { OnOk result (Puts table.old table.new made.old made.new parent name.now vis) }
-{
-    if vis == FALSE {
-        return Ok(());
-    }
     made.put(table, parent, name, vis)
 }
