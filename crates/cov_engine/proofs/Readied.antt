@@ -51,7 +51,8 @@ use Rattle.cov_dd.proofs.CallerLemmas.{stands_later, stands_weaker}
 use Rattle.cov_tree.proofs.CallerLemmas.{plans_grow}
 use Rattle.cov_engine.specs.Carrying.{ArePlanned, CanCarryOutAll, AreInstalled}
 use Rattle.cov_dd.specs.Diagrams.{value_in, Stands}
-use Rattle.cov_engine.specs.Ready.{IsNext, IsInBounds, AreCountsWith, IsCommitReady, IsStagedReady, IsReady, edits_in}
+use Rattle.cov_edit.specs.History.{edits_in}
+use Rattle.cov_engine.specs.Ready.{IsNext, IsInBounds, AreCountsWith, IsCommitReady, IsStagedReady, IsReady}
 use Rattle.cov_history.proofs.CallerLemmas.{files-commit, files-rise, made-within, edits-accepted, new-files_of_lines-count}
 use Rattle.cov_history.specs.BadChoices.{unsound_refusal}
 use Rattle.cov_engine.specs.declared.ready.Ready.{Ready}

@@ -67,8 +67,3 @@ IsReady history command options_spare ts rules commits_spare commits file_of_lin
     (rule_in command ≡ Some rule) × IsPlan ts rules rule plan × IsHeldBy history ts commits file_of_line entries stored
 IsReady history command options_spare ts rules commits_spare commits file_of_line entries stored (ready.Commit mark counts plans rows) =
     IsCommitReady history ts command commits_spare commits file_of_line entries stored mark counts plans.items rows
-
--- the edits of a commit
-abbrev pub edits_in : Command → List Edit
-edits_in (commands.Commit base choice ambition es) = es
-edits_in _ = []

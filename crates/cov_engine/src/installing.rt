@@ -4,7 +4,8 @@ ghost use Rattle.cov_edit.specs.Touched.{AreRising};
 ghost use Rattle.cov_engine.specs.Holdings.{IsHeldBy};
 ghost use Rattle.cov_engine.specs.Parts.{part_node, count_below};
 ghost use Rattle.cov_engine.specs.Staging.{contents, AreNear};
-ghost use Rattle.cov_engine.specs.Ready.{IsNext, IsReady, edits_in};
+ghost use Rattle.cov_edit.specs.History.{edits_in};
+ghost use Rattle.cov_engine.specs.Ready.{IsNext, IsReady};
 ghost use Rattle.cov_engine.specs.States.{IsStateOf, receipt_number};
 ghost use Rattle.cov_engine.specs.declared.ready.Ready.TheVariants as ready;
 

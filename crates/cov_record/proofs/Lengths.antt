@@ -19,7 +19,8 @@ use Rattle.cov_edit.specs.declared.edit.Edit.{Edit}
 use Rattle.cov_edit.specs.declared.edit.Edit.TheVariants as edits
 use Rattle.cov_edit.specs.declared.command.Command.{Command}
 use Rattle.cov_edit.specs.declared.command.Command.TheVariants as commands
-use Rattle.cov_record.specs.FitsRecord.{FitsRecord, edits_of}
+use Rattle.cov_edit.specs.History.{edits_in}
+use Rattle.cov_record.specs.FitsRecord.{FitsRecord}
 use Rattle.cov_record.specs.Payload.{bit, choice_spelling, expression_spelling, node_spelling, line_spelling, name_spelling, text_spelling, edit_spelling, all_edit_spelling, edits_spelling, payload}
 use Rattle.cov_record.proofs.Forests.{fits_both}
 
@@ -69,7 +70,7 @@ edits-length (e ∷ es) h =
     omega (arith, length-append (edit_spelling e) (all_edit_spelling es), edit-length e own.0, edits-length es own.1, sum_by-cons edit_bytes e es)
 
 -- a record has no more bytes than its text, 263 for each edit, and 656 besides
-pub payload-length : (c : Command) → FitsRecord c → length (payload c) ≤ 656 + 263 * edits_of c + command_bytes c
+pub payload-length : (c : Command) → FitsRecord c → length (payload c) ≤ 656 + 263 * length (edits_in c) + command_bytes c
 payload-length (commands.Option name) h = omega (arith, option-length name h.0)
 payload-length (commands.Constraint e) h = omega (arith, expression-length e h.0)
 payload-length (commands.Prefer e) h = omega (arith, expression-length e h.0)
@@ -88,7 +89,7 @@ payload-length (commands.Commit base choice ambition es) h =
 
 -- a command has no more edits and bytes of text than a commit may have
 pub record IsWithinLimits (c : Command) : Type 0 where
-  pub edits : edits_of c ≤ LIMITS.edits
+  pub edits : length (edits_in c) ≤ LIMITS.edits
   pub bytes : command_bytes c ≤ LIMITS.commit_bytes
 
 pub payload-short : (c : Command) → FitsRecord c → IsWithinLimits c → length (payload c) < 2 ^ 27

@@ -47,11 +47,3 @@ FitsNumbers (commands.Commit base choice ambition es) = (base < 2 ^ 32) × (leng
 -- a command that has a record
 abbrev pub FitsRecord : Command → Type 0
 FitsRecord command = (fits_command command ≡ true) × FitsNumbers command
-
--- how many edits a command has
-abbrev pub edits_of : Command → ℕ
-edits_of (commands.Option name) = 0
-edits_of (commands.Constraint expr) = 0
-edits_of (commands.Prefer expr) = 0
-edits_of (commands.Default option on) = 0
-edits_of (commands.Commit base choice ambition es) = length es

@@ -7,7 +7,8 @@ ghost use Rattle.cov_expr.specs.Formula.{reach};
 ghost use Rattle.cov_expr.specs.Parts.{formula};
 ghost use Rattle.cov_edit.specs.EditFits.{fits_edit};
 ghost use Rattle.cov_edit.specs.Fits.{reach_of};
-ghost use Rattle.cov_record.specs.FitsRecord.{edits_of, FitsNode, FitsLine, FitsReferences, FitsNumbers};
+ghost use Rattle.cov_edit.specs.History.{edits_in};
+ghost use Rattle.cov_record.specs.FitsRecord.{FitsNode, FitsLine, FitsReferences, FitsNumbers};
 ghost use Rattle.cov_record.specs.Laws.{IsRecordOf};
 ghost use Rattle.cov_record.specs.Payload.{bit, choice_spelling, expression_spelling, kind_byte, node_spelling, line_spelling, name_spelling, text_spelling, edit_spelling, all_edit_spelling, edits_spelling, payload};
 
@@ -18,7 +19,7 @@ use std::alloc::Global;
 
 /// The record of a command.
 pub fn encode(alloc: Global, command: &Command) -> Result<Text, Memory>
-    requires { edits_of command.now < 2 ^ 32 }
+    requires { length (edits_in command.now) < 2 ^ 32 }
     ensures { IfOk result (λ text. IsRecordOf text command.now) }
 {
     command.bounds_are_kept();
@@ -28,7 +29,7 @@ pub fn encode(alloc: Global, command: &Command) -> Result<Text, Memory>
 }
 
 fn append_command(text: &mut Text, command: &Command) -> Result<(), Memory>
-    requires { edits_of command.now < 2 ^ 32 }
+    requires { length (edits_in command.now) < 2 ^ 32 }
     ensures bytes { OnOk result (text.new ≡ text.old ++ payload command.now) }
     ensures reach { OnOk result (reach_of command.now ≤ CHOICE_WIDTH) }
     ensures numbers { OnOk result (FitsNumbers command.now) }

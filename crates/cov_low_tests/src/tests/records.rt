@@ -1,6 +1,6 @@
 //! Records of commands, and bytes that are none.
 ghost use Rattle.std.specs.Prelude.{◌≡◌, ◌<◌, ◌^◌, IfOk, OnOk, [], length};
-ghost use Rattle.cov_record.specs.FitsRecord.{edits_of};
+ghost use Rattle.cov_edit.specs.History.{edits_in};
 
 use cov_base::{
     Choice, Kind, LineNo, LineRef, Memory, MemoryOr, Name, NodeNo, NodeRef, OptionId, Position,
@@ -14,7 +14,7 @@ use std::test::Fail;
 
 // Whether the bytes are the record of a command.
 fn is_record(alloc: Global, command: &Command, bytes: &[u8]) -> Result<bool, Memory>
-    requires { edits_of command.now < 2 ^ 32 }
+    requires { length (edits_in command.now) < 2 ^ 32 }
 {
     let text = encode(alloc, command)?;
     Ok(text.as_slice() == bytes)
@@ -53,7 +53,7 @@ fn add_edits(alloc: Global, edits: &mut Edits) -> Result<(), Fail>
 
 // The commit with these edits.
 fn commit_of(edits: Edits) -> Result<Command, Fail>
-    ensures { IfOk result (λ command. edits_of command ≡ length edits) }
+    ensures { IfOk result (λ command. length (edits_in command) ≡ length edits) }
 {
     match Expr::new(Part::Option(OptionId::new(0))) {
         Ok(ambition) => Ok(Command::Commit {
@@ -70,7 +70,7 @@ fn commit_of(edits: Edits) -> Result<Command, Fail>
 }
 
 fn commit(alloc: Global) -> Result<Command, Fail>
-    ensures { IfOk result (λ command. edits_of command ≡ 2) }
+    ensures { IfOk result (λ command. length (edits_in command) ≡ 2) }
 {
     let mut edits = Edits::new(alloc);
     match add_edits(alloc, &mut edits) {
