@@ -25,7 +25,7 @@ use Rattle.cov_history.specs.declared.refusal.Refusal.{Refusal}
 use Rattle.cov_history.specs.declared.refusal.Refusal.TheVariants as refusals
 use Rattle.cov_history.specs.BadChoices.{unsound_refusal}
 use Rattle.cov_history.specs.Kept.{Holding, variant_seen, kept_number, file_kept}
-use Rattle.cov_history.specs.Verdict.{verdict, as_invalid, as_bad_record, as_overtaken, has_no_edits, size_refusals, when_full}
+use Rattle.cov_history.specs.Verdict.{as_invalid, as_bad_record, as_overtaken, has_no_edits, size_refusals, when_full}
 use Rattle.cov_history.specs.Laws.{GoodCommitsPass}
 use Rattle.cov_history.specs.Overtaking.{overtaken}
 use Rattle.cov_history.specs.Sessions.{Session, IsGood, seen, commit_of, has_commit}

@@ -1,5 +1,5 @@
 -- The commands that have a record: each is what its types keep, and so are its numbers.
-use Rattle.std.specs.Prelude.{◌≡◌, ℕ, ◌<◌, ◌≤◌, ◌^◌, true, length}
+use Rattle.std.specs.Prelude.{◌≡◌, ◌<◌, ◌≤◌, ◌^◌, true, length}
 use Rattle.std.specs.List.{AllByRecursion}
 use Rattle.cov_base.specs.declared.limits.TheConstants.{CHOICE_WIDTH}
 use Rattle.cov_base.specs.declared.number.NodeRef.{NodeRef}

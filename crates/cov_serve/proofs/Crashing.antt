@@ -1,5 +1,5 @@
 -- What a crash leaves of the histories that lines give.
-use Rattle.std.proofs.Common.{◌≡◌, ◌∙◌, refl, sym, ap, subst, ℕ, ◌⊎◌, inl, inr, ◌+◌, ◌≤◌, arith, List, [], ◌∷◌, ◌++◌, length, take, length-append, append-nil, append_assoc}
+use Rattle.std.proofs.Common.{◌≡◌, ◌∙◌, refl, sym, ap, subst, ℕ, ◌⊎◌, inl, inr, ◌≤◌, arith, List, [], ◌∷◌, ◌++◌, length, take, length-append, append-nil, append_assoc}
 use Rattle.std.proofs.Math.Seq.{take-append_seam}
 use Rattle.std.proofs.lemmas.List.{nil_from_length}
 use Rattle.cov_base.specs.Lines.{lines_of}
