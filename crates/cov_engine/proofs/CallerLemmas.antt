@@ -2,4 +2,3 @@
 pub use Rattle.cov_engine.proofs.Refused.{accepted-sizes, all-valid, declared-less, edits-few, text-few}
 pub use Rattle.cov_engine.proofs.States.{legal-one}
 pub use Rattle.cov_engine.proofs.Trying.{Accepts, Applies, Refuses}
-pub use Rattle.cov_view.proofs.CallerLemmas.{drop-at, drop-end}

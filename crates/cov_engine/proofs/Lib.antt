@@ -1,4 +1,5 @@
 pub mod After
+pub mod Alike
 pub mod CallerLemmas
 pub mod Committed
 pub mod Dating

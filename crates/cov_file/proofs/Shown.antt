@@ -1,9 +1,10 @@
 -- What is shown, line by line in order, and what is known of one line.
 use Rattle.std.specs.Prelude.{Result, Ok, Err, OnOk, filter}
-use Rattle.std.proofs.Common.{◌≡◌, ℕ, ◌+◌, ◌≤◌, Bool, true, false, cond, nat_eq, nat_le, ◌||◌, List, [], ◌∷◌, ◌++◌, map, drop, Some, None, slice_get, append-nil, append_assoc, refl, sym, ap, subst, ◌∙◌, arith}
-use Rattle.std.specs.List.{find}
+use Rattle.std.proofs.Common.{◌≡◌, ℕ, ◌+◌, ◌≤◌, Bool, true, false, cond, nat_eq, nat_le, ◌&&◌, ◌||◌, List, [], ◌∷◌, ◌++◌, map, drop, Some, None, slice_get, append-nil, append_assoc, refl, sym, ap, subst, ◌∙◌, arith}
+use Rattle.std.specs.List.{find, list_any}
 use Rattle.std.specs.Option.{option_map}
 use Rattle.std.specs.Map.{keys_of}
+use Rattle.std.proofs.lemmas.Bool.{and_right}
 use Rattle.std.proofs.lemmas.Bool.Decides.{nat_tests}
 use Rattle.cov_dd.specs.declared.triple.Triple.{Triple}
 use Rattle.cov_dd.specs.Diagrams.{value_in}
@@ -55,12 +56,33 @@ rows_listed table c p texts ls (n ∷ ns) =
     at true = refl
     at false = refl
 
+equal : (m n : ℕ) → nat_eq m n ≡ true → m ≡ n
+equal m n e = grind (arith, nat_tests, e)
+
+-- a line is among those that are shown if it is one of the lines and its node is true
+pub shown_among : (table : List Triple) (c : List Bool) (texts : List (ℕ × List ℕ)) (nodes : List ℕ) (line : ℕ) (lines : List ℕ)
+    → list_any (λ (r : FileRow). nat_eq r.line line) (visible_lines table c texts nodes lines) ≡ (has_line line lines && value_in table (vis_in (keys_of texts) nodes line) c)
+shown_among table c texts nodes line [] = refl
+shown_among table c texts nodes line (n ∷ ns) = at (shown n) (nat_eq n line) refl refl (shown_among table c texts nodes line ns)
+  where
+    shown : ℕ → Bool
+    shown m = value_in table (vis_in (keys_of texts) nodes m) c
+
+    has : List FileRow → Bool
+    has rows = list_any (λ (r : FileRow). nat_eq r.line line) rows
+
+    at : (a b : Bool) → shown n ≡ a → nat_eq n line ≡ b → has (visible_lines table c texts nodes ns) ≡ (has_line line ns && shown line)
+        → has (map (row_in texts) (cond a (n ∷ filter shown ns) (filter shown ns))) ≡ ((b || has_line line ns) && shown line)
+    at true true s e rest = ap (λ k. k || has (visible_lines table c texts nodes ns)) e ∙ sym (ap shown (sym (equal n line e)) ∙ s)
+    at true false s e rest = ap (λ k. k || has (visible_lines table c texts nodes ns)) e ∙ rest
+    at false true s e rest =
+        let hidden : shown line ≡ false = ap shown (sym (equal n line e)) ∙ s in
+        rest ∙ ap (λ v. has_line line ns && v) hidden ∙ and_right (has_line line ns) false refl ∙ sym hidden
+    at false false s e rest = rest
+
 pub all_listed : (texts ls : List (ℕ × List ℕ)) (lines : List ℕ) → map (row_in texts) lines ≡ all_rows (dated_lines texts ls lines)
 all_listed texts ls [] = refl
 all_listed texts ls (n ∷ ns) = ap (λ rs. row_in texts n ∷ rs) (all_listed texts ls ns)
-
-equal : (m n : ℕ) → nat_eq m n ≡ true → m ≡ n
-equal m n e = grind (arith, nat_tests, e)
 
 -- a line that there is is found
 pub found_line : (f : ℕ → DatedLine) (line : ℕ) (lines : List ℕ) → ((n : ℕ) → (f n).line ≡ n) → has_line line lines ≡ true → find (λ l. nat_eq l.line line) (map f lines) ≡ Some (f line)

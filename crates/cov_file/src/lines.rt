@@ -1,5 +1,6 @@
 // The lines of a file.
-ghost use Rattle.std.specs.Prelude.{◌≡◌, ℕ, List, ◌<◌, ◌≤◌, ◌+◌, ◌-◌, ◌^◌, ◌++◌, ◌∷◌, [], true, false, unwrap_or, slice_get, IfOk, OnOk, if◌then◌else◌};
+ghost use Rattle.std.specs.Prelude.{◌≡◌, ℕ, List, ◌<◌, ◌≤◌, ◌+◌, ◌-◌, ◌^◌, ◌++◌, ◌∷◌, [], true, false, nat_eq, unwrap_or, slice_get, IfOk, OnOk, if◌then◌else◌};
+ghost use Rattle.std.specs.List.{list_any};
 ghost use Rattle.std.specs.Map.{keys_of};
 ghost use Rattle.cov_base.specs.Addresses.{after_anchor};
 ghost use Rattle.cov_dd.specs.Diagrams.{value_in};
@@ -162,6 +163,17 @@ impl FileLines {
     {
         let lines = self.order.walk()?;
         visible_rows(&self.texts, &lines, self.lists.at(at), table, choice)
+    }
+
+    /// Whether a line is among those that are visible on a choice at a position. It looks the line up once, evaluates at most one
+    /// node, and takes no memory.
+    pub fn is_visible(&self, line: LineNo, table: &Table, choice: Choice, at: Position) -> bool
+        ensures { result ≡ list_any (λ r. nat_eq r.line line) (rows_at table.now choice at self.now.lines) }
+    {
+        match self.texts.get_index_of(&line) {
+            Some(index) => table.value(node_or_false(self.lists.at(at), index), choice),
+            None => false,
+        }
     }
 
     /// All lines ever inserted, in order.

@@ -1,9 +1,11 @@
 -- A view after an accepted edit shows the edited variant.
-use Rattle.std.proofs.Common.{◌≡◌, ℕ, Bool, true, false, cond, ◌&&◌, ◌||◌, not, List, length, Option, Some, None, is_some, refl, sym, ap, ◌∙◌}
+use Rattle.std.proofs.Common.{◌≡◌, ℕ, ◌+◌, Bool, true, false, cond, ◌&&◌, ◌||◌, not, nat_lt, List, length, Option, Some, None, is_some, refl, sym, ap, ◌∙◌, arith}
 use Rattle.std.specs.Option.{option_map_or}
 use Rattle.std.specs.List.{fold}
 use Rattle.std.proofs.lemmas.Bool.{and_parts}
+use Rattle.std.proofs.lemmas.Bool.Decides.{nat_tests}
 use Rattle.cov_base.specs.Addresses.{IsTable}
+use Rattle.cov_base.specs.declared.number.LineRef.TheVariants as lines
 use Rattle.cov_base.specs.declared.number.NodeRef.{NodeRef}
 use Rattle.cov_base.specs.declared.number.Kind.{Kind}
 use Rattle.cov_base.specs.declared.number.Kind.TheVariants as kinds
@@ -12,18 +14,20 @@ use Rattle.cov_edit.specs.declared.edit.Edit.TheVariants as edits
 use Rattle.cov_edit.specs.Numbering.{Numbers}
 use Rattle.cov_edit.specs.Variant.{Variant, edited}
 use Rattle.cov_view.specs.References.{is_root, is_head}
-use Rattle.cov_view.specs.Lines.{is_among}
-use Rattle.cov_view.specs.Seen.{Seen, row_at, kind_in, is_there, has_line_in, has_child, new_fault, line_fault, rename_fault, move_fault, remove_fault, seen_fault, seen_after, AreRows}
+use Rattle.cov_view.specs.Lines.{is_among, after_ref, without_ref}
+use Rattle.cov_view.specs.Seen.{Seen, row_at, kind_in, is_there, has_line_in, has_child, new_fault, line_fault, rename_fault, move_fault, remove_fault, seen_fault, seen_after, with_lines_by, with_name_by, with_parent_by, AreRows}
 use Rattle.cov_view.specs.Views.{Shows, table_after, next_by_number}
 use Rattle.cov_view.specs.declared.fault.EditFault.{EditFault}
 use Rattle.cov_view.specs.declared.fault.EditFault.TheVariants as faults
 use Rattle.cov_view.specs.declared.row.ViewRow.{ViewRow}
+use Rattle.cov_view.proofs.Changes.{next_fresh, rows-append, rows-more}
 use Rattle.cov_view.proofs.Naming.{there-known}
 use Rattle.cov_view.proofs.Moves.{shows-rename, shows-move, shows-remove}
 use Rattle.cov_view.proofs.Refusing.{file_row, made_lines, there-made}
 use Rattle.cov_view.proofs.Showing.{shows-new}
 use Rattle.cov_view.proofs.Inserts.{anchor-made, shows-insert}
 use Rattle.cov_view.proofs.Deletes.{shows-delete}
+use Rattle.cov_view.proofs.Standing.{rows-changed, rows-without}
 
 kind_there : (k : Option Kind) (taken : Bool) → new_fault k taken ≡ None → is_some k ≡ true
 kind_there None taken h = absurd (cc)
@@ -106,3 +110,14 @@ module _ (ns : Numbers) (table : List (List ℕ)) (s : Seen) (v : Variant) (show
       shows-move ns table s v shows node (there-known ns s s.rows shows.made node both.0) once parent (there-made ns s parent shows.made both.1)
   shows-after (edits.Remove node) tab once accepted =
       shows-remove ns table s v shows node (there-known ns s s.rows shows.made node (removed-there s.rows node accepted)) once
+
+-- after an edit no node has two rows, as before it
+pub rows-after : (s : Seen) (e : Edit) → AreRows s.nodes_made s.rows → AreRows (seen_after s e).nodes_made (seen_after s e).rows
+rows-after s (edits.New kind parent name) once =
+    let below : nat_lt s.nodes_made (s.nodes_made + 1) ≡ true = grind (arith, nat_tests) in
+    rows-append (s.nodes_made + 1) s.rows _ (rows-more s.nodes_made s.rows once) refl below (next_fresh s.nodes_made s.rows once)
+rows-after s (edits.Insert file after text) once = rows-changed file (with_lines_by (after_ref after (record { line = lines.New s.lines_made; text = text }))) (λ r. refl) s.nodes_made s.rows once
+rows-after s (edits.Delete file line) once = rows-changed file (with_lines_by (without_ref line)) (λ r. refl) s.nodes_made s.rows once
+rows-after s (edits.Rename node name) once = rows-changed node (with_name_by name) (λ r. refl) s.nodes_made s.rows once
+rows-after s (edits.Move node parent) once = rows-changed node (with_parent_by parent) (λ r. refl) s.nodes_made s.rows once
+rows-after s (edits.Remove node) once = rows-without node s.nodes_made s.rows once

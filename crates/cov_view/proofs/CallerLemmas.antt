@@ -1,22 +1,22 @@
 -- Lemmas on refusals, references, trees and rows of a history's nodes, for the proofs of callers.
-pub use Rattle.cov_base.proofs.CallerLemmas.{drop-at, drop-end}
 pub use Rattle.cov_view.proofs.Added.{lines-added}
+pub use Rattle.cov_view.proofs.Applying.{rows-after, shows-after}
 pub use Rattle.cov_view.proofs.Changes.{not_there}
 pub use Rattle.cov_view.proofs.FewRows.{few-tree}
-pub use Rattle.cov_view.proofs.Naming.{made-known, rows-same}
+pub use Rattle.cov_view.proofs.Naming.{below-head, head-number, line-same, made-known, node-same, rows-same}
 pub use Rattle.cov_view.proofs.Placed.{old-append, rows-old}
-pub use Rattle.cov_view.proofs.Refusing.{fault-by}
+pub use Rattle.cov_view.proofs.Refusing.{fault-by, refused-as}
+pub use Rattle.cov_view.proofs.Standing.{node-itself, same_node-sym}
 pub use Rattle.cov_view.proofs.Treeing.{length-tree, once-shown, tree_shown, whole-shown}
 pub use Rattle.cov_view.proofs.WholeTree.{tree_whole}
-use Rattle.std.proofs.Common.{◌≡◌, ℕ, zero, suc, Bool, true, false, ◌||◌, not, List, [], ◌∷◌, ◌++◌, length, Option, Some, None, refl, arith}
+use Rattle.std.proofs.Common.{◌≡◌, ℕ, Bool, true, false, ◌||◌, not, List, [], ◌∷◌, ◌++◌, length, Option, Some, None, refl}
 use Rattle.std.proofs.lemmas.Bool.{and_parts, not-false, or_parts}
 use Rattle.cov_base.specs.declared.number.Kind.{Kind}
 use Rattle.cov_base.specs.declared.number.NodeRef.{NodeRef}
 use Rattle.cov_base.specs.declared.number.LineRef.{LineRef}
-use Rattle.cov_base.specs.declared.number.LineRef.TheVariants as lines
 use Rattle.cov_base.specs.Rows.{row_of}
 use Rattle.cov_edit.specs.declared.edit.Edit.TheVariants as edits
-use Rattle.cov_edit.specs.Numbering.{Numbers, node_number, line_number}
+use Rattle.cov_edit.specs.Numbering.{Numbers, node_number}
 use Rattle.cov_edit.specs.Variant.{Variant}
 use Rattle.cov_view.specs.References.{is_root, is_head, is_known_node}
 use Rattle.cov_view.specs.Refusals.{when, first_of, shows_node, is_dir, shows_line, has_name, has_name_beside, has_name_of, is_within, is_parent, refusal}
@@ -115,15 +115,3 @@ module _ (ns : Numbers) (v : Variant) where
       let below = none-when (is_root node) _ _ h in
       let there = none-when (not (shows_node ns v node)) _ _ below.1 in
       (below.0, not-false _ there.0, (none-when (is_parent v.rows (node_number ns.nodes node)) _ _ there.1).0)
-
--- the head has number 0
-pub head-number : (n : ℕ) (line : LineRef) → is_head line ≡ true → line_number n line ≡ 0
-head-number n (lines.Old zero) h = refl
-head-number n (lines.Old (suc x)) h = absurd (cc)
-head-number n (lines.New i) h = absurd (cc)
-
--- no other line has
-pub below-head : (n : ℕ) (line : LineRef) → is_head line ≡ false → line_number n line ≡ 0 → ⊥
-below-head n (lines.Old zero) h e = absurd (cc)
-below-head n (lines.Old (suc x)) h e = omega (arith, e)
-below-head n (lines.New i) h e = omega (arith, e)

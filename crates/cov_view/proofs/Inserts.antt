@@ -17,8 +17,7 @@ use Rattle.cov_view.specs.Seen.{Seen, row_at, with_lines_by, seen_after, AreRows
 use Rattle.cov_view.specs.Views.{line_by_number, by_number, ShowsLines, IsMade, Shows}
 use Rattle.cov_view.specs.declared.line.ViewLine.{ViewLine}
 use Rattle.cov_view.specs.declared.row.ViewRow.{ViewRow}
-use Rattle.cov_view.proofs.Naming.{same-node, same-line, node-same, line-same, made-known, made-known_line, made-number, made-line_number, made-more_line, rows-same}
-use Rattle.cov_view.proofs.CallerLemmas.{head-number}
+use Rattle.cov_view.proofs.Naming.{head-number, line-same, made-known, made-known_line, made-line_number, made-more_line, made-number, node-same, rows-same, same-line, same-node}
 use Rattle.cov_view.proofs.Refusing.{among-known}
 use Rattle.cov_view.proofs.Standing.{stand-once, all-at_row, only-found}
 

@@ -12,12 +12,24 @@ use Rattle.cov_base.specs.declared.number.LineRef.{LineRef}
 use Rattle.cov_base.specs.declared.number.LineRef.TheVariants as lines
 use Rattle.cov_base.specs.Rows.{Row, row_of, is_present}
 use Rattle.cov_edit.specs.Numbering.{Numbers, node_number, line_number}
-use Rattle.cov_view.specs.References.{is_root, same_node, same_line, is_known_node, is_known_line, is_made_node, is_made_line}
+use Rattle.cov_view.specs.References.{is_head, is_root, same_node, same_line, is_known_node, is_known_line, is_made_node, is_made_line}
 use Rattle.cov_view.specs.Refusals.{row_is_dir, is_dir, has_name}
 use Rattle.cov_view.specs.Seen.{Seen, row_at, at_row, with_lines_by, kind_in, kind_is_dir, has_child}
 use Rattle.cov_view.specs.Views.{row_by_number, IsMade}
 use Rattle.cov_view.specs.declared.line.ViewLine.{ViewLine}
 use Rattle.cov_view.specs.declared.row.ViewRow.{ViewRow}
+
+-- the head has number 0
+pub head-number : (n : ℕ) (line : LineRef) → is_head line ≡ true → line_number n line ≡ 0
+head-number n (lines.Old zero) h = refl
+head-number n (lines.Old (suc x)) h = absurd (cc)
+head-number n (lines.New i) h = absurd (cc)
+
+-- no other line has
+pub below-head : (n : ℕ) (line : LineRef) → is_head line ≡ false → line_number n line ≡ 0 → ⊥
+below-head n (lines.Old zero) h e = absurd (cc)
+below-head n (lines.Old (suc x)) h e = omega (arith, e)
+below-head n (lines.New i) h e = omega (arith, e)
 
 -- of references to what is made, two are the same where their numbers are
 pub same-node : (n made : ℕ) (a b : NodeRef) → is_made_node n made a ≡ true → is_known_node n b ≡ true → same_node a b ≡ nat_eq (node_number n a) (node_number n b)

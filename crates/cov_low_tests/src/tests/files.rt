@@ -71,6 +71,8 @@ fn has_lines(
     let count = rows.len();
     drop(rows);
     assert!(rt; count == wanted);
+    assert!(rt; file.is_visible(LineNo::new(1), table, choice, Position::new(at)) == (wanted == 1));
+    assert!(rt; !file.is_visible(LineNo::new(2), table, choice, Position::new(at)));
     Ok(())
 }
 

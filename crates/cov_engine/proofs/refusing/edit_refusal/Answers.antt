@@ -9,7 +9,7 @@ use Rattle.cov_engine.specs.declared.state.EngineState.{EngineState}
 use Rattle.cov_engine.specs.Holdings.{IsHeldBy}
 use Rattle.cov_engine.specs.Refusing.{edit_refusals}
 use Rattle.cov_engine.specs.States.{IsStateOf}
-use Rattle.cov_engine.specs.Trying.{seen_tried, IsFirstRefused}
+use Rattle.cov_engine.specs.Trying.{place_refused, seen_tried}
 use Rattle.cov_engine.proofs.NamedView.{tried-first}
 use Rattle.cov_engine.proofs.Refused.{edits-found}
 use Rattle.cov_engine.proofs.Wholes.{held-rise}
@@ -26,7 +26,7 @@ first_refused-requires-clause-once c =
 module _ (state : EngineState) (base : ℕ) (choice : List Bool) (es : List Edit)
     (told : IsStateOf state.commands.commands state.options.names state.visible.table state.rules.standing state.counts)
     (held : IsHeldBy state.commands.commands state.visible.table state.store.commits.items state.store.file_of_line.items state.visible.entries state.visible.files)
-    (tests : Bool) (none : tests ≡ nat_eq (length es) 0) (some : tests ≡ false) (found : Option ℕ) (first : IsFirstRefused (seen_tried state.visible choice base es) es found) where
+    (tests : Bool) (none : tests ≡ nat_eq (length es) 0) (some : tests ≡ false) (found : Option ℕ) (first : found ≡ place_refused 0 (seen_tried state.visible choice base es) es) where
   told-found : option_map refusals.BadRecord found ≡ first_of (edit_refusals (take base state.commands.commands) choice es)
   told-found =
       let is : nat_eq (length es) 0 ≡ false = sym none ∙ some in

@@ -16,13 +16,13 @@ apply-requires-clause-lines c =
 pub loop-ahead-preserved : goal.loop-ahead-preserved
 loop-ahead-preserved c =
     tried-next c.args.view.now c.loop-ahead.view c.args.edits.now c.loop-ahead.ahead.now c.loop-ahead.index c.edit-item.result c.edit-item.result c.loop-ahead.invariant c.edit-item.is c.in-len1-up.len_at_least
-    c.apply.new.self c.in-Ok.ensures.accepted c.in-Ok.ensures.applied c.in-Ok.ensures.nodes c.in-Ok.ensures.lines
+    c.apply.new.self c.in-Ok.ensures.accepted_seen c.in-Ok.ensures.made c.in-Ok.ensures.nodes c.in-Ok.ensures.lines
 
 pub returns-in-Err : goal.returns-in-Err
 returns-in-Err c =
     IfOk-weaker c.refused_at.result _ _
     (λ found place. tried-refused c.args.view.now c.loop-ahead.view c.args.edits.now c.loop-ahead.ahead.now c.loop-ahead.index c.edit-item.result c.edit-item.result c.loop-ahead.invariant c.edit-item.is c.in-len1-up.len_at_least
-    c.in-Err.fault found c.in-Err.ensures.refused place)
+    c.in-Err.fault found c.in-Err.ensures.refused_seen place)
     c.refused_at.ensures
 
 pub returns : goal.returns
