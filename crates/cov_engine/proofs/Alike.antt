@@ -69,7 +69,7 @@ row_at-bared (r ∷ rows) node = by (same_node r.node node) (row_at-bared rows n
     by true rest = refl
     by false rest = rest
 
-kind-bared : (rows : List ViewRow) (node : NodeRef) → kind_in (map bared rows) node ≡ kind_in rows node
+pub kind-bared : (rows : List ViewRow) (node : NodeRef) → kind_in (map bared rows) node ≡ kind_in rows node
 kind-bared rows node = ap (λ o. cond (is_root node) (Some kinds.Dir) (option_map (λ (r : ViewRow). r.kind) o)) (row_at-bared rows node) ∙ ap (λ k. cond (is_root node) (Some kinds.Dir) k) (same (row_at rows node))
   where
     same : (o : Option ViewRow) → option_map (λ (r : ViewRow). r.kind) (option_map bared o) ≡ option_map (λ (r : ViewRow). r.kind) o
@@ -175,7 +175,7 @@ fault-alike s t e es h = by e h.lines (λ node line named. matters-own e es node
 
 -- what rows without their lines are after an edit
 
-bared-lines : (node : NodeRef) (f : List ViewLine → List ViewLine) (rows : List ViewRow) → map bared (at_row node (with_lines_by f) rows) ≡ map bared rows
+pub bared-lines : (node : NodeRef) (f : List ViewLine → List ViewLine) (rows : List ViewRow) → map bared (at_row node (with_lines_by f) rows) ≡ map bared rows
 bared-lines node f [] = refl
 bared-lines node f (r ∷ rows) = by (same_node r.node node) (bared-lines node f rows)
   where

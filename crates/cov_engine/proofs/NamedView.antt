@@ -83,7 +83,7 @@ any-and p q b (x ∷ xs) h = (λ i. h x i || any-and p q b xs h i) ∙ by (q x) 
     by false d e = refl
 
 -- whether a kind is there and is that of files
-is_file : Option Kind → Bool
+abbrev is_file : Option Kind → Bool
 is_file None = false
 is_file (Some kinds.File) = true
 is_file (Some kinds.Dir) = false
