@@ -1,5 +1,4 @@
 pub mod After
-pub mod Alike
 pub mod CallerLemmas
 pub mod Committed
 pub mod Dating
@@ -14,9 +13,9 @@ pub mod Judged
 pub mod Marking
 pub mod Marks
 pub mod LinesRead
+pub mod Matching
 pub mod MidCommit
 pub mod Named
-pub mod NamedFiles
 pub mod NamedView
 pub mod Nodes
 pub mod Noting
@@ -31,6 +30,7 @@ pub mod Showing
 pub mod Started
 pub mod States
 pub mod StoredFiles
+pub mod TouchedRows
 pub mod Trying
 pub mod Views
 pub mod Visibilities

@@ -1,5 +1,5 @@
 -- What edits are tried on refuses the same of them first as the variant does.
-use Rattle.std.proofs.Common.{◌≡◌, refl, ap, sym, subst, ◌∙◌, ℕ, zero, suc, ◌+◌, ◌<◌, ◌≤◌, Bool, true, false, cond, ◌&&◌, ◌||◌, nat_eq, List, [], ◌∷◌, ◌++◌, length, map, take, Option, Some, None, option_map, arith}
+use Rattle.std.proofs.Common.{◌≡◌, refl, ap, sym, ◌∙◌, ℕ, zero, suc, ◌+◌, ◌<◌, ◌≤◌, Bool, true, false, cond, ◌&&◌, ◌||◌, nat_eq, List, [], ◌∷◌, ◌++◌, length, map, take, Option, Some, None, option_map, arith}
 use Rattle.std.specs.List.{find, fold, list_any, AllByRecursion}
 use Rattle.std.proofs.lemmas.Bool.{and_right, or_from, or_parts}
 use Rattle.std.proofs.lemmas.Bool.Decides.{nat_tests}
@@ -31,11 +31,10 @@ use Rattle.cov_tree.proofs.CallerLemmas.{among_all, among_once}
 use Rattle.cov_view.specs.Lines.{is_among}
 use Rattle.cov_view.specs.References.{is_dir_kind, is_made_line, is_made_node, is_root, same_line, same_node}
 use Rattle.cov_view.specs.Refusals.{first_refused, refused_from}
-use Rattle.cov_view.specs.Seen.{Seen, at_row, has_row, kind_in, old_line, row_at, with_lines_by, with_file_row, AreRows}
+use Rattle.cov_view.specs.Seen.{Seen, has_row, kind_in, old_line, row_at, with_file_row, AreRows}
 use Rattle.cov_view.specs.Views.{by_number, line_by_number, row_by_number, IsMade, Shows, ShowsLines}
 use Rattle.cov_view.specs.declared.line.ViewLine.{ViewLine}
 use Rattle.cov_view.specs.declared.row.ViewRow.{ViewRow}
-use Rattle.cov_view.proofs.CallerLemmas.{node-same}
 use Rattle.cov_engine.specs.declared.file_part.FilePart.{FilePart}
 use Rattle.cov_engine.specs.declared.store.CommitMark.{CommitMark}
 use Rattle.cov_engine.specs.declared.visible.Visible.{Visible}
@@ -44,11 +43,11 @@ use Rattle.cov_engine.specs.Parts.{part_of}
 use Rattle.cov_engine.specs.Reading.{line_row, stored_rows}
 use Rattle.cov_engine.specs.Showing.{bare_row}
 use Rattle.cov_engine.specs.Trying.{file_shows, line_named, named_by, place_refused, seen_tried, with_line_of, with_named, with_shown}
-use Rattle.cov_engine.proofs.Alike.{at-lines, bared, bared-lines, kind-bared, line_at, matters, names_line, place-alike, AreAlike}
 use Rattle.cov_engine.proofs.FileLines.{by-row, lines-made, pairs, row_pair}
 use Rattle.cov_engine.proofs.LinesRead.{lines-read}
-use Rattle.cov_engine.proofs.NamedFiles.{rows-of, tried-same}
+use Rattle.cov_engine.proofs.Matching.{at-lines, bared, bared-lines, kind-bared, line_at, matters, names_line, place-matched, MatchFor}
 use Rattle.cov_engine.proofs.StoredFiles.{equal}
+use Rattle.cov_engine.proofs.TouchedRows.{rows-of, tried-same}
 use Rattle.cov_engine.proofs.Trying.{shown-first}
 use Rattle.cov_engine.proofs.Views.{lines-below, rows-made}
 
@@ -235,9 +234,9 @@ module _ (ts : List Triple) (c : List Bool) (at : ℕ) (stored : List FilePart) 
           by false h rest = rest h
 
   -- so in each row the lines that matter are those of the whole row
-  row-alike : (es : List Edit) (rs : List Row) (x : ℕ) (line : LineRef) → AreOnce rs → matters es (nodes.Old x) line ≡ true
+  row-matched : (es : List Edit) (rs : List Row) (x : ℕ) (line : LineRef) → AreOnce rs → matters es (nodes.Old x) line ≡ true
       → option_map (λ b. b || list_any (adds (kind_in (map bare_row rs)) (nodes.Old x) line) es) (line_at (map bare_row rs) (nodes.Old x) line) ≡ line_at (map whole_row rs) (nodes.Old x) line
-  row-alike es rs x line once needed = from rs (λ r found. found)
+  row-matched es rs x line once needed = from rs (λ r found. found)
     where
       all : Bool
       all = list_any (adds (kind_in (map bare_row rs)) (nodes.Old x) line) es
@@ -265,9 +264,9 @@ module _ (ts : List Triple) (c : List Bool) (at : ℕ) (stored : List FilePart) 
   all-bared (r ∷ rs) = ap (λ qs. bare_row r ∷ qs) (all-bared rs)
 
   -- what edits are tried on is like the whole rows
-  start-alike : (es : List Edit) (rs : List Row) → AreOnce rs
-      → AreAlike es (record { rows = fold (with_named ts c at stored) (map bare_row rs) es; nodes_made = 0; lines_made = 0 }) (record { rows = map whole_row rs; nodes_made = 0; lines_made = 0 })
-  start-alike es rs once = record {
+  start-match : (es : List Edit) (rs : List Row) → AreOnce rs
+      → MatchFor es (record { rows = fold (with_named ts c at stored) (map bare_row rs) es; nodes_made = 0; lines_made = 0 }) (record { rows = map whole_row rs; nodes_made = 0; lines_made = 0 })
+  start-match es rs once = record {
     nodes = refl;
     made = refl;
     rows = bared-all es (map bare_row rs) ∙ all-bared rs;
@@ -275,7 +274,7 @@ module _ (ts : List Triple) (c : List Bool) (at : ℕ) (stored : List FilePart) 
   }
     where
       own : (node : NodeRef) (line : LineRef) → matters es node line ≡ true → line_at (fold (with_named ts c at stored) (map bare_row rs) es) node line ≡ line_at (map whole_row rs) node line
-      own (nodes.Old x) line needed = lines-all es (map bare_row rs) (nodes.Old x) line ∙ row-alike es rs x line once needed
+      own (nodes.Old x) line needed = lines-all es (map bare_row rs) (nodes.Old x) line ∙ row-matched es rs x line once needed
       own (nodes.New i) line needed =
           lines-all es (map bare_row rs) (nodes.New i) line
           ∙ (λ j. option_map (λ b. b || list_any (adds (kind_in (map bare_row rs)) (nodes.New i) line) es) (option_map (λ (p : ViewRow). is_among line p.lines) (no-new bare_row (λ r. refl) i rs j)))
@@ -362,7 +361,7 @@ pub tried-first : (history : List Command) (commits : List CommitMark) (file_of_
 tried-first history commits file_of_line v c at es found legal held first =
     first
     ∙ ap (λ rs. place_refused 0 (record { rows = fold (with_named v.table c at v.files) (map bare_row (rows-of es rs)) es; nodes_made = 0; lines_made = 0 }) es) (held.of_entries.rows c at)
-    ∙ place-alike 0 _ whole es (start-alike v.table c at v.files es w.rows once)
+    ∙ place-matched 0 _ whole es (start-match v.table c at v.files es w.rows once)
     ∙ shown-first ns (numbers_after ns es).addresses 0 whole w ns.addresses es (holding-stands (take at history)).0 shows (whole-once v.table c at v.files w.rows once.0 once.1) refl
     ∙ ap (option_map (λ refused. refused.0)) (same ∙ tried-same ns w u es names.nodes refl refl)
   where

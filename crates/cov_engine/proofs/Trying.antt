@@ -1,5 +1,5 @@
 -- Edits that are tried one after another on what is seen.
-use Rattle.std.proofs.Common.{◌≡◌, refl, ap, sym, subst, ◌∙◌, ℕ, ◌+◌, ◌<◌, ◌≤◌, Bool, true, false, ◌&&◌, ◌||◌, nat_eq, List, [], ◌∷◌, length, get_or, Option, Some, None, option_map, arith}
+use Rattle.std.proofs.Common.{◌≡◌, refl, ap, sym, ◌∙◌, ℕ, ◌+◌, ◌<◌, ◌≤◌, Bool, true, false, ◌&&◌, ◌||◌, nat_eq, List, [], ◌∷◌, length, get_or, Option, Some, None, option_map, arith}
 use Rattle.std.specs.List.{fold, list_any, AllByRecursion}
 use Rattle.std.proofs.lemmas.Bool.{and_parts}
 use Rattle.std.proofs.lemmas.Bool.Decides.{nat_tests}
@@ -10,7 +10,7 @@ use Rattle.cov_base.specs.declared.number.NodeRef.{NodeRef}
 use Rattle.cov_base.proofs.CallerLemmas.{address_in-with_lines, all-map, is_table-with_line, length-with_line}
 use Rattle.cov_edit.specs.declared.edit.Edit.{Edit}
 use Rattle.cov_edit.specs.declared.edit.Edit.TheVariants as edits
-use Rattle.cov_edit.specs.Numbering.{Numbers, NumberedEdit, Inserted, Deleted, anchors_of, line_count_after, line_number, node_count_after, node_number, nodes_made, numbered_edit, numbered_from, numbers_after}
+use Rattle.cov_edit.specs.Numbering.{Numbers, NumberedEdit, Inserted, Deleted, anchors_of, line_count_after, line_number, node_count_after, node_number, nodes_made, numbered_edit, numbered_from}
 use Rattle.cov_edit.specs.Variant.{Variant, Line, edited}
 use Rattle.cov_edit.proofs.CallerLemmas.{lines-most, nodes-most, opened, rest_of}
 use Rattle.cov_view.specs.References.{is_known_line}

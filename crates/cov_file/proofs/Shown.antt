@@ -60,7 +60,7 @@ equal : (m n : ℕ) → nat_eq m n ≡ true → m ≡ n
 equal m n e = grind (arith, nat_tests, e)
 
 -- a line is among those that are shown if it is one of the lines and its node is true
-pub shown_among : (table : List Triple) (c : List Bool) (texts : List (ℕ × List ℕ)) (nodes : List ℕ) (line : ℕ) (lines : List ℕ)
+shown_among : (table : List Triple) (c : List Bool) (texts : List (ℕ × List ℕ)) (nodes : List ℕ) (line : ℕ) (lines : List ℕ)
     → list_any (λ (r : FileRow). nat_eq r.line line) (visible_lines table c texts nodes lines) ≡ (has_line line lines && value_in table (vis_in (keys_of texts) nodes line) c)
 shown_among table c texts nodes line [] = refl
 shown_among table c texts nodes line (n ∷ ns) = at (shown n) (nat_eq n line) refl refl (shown_among table c texts nodes line ns)
@@ -79,6 +79,12 @@ shown_among table c texts nodes line (n ∷ ns) = at (shown n) (nat_eq n line) r
         let hidden : shown line ≡ false = ap shown (sym (equal n line e)) ∙ s in
         rest ∙ ap (λ v. has_line line ns && v) hidden ∙ and_right (has_line line ns) false refl ∙ sym hidden
     at false false s e rest = rest
+
+-- and so at a position
+pub shown_at : (table : List Triple) (c : List Bool) (p : ℕ) (texts ls : List (ℕ × List ℕ)) (line : ℕ) (lines : List ℕ)
+    → (has_line line lines && value_in table (vis_in (keys_of texts) (value_at [] ls p) line) c) ≡ list_any (λ (r : FileRow). nat_eq r.line line) (rows_at table c p (dated_lines texts ls lines))
+shown_at table c p texts ls line lines =
+    sym (shown_among table c texts (value_at [] ls p) line lines) ∙ ap (list_any (λ (r : FileRow). nat_eq r.line line)) (rows_listed table c p texts ls lines)
 
 pub all_listed : (texts ls : List (ℕ × List ℕ)) (lines : List ℕ) → map (row_in texts) lines ≡ all_rows (dated_lines texts ls lines)
 all_listed texts ls [] = refl

@@ -10,7 +10,7 @@ use Rattle.cov_base.specs.declared.number.NodeRef.TheVariants as nodes
 use Rattle.cov_base.proofs.CallerLemmas.{is_some-find}
 use Rattle.cov_edit.specs.declared.edit.Edit.{Edit}
 use Rattle.cov_edit.specs.declared.edit.Edit.TheVariants as edits
-use Rattle.cov_edit.specs.Numbering.{Numbers, NumberedEdit, OnRows, Inserted, Deleted, line_count_after, node_count_after, node_number, numbered, numbered_edit, numbered_from, numbers_after}
+use Rattle.cov_edit.specs.Numbering.{Numbers, NumberedEdit, OnRows, Inserted, Deleted, line_count_after, node_count_after, node_number, numbered_edit, numbered_from, numbers_after}
 use Rattle.cov_edit.specs.Touched.{has_number, touched, touched_by}
 use Rattle.cov_edit.specs.Variant.{Variant, edited}
 use Rattle.cov_edit.proofs.CallerLemmas.{touched-rising}
@@ -20,7 +20,6 @@ use Rattle.cov_tree.proofs.CallerLemmas.{among_row}
 use Rattle.cov_view.specs.References.{is_head, is_known_node}
 use Rattle.cov_view.specs.Refusals.{when, first_of, shows_node, shows_line, is_dir, row_is_dir, refusal, refused_at, refused_from, first_refused}
 use Rattle.cov_view.specs.declared.fault.EditFault.TheVariants as faults
-use Rattle.cov_engine.proofs.StoredFiles.{equal}
 
 module _ (kept : ℕ → Bool) where
   -- each kept node has the same row in two variants, or in neither

@@ -1,12 +1,11 @@
 -- Two views with the same rows, whose files have the same of the lines that edits name, refuse the same edit first.
-use Rattle.std.proofs.Common.{◌≡◌, refl, ap, sym, ◌∙◌, ℕ, zero, suc, ◌+◌, Bool, true, false, cond, ◌&&◌, ◌||◌, not, nat_eq, List, [], ◌∷◌, ◌++◌, length, map, Option, Some, None, option_map, is_some, unwrap_or, arith}
-use Rattle.std.specs.List.{filter, find, list_any}
+use Rattle.std.proofs.Common.{◌≡◌, refl, ap, sym, ◌∙◌, ℕ, zero, suc, ◌+◌, Bool, true, false, cond, ◌&&◌, ◌||◌, not, List, [], ◌∷◌, ◌++◌, length, map, Option, Some, None, option_map, is_some, unwrap_or, arith}
+use Rattle.std.specs.List.{list_any}
 use Rattle.std.specs.Option.{option_map_or, option_or}
 use Rattle.std.specs.Str.{bytes_eq}
 use Rattle.std.proofs.lemmas.Bool.{and_right, or_right}
 use Rattle.std.proofs.lemmas.Bool.Decides.{nat_tests}
 use Rattle.cov_base.specs.Addresses.{after_first}
-use Rattle.cov_base.specs.declared.number.Kind.{Kind}
 use Rattle.cov_base.specs.declared.number.Kind.TheVariants as kinds
 use Rattle.cov_base.specs.declared.number.LineRef.{LineRef}
 use Rattle.cov_base.specs.declared.number.LineRef.TheVariants as lines
@@ -47,8 +46,8 @@ abbrev pub matters : List Edit → NodeRef → LineRef → Bool
 matters es node (lines.Old x) = list_any (names_line node (lines.Old x)) es
 matters es node (lines.New i) = true
 
--- two views are alike for edits
-pub record AreAlike (es : List Edit) (s t : Seen) : Type 0 where
+-- two views match for edits: they have the same rows, and the same of the lines that matter
+pub record MatchFor (es : List Edit) (s t : Seen) : Type 0 where
   pub nodes : s.nodes_made ≡ t.nodes_made
   pub made : s.lines_made ≡ t.lines_made
   pub rows : map bared s.rows ≡ map bared t.rows
@@ -149,15 +148,15 @@ matters-more e es node (lines.New i) h = refl
 own-line : (node : NodeRef) (line : LineRef) → (same_node node node && same_line line line) ≡ true
 own-line node line = λ i. node-itself node i && line-itself line i
 
--- views that are alike refuse the same edit for the same reason
-fault-alike : (s t : Seen) (e : Edit) (es : List Edit) → AreAlike (e ∷ es) s t → seen_fault s.rows e ≡ seen_fault t.rows e
-fault-alike s t e es h = by e h.lines (λ node line named. matters-own e es node line named)
+-- views that match refuse the next edit for the same reason
+fault-matched : (s t : Seen) (e : Edit) (es : List Edit) → MatchFor (e ∷ es) s t → seen_fault s.rows e ≡ seen_fault t.rows e
+fault-matched s t e es h = by e h.lines (λ node line named. matters-own e es node line named)
   where
     fault-of : (F : List ViewRow → Option EditFault) → ((rows : List ViewRow) → F (map bared rows) ≡ F rows) → F s.rows ≡ F t.rows
     fault-of F same = sym (same s.rows) ∙ ap F h.rows ∙ same t.rows
 
-    kinds-alike : (node : NodeRef) → kind_in s.rows node ≡ kind_in t.rows node
-    kinds-alike node = sym (kind-bared s.rows node) ∙ ap (λ rows. kind_in rows node) h.rows ∙ kind-bared t.rows node
+    kinds-matched : (node : NodeRef) → kind_in s.rows node ≡ kind_in t.rows node
+    kinds-matched node = sym (kind-bared s.rows node) ∙ ap (λ rows. kind_in rows node) h.rows ∙ kind-bared t.rows node
 
     had : (file : NodeRef) (line : LineRef) → line_at s.rows file line ≡ line_at t.rows file line → has_line_in s.rows file line ≡ has_line_in t.rows file line
     had file line same = has-at s.rows file line ∙ ap (λ o. unwrap_or o false) same ∙ sym (has-at t.rows file line)
@@ -166,9 +165,9 @@ fault-alike s t e es h = by e h.lines (λ node line named. matters-own e es node
         → ((node : NodeRef) (line : LineRef) → names_line node line d ≡ true → matters (e ∷ es) node line ≡ true) → seen_fault s.rows d ≡ seen_fault t.rows d
     by (edits.New kind parent name) same named = fault-of (λ rows. new_fault (kind_in rows parent) (has_child rows parent name)) (λ rows. new-bared rows parent name)
     by (edits.Insert file after text) same named = λ i.
-        line_fault (kinds-alike file i) (is_head after || had file after (same file after (named file after (own-line file after))) i)
+        line_fault (kinds-matched file i) (is_head after || had file after (same file after (named file after (own-line file after))) i)
     by (edits.Delete file line) same named = λ i.
-        line_fault (kinds-alike file i) (not (is_head line) && had file line (same file line (named file line (own-line file line))) i)
+        line_fault (kinds-matched file i) (not (is_head line) && had file line (same file line (named file line (own-line file line))) i)
     by (edits.Rename node name) same named = fault-of (λ rows. rename_fault rows node name) (λ rows. rename-bared rows node name)
     by (edits.Move node parent) same named = fault-of (λ rows. move_fault rows node parent) (λ rows. move-bared rows node parent)
     by (edits.Remove node) same named = fault-of (λ rows. remove_fault rows node) (λ rows. remove-bared rows node)
@@ -329,11 +328,11 @@ among-without line gone (l ∷ ls) = by (same_line l.line gone) (same_line l.lin
         ap (λ k. k || is_among line (without_ref gone ls)) e ∙ ap (λ k. not k && true) (sym differ)
     by false false d e rest = ap (λ k. k || is_among line (without_ref gone ls)) e ∙ rest
 
--- views that are alike are alike after an edit
-alike-after : (s t : Seen) (e : Edit) (es : List Edit) → AreAlike (e ∷ es) s t → AreAlike es (seen_after s e) (seen_after t e)
-alike-after s t e es h = by e (λ node line needed. h.lines node line (matters-more e es node line needed))
+-- and match after it
+match-after : (s t : Seen) (e : Edit) (es : List Edit) → MatchFor (e ∷ es) s t → MatchFor es (seen_after s e) (seen_after t e)
+match-after s t e es h = by e (λ node line needed. h.lines node line (matters-more e es node line needed))
   where
-    by : (d : Edit) → ((node : NodeRef) (line : LineRef) → matters es node line ≡ true → line_at s.rows node line ≡ line_at t.rows node line) → AreAlike es (seen_after s d) (seen_after t d)
+    by : (d : Edit) → ((node : NodeRef) (line : LineRef) → matters es node line ≡ true → line_at s.rows node line ≡ line_at t.rows node line) → MatchFor es (seen_after s d) (seen_after t d)
     by (edits.New kind parent name) same =
         let new : Seen → ViewRow = λ u. record { node = nodes.New u.nodes_made; kind = kind; parent = parent; name = name; lines = [] } in
         record {
@@ -384,6 +383,6 @@ alike-after s t e es h = by e (λ node line needed. h.lines node line (matters-m
     }
 
 -- so they refuse the same edit first
-pub place-alike : (i : ℕ) (s t : Seen) (es : List Edit) → AreAlike es s t → place_refused i s es ≡ place_refused i t es
-place-alike i s t [] h = refl
-place-alike i s t (e ∷ es) h = λ j. place_of i (fault-alike s t e es h j) (place-alike (i + 1) (seen_after s e) (seen_after t e) es (alike-after s t e es h) j)
+pub place-matched : (i : ℕ) (s t : Seen) (es : List Edit) → MatchFor es s t → place_refused i s es ≡ place_refused i t es
+place-matched i s t [] h = refl
+place-matched i s t (e ∷ es) h = λ j. place_of i (fault-matched s t e es h j) (place-matched (i + 1) (seen_after s e) (seen_after t e) es (match-after s t e es h) j)
