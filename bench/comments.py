@@ -6,7 +6,7 @@ import sys
 import tempfile
 import time
 
-from timing import COVSTORE, elsewhere
+from timing import build, elsewhere
 
 LINE = b'#' + b'x' * 78 + b'\n'
 REPETITIONS = 5
@@ -21,10 +21,9 @@ def seconds(command, path):
 
 
 def main():
-    store = [COVSTORE, 'run']
+    store = [build(), 'run']
     sed = ['sed', '-n', '/^#/!p']
     with elsewhere(), tempfile.NamedTemporaryFile() as script:
-        subprocess.run(store, stdin=subprocess.DEVNULL, check=True)
         for _ in range(100):
             script.write(LINE * 12500)
         script.flush()

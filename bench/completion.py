@@ -26,9 +26,9 @@ def script(window, asked):
 
 
 def main():
-    build()
+    program = build()
     for window in (16, 24):
-        rounds = [(served(script(window, 0)), served(script(window, ASKED))) for _ in range(REPETITIONS)]
+        rounds = [(served(script(window, 0), program), served(script(window, ASKED), program)) for _ in range(REPETITIONS)]
         assert all(asked[1].splitlines()[-1].startswith(b'ok o0=') for _, asked in rounds)
         without, asked = (min(run[0] for run in runs) for runs in zip(*rounds))
         print('window %d: the rules %.3f s, each completion %.2f ms' % (window, without, 1000 * (asked - without) / ASKED))

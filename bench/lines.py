@@ -50,7 +50,7 @@ def history():
 
 
 def main():
-    build()
+    program = build()
     script, order, shown = history()
     draw = random.Random(8)
     sides = [set(range(OPTIONS)), set()] + [{i for i in range(OPTIONS) if draw.random() < 0.5} for _ in range(2)]
@@ -59,12 +59,12 @@ def main():
         asked.append('cat %s /list' % ','.join('o%d=%s' % (i, 'on' if i in on else 'off') for i in range(OPTIONS)))
         lines = [n for n in order if shown[n][0](on) and not (shown[n][1] and shown[n][1](on))]
         expected += b'ok %d\n' % len(lines) + b''.join(b'%d line %d\n' % (n, n) for n in lines)
-    rounds = [(served(script), served(script + asked * ASKED)) for _ in range(REPETITIONS)]
+    rounds = [(served(script, program), served(script + asked * ASKED, program)) for _ in range(REPETITIONS)]
     assert all(told[1] == made[1] + expected * ASKED for made, told in rounds)
     made = min(made[0] for made, _ in rounds)
     told = min(told[0] for _, told in rounds)
     each = (told - made) / (len(sides) * ASKED)
-    print('the history %.3f s and %.0f MB, each cat %.2f ms' % (made, peak_served(script) / 1000, 1000 * each))
+    print('the history %.3f s and %.0f MB, each cat %.2f ms' % (made, peak_served(script, program) / 1000, 1000 * each))
 
 
 if __name__ == '__main__':

@@ -44,7 +44,7 @@ class Clock:
         self.processor += usage.ru_utime + usage.ru_stime
 
 
-def clocked(lines, program=COVSTORE):
+def clocked(lines, program):
     """The clock and the output of a run on these lines, all accepted, in the current folder, which keeps what it stores."""
     clock = Clock()
     with tempfile.TemporaryFile() as source, tempfile.TemporaryFile() as out:
@@ -54,7 +54,7 @@ def clocked(lines, program=COVSTORE):
         return clock, out.read()
 
 
-def served(lines, program=COVSTORE):
+def served(lines, program):
     """The processor seconds and the output of a run on these lines, all accepted."""
     with elsewhere():
         clock, out = clocked(lines, program)
@@ -70,7 +70,7 @@ def peak_of(command, source=None):
         return int(told.read())
 
 
-def peak_served(lines, program=COVSTORE):
+def peak_served(lines, program):
     """The peak of memory in KB of a run on these lines, all accepted."""
     with elsewhere(), tempfile.TemporaryFile() as source:
         as_script(lines, source)
