@@ -3,15 +3,17 @@ use Rattle.std.proofs.Common.{◌≡◌, refl, ap, sym, ◌∙◌, ℕ, zero, su
 use Rattle.std.specs.List.{list_any}
 use Rattle.std.specs.Option.{option_map_or, option_or}
 use Rattle.std.specs.Str.{bytes_eq}
-use Rattle.std.proofs.lemmas.Bool.{and_right, or_right}
+use Rattle.std.proofs.lemmas.Bool.{or_right}
 use Rattle.std.proofs.lemmas.Bool.Decides.{nat_tests}
+use Rattle.std.proofs.lemmas.List.{length-map, map-append}
+use Rattle.std.proofs.lemmas.Map.Views.{any-filter_same}
 use Rattle.cov_base.specs.Addresses.{after_first}
 use Rattle.cov_base.specs.declared.number.Kind.TheVariants as kinds
 use Rattle.cov_base.specs.declared.number.LineRef.{LineRef}
 use Rattle.cov_base.specs.declared.number.LineRef.TheVariants as lines
 use Rattle.cov_base.specs.declared.number.NodeRef.{NodeRef}
 use Rattle.cov_base.specs.declared.number.NodeRef.TheVariants as nodes
-use Rattle.cov_base.proofs.CallerLemmas.{any-map}
+use Rattle.cov_base.proofs.CallerLemmas.{any-map, or_left_comm}
 use Rattle.cov_edit.specs.declared.edit.Edit.{Edit}
 use Rattle.cov_edit.specs.declared.edit.Edit.TheVariants as edits
 use Rattle.cov_view.specs.Lines.{is_among, after_ref, without_ref}
@@ -103,10 +105,6 @@ within-bared rows (suc steps) top node =
     same None h = refl
     same (Some r) h = h r.parent
 
-length-bared : (rows : List ViewRow) → length (map bared rows) ≡ length rows
-length-bared [] = refl
-length-bared (r ∷ rows) = ap suc (length-bared rows)
-
 children-bared : (rows : List ViewRow) (node : NodeRef) → has_children (map bared rows) node ≡ has_children rows node
 children-bared rows node = any-map (λ (r : ViewRow). same_node r.parent node) bared rows
 
@@ -120,7 +118,7 @@ rename-bared rows node name = λ i. cond (is_root node) (Some faults.IsRoot) (co
 move-bared : (rows : List ViewRow) (node parent : NodeRef) → move_fault (map bared rows) node parent ≡ move_fault rows node parent
 move-bared rows node parent =
     (λ i. cond (is_root node) (Some faults.IsRoot) (cond (not (is_some (kind-bared rows node i))) (Some faults.NoSuchNode) (cond (not (is_some (kind-bared rows parent i))) (Some faults.NoSuchNode)
-    (cond (not (kind_is_dir (kind-bared rows parent i))) (Some faults.NotDirectory) (cond (lies_within (map bared rows) (length-bared rows i) node parent) (Some faults.IntoItself)
+    (cond (not (kind_is_dir (kind-bared rows parent i))) (Some faults.NotDirectory) (cond (lies_within (map bared rows) (length-map rows bared i) node parent) (Some faults.IntoItself)
     (cond (of-bared rows parent node i) (Some faults.NameTaken) None))))))
     ∙ ap (λ b. cond (is_root node) (Some faults.IsRoot) (cond (not (is_there rows node)) (Some faults.NoSuchNode) (cond (not (is_there rows parent)) (Some faults.NoSuchNode)
     (cond (not (kind_is_dir (kind_in rows parent))) (Some faults.NotDirectory) (cond b (Some faults.IntoItself) (cond (has_child_of rows parent (row_at rows node)) (Some faults.NameTaken) None))))))
@@ -198,10 +196,6 @@ bared-without node (r ∷ rows) = by (not (same_node r.node node)) (bared-withou
         → map bared (cond b (r ∷ without_node node rows) (without_node node rows)) ≡ cond b (bared r ∷ without_node node (map bared rows)) (without_node node (map bared rows))
     by true rest = ap (λ rs. bared r ∷ rs) rest
     by false rest = rest
-
-bared-push : (rows : List ViewRow) (r : ViewRow) → map bared (rows ++ r ∷ []) ≡ map bared rows ++ bared r ∷ []
-bared-push [] r = refl
-bared-push (q ∷ rows) r = ap (λ rs. bared q ∷ rs) (bared-push rows r)
 
 -- what is known of a line after an edit
 
@@ -294,19 +288,14 @@ at-without other node line (r ∷ rows) = by (same_node r.node other) (same_node
 among-after : (line after : LineRef) (new : ViewLine) (ls : List ViewLine) → is_among line (after_ref after new ls) ≡ (same_line new.line line || is_among line ls)
 among-after line after new ls = by (is_head after)
   where
-    swap : (a b c : Bool) → (a || (b || c)) ≡ (b || (a || c))
-    swap true true c = refl
-    swap true false c = refl
-    swap false b c = refl
-
     behind : (ms : List ViewLine) → is_among line (after_first (λ (l : ViewLine). same_line l.line after) new ms) ≡ (same_line new.line line || is_among line ms)
     behind [] = refl
     behind (m ∷ ms) = at (same_line m.line after) (behind ms)
       where
         at : (b : Bool) → is_among line (after_first (λ (l : ViewLine). same_line l.line after) new ms) ≡ (same_line new.line line || is_among line ms)
             → is_among line (cond b (m ∷ new ∷ ms) (m ∷ after_first (λ (l : ViewLine). same_line l.line after) new ms)) ≡ (same_line new.line line || (same_line m.line line || is_among line ms))
-        at true rest = swap (same_line m.line line) (same_line new.line line) (is_among line ms)
-        at false rest = ap (λ b. same_line m.line line || b) rest ∙ swap (same_line m.line line) (same_line new.line line) (is_among line ms)
+        at true rest = or_left_comm (same_line m.line line) (same_line new.line line) (is_among line ms)
+        at false rest = ap (λ b. same_line m.line line || b) rest ∙ or_left_comm (same_line m.line line) (same_line new.line line) (is_among line ms)
 
     by : (b : Bool) → is_among line (cond b (new ∷ ls) (after_first (λ (l : ViewLine). same_line l.line after) new ls)) ≡ (same_line new.line line || is_among line ls)
     by true = refl
@@ -314,19 +303,8 @@ among-after line after new ls = by (is_head after)
 
 -- of the others a line that is taken out takes none with it
 among-without : (line gone : LineRef) (ls : List ViewLine) → is_among line (without_ref gone ls) ≡ (not (same_line line gone) && is_among line ls)
-among-without line gone [] = sym (and_right (not (same_line line gone)) false refl)
-among-without line gone (l ∷ ls) = by (same_line l.line gone) (same_line l.line line) refl refl (among-without line gone ls)
-  where
-    by : (a b : Bool) → same_line l.line gone ≡ a → same_line l.line line ≡ b → is_among line (without_ref gone ls) ≡ (not (same_line line gone) && is_among line ls)
-        → is_among line (cond (not a) (l ∷ without_ref gone ls) (without_ref gone ls)) ≡ (not (same_line line gone) && (b || is_among line ls))
-    by true true d e rest =
-        let same : same_line line gone ≡ true = ap (λ m. same_line m gone) (sym (line-same l.line line e)) ∙ d in
-        rest ∙ ap (λ k. not k && is_among line ls) same ∙ ap (λ k. not k && true) (sym same)
-    by true false d e rest = rest
-    by false true d e rest =
-        let differ : same_line line gone ≡ false = ap (λ m. same_line m gone) (sym (line-same l.line line e)) ∙ d in
-        ap (λ k. k || is_among line (without_ref gone ls)) e ∙ ap (λ k. not k && true) (sym differ)
-    by false false d e rest = ap (λ k. k || is_among line (without_ref gone ls)) e ∙ rest
+among-without line gone ls =
+    any-filter_same (λ l. same_line l.line line) (λ l. not (same_line l.line gone)) (not (same_line line gone)) (λ l is. ap (λ m. not (same_line m gone)) (line-same l.line line is)) ls
 
 -- and match after it
 match-after : (s t : Seen) (e : Edit) (es : List Edit) → MatchFor (e ∷ es) s t → MatchFor es (seen_after s e) (seen_after t e)
@@ -338,7 +316,7 @@ match-after s t e es h = by e (λ node line needed. h.lines node line (matters-m
         record {
           nodes = ap (λ n. n + 1) h.nodes;
           made = h.made;
-          rows = bared-push s.rows (new s) ∙ (λ i. h.rows i ++ record { node = nodes.New (h.nodes i); kind = kind; parent = parent; name = name; lines = [] } ∷ []) ∙ sym (bared-push t.rows (new t));
+          rows = map-append bared s.rows (new s ∷ []) ∙ (λ i. h.rows i ++ record { node = nodes.New (h.nodes i); kind = kind; parent = parent; name = name; lines = [] } ∷ []) ∙ sym (map-append bared t.rows (new t ∷ []));
           lines = λ node line needed.
               at-push s.rows (new s) node line
               ∙ (λ i. option_or (same node line needed i) (line_at (record { node = nodes.New (h.nodes i); kind = kind; parent = parent; name = name; lines = [] } ∷ []) node line))

@@ -3,6 +3,7 @@ use Rattle.std.proofs.Common.{◌≡◌, refl, ap, sym, ◌∙◌, ℕ, zero, su
 use Rattle.std.specs.List.{find, fold, list_any, AllByRecursion}
 use Rattle.std.proofs.lemmas.Bool.{and_right, or_from, or_parts}
 use Rattle.std.proofs.lemmas.Bool.Decides.{nat_tests}
+use Rattle.std.proofs.Math.Bool.{or_assoc}
 use Rattle.cov_base.specs.Addresses.{line_of, AreInOrder, IsLineOf}
 use Rattle.cov_base.specs.Rows.{Row, has_node, AreDistinct, AreOnce}
 use Rattle.cov_base.specs.declared.file_row.FileRow.{FileRow}
@@ -51,10 +52,6 @@ use Rattle.cov_engine.proofs.TouchedRows.{rows-of, tried-same}
 use Rattle.cov_engine.proofs.Trying.{shown-first}
 use Rattle.cov_engine.proofs.Views.{lines-below, rows-made}
 
-or-next : (a b c : Bool) → ((a || b) || c) ≡ (a || (b || c))
-or-next true b c = refl
-or-next false b c = refl
-
 -- nothing is added to what is known
 no-more : (o : Option Bool) (b : Bool) → b ≡ false → o ≡ option_map (λ a. a || b) o
 no-more None b h = refl
@@ -64,11 +61,7 @@ no-more (Some false) b h = ap Some (sym h)
 -- what is added twice is added at once
 both-added : (o : Option Bool) (b c : Bool) → option_map (λ a. a || c) (option_map (λ a. a || b) o) ≡ option_map (λ a. a || (b || c)) o
 both-added None b c = refl
-both-added (Some a) b c = ap Some (or-next a b c)
-
-none-any : {X : Type 0} (p : X → Bool) (xs : List X) → ((x : X) → p x ≡ false) → list_any p xs ≡ false
-none-any p [] h = refl
-none-any p (x ∷ xs) h = or_from (p x) (list_any p xs) (h x) (none-any p xs h)
+both-added (Some a) b c = ap Some (or_assoc a b c)
 
 any-and : {X : Type 0} (p q : X → Bool) (b : Bool) (xs : List X) → ((x : X) → p x ≡ (q x && b)) → list_any p xs ≡ (list_any q xs && b)
 any-and p q b [] h = refl
@@ -80,6 +73,9 @@ any-and p q b (x ∷ xs) h = (λ i. h x i || any-and p q b xs h i) ∙ by (q x) 
     by true false true = refl
     by true false false = refl
     by false d e = refl
+
+none-any : {X : Type 0} (p : X → Bool) (xs : List X) → ((x : X) → p x ≡ false) → list_any p xs ≡ false
+none-any p xs h = any-and p p false xs (λ x. h x ∙ sym (and_right (p x) false refl)) ∙ and_right (list_any p xs) false refl
 
 -- whether a kind is there and is that of files
 abbrev is_file : Option Kind → Bool
@@ -292,8 +288,7 @@ module _ (ts : List Triple) (c : List Bool) (at : ℕ) (stored : List FilePart) 
       root (suc x) h = refl
 
       fresh : (qs : List Row) → has_row (map whole_row qs) (nodes.Old r.node) ≡ has_node r.node (map (λ q. q.node) qs)
-      fresh [] = refl
-      fresh (q ∷ qs) = ap (λ b. nat_eq q.node r.node || b) (fresh qs)
+      fresh qs = any-map (λ (q : ViewRow). same_node q.node (nodes.Old r.node)) whole_row qs ∙ sym (any-map (λ n. nat_eq n r.node) (λ (q : Row). q.node) qs)
 
   module _ (numbers : Numbers) (v : Variant) (own_read : (file : ℕ) → read file ≡ map line_row (lines_of v file)) (low : AllByRecursion (λ l. line_of l.address ≤ length numbers.addresses) v.lines) where
     own-lines : (k : Kind) (x : ℕ) → is_dir_kind k ≡ false → map by_number (lines_of v x) ≡ map (line_by_number numbers) (row_lines k x)
