@@ -1,2 +1,4 @@
+pub mod Hashing
 pub mod Laws
 pub mod Orders
+pub mod Pages

@@ -1,29 +1,30 @@
 // The order of the lines of one file, for all choices at once.
-ghost use Rattle.std.specs.Prelude.{◌≡◌, ◌<◌, ◌≤◌, ◌-◌, ℕ, [], true, false, length, OnOk, OnErr, IfOk, nat_eq, position};
-ghost use Rattle.std.specs.List.{insert};
+ghost use Rattle.std.specs.Prelude.{◌≡◌, ◌<◌, ◌≤◌, ◌-◌, [], true, false, OnOk, OnErr, IfOk};
 ghost use Rattle.cov_base.specs.Addresses.{after_anchor};
 ghost use Rattle.cov_order.specs.Orders.{has_line, is_anchor, AreLines};
 
+use crate::pages::Pages;
 use cov_base::{LineNo, LineNos, Memory};
 use std::alloc::Global;
 use std::marker::Model;
 
 /// The lines that were ever inserted into a file, in order. Contracts see it as the list of their numbers, each of
 /// them once, and the number of lines for which there is room.
-#[derive(Debug, Drop)]
+#[derive(Drop)]
 pub struct Order {
-    lines: Vec<LineNo>,
+    pages: Pages,
+    room: u32,
 }
 
 impl Model for Order {
-    ghost use Rattle.std.specs.Prelude.{◌-◌, vec_len, vec_capacity};
-    ghost use Rattle.cov_order.specs.Orders.{Ordered, AreLines};
+    ghost use Rattle.cov_order.specs.Orders.{Ordered};
+    ghost use Rattle.cov_order.specs.Pages.{lines_of, IsPaged, HasRoom};
 
     ghost Value = { Ordered };
 
-    ghost view = { λ o. record { lines = o.lines.items; spare = vec_capacity o.lines - vec_len o.lines } };
+    ghost view = { λ o. record { lines = lines_of o.pages; spare = o.room } };
 
-    ghost invariant = { λ o. AreLines o.lines.items };
+    ghost invariant = { λ o. IsPaged o.pages × HasRoom o.pages o.room };
 }
 
 impl Order {
@@ -31,7 +32,8 @@ impl Order {
         ensures { result.lines ≡ [] }
     {
         Order {
-            lines: Vec::new(alloc),
+            pages: Pages::new(alloc),
+            room: 0,
         }
     }
 
@@ -41,12 +43,13 @@ impl Order {
         ensures room { OnOk result (n ≤ self.new.spare) }
         ensures kept { OnErr result (self.new.spare ≡ self.old.spare) }
     {
-        self.lines.reserve(n as usize)?;
+        self.pages.reserve(n)?;
+        self.room = n;
         Ok(())
     }
 
-    /// Puts a line directly after its anchor, or first where the anchor is the head. It takes time in the number of
-    /// lines, and no memory.
+    /// Puts a line directly after its anchor, or first where the anchor is the head. It takes time in the number of lines of a
+    /// page and now and then, where one is split, in the number of pages, and no memory.
     pub fn insert_after(&mut self, anchor: LineNo, line: LineNo)
         requires anchored { is_anchor anchor self.old.lines ≡ true }
         requires line { 0 < line }
@@ -55,11 +58,8 @@ impl Order {
         ensures lines { self.new.lines ≡ after_anchor anchor line self.old.lines }
         ensures spare { self.new.spare ≡ self.old.spare - 1 }
     {
-        let at = place(&self.lines, anchor);
-        match self.lines.insert(at, line) {
-            Ok(()) => (),
-            Err(_) => unreachable!(),
-        }
+        self.pages.insert_after(anchor, line);
+        self.room -= 1;
     }
 
     /// The lines in order.
@@ -67,30 +67,6 @@ impl Order {
         ensures lines { IfOk result (λ lines. lines ≡ self.now.lines) }
         ensures once { AreLines self.now.lines }
     {
-        let mut walked = LineNos::new(*self.lines.allocator());
-        'lines: for line in &self.lines {
-            walked.push(*line)?;
-        }
-        Ok(walked)
+        self.pages.walk()
     }
-}
-
-// The index at which a line directly after an anchor stands.
-fn place(lines: &[LineNo], anchor: LineNo) -> usize
-    ensures place { (line : ℕ) → insert lines.now result line ≡ after_anchor anchor line lines.now }
-    ensures within { result ≤ length lines.now }
-{
-    if anchor.number() == 0 {
-        return 0;
-    }
-    match find(lines, anchor) {
-        Some(at) => at + 1,
-        None => lines.len(),
-    }
-}
-
-fn find(lines: &[LineNo], line: LineNo) -> Option<usize>
-    ensures { result ≡ position (λ n. nat_eq n line) lines.now }
-{
-    lines.iter().position(|other| *other == line)
 }

@@ -1,0 +1,2 @@
+-- What callers cite.
+pub use Rattle.cov_order.proofs.Places.{any-after}
