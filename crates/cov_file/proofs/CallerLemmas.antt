@@ -1,5 +1,5 @@
 -- What a caller cites of lines that are alike: they show the same.
-pub use Rattle.cov_file.proofs.Changes.{has_after}
+pub use Rattle.cov_file.proofs.Changing.{has_after}
 pub use Rattle.cov_file.proofs.Later.{alike_shown}
 use Rattle.std.proofs.Common.{List, [], ◌∷◌, refl, ◌∙◌}
 use Rattle.cov_file.specs.Dated.{DatedLine, AreAlike}

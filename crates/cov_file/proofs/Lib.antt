@@ -1,5 +1,7 @@
 pub mod CallerLemmas
-pub mod Changes
+pub mod Chains
+pub mod Changing
+pub mod Finding
 pub mod Later
-pub mod Nodes
+pub mod Rooms
 pub mod Shown

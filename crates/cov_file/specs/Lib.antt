@@ -1,4 +1,4 @@
 pub mod Dated
+pub mod Kept
 pub mod Laws
-pub mod Listing
 pub mod Rooms

@@ -1,9 +1,9 @@
 //! The lines of one file, each with its text and its visibility at each position.
 #![tactic(auto)]
 
+mod changes;
 mod coming;
 pub mod laws;
 mod lines;
-mod lists;
 
 pub use lines::FileLines;

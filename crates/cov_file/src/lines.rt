@@ -1,5 +1,5 @@
 // The lines of a file.
-ghost use Rattle.std.specs.Prelude.{◌≡◌, ℕ, List, ◌<◌, ◌≤◌, ◌+◌, ◌-◌, ◌^◌, ◌++◌, ◌∷◌, [], true, false, nat_eq, unwrap_or, slice_get, IfOk, OnOk, if◌then◌else◌};
+ghost use Rattle.std.specs.Prelude.{◌≡◌, ℕ, List, ◌<◌, ◌≤◌, ◌+◌, ◌-◌, ◌^◌, ◌++◌, ◌∷◌, [], true, false, nat_eq, IfOk, OnOk, if◌then◌else◌};
 ghost use Rattle.std.specs.List.{list_any};
 ghost use Rattle.std.specs.Map.{keys_of};
 ghost use Rattle.cov_base.specs.Addresses.{after_anchor};
@@ -7,10 +7,10 @@ ghost use Rattle.cov_dd.specs.Diagrams.{value_in};
 ghost use Rattle.cov_order.specs.Orders.{has_line, is_anchor};
 ghost use Rattle.cov_file.specs.Dated.{line_numbers_of, new_line, with_line, with_change, rows_at, all_rows, newest_of, vis_of, AreAlike};
 ghost use Rattle.cov_file.specs.Rooms.{is_room_at, IsMade, IsLeft};
-ghost use Rattle.cov_file.specs.Listing.{row_in, visible_lines, vis_in};
+ghost use Rattle.cov_file.specs.Kept.{row_in, dated_lines};
 
+use crate::changes::Changes;
 use crate::coming::Coming;
-use crate::lists::NodeLists;
 use cov_base::{Choice, FileRow, FileRows, LineNo, LineNos, Memory, Position, Text};
 use cov_dd::{FALSE, Node, Table};
 use cov_order::Order;
@@ -25,21 +25,22 @@ use std::marker::Model;
 pub struct FileLines {
     order: Order,
     texts: IndexMap<LineNo, Text>,
-    lists: NodeLists,
+    changes: Changes,
     coming: Coming,
 }
 
 impl Model for FileLines {
     ghost use Rattle.std.specs.Prelude.{min};
+    ghost use Rattle.std.specs.Map.{keys_of};
     ghost use Rattle.indexmap.specs.IndexMap.{spare};
     ghost use Rattle.cov_file.specs.Rooms.{DatedFile};
-    ghost use Rattle.cov_file.specs.Listing.{lists_of, dated_lines, position_of, AreListed};
+    ghost use Rattle.cov_file.specs.Kept.{dated_lines, position_of, changeable, AreKept};
 
     ghost Value = { DatedFile };
 
-    ghost view = { λ f. record { lines = dated_lines f.texts.entries (lists_of f.lists) f.order.lines; newest = f.lists.from; room = record { inserts = min f.order.spare (min (spare f.texts) f.lists.room); changes = f.order.lines; position = position_of f.lists }; coming = record { inserts = f.coming.inserts; deletes = f.coming.deletes } } };
+    ghost view = { λ f. record { lines = dated_lines f.texts.entries f.changes.lists f.order.lines; newest = f.changes.newest; room = record { inserts = min f.order.spare (min (spare f.texts) f.changes.inserts); changes = changeable f.changes (keys_of f.texts.entries) f.coming.deletes.items f.order.lines; position = position_of f.changes }; coming = record { inserts = f.coming.inserts; deletes = f.coming.deletes.items } } };
 
-    ghost invariant = { λ f. AreListed f.order.lines f.texts.entries f.lists };
+    ghost invariant = { λ f. AreKept f.order.lines f.texts.entries f.changes f.coming.deletes.items };
 }
 
 impl FileLines {
@@ -50,25 +51,26 @@ impl FileLines {
         FileLines {
             order: Order::new(alloc),
             texts: IndexMap::new(alloc),
-            lists: NodeLists::new(alloc),
+            changes: Changes::new(alloc),
             coming: Coming::none(alloc),
         }
     }
 
-    /// Makes room for `inserts` lines more and for a change of each line named, all at one position. It takes time in the number
-    /// of lines, and a further call before the next change only in `inserts`. A whole list of nodes has room for a change of each
-    /// line.
+    /// Makes room for `inserts` lines more and for a change of each line named, all at one position, in place of what was
+    /// expected. A change that another follows takes room of its own, so there is room for one of each line.
     pub fn prepare(&mut self, inserts: u32, deletes: &LineNos) -> Result<(), Memory>
         ensures lines { self.new.lines ≡ self.old.lines }
         ensures newest { self.new.newest ≡ self.old.newest }
         ensures room { OnOk result (IsMade self.new.room (line_numbers_of self.new.lines) inserts deletes.now) }
     {
-        // It is named for the contract.
-        let _ = deletes;
-        self.make_room(inserts)
+        self.changes.prepare(inserts, deletes.len())?;
+        self.coming.inserts = inserts;
+        self.coming.deletes.clear();
+        self.coming.deletes.extend_from_slice(deletes.as_slice())?;
+        self.make_room()
     }
 
-    /// Makes room for one line more than is expected, and for the changes that are.
+    /// Makes room for one line more than is expected, and for the changes that are. Over many calls each takes constant time.
     pub fn expect_insert(&mut self) -> Result<(), Memory>
         ensures lines { self.new.lines ≡ self.old.lines }
         ensures newest { self.new.newest ≡ self.old.newest }
@@ -79,10 +81,11 @@ impl FileLines {
         if self.coming.inserts < u32::MAX {
             self.coming.inserts += 1;
         }
-        self.make_room(self.coming.inserts)
+        self.make_room()
     }
 
-    /// Makes room for a change of a line besides those that are expected, and for the lines that are.
+    /// Makes room for a change of a line besides those that are expected, and for the lines that are. Over many calls each takes
+    /// constant time.
     pub fn expect_delete(&mut self, line: LineNo) -> Result<(), Memory>
         ensures lines { self.new.lines ≡ self.old.lines }
         ensures newest { self.new.newest ≡ self.old.newest }
@@ -90,8 +93,10 @@ impl FileLines {
         ensures deletes { OnOk result (self.new.coming.deletes ≡ self.old.coming.deletes ++ line ∷ []) }
         ensures room { OnOk result (IsMade self.new.room (line_numbers_of self.new.lines) self.new.coming.inserts self.new.coming.deletes) }
     {
+        let deletes = self.coming.deletes.len() + 1;
+        self.changes.prepare(self.coming.inserts, deletes)?;
         self.coming.deletes.push(line)?;
-        self.make_room(self.coming.inserts)
+        self.make_room()
     }
 
     /// Nothing more is expected. It takes no memory.
@@ -104,21 +109,21 @@ impl FileLines {
         self.coming = Coming::none(*self.texts.allocator());
     }
 
-    // Makes room for so many lines more, and for a change of each line. A deletion wants no room of its own: the next position's
-    // list has a place for each node.
-    fn make_room(&mut self, inserts: u32) -> Result<(), Memory>
+    // Makes room for what is expected.
+    fn make_room(&mut self) -> Result<(), Memory>
         ensures lines { self.new.lines ≡ self.old.lines }
         ensures newest { self.new.newest ≡ self.old.newest }
         ensures coming { self.new.coming ≡ self.old.coming }
-        ensures room { OnOk result ((deletes : List ℕ) → IsMade self.new.room (line_numbers_of self.new.lines) inserts deletes) }
+        ensures room { OnOk result (IsMade self.new.room (line_numbers_of self.new.lines) self.new.coming.inserts self.new.coming.deletes) }
     {
-        self.order.reserve(inserts)?;
-        self.texts.reserve(inserts as usize)?;
-        self.lists.prepare(inserts)
+        self.order.reserve(self.coming.inserts)?;
+        self.texts.reserve(self.coming.inserts as usize)?;
+        let deletes = self.coming.deletes.len();
+        self.changes.prepare(self.coming.inserts, deletes)
     }
 
     /// Puts a line directly after its anchor, or first where the anchor is the head, with its visibility from a position on. It
-    /// takes time in the number of lines, and no memory.
+    /// takes time in the lines of a page and now and then, where one is split, in the number of pages, and no memory.
     pub fn insert(&mut self, anchor: LineNo, line: LineNo, text: Text, vis: Node, at: Position)
         requires anchored { is_anchor anchor (line_numbers_of self.old.lines) ≡ true }
         requires line { 0 < line }
@@ -137,10 +142,10 @@ impl FileLines {
             Ok(_) => (),
             Err(_) => unreachable!(),
         }
-        self.lists.push(vis, at);
+        self.changes.push(vis, at);
     }
 
-    /// Gives a line another visibility from a position on. It takes no memory.
+    /// Gives a line another visibility from a position on. It looks the line up once, and takes no memory.
     pub fn delete(&mut self, line: LineNo, vis: Node, at: Position)
         requires there { has_line line (line_numbers_of self.old.lines) ≡ true }
         requires later { self.old.newest ≤ at }
@@ -152,26 +157,28 @@ impl FileLines {
         ensures room { IsLeft self.old.room self.new.room at 0 }
     {
         match self.texts.get_index_of(&line) {
-            Some(index) => self.lists.set(index, vis, at),
+            Some(index) => self.changes.set(index, vis, at),
             None => unreachable!(),
         }
     }
 
-    /// The lines that are visible on a choice at a position, in order. It evaluates at most one node a line.
+    /// The lines that are visible on a choice at a position, in order. It looks each line up once, goes through its changes
+    /// beyond the position, and evaluates one node for each run of lines with that node.
     pub fn lines_at(&self, table: &Table, choice: Choice, at: Position) -> Result<FileRows, Memory>
         ensures { IfOk result (λ rows. rows ≡ rows_at table.now choice at self.now.lines) }
     {
         let lines = self.order.walk()?;
-        visible_rows(&self.texts, &lines, self.lists.at(at), table, choice)
+        let sight = Sight { table, choice, at };
+        visible_rows(&self.texts, &self.changes, &lines, &sight)
     }
 
-    /// Whether a line is among those that are visible on a choice at a position. It looks the line up once, evaluates at most one
-    /// node, and takes no memory.
+    /// Whether a line is among those that are visible on a choice at a position. It looks the line up once, goes through its
+    /// changes beyond the position, evaluates at most one node, and takes no memory.
     pub fn is_visible(&self, line: LineNo, table: &Table, choice: Choice, at: Position) -> bool
         ensures { result ≡ list_any (λ r. nat_eq r.line line) (rows_at table.now choice at self.now.lines) }
     {
         match self.texts.get_index_of(&line) {
-            Some(index) => table.value(node_or_false(self.lists.at(at), index), choice),
+            Some(index) => table.value(self.changes.at(index, at), choice),
             None => false,
         }
     }
@@ -198,50 +205,85 @@ impl FileLines {
         ensures latest { (p : ℕ) → self.now.newest ≤ p → result ≡ vis_of line p self.now.lines }
     {
         match self.texts.get_index_of(&line) {
-            Some(index) => self.lists.get(index),
+            Some(index) => self.changes.get(index),
             None => None,
         }
     }
 }
 
-// The lines whose nodes in a list are true on a choice.
+// What lines are asked for: those that are visible on a choice at a position, by the nodes of a table.
+#[derive(Drop)]
+struct Sight<'a> {
+    table: &'a Table,
+    choice: Choice,
+    at: Position,
+}
+
+// A node with its value on a choice.
+#[derive(Clone, Copy)]
+struct Evaluated {
+    node: Node,
+    value: bool,
+}
+
+// The lines that are asked for.
 fn visible_rows(
     texts: &IndexMap<LineNo, Text>,
+    changes: &Changes,
     lines: &LineNos,
-    nodes: &[Node],
-    table: &Table,
-    choice: Choice,
+    sight: &Sight<'_>,
 ) -> Result<FileRows, Memory>
-    ensures { IfOk result (λ rows. rows ≡ visible_lines table.now choice texts.now.entries nodes.now lines.now) }
+    ensures { IfOk result (λ rows. rows ≡ rows_at sight.now.table.now sight.now.choice sight.now.at (dated_lines texts.now.entries changes.now.lists lines.now)) }
 {
     // What `len` ensures bounds the index for the proof.
     let _count = lines.len();
     let mut rows = FileRows::new(*texts.allocator());
+    let mut last = Evaluated {
+        node: FALSE,
+        value: false,
+    };
     let mut index = 0;
     while let Some(line) = lines.get(index) {
-        add_visible(&mut rows, texts, line, nodes, table, choice)?;
+        add_visible(&mut rows, texts, changes, line, sight, &mut last)?;
         index += 1;
     }
     Ok(rows)
 }
 
-// Adds a line, if its node in a list is true on the choice. It looks the line up once.
+// Adds a line, if it is asked for. It looks the line up once.
 fn add_visible(
     rows: &mut FileRows,
     texts: &IndexMap<LineNo, Text>,
+    changes: &Changes,
     line: LineNo,
-    nodes: &[Node],
-    table: &Table,
-    choice: Choice,
+    sight: &Sight<'_>,
+    last: &mut Evaluated,
 ) -> Result<(), Memory>
-    ensures { OnOk result (rows.new ≡ rows.old ++ (if value_in table.now (vis_in (keys_of texts.now.entries) nodes.now line) choice then row_in texts.now.entries line ∷ [] else [])) }
+    requires last { last.old.value ≡ value_in sight.now.table.now last.old.node sight.now.choice }
+    ensures rows { OnOk result (rows.new ≡ rows.old ++ rows_at sight.now.table.now sight.now.choice sight.now.at (dated_lines texts.now.entries changes.now.lists (line ∷ []))) }
+    ensures last { last.new.value ≡ value_in sight.now.table.now last.new.node sight.now.choice }
 {
     match texts.get_full(&line) {
-        Some((at, _, text)) => {
-            let shown = table.value(node_or_false(nodes, at), choice);
-            add_shown(rows, line, text, shown)
+        Some((index, _, text)) => {
+            *last = evaluate(sight, changes.at(index, sight.at), last);
+            add_shown(rows, line, text, last.value)
         }
         None => Ok(()),
+    }
+}
+
+// A node with its value. Its diagram is walked only where the node isn't the last one that was evaluated.
+fn evaluate(sight: &Sight<'_>, node: Node, last: &Evaluated) -> Evaluated
+    requires last { last.now.value ≡ value_in sight.now.table.now last.now.node sight.now.choice }
+    ensures node { result.node ≡ node }
+    ensures value { result.value ≡ value_in sight.now.table.now node sight.now.choice }
+{
+    if last.node == node {
+        return *last;
+    }
+    Evaluated {
+        node,
+        value: sight.table.value(node, sight.choice),
     }
 }
 
@@ -265,11 +307,4 @@ fn copied_row(texts: &IndexMap<LineNo, Text>, line: LineNo) -> Result<FileRow, M
         None => Text::new(*texts.allocator()),
     };
     Ok(FileRow { line, text })
-}
-
-// A node of a list, FALSE where the index isn't below its length.
-fn node_or_false(nodes: &[Node], index: usize) -> Node
-    ensures { result ≡ unwrap_or (slice_get nodes.now index) 0 }
-{
-    nodes.get(index).copied().unwrap_or(FALSE)
 }

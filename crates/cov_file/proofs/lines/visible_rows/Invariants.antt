@@ -1,10 +1,12 @@
 use Rattle.std.proofs.Common.{◌≡◌, ◌<◌, ◌++◌, length, drop}
-use Rattle.cov_file.specs.Listing.{visible_lines}
+use Rattle.cov_dd.specs.Diagrams.{value_in}
+use Rattle.cov_file.proofs.Shown.{rows_of}
 use Rattle.cov_file.proofs.lines.visible_rows.Given as goal
 
 abbrev pub invariant-loop-line : goal.invariant-loop-line
 invariant-loop-line l = record {
-  rows : l.rows ++ visible_lines l.table l.choice l.texts.entries l.nodes (drop l.index l.lines) ≡ visible_lines l.table l.choice l.texts.entries l.nodes l.lines;
+  rows : l.rows ++ rows_of l.sight.table.now l.sight.choice l.sight.at l.texts.entries l.changes.lists (drop l.index l.lines) ≡ rows_of l.sight.table.now l.sight.choice l.sight.at l.texts.entries l.changes.lists l.lines;
+  last : l.last.value ≡ value_in l.sight.table.now l.last.node l.sight.choice;
   short : length l.lines < 18446744073709551616;
 }
 

@@ -1,7 +1,7 @@
 use Rattle.std.proofs.Common.{◌∙◌, ◌+◌, sym, ap, refl, [], ◌∷◌, ◌++◌, map}
 use Rattle.cov_file.specs.Dated.{all_rows}
 use Rattle.cov_file.specs.Rooms.{DatedFile}
-use Rattle.cov_file.specs.Listing.{row_in, lists_of}
+use Rattle.cov_file.specs.Kept.{row_in}
 use Rattle.cov_file.proofs.Shown.{rows_next, rows_end, all_listed}
 use Rattle.cov_file.proofs.lines.FileLines.all.Goals as goal
 
@@ -20,5 +20,5 @@ returns c =
     rows_end (map (row_in c.self.inside.texts.entries)) c.in_ok-lines.lines c.loop-line.index c.loop-line.rows _
     (sym c.get.ensures ∙ c.in_default.is) refl c.loop-line.invariant.rows
     ∙ ap (map (row_in c.self.inside.texts.entries)) c.in_ok-lines.ensures.lines
-    ∙ all_listed c.self.inside.texts.entries (lists_of c.self.inside.lists) c.self.inside.order.lines
+    ∙ all_listed c.self.inside.texts.entries c.self.inside.changes.lists c.self.inside.order.lines
     ∙ ap (λ (f : DatedFile). all_rows f.lines) c.self.view_is

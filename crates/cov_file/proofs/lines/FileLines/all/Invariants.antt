@@ -1,5 +1,5 @@
 use Rattle.std.proofs.Common.{◌≡◌, ◌<◌, ◌++◌, length, drop, map}
-use Rattle.cov_file.specs.Listing.{row_in}
+use Rattle.cov_file.specs.Kept.{row_in}
 use Rattle.cov_file.proofs.lines.FileLines.all.Given as goal
 
 abbrev pub invariant-loop-line : goal.invariant-loop-line

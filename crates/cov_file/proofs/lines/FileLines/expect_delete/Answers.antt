@@ -1,10 +1,13 @@
-use Rattle.std.proofs.Common.{◌∙◌, sym, ap}
-use Rattle.cov_file.specs.Dated.{line_numbers_of}
-use Rattle.cov_file.specs.Rooms.{DatedFile, Coming}
-use Rattle.cov_file.proofs.Shown.{coming_made}
+use Rattle.std.proofs.Common.{arith}
+use Rattle.cov_file.proofs.Rooms.{kept_with_room}
 use Rattle.cov_file.proofs.lines.FileLines.expect_delete.Goals as goal
 
-pub returns-clause-room : goal.returns-clause-room
-returns-clause-room c =
-    coming_made c.make_room-2.result c.make_room-2.new.self.room (line_numbers_of c.make_room-2.new.self.lines) _ c.make_room-2.new.self.coming
-    (ap (λ (k : Coming). k.inserts) c.make_room-2.ensures.coming ∙ sym (ap (λ (f : DatedFile). f.coming.inserts) c.make_room.view_is)) c.make_room-2.ensures.room
+pub invariant_of-self-in_err-push : goal.invariant_of-self-in_err-push
+invariant_of-self-in_err-push c =
+    kept_with_room c.self.inside.order.lines c.self.inside.texts.entries c.self.inside.changes c.prepare.new.self c.self.inside.coming.deletes.items c.push.new.self.items c.self.invariant c.prepare.ensures.lists
+    (omega (arith, c.in_ok-prepare.ensures.room, c.push.ensures.upper_bound, c.push.new.self.ok.0, c.len-deletes.ensures))
+
+pub invariant_of-self-2 : goal.invariant_of-self-2
+invariant_of-self-2 c =
+    kept_with_room c.self.inside.order.lines c.self.inside.texts.entries c.self.inside.changes c.prepare.new.self c.self.inside.coming.deletes.items c.push.new.self.items c.self.invariant c.prepare.ensures.lists
+    (omega (arith, c.in_ok-prepare.ensures.room, c.push.ensures.upper_bound, c.push.new.self.ok.0, c.len-deletes.ensures))

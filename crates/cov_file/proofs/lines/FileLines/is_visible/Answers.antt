@@ -1,17 +1,16 @@
-use Rattle.std.proofs.Common.{◌≡◌, ◌∙◌, ◌&&◌, ℕ, Bool, List, [], true, false, nat_eq, slice_get, unwrap_or, sym, ap}
+use Rattle.std.proofs.Common.{◌≡◌, ◌∙◌, ◌&&◌, ℕ, Bool, List, true, false, nat_eq, sym, ap}
 use Rattle.std.specs.List.{list_any}
 use Rattle.std.specs.Map.{keys_of}
 use Rattle.cov_base.proofs.CallerLemmas.{none-placed}
-use Rattle.cov_base.specs.Older.{value_at}
 use Rattle.cov_base.specs.declared.file_row.FileRow.{FileRow}
 use Rattle.cov_dd.specs.Diagrams.{value_in}
 use Rattle.cov_dd.specs.declared.triple.Triple.{Triple}
 use Rattle.cov_order.specs.Orders.{has_line}
-use Rattle.cov_file.specs.Dated.{rows_at}
-use Rattle.cov_file.specs.Listing.{lists_of, vis_in}
+use Rattle.cov_file.specs.Dated.{vis_at, rows_at}
+use Rattle.cov_file.specs.Kept.{changes_in}
 use Rattle.cov_file.specs.Rooms.{DatedFile}
-use Rattle.cov_file.proofs.Nodes.{node_found, there}
-use Rattle.cov_file.proofs.Shown.{shown_at}
+use Rattle.cov_file.proofs.Finding.{list_found, there}
+use Rattle.cov_file.proofs.Shown.{shown_among}
 use Rattle.cov_file.proofs.lines.FileLines.is_visible.Goals as goal
 
 -- whether a line is among those that are shown
@@ -21,21 +20,22 @@ is_among table choice at line f = list_any (λ (r : FileRow). nat_eq r.line line
 pub returns-in-Some : goal.returns-in-Some
 returns-in-Some c =
     let keys = keys_of c.self.inside.texts.entries in
-    let lists = lists_of c.self.inside.lists in
+    let lists = c.self.inside.changes.lists in
     let found = sym c.get_index_of.ensures.index ∙ c.in-Some.is in
     let has : has_line c.args.line c.self.inside.order.lines ≡ true = c.self.invariant.keys c.args.line ∙ there c.args.line keys c.in-Some.index found in
     c.value.ensures
     ∙ ap (λ v. value_in c.args.table.now v c.args.choice)
-    (c.node_or_false.ensures ∙ ap (λ nodes. unwrap_or (slice_get nodes c.in-Some.index) 0) c.at.ensures ∙ node_found c.args.line keys (value_at [] lists c.args.at) c.in-Some.index found)
-    ∙ ap (λ b. b && value_in c.args.table.now (vis_in keys (value_at [] lists c.args.at) c.args.line) c.args.choice) (sym has)
-    ∙ shown_at c.args.table.now c.args.choice c.args.at c.self.inside.texts.entries lists c.args.line c.self.inside.order.lines
+    (c.at.ensures ∙ ap (λ cs. vis_at cs c.args.at) (list_found c.args.line keys lists c.in-Some.index found))
+    ∙ ap (λ b. b && value_in c.args.table.now (vis_at (changes_in keys lists c.args.line) c.args.at) c.args.choice) (sym has)
+    ∙ sym (shown_among c.args.table.now c.args.choice c.args.at c.self.inside.texts.entries lists c.args.line c.self.inside.order.lines)
     ∙ ap (is_among c.args.table.now c.args.choice c.args.at c.args.line) c.self.view_is
 
 pub returns-in-None : goal.returns-in-None
 returns-in-None c =
     let keys = keys_of c.self.inside.texts.entries in
+    let lists = c.self.inside.changes.lists in
     let lacks : has_line c.args.line c.self.inside.order.lines ≡ false =
     c.self.invariant.keys c.args.line ∙ none-placed (nat_eq c.args.line) keys (sym c.get_index_of.ensures.index ∙ c.in-None.is) in
-    ap (λ b. b && value_in c.args.table.now (vis_in keys (value_at [] (lists_of c.self.inside.lists) c.args.at) c.args.line) c.args.choice) (sym lacks)
-    ∙ shown_at c.args.table.now c.args.choice c.args.at c.self.inside.texts.entries (lists_of c.self.inside.lists) c.args.line c.self.inside.order.lines
+    ap (λ b. b && value_in c.args.table.now (vis_at (changes_in keys lists c.args.line) c.args.at) c.args.choice) (sym lacks)
+    ∙ sym (shown_among c.args.table.now c.args.choice c.args.at c.self.inside.texts.entries lists c.args.line c.self.inside.order.lines)
     ∙ ap (is_among c.args.table.now c.args.choice c.args.at c.args.line) c.self.view_is

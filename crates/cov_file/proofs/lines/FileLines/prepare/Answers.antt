@@ -1,9 +1,9 @@
-use Rattle.std.proofs.Common.{ℕ, List}
-use Rattle.std.proofs.lemmas.Result.{on_ok_weaker}
-use Rattle.cov_file.specs.Dated.{line_numbers_of}
-use Rattle.cov_file.specs.Rooms.{IsMade}
+use Rattle.std.proofs.Common.{ap, length, arith}
+use Rattle.cov_file.proofs.Rooms.{kept_with_room}
 use Rattle.cov_file.proofs.lines.FileLines.prepare.Goals as goal
 
-pub returns-clause-room : goal.returns-clause-room
-returns-clause-room c =
-    on_ok_weaker c.make_room.result (λ (room : (deletes : List ℕ) → IsMade c.make_room.new.self.room (line_numbers_of c.make_room.new.self.lines) c.args.inserts deletes). room c.args.deletes.now) c.make_room.ensures.room
+pub invariant_of-self-2 : goal.invariant_of-self-2
+invariant_of-self-2 c =
+    let long = ap length c.as_slice.ensures in
+    kept_with_room c.self.inside.order.lines c.self.inside.texts.entries c.self.inside.changes c.prepare.new.self c.self.inside.coming.deletes.items c.extend_from_slice.new.self.items c.self.invariant c.prepare.ensures.lists
+    (omega (arith, c.in_ok-prepare.ensures.room, c.in_ok-extend_from_slice.ensures.len, c.extend_from_slice.new.self.ok.0, c.clear.ensures.len, c.len.ensures, long))

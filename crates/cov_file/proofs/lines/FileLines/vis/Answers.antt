@@ -1,11 +1,12 @@
-use Rattle.std.proofs.Common.{◌≡◌, ◌∙◌, ◌≤◌, nat_eq, sym, ap, subst, true, false, Some}
+use Rattle.std.proofs.Common.{◌≡◌, ◌∙◌, ◌≤◌, nat_eq, sym, ap, subst, true, false, Some, slice_get}
 use Rattle.std.specs.Map.{keys_of}
+use Rattle.std.specs.Option.{option_map}
 use Rattle.cov_base.proofs.CallerLemmas.{none-placed}
 use Rattle.cov_order.specs.Orders.{has_line}
-use Rattle.cov_file.specs.Dated.{newest_of, vis_of}
-use Rattle.cov_file.specs.Listing.{vis_in}
+use Rattle.cov_file.specs.Dated.{newest_vis, vis_at, newest_of, vis_of}
+use Rattle.cov_file.specs.Kept.{changes_in}
 use Rattle.cov_file.specs.Rooms.{DatedFile}
-use Rattle.cov_file.proofs.Nodes.{node_there, there, length-keys}
+use Rattle.cov_file.proofs.Finding.{list_there, there, length-keys}
 use Rattle.cov_file.proofs.Shown.{newest_there, newest_none, latest_there, latest_none}
 use Rattle.cov_file.proofs.lines.FileLines.vis.Goals as goal
 use Rattle.cov_file.proofs.lines.FileLines.vis.Goals.{In-None, After-get}
@@ -16,30 +17,31 @@ has c = c.self.invariant.keys c.args.line ∙ there c.args.line (keys_of c.self.
 lacks : (c : In-None) → has_line c.args.line c.self.inside.order.lines ≡ false
 lacks c = c.self.invariant.keys c.args.line ∙ none-placed (nat_eq c.args.line) (keys_of c.self.inside.texts.entries) (sym c.get_index_of.ensures.index ∙ c.in-None.is)
 
-read : (c : After-get) → c.get.result ≡ Some (vis_in (keys_of c.self.inside.texts.entries) c.self.inside.lists.newest c.args.line)
-read c =
-    c.get.ensures
-    ∙ node_there c.args.line (keys_of c.self.inside.texts.entries) c.self.inside.lists.newest c.in-Some.index
-    (c.self.invariant.nodes ∙ sym (length-keys c.self.inside.texts.entries)) (sym c.get_index_of.ensures.index ∙ c.in-Some.is)
+-- the line's changes stand at its index
+stand : (c : After-get) → slice_get c.self.inside.changes.lists c.in-Some.index ≡ Some (changes_in (keys_of c.self.inside.texts.entries) c.self.inside.changes.lists c.args.line)
+stand c =
+    list_there c.args.line (keys_of c.self.inside.texts.entries) c.self.inside.changes.lists c.in-Some.index
+    (c.self.invariant.lists ∙ sym (length-keys c.self.inside.texts.entries)) (sym c.get_index_of.ensures.index ∙ c.in-Some.is)
 
 pub returns-in-Some-clause-newest : goal.returns-in-Some-clause-newest
 returns-in-Some-clause-newest c =
-    read c ∙ sym (newest_there c.self.inside.texts.entries c.self.inside.lists c.args.line c.self.inside.order.lines (has c))
+    c.get.ensures.newest ∙ ap (option_map newest_vis) (stand c)
+    ∙ sym (newest_there c.self.inside.texts.entries c.self.inside.changes.lists c.args.line c.self.inside.order.lines (has c))
     ∙ ap (λ (f : DatedFile). newest_of c.args.line f.lines) c.self.view_is
 
 pub returns-in-Some-clause-latest : goal.returns-in-Some-clause-latest
 returns-in-Some-clause-latest c = λ p later.
-    read c
-    ∙ sym (latest_there c.self.inside.texts.entries c.self.inside.lists c.args.line c.self.inside.order.lines p
-    (subst (λ (f : DatedFile). f.newest ≤ p) (sym c.self.view_is) later) (has c))
+    c.get.ensures.latest p (subst (λ (f : DatedFile). f.newest ≤ p) (sym c.self.view_is) later)
+    ∙ ap (option_map (λ cs. vis_at cs p)) (stand c)
+    ∙ sym (latest_there c.self.inside.texts.entries c.self.inside.changes.lists c.args.line c.self.inside.order.lines p (has c))
     ∙ ap (λ (f : DatedFile). vis_of c.args.line p f.lines) c.self.view_is
 
 pub returns-in-None-clause-newest : goal.returns-in-None-clause-newest
 returns-in-None-clause-newest c =
-    sym (newest_none c.self.inside.texts.entries c.self.inside.lists c.args.line c.self.inside.order.lines (lacks c))
+    sym (newest_none c.self.inside.texts.entries c.self.inside.changes.lists c.args.line c.self.inside.order.lines (lacks c))
     ∙ ap (λ (f : DatedFile). newest_of c.args.line f.lines) c.self.view_is
 
 pub returns-in-None-clause-latest : goal.returns-in-None-clause-latest
 returns-in-None-clause-latest c = λ p later.
-    sym (latest_none c.self.inside.texts.entries c.self.inside.lists c.args.line c.self.inside.order.lines p (lacks c))
+    sym (latest_none c.self.inside.texts.entries c.self.inside.changes.lists c.args.line c.self.inside.order.lines p (lacks c))
     ∙ ap (λ (f : DatedFile). vis_of c.args.line p f.lines) c.self.view_is

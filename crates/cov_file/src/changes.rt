@@ -1,0 +1,203 @@
+// The changes of the visibilities of lines.
+ghost use Rattle.std.specs.Prelude.{◌≡◌, ◌<◌, ◌≤◌, ◌+◌, ◌-◌, ◌^◌, ℕ, [], ◌∷◌, ◌++◌, true, false, length, reverse, set, slice_get, vec_len, vec_capacity, OnOk, OnErr, IfSome, if◌then◌else◌};
+ghost use Rattle.std.specs.Option.{option_map, option_map_or};
+ghost use Rattle.cov_file.specs.Dated.{vis_at, newest_vis};
+ghost use Rattle.cov_file.specs.Kept.{changes_before, changes_of, AreLinked, changes_at, is_at, with_node};
+
+use cov_base::{Memory, Position};
+use cov_dd::{FALSE, Node};
+use std::alloc::Global;
+use std::marker::Model;
+
+/// How many changes of the lines of one file can be followed by others.
+const MOST_EARLIER: usize = u32::MAX as usize;
+
+/// A node from a position on. The change before it of the same line is the last of the first `before` earlier ones; there is
+/// none where that is 0.
+#[derive(Clone, Copy)]
+struct Change {
+    node: Node,
+    from: Position,
+    before: u32,
+}
+
+/// The changes of the lines of a file, each line by its index in the order in which they were inserted. Most lines have one
+/// change for ever, which takes no memory of its own; those that others follow stand in one list for all lines.
+#[derive(Drop)]
+pub(crate) struct Changes {
+    newest: Vec<Change>,
+    earlier: Vec<Change>,
+    from: Position,
+    is_open: bool,
+}
+
+impl Model for Changes {
+    ghost use Rattle.std.specs.Prelude.{◌-◌, ◌^◌, min, vec_len, vec_capacity};
+    ghost use Rattle.cov_file.specs.Kept.{LineChanges, lists_of, AreChanges};
+
+    ghost Value = { LineChanges };
+
+    ghost view = { λ c. record { lists = lists_of c.newest.items c.earlier.items; newest = c.from; inserts = vec_capacity c.newest - vec_len c.newest; room = min (vec_capacity c.earlier - vec_len c.earlier) (2 ^ 32 - 1 - vec_len c.earlier); is_open = c.is_open } };
+
+    ghost invariant = { λ c. AreChanges c.from c.newest.items c.earlier.items };
+}
+
+impl Changes {
+    pub(crate) fn new(alloc: Global) -> Changes
+        ensures lists { result.lists ≡ [] }
+        ensures newest { result.newest ≡ 0 }
+    {
+        Changes {
+            newest: Vec::new(alloc),
+            earlier: Vec::new(alloc),
+            from: Position::new(0),
+            is_open: false,
+        }
+    }
+
+    /// Makes room for so many lines more, and for so many changes of lines, at any one position. It is refused beyond
+    /// 2^32 - 1 changes that others follow.
+    pub(crate) fn prepare(&mut self, inserts: u32, changes: usize) -> Result<(), Memory>
+        ensures lists { self.new.lists ≡ self.old.lists }
+        ensures newest { self.new.newest ≡ self.old.newest }
+        ensures inserts { OnOk result (inserts ≤ self.new.inserts) }
+        ensures room { OnOk result (changes ≤ self.new.room) }
+        ensures open { OnOk result (self.new.is_open ≡ true) }
+        ensures kept { self.old.room ≤ self.new.room }
+        ensures err { OnErr result (self.new.is_open ≡ self.old.is_open) }
+    {
+        if changes > MOST_EARLIER.saturating_sub(self.earlier.len()) {
+            return Err(Memory);
+        }
+        self.newest.reserve(inserts as usize)?;
+        self.earlier.reserve(changes)?;
+        self.is_open = true;
+        Ok(())
+    }
+
+    /// Puts a line behind the others, with its node from a position on. It takes no memory.
+    pub(crate) fn push(&mut self, node: Node, at: Position)
+        requires room { 0 < self.old.inserts }
+        requires later { self.old.newest ≤ at }
+        ensures lists { self.new.lists ≡ self.old.lists ++ ((at, node) ∷ []) ∷ [] }
+        ensures newest { self.new.newest ≡ at }
+        ensures inserts { self.old.inserts ≤ self.new.inserts + 1 }
+        ensures room { self.new.room ≡ self.old.room }
+        ensures open { self.new.is_open ≡ false }
+    {
+        self.begin(at);
+        let change = Change {
+            node,
+            from: at,
+            before: 0,
+        };
+        match self.newest.push(change) {
+            Ok(()) => (),
+            Err(_) => unreachable!(),
+        }
+    }
+
+    /// Gives a line another node from a position on, in the place of the one that it has from there on. It takes no memory.
+    pub(crate) fn set(&mut self, index: usize, node: Node, at: Position)
+        requires index { index < length self.old.lists }
+        requires later { self.old.newest ≤ at }
+        requires room { is_at at (changes_at self.old.lists index) ≡ false → 0 < self.old.room }
+        ensures lists { self.new.lists ≡ set self.old.lists index (with_node at node (changes_at self.old.lists index)) }
+        ensures newest { self.new.newest ≡ at }
+        ensures inserts { self.new.inserts ≡ self.old.inserts }
+        ensures room { self.old.room ≤ self.new.room + (if is_at at (changes_at self.old.lists index) then 0 else 1) }
+        ensures open { self.new.is_open ≡ false }
+    {
+        self.begin(at);
+        let newest = self.newest[index];
+        if newest.from == at {
+            self.newest[index].node = node;
+            return;
+        }
+        let before = put_behind(&mut self.earlier, newest);
+        self.newest[index] = Change {
+            node,
+            from: at,
+            before,
+        };
+    }
+
+    // The changes that come are at a position, and only there is room for them.
+    fn begin(&mut self, at: Position)
+        requires later { self.old.newest ≤ at }
+        ensures lists { self.new.lists ≡ self.old.lists }
+        ensures newest { self.new.newest ≡ at }
+        ensures inserts { self.new.inserts ≡ self.old.inserts }
+        ensures room { self.new.room ≡ self.old.room }
+        ensures open { self.new.is_open ≡ false }
+    {
+        self.from = at;
+        self.is_open = false;
+    }
+
+    /// The newest node of the line at an index, None exactly where there is no such line.
+    pub(crate) fn get(&self, index: usize) -> Option<Node>
+        ensures newest { result ≡ option_map newest_vis (slice_get self.now.lists index) }
+        ensures latest { (p : ℕ) → self.now.newest ≤ p → result ≡ option_map (λ cs. vis_at cs p) (slice_get self.now.lists index) }
+    {
+        match self.newest.get(index) {
+            Some(change) => Some(change.node),
+            None => None,
+        }
+    }
+
+    /// The node at a position of the line at an index, FALSE where it has none. It takes time in the number of changes of
+    /// this line beyond the position.
+    pub(crate) fn at(&self, index: usize, position: Position) -> Node
+        ensures { result ≡ vis_at (changes_at self.now.lists index) position }
+    {
+        match self.newest.get(index) {
+            Some(change) => node_at(&self.earlier, *change, position),
+            None => FALSE,
+        }
+    }
+}
+
+// Puts a change behind the earlier ones, and answers how many there are then.
+fn put_behind(earlier: &mut Vec<Change>, change: Change) -> u32
+    requires room { vec_len earlier.old < vec_capacity earlier.old }
+    requires few { vec_len earlier.old < 2 ^ 32 - 1 }
+    ensures items { earlier.new.items ≡ earlier.old.items ++ change ∷ [] }
+    ensures capacity { vec_capacity earlier.old ≤ vec_capacity earlier.new }
+    ensures len { vec_len earlier.new ≡ vec_len earlier.old + 1 }
+    ensures count { result ≡ vec_len earlier.new }
+{
+    match earlier.push(change) {
+        Ok(()) => earlier.len() as u32,
+        Err(_) => unreachable!(),
+    }
+}
+
+// The node at a position of a line by its newest change.
+fn node_at(earlier: &[Change], newest: Change, position: Position) -> Node
+    requires linked { AreLinked (reverse earlier.now) }
+    requires end { newest.before ≤ length earlier.now }
+    ensures { result ≡ vis_at (changes_of (reverse earlier.now) newest) position }
+{
+    let mut change = newest;
+    'changes: while position < change.from {
+        match change_before(earlier, change.before) {
+            Some(before) => change = before,
+            None => return FALSE,
+        }
+    }
+    change.node
+}
+
+// The last of the first so many changes.
+fn change_before(earlier: &[Change], number: u32) -> Option<Change>
+    requires linked { AreLinked (reverse earlier.now) }
+    requires end { number ≤ length earlier.now }
+    ensures changes { changes_before (reverse earlier.now) number ≡ option_map_or (changes_of (reverse earlier.now)) result [] }
+    ensures falls { IfSome result (λ c. c.before < number) }
+{
+    if number == 0 {
+        return None;
+    }
+    earlier.get(number as usize - 1).copied()
+}
