@@ -1,5 +1,5 @@
 -- The rows of some nodes alone.
-use Rattle.std.proofs.Common.{◌≡◌, ℕ, zero, suc, ◌<◌, Bool, true, false, true≢false, cond, ◌||◌, nat_eq, nat_le, List, [], ◌∷◌, ◌++◌, map, get_or, length, Option, Some, None, append-nil, append_assoc, refl, sym, ap, subst, ◌∙◌, arith}
+use Rattle.std.proofs.Common.{◌≡◌, ℕ, zero, suc, ◌<◌, Bool, true, false, true≢false, cond, ◌||◌, nat_eq, List, [], ◌∷◌, ◌++◌, map, get_or, length, Option, Some, None, append-nil, append_assoc, refl, sym, ap, subst, ◌∙◌, arith}
 use Rattle.std.specs.List.{filter, find, AllByRecursion}
 use Rattle.std.specs.Option.{option_map_or, option_or}
 use Rattle.std.proofs.lemmas.Bool.{or_from, or_parts}
@@ -7,7 +7,6 @@ use Rattle.std.proofs.lemmas.Bool.Decides.{nat_tests}
 use Rattle.std.proofs.lemmas.List.{map-append}
 use Rattle.std.proofs.lemmas.List.Elements.{filter-append}
 use Rattle.std.proofs.lemmas.List.Folds.{find-append, list_any-append}
-use Rattle.cov_base.specs.Older.{value_at}
 use Rattle.cov_base.specs.Rows.{Row, row_of, has_node, AreDistinct, AreOnce}
 use Rattle.cov_base.specs.declared.number.Kind.{Kind}
 use Rattle.cov_base.proofs.CallerLemmas.{all-append, all-filter}
@@ -15,7 +14,7 @@ use Rattle.cov_dd.specs.declared.triple.Triple.{Triple}
 use Rattle.cov_dd.specs.Diagrams.{value_in}
 use Rattle.cov_tree.specs.declared.entry.Entry.{Entry}
 use Rattle.cov_tree.specs.declared.entry.Place.{Place}
-use Rattle.cov_tree.specs.Dated.{among, AreOlderOnce}
+use Rattle.cov_tree.specs.Dated.{among}
 use Rattle.cov_tree.specs.Entries.{row_at, rows_of, rows_in, nodes_of}
 use Rattle.cov_tree.proofs.Once.{distinct_filtered, has_filtered, nodes}
 
@@ -34,6 +33,12 @@ own_rows node kind x b e (q ∷ places) =
     by true rest = ap (λ rows. row_at node kind q ∷ rows) rest
     by false rest = rest
 
+-- a node that isn't there isn't found
+pub find_none : (x : ℕ) (es : List Entry) → has_node x (nodes_of es) ≡ false → find (λ e. nat_eq e.node x) es ≡ None
+find_none x [] h = refl
+find_none x (e ∷ es) h =
+    let parts = or_parts (nat_eq e.node x) (has_node x (nodes_of es)) h in ap (λ b. cond b (Some e) (find (λ f. nat_eq f.node x) es)) parts.0 ∙ find_none x es parts.1
+
 module _ (table : List Triple) (c : List Bool) (x : ℕ) where
   abbrev of_entry : Entry → List Row
   of_entry e = rows_of table c e.node e.kind e.places
@@ -46,16 +51,11 @@ module _ (table : List Triple) (c : List Bool) (x : ℕ) where
       ∙ ap (λ rows. rows ++ filter (is_of x) (rows_in table c es)) (own_rows e.node e.kind x (nat_eq e.node x) refl (filter (λ p. value_in table p.vis c) e.places))
       ∙ by (nat_eq e.node x) refl (rows_found es distinct.1)
     where
-      none : (fs : List Entry) → has_node x (nodes_of fs) ≡ false → find (λ f. nat_eq f.node x) fs ≡ None
-      none [] h = refl
-      none (f ∷ fs) h =
-          let parts = or_parts (nat_eq f.node x) (has_node x (nodes_of fs)) h in ap (λ b. cond b (Some f) (find (λ g. nat_eq g.node x) fs)) parts.0 ∙ none fs parts.1
-
       by : (b : Bool) → nat_eq e.node x ≡ b → filter (is_of x) (rows_in table c es) ≡ option_map_or of_entry (find (λ f. nat_eq f.node x) es) []
           → cond b (of_entry e) [] ++ filter (is_of x) (rows_in table c es) ≡ option_map_or of_entry (cond b (Some e) (find (λ f. nat_eq f.node x) es)) []
       by true same rest =
           let is : e.node ≡ x = grind (arith, nat_tests, same) in
-          ap (λ rows. of_entry e ++ rows) (rest ∙ ap (λ o. option_map_or of_entry o []) (none es (ap (λ y. has_node y (nodes_of es)) (sym is) ∙ distinct.0))) ∙ append-nil (of_entry e)
+          ap (λ rows. of_entry e ++ rows) (rest ∙ ap (λ o. option_map_or of_entry o []) (find_none x es (ap (λ y. has_node y (nodes_of es)) (sym is) ∙ distinct.0))) ∙ append-nil (of_entry e)
       by false other rest = rest
 
 -- an entry of a node is the first of it
@@ -78,15 +78,6 @@ entry_first (f ∷ es) (suc i) x e distinct within h same =
     differs true is =
         let own : f.node ≡ x = grind (arith, nat_tests, is) in absurd (true≢false (sym (there es i (omega (arith, within)) h) ∙ ap (λ y. has_node y (nodes_of es)) (sym own) ∙ distinct.0))
     differs false is = refl
-
--- each list by position has each node once
-pub older_once : (older : List (ℕ × List Entry)) (p : ℕ) → AreOlderOnce older → AreDistinct (0 ∷ nodes_of (value_at [] older p))
-older_once [] p once = (refl, tt)
-older_once (l ∷ older) p once = by (nat_le l.0 p) (older_once older p once.1)
-  where
-    by : (b : Bool) → AreDistinct (0 ∷ nodes_of (value_at [] older p)) → AreDistinct (0 ∷ nodes_of (cond b l.1 (value_at [] older p)))
-    by true rest = once.0
-    by false rest = rest
 
 -- the rows of one node more
 pub among_more : (ns : List ℕ) (x : ℕ) (rows : List Row) → among (ns ++ x ∷ []) rows ≡ among ns rows ++ filter (is_of x) rows

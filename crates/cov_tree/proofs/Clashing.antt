@@ -22,12 +22,12 @@ use Rattle.cov_tree.proofs.Rows.{rows_of-append, row_of_place, rows_of-grown, ro
 
 -- whether two keys are one, as they are compared
 abbrev pub same_key : PlaceKey → PlaceKey → Bool
-same_key k l = is_one_place k.parent k.name.items l.parent l.name.items
+same_key k l = is_one_place k.parent k.name.now l.parent l.name.now
 
 -- what is found once the choices of a place are set
 pub joined_put : (groups : List (PlaceKey × ℕ)) (key : PlaceKey) (node : ℕ) (p : ℕ) (n : List ℕ)
-    → joined_at (insert_entry same_key groups key node) p n ≡ cond (is_one_place p n key.parent key.name.items) node (joined_at groups p n)
-joined_put [] key node p n = at (is_one_place p n key.parent key.name.items)
+    → joined_at (insert_entry same_key groups key node) p n ≡ cond (is_one_place p n key.parent key.name.now) node (joined_at groups p n)
+joined_put [] key node p n = at (is_one_place p n key.parent key.name.now)
   where
     at : (b : Bool) → unwrap_or (cond b (Some node) None) 0 ≡ cond b node 0
     at true = refl
@@ -35,31 +35,31 @@ joined_put [] key node p n = at (is_one_place p n key.parent key.name.items)
 joined_put (g ∷ groups) key node p n = at (same_key key g.0) refl (joined_put groups key node p n)
   where
     one : Bool
-    one = is_one_place p n key.parent key.name.items
+    one = is_one_place p n key.parent key.name.now
 
-    own : (b : Bool) → unwrap_or (cond b (Some node) (lookup (λ k. is_one_place p n k.parent k.name.items) groups)) 0 ≡ cond b node (unwrap_or (cond b (Some g.1) (lookup (λ k. is_one_place p n k.parent k.name.items) groups)) 0)
+    own : (b : Bool) → unwrap_or (cond b (Some node) (lookup (λ k. is_one_place p n k.parent k.name.now) groups)) 0 ≡ cond b node (unwrap_or (cond b (Some g.1) (lookup (λ k. is_one_place p n k.parent k.name.now) groups)) 0)
     own true = refl
     own false = refl
 
-    here : (a b : Bool) → is_one_place p n g.0.parent g.0.name.items ≡ a → is_one_place p n key.parent key.name.items ≡ b → same_key key g.0 ≡ false
+    here : (a b : Bool) → is_one_place p n g.0.parent g.0.name.now ≡ a → is_one_place p n key.parent key.name.now ≡ b → same_key key g.0 ≡ false
         → joined_at (insert_entry same_key groups key node) p n ≡ cond b node (joined_at groups p n)
-        → unwrap_or (cond a (Some g.1) (lookup (λ k. is_one_place p n k.parent k.name.items) (insert_entry same_key groups key node))) 0
-        ≡ cond b node (unwrap_or (cond a (Some g.1) (lookup (λ k. is_one_place p n k.parent k.name.items) groups)) 0)
+        → unwrap_or (cond a (Some g.1) (lookup (λ k. is_one_place p n k.parent k.name.now) (insert_entry same_key groups key node))) 0
+        ≡ cond b node (unwrap_or (cond a (Some g.1) (lookup (λ k. is_one_place p n k.parent k.name.now) groups)) 0)
     here true true e f d rest =
-        let x = one_parts p n g.0.parent g.0.name.items e in
-        let y = one_parts p n key.parent key.name.items f in
-        absurd (let yes = one_of key.parent key.name.items g.0.parent g.0.name.items (sym y.0 ∙ x.0) (sym y.1 ∙ x.1) in cc)
+        let x = one_parts p n g.0.parent g.0.name.now e in
+        let y = one_parts p n key.parent key.name.now f in
+        absurd (let yes = one_of key.parent key.name.now g.0.parent g.0.name.now (sym y.0 ∙ x.0) (sym y.1 ∙ x.1) in cc)
     here true false e f d rest = refl
     here false b e f d rest = rest
 
-    at : (b : Bool) → same_key key g.0 ≡ b → joined_at (insert_entry same_key groups key node) p n ≡ cond (is_one_place p n key.parent key.name.items) node (joined_at groups p n)
-        → joined_at (cond b ((g.0, node) ∷ groups) (g ∷ insert_entry same_key groups key node)) p n ≡ cond (is_one_place p n key.parent key.name.items) node (joined_at (g ∷ groups) p n)
+    at : (b : Bool) → same_key key g.0 ≡ b → joined_at (insert_entry same_key groups key node) p n ≡ cond (is_one_place p n key.parent key.name.now) node (joined_at groups p n)
+        → joined_at (cond b ((g.0, node) ∷ groups) (g ∷ insert_entry same_key groups key node)) p n ≡ cond (is_one_place p n key.parent key.name.now) node (joined_at (g ∷ groups) p n)
     at true e rest =
-        let x = one_parts key.parent key.name.items g.0.parent g.0.name.items e in
-        let same : is_one_place p n g.0.parent g.0.name.items ≡ is_one_place p n key.parent key.name.items = λ j. is_one_place p n (sym x.0 j) (sym x.1 j) in
-        own (is_one_place p n g.0.parent g.0.name.items)
-        ∙ ap (λ b. cond b node (unwrap_or (cond (is_one_place p n g.0.parent g.0.name.items) (Some g.1) (lookup (λ k. is_one_place p n k.parent k.name.items) groups)) 0)) same
-    at false e rest = here (is_one_place p n g.0.parent g.0.name.items) (is_one_place p n key.parent key.name.items) refl refl e rest
+        let x = one_parts key.parent key.name.now g.0.parent g.0.name.now e in
+        let same : is_one_place p n g.0.parent g.0.name.now ≡ is_one_place p n key.parent key.name.now = λ j. is_one_place p n (sym x.0 j) (sym x.1 j) in
+        own (is_one_place p n g.0.parent g.0.name.now)
+        ∙ ap (λ b. cond b node (unwrap_or (cond (is_one_place p n g.0.parent g.0.name.now) (Some g.1) (lookup (λ k. is_one_place p n k.parent k.name.now) groups)) 0)) same
+    at false e rest = here (is_one_place p n g.0.parent g.0.name.now) (is_one_place p n key.parent key.name.now) refl refl e rest
 
 pub within_put : (table : List Triple) (groups : List (PlaceKey × ℕ)) (key : PlaceKey) (node : ℕ) → node < diagram_size table → GroupsWithin table groups → GroupsWithin table (insert_entry same_key groups key node)
 within_put table [] key node h k = (h, tt)
@@ -71,9 +71,9 @@ within_put table (g ∷ groups) key node h k = at (same_key key g.0) (within_put
 
 pub joined_within : (table : List Triple) (groups : List (PlaceKey × ℕ)) (p : ℕ) (n : List ℕ) → GroupsWithin table groups → joined_at groups p n < diagram_size table
 joined_within table [] p n h = let two : 1 < diagram_size table = some_nodes table in omega (arith, two)
-joined_within table (g ∷ groups) p n h = at (is_one_place p n g.0.parent g.0.name.items) (joined_within table groups p n h.1)
+joined_within table (g ∷ groups) p n h = at (is_one_place p n g.0.parent g.0.name.now) (joined_within table groups p n h.1)
   where
-    at : (b : Bool) → joined_at groups p n < diagram_size table → unwrap_or (cond b (Some g.1) (lookup (λ k. is_one_place p n k.parent k.name.items) groups)) 0 < diagram_size table
+    at : (b : Bool) → joined_at groups p n < diagram_size table → unwrap_or (cond b (Some g.1) (lookup (λ k. is_one_place p n k.parent k.name.now) groups)) 0 < diagram_size table
     at true rest = h.0
     at false rest = rest
 

@@ -1,6 +1,6 @@
 -- No node has two rows.
 use Rattle.std.specs.Prelude.{Result, Ok, Err, OnOk, OnErr}
-use Rattle.std.proofs.Common.{◌≡◌, ◌||◌, ℕ, zero, suc, ◌<◌, ◌≤◌, Bool, true, false, cond, not, nat_eq, List, [], ◌∷◌, ◌++◌, map, get_or, length, refl, sym, ap, subst, ◌∙◌, arith}
+use Rattle.std.proofs.Common.{◌≡◌, ◌||◌, ℕ, suc, ◌≤◌, Bool, true, false, cond, not, nat_eq, List, [], ◌∷◌, ◌++◌, map, length, refl, sym, ap, subst, ◌∙◌, arith}
 use Rattle.std.specs.List.{filter}
 use Rattle.std.proofs.lemmas.Bool.Decides.{nat_tests}
 use Rattle.std.proofs.lemmas.List.{map-append}
@@ -117,15 +117,14 @@ behind : (xs ys : List Row) → AreDistinct (nodes (xs ++ ys)) → AreDistinct (
 behind [] ys d = d
 behind (x ∷ xs) ys d = behind xs ys d.1
 
-pub one_row : (table : List Triple) (c : List Bool) (es : List Entry) (i : ℕ) (e : Entry) → AreDistinct (map (λ r. r.node) (rows_in table c es)) → i < length es → e ≡ get_or es i e
-    → (node : ℕ) (kind : Kind) → length (rows_of table c node kind e.places) ≤ 1
-one_row table c [] i e d here at node kind = absurd (omega (arith, here))
-one_row table c (f ∷ es) zero e d here at node kind =
-    let few = one_own f.node f.kind (filter (λ (p : Place). value_in table p.vis c) f.places) (rows_in table c es) d in
-    let same = length_own table c f.node node f.kind kind (filter (λ (p : Place). value_in table p.vis c) f.places) in
-    subst (λ (g : Entry). length (rows_of table c node kind g.places) ≤ 1) (sym at) (omega (arith, few, same))
-one_row table c (f ∷ es) (suc i) e d here at node kind =
-    one_row table c es i e (behind (rows_of table c f.node f.kind f.places) (rows_in table c es) d) (omega (arith, here)) at node kind
+pub one_amid : (table : List Triple) (c : List Bool) (front rest : List Entry) (own : Entry) → AreDistinct (map (λ r. r.node) (rows_in table c (front ++ own ∷ rest)))
+    → (node : ℕ) (kind : Kind) → length (rows_of table c node kind own.places) ≤ 1
+one_amid table c [] rest own d node kind =
+    let few = one_own own.node own.kind (filter (λ (p : Place). value_in table p.vis c) own.places) (rows_in table c rest) d in
+    let same = length_own table c own.node node own.kind kind (filter (λ (p : Place). value_in table p.vis c) own.places) in
+    omega (arith, few, same)
+one_amid table c (f ∷ front) rest own d node kind =
+    one_amid table c front rest own (behind (rows_of table c f.node f.kind f.places) (rows_in table c (front ++ own ∷ rest)) d) node kind
 
 -- and in a table that grew
 pub once_later : (old new : List Triple) → Extends old new → (es : List Entry) → AllAreWithin old es → ((c : List Bool) → AreOnce (rows_in old c es)) → (c : List Bool) → AreOnce (rows_in new c es)

@@ -1,8 +1,7 @@
 -- Plans, change by change, and in a table that grows.
 use Rattle.std.specs.Prelude.{Result, Ok, Err, OnOk, OnErr}
-use Rattle.std.proofs.Common.{◌≡◌, ℕ, ◌<◌, Bool, true, false, cond, ◌||◌, nat_eq, List, [], ◌∷◌, ◌++◌, Option, Some, append-nil, refl, sym, ap, subst, ◌∙◌, arith}
+use Rattle.std.proofs.Common.{◌≡◌, ℕ, ◌<◌, Bool, true, false, cond, ◌||◌, nat_eq, List, [], ◌∷◌, ◌++◌, append-nil, refl, sym, ap, subst, ◌∙◌, arith}
 use Rattle.std.specs.List.{AllByRecursion}
-use Rattle.std.proofs.lemmas.List.{map-append}
 use Rattle.std.proofs.lemmas.Bool.{or_parts}
 use Rattle.cov_base.proofs.CallerLemmas.{nat_eq-sym, all-append}
 use Rattle.cov_base.specs.Rows.{Row, RowChange, Created, changed, has_node, AreDistinct}
@@ -10,9 +9,9 @@ use Rattle.cov_base.specs.declared.number.Kind.{Kind}
 use Rattle.cov_dd.specs.declared.triple.Triple.{Triple}
 use Rattle.cov_dd.specs.Diagrams.{diagram_size, value_in, Extends}
 use Rattle.cov_tree.specs.declared.entry.Entry.{Entry}
-use Rattle.cov_tree.specs.Entries.{row_at, rows_of, rows_in, nodes_of, AllAreWithin}
+use Rattle.cov_tree.specs.Entries.{row_at, rows_of, rows_in, AllAreWithin}
 use Rattle.cov_tree.specs.Changes.{changed_on, all_changed, Makes}
-use Rattle.cov_tree.specs.Dated.{Dated, nodes_at, rows_at, planned}
+use Rattle.cov_tree.specs.Dated.{Dated, newest_nodes, nodes_at, rows_at, planned}
 use Rattle.cov_tree.specs.Laws.{PlansStay}
 use Rattle.cov_tree.specs.Shifts.{place_at, Becomes}
 use Rattle.cov_tree.proofs.Rows.{rows_in-append, rows_in-grown, all_within-grown, all_within-append, row_of_place}
@@ -38,21 +37,21 @@ module _ (old new : List Triple) (grows : Extends old new) where
       ap (λ b. all_changed new c xs (cond b (changed rows x.0) rows)) (grows.value x.1 h.0 c)
       ∙ changed_grown c xs (changed_on old c x.0 x.1 rows) h.1
 
-  pub makes_grown : (d : Dated) (plan : Option (List Entry)) (changes : List (RowChange × ℕ)) → Makes old d plan changes → Makes new d plan changes
+  pub makes_grown : (d : Dated) (plan : List Entry) (changes : List (RowChange × ℕ)) → Makes old d plan changes → Makes new d plan changes
   makes_grown d plan changes m = record {
     rows = λ c p le.
-        rows_in-grown old new grows c (planned plan d.newest) m.within ∙ m.rows c p le
+        rows_in-grown old new grows c (planned plan (newest_nodes d)) m.within ∙ m.rows c p le
         ∙ sym (changed_grown c changes (rows_at old c p d) m.ambitions)
         ∙ ap (all_changed new c changes) (sym (rows_in-grown old new grows c (nodes_at p d) (m.over p)));
     over = λ p. all_within-grown old new grows (nodes_at p d) (m.over p);
-    within = all_within-grown old new grows (planned plan d.newest) m.within;
+    within = all_within-grown old new grows (planned plan (newest_nodes d)) m.within;
     ambitions = ambitions_grown changes m.ambitions;
   }
 
   -- a plan makes one change more
-  pub makes_more : (d : Dated) (fs : List Entry) (plan : Option (List Entry)) (changes : List (RowChange × ℕ)) (change : RowChange) (ambition : ℕ) → ambition < diagram_size old
-      → Makes old d plan changes → Becomes old new (planned plan d.newest) fs change ambition → Makes new d (Some fs) (changes ++ (change, ambition) ∷ [])
-  makes_more d fs plan changes change ambition known m b =
+  pub makes_more : (d : Dated) (plan after : List Entry) (changes : List (RowChange × ℕ)) (change : RowChange) (ambition : ℕ) → ambition < diagram_size old
+      → Makes old d plan changes → Becomes old new (planned plan (newest_nodes d)) (planned after (newest_nodes d)) change ambition → Makes new d after (changes ++ (change, ambition) ∷ [])
+  makes_more d plan after changes change ambition known m b =
       let all : AreAmbitions old (changes ++ (change, ambition) ∷ []) = all-append (λ x. x.1 < diagram_size old) changes ((change, ambition) ∷ []) m.ambitions (known, tt) in
       record {
         rows = λ c p le.
@@ -95,13 +94,6 @@ pub distinct_more : (ns : List ℕ) (n : ℕ) → AreDistinct ns → has_node n 
 distinct_more [] n d h = (refl, tt)
 distinct_more (m ∷ ns) n d h =
     (has_behind m n ns d.0 (nat_eq-sym n m ∙ (or_parts (nat_eq m n) (has_node n ns) h).0), distinct_more ns n d.1 (or_parts (nat_eq m n) (has_node n ns) h).1)
-
-nodes_behind : (es : List Entry) (e : Entry) → nodes_of (es ++ e ∷ []) ≡ nodes_of es ++ e.node ∷ []
-nodes_behind es e = map-append (λ (x : Entry). x.node) es (e ∷ [])
-
--- no node stands twice where a new one is behind the others
-pub distinct_behind : (es fs : List Entry) (e : Entry) → AreDistinct (0 ∷ nodes_of es) → has_node e.node (0 ∷ nodes_of es) ≡ false → fs ≡ es ++ e ∷ [] → AreDistinct (0 ∷ nodes_of fs)
-distinct_behind es fs e d h is = subst (λ ns. AreDistinct (0 ∷ ns)) (sym (ap nodes_of is ∙ nodes_behind es e)) (distinct_more (0 ∷ nodes_of es) e.node d h)
 
 -- what follows from either result
 pub by_result : {A E : Type 0} (r : Result A E) (P Q R : Type 0) → OnOk r P → OnErr r Q → (P → R) → (Q → R) → R

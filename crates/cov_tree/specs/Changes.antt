@@ -1,5 +1,5 @@
 -- Changes of rows, each where its ambition is true.
-use Rattle.std.specs.Prelude.{◌≡◌, ℕ, ◌<◌, ◌≤◌, Bool, List, [], ◌∷◌, ◌++◌, Option, if◌then◌else◌}
+use Rattle.std.specs.Prelude.{◌≡◌, ℕ, ◌<◌, ◌≤◌, Bool, List, [], ◌∷◌, ◌++◌, if◌then◌else◌}
 use Rattle.std.specs.List.{AllByRecursion}
 use Rattle.cov_base.specs.Rows.{Row, RowChange, Created, changed}
 use Rattle.cov_base.specs.declared.number.Kind.{Kind}
@@ -20,14 +20,14 @@ all_changed table c (change ∷ changes) rows = all_changed table c changes (cha
 
 -- over these entries a plan makes these changes in order, each where its ambition is true: on each choice the rows with it are
 -- the newest ones after the changes; and all visibilities and ambitions are nodes of the table
-pub record Makes (table : List Triple) (entries : Dated) (plan : Option (List Entry)) (changes : List (RowChange × ℕ)) : Type 0 where
+pub record Makes (table : List Triple) (entries : Dated) (plan : List Entry) (changes : List (RowChange × ℕ)) : Type 0 where
   pub rows : (c : List Bool) (p : ℕ) → entries.from ≤ p → rows_with table c plan entries ≡ all_changed table c changes (rows_at table c p entries)
   pub over : AreNodesAt table entries
   pub within : AreNodesWith table plan entries
   pub ambitions : AllByRecursion (λ change. change.1 < diagram_size table) changes
 
 -- a plan is over these entries what another was: it has the same nodes, and on each choice the same rows, in each table
-pub record IsAlike (entries : Dated) (before after : Option (List Entry)) : Type 0 where
+pub record IsAlike (entries : Dated) (before after : List Entry) : Type 0 where
   pub rows : (table : List Triple) (c : List Bool) → rows_with table c after entries ≡ rows_with table c before entries
   pub nodes : nodes_with after entries ≡ nodes_with before entries
   pub kinds : kinds_with after entries ≡ kinds_with before entries
@@ -35,13 +35,13 @@ pub record IsAlike (entries : Dated) (before after : Option (List Entry)) : Type
 
 -- a plan may make a change more: all visibilities with it and the ambition are nodes of the table, no node has two rows and the
 -- root none
-pub record MayChange (table : List Triple) (entries : Dated) (plan : Option (List Entry)) (node : ℕ) : Type 0 where
+pub record MayChange (table : List Triple) (entries : Dated) (plan : List Entry) (node : ℕ) : Type 0 where
   pub within : AreNodesWith table plan entries
   pub once : AreOnceWith table plan entries
   pub ambition : node < diagram_size table
 
 -- what stays where a plan is to make a change more, also where memory is wanting
-pub record Stays (old new : List Triple) (entries : Dated) (before after : Option (List Entry)) (ambition : ℕ) : Type 0 where
+pub record Stays (old new : List Triple) (entries : Dated) (before after : List Entry) (ambition : ℕ) : Type 0 where
   pub extends : Extends old new
   pub within : AreNodesWith new after entries
   pub once : AreOnceWith new after entries
@@ -57,7 +57,7 @@ kinds_after (Created node kind parent name) ks = ks ++ (node, kind) ∷ []
 kinds_after _ ks = ks
 
 -- a plan makes a change behind those that it made
-pub record IsMade (old new : List Triple) (entries : Dated) (before after : Option (List Entry)) (change : RowChange) (ambition : ℕ) : Type 0 where
+pub record IsMade (old new : List Triple) (entries : Dated) (before after : List Entry) (change : RowChange) (ambition : ℕ) : Type 0 where
   pub makes : (changes : List (RowChange × ℕ)) → Makes old entries before changes → Makes new entries after (changes ++ (change, ambition) ∷ [])
   pub nodes : nodes_with after entries ≡ nodes_after change (nodes_with before entries)
   pub kinds : kinds_with after entries ≡ kinds_after change (kinds_with before entries)

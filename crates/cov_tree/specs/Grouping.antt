@@ -11,7 +11,7 @@ use Rattle.cov_tree.specs.Entries.{is_one_place}
 
 -- the choices of a name in a directory, FALSE where there are none
 abbrev pub joined_at : List (PlaceKey × ℕ) → ℕ → List ℕ → ℕ
-joined_at groups parent name = unwrap_or (lookup (λ key. is_one_place parent name key.parent key.name.items) groups) 0
+joined_at groups parent name = unwrap_or (lookup (λ key. is_one_place parent name key.parent key.name.now) groups) 0
 
 -- all choices are nodes of a table
 abbrev pub GroupsWithin : List Triple → List (PlaceKey × ℕ) → Type 0

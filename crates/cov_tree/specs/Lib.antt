@@ -3,7 +3,12 @@ pub mod Changes
 pub mod Dated
 pub mod Entries
 pub mod Grouping
+pub mod Installing
 pub mod Laws
+pub mod Looking
+pub mod Noted
 pub mod Places
+pub mod Planning
 pub mod Shifts
 pub mod Spreading
+pub mod Standing

@@ -8,28 +8,29 @@ ghost use Rattle.cov_dd.specs.Diagrams.{diagram_size, Extends, IsNode};
 ghost use Rattle.cov_tree.specs.Entries.{rows_of, rows_in, is_one_place, AreWithin, AllAreWithin};
 ghost use Rattle.cov_tree.specs.Grouping.{joined_at, GroupsWithin, IsClash};
 
-use crate::entry::{Entry, Place};
+use crate::entry::Place;
 use crate::soundness::or_both;
+use crate::standing::Standing;
 use cov_base::{Kind, Memory, NodeNo};
 use cov_dd::{FALSE, Node, Table};
 use indexmap::IndexMap;
 use std::alloc::Global;
 
-/// A directory and a name in it.
-#[derive(Debug, PartialEq, Eq, Hash, Drop)]
-pub(crate) struct PlaceKey {
+/// A directory and a name in it, which a place lends.
+#[derive(PartialEq, Eq, Hash, Drop)]
+pub(crate) struct PlaceKey<'a> {
     parent: NodeNo,
-    name: Vec<u8>,
+    name: &'a [u8],
 }
 
 /// For each name in each directory the choices on which a row has it there.
-#[derive(Debug, Drop)]
-pub(crate) struct Groups {
-    nodes: IndexMap<PlaceKey, Node>,
+#[derive(Drop)]
+pub(crate) struct Groups<'a> {
+    nodes: IndexMap<PlaceKey<'a>, Node>,
 }
 
-impl Groups {
-    fn new(alloc: Global) -> Groups
+impl<'a> Groups<'a> {
+    fn new(alloc: Global) -> Groups<'a>
         ensures { result.nodes.entries ≡ [] }
     {
         Groups {
@@ -37,35 +38,43 @@ impl Groups {
         }
     }
 
-    // The choices on which a row is there, FALSE where none is.
-    fn joined(&self, key: &PlaceKey) -> Node
-        ensures { result ≡ joined_at self.now.nodes.entries key.now.parent key.now.name.items }
+    // The choices on which a row is at a place, FALSE where none is.
+    fn joined(&self, place: &Place) -> Node
+        ensures { result ≡ joined_at self.now.nodes.entries place.now.parent place.now.name }
     {
-        self.nodes.get(key).copied().unwrap_or(FALSE)
+        let key = key_of(place);
+        self.nodes.get(&key).copied().unwrap_or(FALSE)
     }
 
-    // Sets the choices on which a row is there.
-    fn put(&mut self, key: PlaceKey, node: Node) -> Result<(), Memory>
-        ensures ok { OnOk result ((parent : ℕ) (name : List ℕ) → joined_at self.new.nodes.entries parent name ≡ (if is_one_place parent name key.parent key.name.items then node else joined_at self.old.nodes.entries parent name)) }
+    // Sets the choices on which a row is at a place.
+    fn put(&mut self, place: &'a Place, node: Node) -> Result<(), Memory>
+        ensures ok { OnOk result ((parent : ℕ) (name : List ℕ) → joined_at self.new.nodes.entries parent name ≡ (if is_one_place parent name place.now.parent place.now.name then node else joined_at self.old.nodes.entries parent name)) }
         ensures within { OnOk result ((table : _) → node < diagram_size table → GroupsWithin table self.old.nodes.entries → GroupsWithin table self.new.nodes.entries) }
     {
-        self.nodes.insert(key, node)?;
-        Ok(())
+        self.nodes.reserve(1)?;
+        match self.nodes.insert(key_of(place), node) {
+            Ok(_) => Ok(()),
+            Err(_) => unreachable!(),
+        }
     }
 }
 
-fn key_of(alloc: Global, place: &Place) -> Result<PlaceKey, Memory>
-    ensures parent { IfOk result (λ key. key.parent ≡ place.now.parent) }
-    ensures name { IfOk result (λ key. key.name.items ≡ place.now.name) }
+fn key_of(place: &Place) -> PlaceKey<'_>
+    ensures parent { result.parent ≡ place.now.parent }
+    ensures name { result.name.now ≡ place.now.name }
 {
-    Ok(PlaceKey {
+    PlaceKey {
         parent: place.parent,
-        name: Vec::from_slice(alloc, place.name.as_slice())?,
-    })
+        name: place.name.as_slice(),
+    }
 }
 
 /// The choices on which two rows have one directory and one name.
-pub(crate) fn clashes(table: &mut Table, alloc: Global, entries: &[Entry]) -> Result<Node, Memory>
+pub(crate) fn clashes(
+    table: &mut Table,
+    alloc: Global,
+    entries: &[Standing<'_>],
+) -> Result<Node, Memory>
     requires within { AllAreWithin table.old entries.now }
     ensures extends { Extends table.old table.new }
     ensures ok { IfOk result (λ r. IsNode table.new r (λ c. has_clash (rows_in table.old c entries.now))) }
@@ -73,18 +82,17 @@ pub(crate) fn clashes(table: &mut Table, alloc: Global, entries: &[Entry]) -> Re
     let mut groups = Groups::new(alloc);
     let mut clash = FALSE;
     'entries: for entry in entries {
-        clash = add_entry(table, alloc, &mut groups, clash, entry)?;
+        clash = add_entry(table, &mut groups, clash, entry)?;
     }
     Ok(clash)
 }
 
 // Adds the clashes of a node's rows with those before.
-fn add_entry(
+fn add_entry<'a>(
     table: &mut Table,
-    alloc: Global,
-    groups: &mut Groups,
+    groups: &mut Groups<'a>,
     clash: Node,
-    entry: &Entry,
+    entry: &Standing<'a>,
 ) -> Result<Node, Memory>
     requires within { AreWithin table.old entry.now.places }
     requires clash { clash < diagram_size table.old }
@@ -95,19 +103,18 @@ fn add_entry(
     ensures ok { (rows : List Bool → List Row) → IsClash table.old groups.old.nodes.entries clash rows → IfOk result (λ r. IsClash table.new groups.new.nodes.entries r (λ c. rows c ++ rows_of table.old c entry.now.node entry.now.kind entry.now.places)) }
 {
     let mut found = clash;
-    'places: for place in entry.places.as_slice() {
-        found = add_place(table, alloc, groups, found, place)?;
+    'places: for place in entry.places() {
+        found = add_place(table, groups, found, place)?;
     }
     Ok(found)
 }
 
 // Adds the clashes of a place with those before.
-fn add_place(
+fn add_place<'a>(
     table: &mut Table,
-    alloc: Global,
-    groups: &mut Groups,
+    groups: &mut Groups<'a>,
     clash: Node,
-    place: &Place,
+    place: &'a Place,
 ) -> Result<Node, Memory>
     requires vis { place.now.vis < diagram_size table.old }
     requires clash { clash < diagram_size table.old }
@@ -117,10 +124,9 @@ fn add_place(
     ensures clash { IfOk result (λ r. r < diagram_size table.new) }
     ensures ok { (rows : List Bool → List Row) (node : ℕ) (kind : _) → IsClash table.old groups.old.nodes.entries clash rows → IfOk result (λ r. IsClash table.new groups.new.nodes.entries r (λ c. rows c ++ rows_of table.old c node kind (place.now ∷ []))) }
 {
-    let key = key_of(alloc, place)?;
-    let joined = groups.joined(&key);
+    let joined = groups.joined(place);
     let found = or_both(table, clash, joined, place.vis)?;
     let more = table.or(joined, place.vis)?;
-    groups.put(key, more)?;
+    groups.put(place, more)?;
     Ok(found)
 }

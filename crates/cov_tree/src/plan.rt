@@ -1,41 +1,47 @@
 // Changes of the nodes of a store that are to come.
-ghost use Rattle.std.specs.Prelude.{◌≡◌, ◌<◌, ◌≤◌, ◌++◌, ◌∷◌, ℕ, List, Bool, [], None, Some, false, option_map, nat_eq, length, position, IfSome, OnOk, OnErr};
+ghost use Rattle.std.specs.Prelude.{◌≡◌, ◌<◌, ◌≤◌, ◌++◌, ◌∷◌, ℕ, List, Bool, [], Some, false, nat_eq, length, position, IfSome, IfOk, OnOk, OnErr};
 ghost use Rattle.cov_base.specs.Rows.{Created, Renamed, Moved, Removed, has_node, AreDistinct, AreOnce};
 ghost use Rattle.cov_dd.specs.declared.triple.Triple.{Triple};
 ghost use Rattle.cov_dd.specs.Diagrams.{diagram_size, Extends};
-ghost use Rattle.cov_tree.specs.Entries.{rows_in, nodes_of, kinds_of, AllAreWithin};
-ghost use Rattle.cov_tree.specs.Dated.{Dated, planned, rows_at, rows_with, nodes_in, kinds_in, nodes_with, kinds_with};
+ghost use Rattle.cov_tree.specs.Entries.{nodes_of};
+ghost use Rattle.cov_tree.specs.Dated.{Dated, newest_nodes, planned, rows_at, rows_with, nodes_in, kinds_in, nodes_with, kinds_with};
 ghost use Rattle.cov_tree.specs.Carried.{AreNodesAt, AreNodesWith, AreOnceAt, AreOnceWith, AreUnreadAt, AreUnreadWith};
 ghost use Rattle.cov_tree.specs.Changes.{Makes, MayChange, Stays, IsAlike, IsMade};
-ghost use Rattle.cov_tree.specs.Shifts.{change_of, place_at, Becomes};
+ghost use Rattle.cov_tree.specs.Shifts.{change_of, place_at};
+ghost use Rattle.cov_tree.specs.Planning.{IsPlannedAt, CanBeShifted, IsShifted};
+ghost use Rattle.cov_tree.specs.Standing.{places_with};
 
 use crate::Entries;
 use crate::entry::{Entry, Place, Places};
 use crate::parting::{Shift, parted};
 use cov_base::{Kind, Memory, Name, NodeNo};
 use cov_dd::{Node, Table};
+use indexmap::IndexSet;
 use std::alloc::Global;
+use std::collections::VecDeque;
 use std::marker::Model;
 
-/// Changes of entries, each where its ambition is true. Contracts tell of the rows that there are with them on each choice
-/// (`rows_with`), and by `Makes` what the changes are. All calls with one plan are over the same entries.
+/// Changes of entries, each where its ambition is true. It holds the nodes that it changes or makes, and no others, each found by
+/// its number with one look-up; the i-th key is the node of entry i. Contracts tell of the rows that there are with them on each
+/// choice (`rows_with`), and by `Makes` what the changes are. All calls with one plan are over the same entries.
 #[derive(Drop)]
 pub struct EntryPlan {
     alloc: Global,
-    entries: Option<Vec<Entry>>,
+    entries: Vec<Entry>,
+    keys: IndexSet<NodeNo>,
 }
 
 impl Model for EntryPlan {
-    ghost use Rattle.std.specs.Prelude.{List, Option, option_map, IfSome, ◌∷◌};
+    ghost use Rattle.std.specs.Prelude.{◌≡◌, List, ◌∷◌};
     ghost use Rattle.cov_base.specs.Rows.{AreDistinct};
     ghost use Rattle.cov_tree.specs.declared.entry.Entry.{Entry as EntryValue};
     ghost use Rattle.cov_tree.specs.Entries.{nodes_of};
 
-    ghost Value = { Option (List EntryValue) };
+    ghost Value = { List EntryValue };
 
-    ghost view = { λ p. option_map (λ es. es.items) p.entries };
+    ghost view = { λ p. p.entries.items };
 
-    ghost invariant = { λ p. IfSome p.entries (λ es. AreDistinct (0 ∷ nodes_of es.items)) };
+    ghost invariant = { λ p. AreDistinct (0 ∷ nodes_of p.entries.items) × (p.keys.keys ≡ nodes_of p.entries.items) };
 }
 
 impl EntryPlan {
@@ -51,11 +57,12 @@ impl EntryPlan {
     {
         EntryPlan {
             alloc,
-            entries: None,
+            entries: Vec::new(alloc),
+            keys: IndexSet::new(alloc),
         }
     }
 
-    /// Makes a node in a directory. The first change takes time in the number of nodes.
+    /// Makes a node in a directory.
     pub fn created(
         &mut self,
         entries: &Entries,
@@ -72,16 +79,13 @@ impl EntryPlan {
         ensures ok { OnOk result (IsMade table.old table.new entries.now self.old self.new (Created node kind parent name.now) ambition) }
         ensures err { OnErr result (IsAlike entries.now self.old self.new) }
     {
-        // The row of a new node is seen on the ambition itself, so no node is made.
+        // The row of a new node is seen on the ambition itself, so no node is made, and none has its number.
         let _ = table;
-        self.begin(entries)?;
-        match &mut self.entries {
-            Some(list) => add_entry(list, node, kind, parent, name, ambition),
-            None => unreachable!(),
-        }
+        let _ = entries;
+        self.add_new(node, kind, parent, name, ambition)
     }
 
-    /// Gives a node another name. It takes time in the number of nodes, and changes nothing where the node has no row.
+    /// Gives a node another name. It changes nothing where the node has no row.
     pub fn renamed(
         &mut self,
         entries: &Entries,
@@ -99,7 +103,7 @@ impl EntryPlan {
         self.shift(entries, table, node, &shift, ambition)
     }
 
-    /// Puts a node into another directory. It takes time in the number of nodes, and changes nothing where the node has no row.
+    /// Puts a node into another directory. It changes nothing where the node has no row.
     pub fn moved(
         &mut self,
         entries: &Entries,
@@ -116,7 +120,7 @@ impl EntryPlan {
         self.shift(entries, table, node, &Shift::Moved(parent), ambition)
     }
 
-    /// Takes a node out. It takes time in the number of nodes, and changes nothing where the node has no row.
+    /// Takes a node out. It changes nothing where the node has no row.
     pub fn removed(
         &mut self,
         entries: &Entries,
@@ -146,93 +150,110 @@ impl EntryPlan {
         ensures ok { OnOk result (IsMade table.old table.new entries.now self.old self.new (change_of node shift.now) ambition) }
         ensures err { OnErr result (IsAlike entries.now self.old self.new) }
     {
-        self.begin(entries)?;
-        match &mut self.entries {
-            Some(list) => shift_entry(list, table, node, shift, ambition),
-            None => unreachable!(),
+        entries.stand_once();
+        match self.place_for(entries, node)? {
+            Some(at) => shift_entry(&mut self.entries, table, at, shift, ambition),
+            None => Ok(()),
         }
     }
 
-    // Takes a copy of the newest nodes, unless that is done.
-    fn begin(&mut self, entries: &Entries) -> Result<(), Memory>
-        ensures ok { OnOk result (self.new ≡ Some (planned self.old entries.now.newest)) }
+    // Where a node stands in the plan, which takes it from the entries unless it has it. There is none where these have none.
+    fn place_for(&mut self, entries: &Entries, node: NodeNo) -> Result<Option<usize>, Memory>
+        ensures same { planned self.new (newest_nodes entries.now) ≡ planned self.old (newest_nodes entries.now) }
+        ensures place { IfOk result (λ place. IsPlannedAt node place self.new (nodes_with self.old entries.now)) }
+    {
+        if let Some(at) = self.place_of(node) {
+            return Ok(Some(at));
+        }
+        match entries.newest(node)? {
+            Some(entry) => self.add(entry),
+            None => Ok(None),
+        }
+    }
+
+    // Where a node stands.
+    fn place_of(&self, node: NodeNo) -> Option<usize>
+        ensures place { result ≡ position (λ e. nat_eq e.node node) self.now }
+        ensures within { IfSome result (λ at. at < length self.now) }
+    {
+        self.keys.get_index_of(&node)
+    }
+
+    // Adds a node that has one place, and that the plan doesn't have.
+    fn add_new(
+        &mut self,
+        node: NodeNo,
+        kind: Kind,
+        parent: NodeNo,
+        name: &Name,
+        vis: Node,
+    ) -> Result<(), Memory>
+        requires fresh { has_node node (0 ∷ nodes_of self.old) ≡ false }
+        ensures ok { OnOk result (self.new ≡ self.old ++ record { node = node; kind = kind; places = place_at parent name.now vis ∷ [] } ∷ []) }
         ensures err { OnErr result (self.new ≡ self.old) }
     {
-        if self.entries.is_none() {
-            self.entries = Some(entries.copied(self.alloc)?);
-        }
+        let name = name.copy()?;
+        let places = Places::of(self.alloc, Place { parent, name, vis })?;
+        self.add(Entry { node, kind, places })?;
         Ok(())
     }
 
-    /// The nodes as they are after the changes of these entries.
-    pub(crate) fn entries_over<'a>(&'a self, entries: &'a Entries) -> &'a [Entry]
-        ensures nodes { result.now ≡ planned self.now entries.now.newest }
-        ensures distinct { AreDistinct (0 ∷ nodes_of (planned self.now entries.now.newest)) }
+    // Adds a node that the plan doesn't have, and answers where it stands.
+    fn add(&mut self, entry: Entry) -> Result<Option<usize>, Memory>
+        requires fresh { has_node entry.node (0 ∷ nodes_of self.old) ≡ false }
+        ensures ok { IfOk result (λ at. (at ≡ Some (length self.old)) × (self.new ≡ self.old ++ entry ∷ [])) }
+        ensures err { OnErr result (self.new ≡ self.old) }
     {
-        match &self.entries {
-            Some(list) => list.as_slice(),
-            None => entries.newest(),
+        let at = self.entries.len();
+        self.entries.reserve(1)?;
+        self.keys.insert(entry.node)?;
+        self.entries.push_reserved(entry);
+        Ok(Some(at))
+    }
+
+    /// The places that it has for a node, or the node's own where it doesn't have the node.
+    pub(crate) fn places_of<'a>(&'a self, node: NodeNo, own: &'a [Place]) -> &'a [Place]
+        ensures { result.now ≡ places_with self.now node own.now }
+    {
+        match self.place_of(node) {
+            Some(at) => self.entries[at].places.as_slice(),
+            None => own,
         }
     }
 
-    /// The nodes as they are after the changes, None where there is no change. It takes no memory.
-    pub(crate) fn into_entries(self) -> Option<Vec<Entry>>
-        ensures nodes { option_map (λ es. es.items) result ≡ self }
-        ensures distinct { IfSome result (λ es. AreDistinct (0 ∷ nodes_of es.items)) }
+    /// The nodes that it changes or makes.
+    pub(crate) fn as_slice(&self) -> &[Entry]
+        ensures nodes { result.now ≡ self.now }
+        ensures distinct { AreDistinct (0 ∷ nodes_of self.now) }
     {
-        self.entries
+        self.entries.as_slice()
+    }
+
+    /// These nodes. It takes no memory.
+    pub(crate) fn into_entries(self) -> VecDeque<Entry>
+        ensures nodes { result.items ≡ self }
+        ensures distinct { AreDistinct (0 ∷ nodes_of self) }
+    {
+        VecDeque::from(self.entries)
     }
 }
 
-// Adds a node that has one place.
-fn add_entry(
-    list: &mut Vec<Entry>,
-    node: NodeNo,
-    kind: Kind,
-    parent: NodeNo,
-    name: &Name,
-    vis: Node,
-) -> Result<(), Memory>
-    ensures ok { OnOk result (list.new.items ≡ list.old.items ++ record { node = node; kind = kind; places = place_at parent name.now vis ∷ [] } ∷ []) }
-    ensures err { OnErr result (list.new.items ≡ list.old.items) }
-{
-    let name = name.copy()?;
-    let places = Places::of(*list.allocator(), Place { parent, name, vis })?;
-    list.push(Entry { node, kind, places })?;
-    Ok(())
-}
-
-// Shifts the places of a node where the ambition is true.
+// Shifts the places of the node at an index where the ambition is true.
 fn shift_entry(
     list: &mut Vec<Entry>,
     table: &mut Table,
-    node: NodeNo,
+    at: usize,
     shift: &Shift,
     ambition: Node,
 ) -> Result<(), Memory>
-    requires distinct { AreDistinct (0 ∷ nodes_of list.old.items) }
-    requires within { AllAreWithin table.old list.old.items }
-    requires once { (c : List Bool) → AreOnce (rows_in table.old c list.old.items) }
+    requires entry { CanBeShifted table.old list.old.items at }
     requires ambition { ambition < diagram_size table.old }
     ensures extends { Extends table.old table.new }
-    ensures ok { OnOk result (Becomes table.old table.new list.old.items list.new.items (change_of node shift.now) ambition) }
-    ensures nodes { OnOk result (nodes_of list.new.items ≡ nodes_of list.old.items) }
-    ensures kinds { OnOk result (kinds_of list.new.items ≡ kinds_of list.old.items) }
+    ensures ok { OnOk result (IsShifted table.old table.new list.old.items list.new.items at shift.now ambition) }
     ensures err { OnErr result (list.new.items ≡ list.old.items) }
 {
     let alloc = *list.allocator();
-    let Some(at) = place_of(list, node) else {
-        return Ok(());
-    };
     let places = parted(table, alloc, list[at].places.as_slice(), ambition, shift)?;
     list[at].places = places;
     Ok(())
-}
-
-// Where a node stands.
-fn place_of(list: &[Entry], node: NodeNo) -> Option<usize>
-    ensures place { result ≡ position (λ e. nat_eq e.node node) list.now }
-    ensures within { IfSome result (λ at. at < length list.now) }
-{
-    list.iter().position(|entry| entry.node == node)
 }

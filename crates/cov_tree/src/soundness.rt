@@ -10,8 +10,8 @@ ghost use Rattle.cov_tree.specs.Carried.{AreUnread};
 ghost use Rattle.cov_tree.specs.Entries.{rows_of, rows_in, nodes_of, AreWithin, AllAreWithin};
 ghost use Rattle.cov_tree.specs.Spreading.{reach_node, reached_in, Relaxes, Spreads, IsReach};
 
-use crate::entry::Entry;
 use crate::grouping::clashes;
+use crate::standing::Standing;
 use cov_base::{Memory, NodeNo, Steps, Uncounted};
 use cov_dd::{FALSE, Node, TRUE, Table};
 use std::alloc::Global;
@@ -20,7 +20,7 @@ use std::alloc::Global;
 pub(crate) fn unsound(
     table: &mut Table,
     alloc: Global,
-    entries: &[Entry],
+    entries: &[Standing<'_>],
     within: Node,
 ) -> Result<Node, Memory>
     requires within { within < diagram_size table.old }
@@ -40,7 +40,7 @@ pub(crate) fn unsound(
 }
 
 // The choices on which the root isn't reached from some row.
-fn lost(table: &mut Table, alloc: Global, entries: &[Entry]) -> Result<Node, Memory>
+fn lost(table: &mut Table, alloc: Global, entries: &[Standing<'_>]) -> Result<Node, Memory>
     requires within { AllAreWithin table.old entries.now }
     requires once { (c : List Bool) → AreOnce (rows_in table.old c entries.now) }
     requires distinct { AreDistinct (0 ∷ nodes_of entries.now) }
@@ -52,7 +52,7 @@ fn lost(table: &mut Table, alloc: Global, entries: &[Entry]) -> Result<Node, Mem
 }
 
 // The choices on which some row is that of a node that isn't reached there.
-fn outside(table: &mut Table, entries: &[Entry], reach: &[Node]) -> Result<Node, Memory>
+fn outside(table: &mut Table, entries: &[Standing<'_>], reach: &[Node]) -> Result<Node, Memory>
     requires within { AllAreWithin table.old entries.now }
     requires reach { AllByRecursion (λ n. n < diagram_size table.old) reach.now }
     ensures extends { Extends table.old table.new }
@@ -60,13 +60,18 @@ fn outside(table: &mut Table, entries: &[Entry], reach: &[Node]) -> Result<Node,
 {
     let mut lost = FALSE;
     'entries: for entry in entries {
-        lost = or_outside(table, lost, entry, reach_of(reach, entry.node))?;
+        lost = or_outside(table, lost, entry, reach_of(reach, entry.node()))?;
     }
     Ok(lost)
 }
 
 // The choices of one node, and those on which an entry has a row and which aren't those of the other.
-fn or_outside(table: &mut Table, lost: Node, entry: &Entry, reach: Node) -> Result<Node, Memory>
+fn or_outside(
+    table: &mut Table,
+    lost: Node,
+    entry: &Standing<'_>,
+    reach: Node,
+) -> Result<Node, Memory>
     requires within { AreWithin table.old entry.now.places }
     requires lost { lost < diagram_size table.old }
     requires reach { reach < diagram_size table.old }
@@ -74,7 +79,7 @@ fn or_outside(table: &mut Table, lost: Node, entry: &Entry, reach: Node) -> Resu
     ensures ok { IfOk result (λ r. IsNode table.new r (λ c. value_in table.old lost c || list_any (λ row. not (value_in table.old reach c)) (rows_of table.old c entry.now.node entry.now.kind entry.now.places))) }
 {
     let mut found = lost;
-    'places: for place in entry.places.as_slice() {
+    'places: for place in entry.places() {
         found = or_without(table, found, place.vis, reach)?;
     }
     Ok(found)
@@ -93,7 +98,7 @@ fn or_without(table: &mut Table, found: Node, a: Node, b: Node) -> Result<Node, 
 }
 
 // For each node the choices on which the root is reached from it. A round takes each node's parents anew.
-fn reached(table: &mut Table, alloc: Global, entries: &[Entry]) -> Result<Vec<Node>, Memory>
+fn reached(table: &mut Table, alloc: Global, entries: &[Standing<'_>]) -> Result<Vec<Node>, Memory>
     requires within { AllAreWithin table.old entries.now }
     requires once { (c : List Bool) → AreOnce (rows_in table.old c entries.now) }
     requires distinct { AreDistinct (0 ∷ nodes_of entries.now) }
@@ -111,7 +116,7 @@ fn reached(table: &mut Table, alloc: Global, entries: &[Entry]) -> Result<Vec<No
 }
 
 // The root, reached on each choice, and the other nodes, on none.
-fn root_alone(alloc: Global, entries: &[Entry]) -> Result<Vec<Node>, Memory>
+fn root_alone(alloc: Global, entries: &[Standing<'_>]) -> Result<Vec<Node>, Memory>
     ensures root { IfOk result (λ reach. reach_node reach.items 0 ≡ 1) }
     ensures others { IfOk result (λ reach. (x : ℕ) → nat_eq x 0 ≡ false → reach_node reach.items x ≡ 0) }
     ensures within { IfOk result (λ reach. AllByRecursion (λ n. n < 2) reach.items) }
@@ -123,13 +128,13 @@ fn root_alone(alloc: Global, entries: &[Entry]) -> Result<Vec<Node>, Memory>
 }
 
 // A count of numbers that has the root's and all nodes'.
-fn room_for(entries: &[Entry]) -> usize
+fn room_for(entries: &[Standing<'_>]) -> usize
     ensures root { 0 < result }
     ensures others { AllByRecursion (λ e. e.node < result) entries.now }
 {
     let mut room = 1;
     'entries: for entry in entries {
-        room = greater(room, entry.node.number() as usize + 1);
+        room = greater(room, entry.node().number() as usize + 1);
     }
     room
 }
@@ -142,7 +147,11 @@ fn greater(a: usize, b: usize) -> usize
 }
 
 // One round. It tells whether a node has changed.
-fn spread(table: &mut Table, entries: &[Entry], reach: &mut Vec<Node>) -> Result<bool, Memory>
+fn spread(
+    table: &mut Table,
+    entries: &[Standing<'_>],
+    reach: &mut Vec<Node>,
+) -> Result<bool, Memory>
     requires within { AllAreWithin table.old entries.now }
     requires reach { AllByRecursion (λ n. n < diagram_size table.old) reach.old.items }
     requires room { AllByRecursion (λ e. e.node < length reach.old.items) entries.now }
@@ -168,7 +177,7 @@ fn either(a: bool, b: bool) -> bool
 }
 
 // Takes the choices anew on which a node has a parent that is reached. It tells whether they have changed.
-fn relax(table: &mut Table, entry: &Entry, reach: &mut Vec<Node>) -> Result<bool, Memory>
+fn relax(table: &mut Table, entry: &Standing<'_>, reach: &mut Vec<Node>) -> Result<bool, Memory>
     requires within { AreWithin table.old entry.now.places }
     requires reach { AllByRecursion (λ n. n < diagram_size table.old) reach.old.items }
     requires room { entry.now.node < length reach.old.items }
@@ -176,21 +185,21 @@ fn relax(table: &mut Table, entry: &Entry, reach: &mut Vec<Node>) -> Result<bool
     ensures ok { IfOk result (λ changed. Relaxes table.old table.new entry.now reach.old.items reach.new.items changed) }
 {
     let node = arrival(table, entry, reach)?;
-    let at = entry.node.number() as usize;
+    let at = entry.node().number() as usize;
     let old = reach[at];
     reach[at] = node;
     Ok(old != node)
 }
 
 // The choices on which a node has a parent that is reached.
-fn arrival(table: &mut Table, entry: &Entry, reach: &[Node]) -> Result<Node, Memory>
+fn arrival(table: &mut Table, entry: &Standing<'_>, reach: &[Node]) -> Result<Node, Memory>
     requires within { AreWithin table.old entry.now.places }
     requires reach { AllByRecursion (λ n. n < diagram_size table.old) reach.now }
     ensures extends { Extends table.old table.new }
     ensures ok { IfOk result (λ r. IsNode table.new r (λ c. list_any (λ row. reached_in table.old reach.now c row.parent) (rows_of table.old c entry.now.node entry.now.kind entry.now.places))) }
 {
     let mut found = FALSE;
-    'places: for place in entry.places.as_slice() {
+    'places: for place in entry.places() {
         found = or_both(table, found, place.vis, reach_of(reach, place.parent))?;
     }
     Ok(found)

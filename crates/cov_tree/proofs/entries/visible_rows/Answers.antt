@@ -10,6 +10,7 @@ entries-preserved c =
     let before = take c.entries.entry-index c.args.entries.now in
     let entry = c.entry-item.result in
     c.in_ok-add_rows.ensures
+    ∙ (λ j. c.entries.rows ++ rows_of table choice (c.node.ensures j) (c.kind.ensures j) (c.places.ensures j))
     ∙ ap (λ rs. rs ++ rows_of table choice entry.node entry.kind entry.places) c.entries.invariant
     ∙ ap (λ rs. rows_in table choice before ++ rs) (sym (append-nil (rows_of table choice entry.node entry.kind entry.places)))
     ∙ sym (rows_in-append table choice before (entry ∷ []))
