@@ -8,4 +8,3 @@ use Rattle.cov_alt.specs.declared.fault.AltFault.TheVariants as faults
 abbrev pub by_file : FileFault → AltFault
 by_file file_faults.NoSuchPath = faults.NoSuchPath
 by_file file_faults.NotFile = faults.NotFile
-by_file file_faults.Memory = faults.Memory

@@ -34,7 +34,6 @@ impl From<FileFault> for AltFault {
         match fault {
             FileFault::NoSuchPath => AltFault::NoSuchPath,
             FileFault::NotFile => AltFault::NotFile,
-            FileFault::Memory => AltFault::Memory,
         }
     }
 }

@@ -83,16 +83,16 @@ fn lines_of_sides(
 ) -> Result<AltLines, Memory>
     ensures { IfOk result (λ lines. lines ≡ sides engine.now.history on off file) }
 {
-    let on = side_with(engine, on, file)?;
-    let off = side_with(engine, off, file)?;
+    let on = side_with(engine, on, file);
+    let off = side_with(engine, off, file);
     let rows = engine.file_lines(file)?;
     mark_all(alloc, engine, rows.as_slice(), &on, &off)
 }
 
 // A choice, and whether a file is in its variant.
-fn side_with(engine: &Engine, choice: Choice, file: NodeNo) -> Result<Side, Memory>
-    ensures { IfOk result (λ side. side ≡ on_choice engine.now.history choice file) }
+fn side_with(engine: &Engine, choice: Choice, file: NodeNo) -> Side
+    ensures { result ≡ on_choice engine.now.history choice file }
 {
-    let has_file = engine.has_node(file, choice, engine.position())?;
-    Ok(Side { choice, has_file })
+    let has_file = engine.has_node(file, choice, engine.position());
+    Side { choice, has_file }
 }

@@ -120,7 +120,7 @@ any-position q (Some p) h = absurd (cc)
 module _ (history : List Command) (base : ℕ) (choice : List Bool) (ambition : Formula ℕ) (es : List Edit) (legal : IsLegal history)
     (good : IsGood history (session_of base choice ambition es))
     (accepted : verdict history (commands.Commit base choice ambition es) ≡ None)
-    (ts : List Triple) (commits : List CommitMark) (mark : CommitMark) (ss : List EditPlan) (plan : Option (List Entry)) (file_of_line : List ℕ) (entries : Dated) (stored : List FilePart)
+    (ts : List Triple) (commits : List CommitMark) (mark : CommitMark) (ss : List EditPlan) (plan : List Entry) (file_of_line : List ℕ) (entries : Dated) (stored : List FilePart)
     (staged : IsStaged history ts ambition es commits mark ss plan file_of_line entries stored) where
   abbrev n : ℕ
   n = (numbers_of history).nodes

@@ -36,7 +36,7 @@ refusal-told c (Some (Clash low high)) = refl
 refusal-told c (Some (Orphan node)) = refl
 refusal-told c (Some (Loop node)) = refl
 
-module _ (history : List Command) (ts : List Triple) (entries : Dated) (ambition : Formula ℕ) (node : ℕ) (es : List Edit) (plan : Option (List Entry)) (of_entries : AreEntriesOf history ts entries)
+module _ (history : List Command) (ts : List Triple) (entries : Dated) (ambition : Formula ℕ) (node : ℕ) (es : List Edit) (plan : List Entry) (of_entries : AreEntriesOf history ts entries)
     (stands : Stands ts node 0 (option_count history) (value ambition)) (changes : Makes ts entries plan (edit_changes (numbers_of history).nodes (numbers_of history).nodes node es)) where
   rows : (base : ℕ) (choice : List Bool) (c : List Bool) → rows_with ts c plan entries ≡ (replay c (history ++ commands.Commit base choice ambition es ∷ [])).rows
   rows base choice = planned-rows history base choice ambition es ts node stands.value entries plan of_entries changes

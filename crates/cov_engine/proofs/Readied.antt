@@ -31,10 +31,10 @@ use Rattle.cov_engine.specs.Nodes.{HasNodesIn}
 use Rattle.cov_engine.proofs.Dating.{dated-nodes}
 use Rattle.cov_tree.specs.declared.entry.Entry.{Entry}
 use Rattle.cov_tree.specs.Changes.{Makes}
-use Rattle.cov_tree.specs.Dated.{Dated, HasRoom as HasRowRoom, nodes_in, kinds_in, nodes_with, kinds_with, without_room}
+use Rattle.cov_tree.specs.Dated.{Dated, HasRoom as HasRowRoom, planned as entries_planned, without_room}
 use Rattle.cov_engine.specs.RowPlans.{edit_changes, made_by, made_with, kinds_made_by, IsSet}
 use Rattle.cov_engine.specs.Holdings.{IsFileOf, IsHeldBy}
-use Rattle.cov_engine.specs.Parts.{part_node, count_below, files_in}
+use Rattle.cov_engine.specs.Parts.{part_node, count_below, files_among}
 use Rattle.cov_edit.specs.Touched.{AreRising}
 use Rattle.cov_history.specs.FileNodes.{files_made, files_of}
 use Rattle.cov_history.specs.Sessions.{IsGood, session_of}
@@ -48,7 +48,8 @@ use Rattle.cov_engine.specs.Staged.{IsCommitPlan, IsStaged}
 use Rattle.cov_edit.specs.History.{is_valid_in}
 use Rattle.cov_dd.specs.Diagrams.{Extends}
 use Rattle.cov_dd.proofs.CallerLemmas.{stands_later, stands_weaker}
-use Rattle.cov_tree.proofs.CallerLemmas.{plans_grow}
+use Rattle.cov_tree.specs.Entries.{nodes_of, kinds_of}
+use Rattle.cov_tree.proofs.CallerLemmas.{newest_but_room, plans_grow}
 use Rattle.cov_engine.specs.Carrying.{ArePlanned, CanCarryOutAll, AreInstalled}
 use Rattle.cov_dd.specs.Diagrams.{value_in, Stands}
 use Rattle.cov_edit.specs.History.{edits_in}
@@ -129,8 +130,8 @@ pub held-contents : (history : List Command) (ts : List Triple) (commits : List 
 held-contents history ts commits file_of_line before after old now rows same held =
     record {
       of_entries = entries-room history ts before after rows held.of_entries;
-      below = subst (AllByRecursion (λ node. node ≤ (numbers_of history).nodes)) (sym (ap (λ (d : Dated). nodes_in d) rows)) held.below;
-      made = ap (λ (d : Dated). files_in d) rows ∙ held.made;
+      below = subst (AllByRecursion (λ node. node ≤ (numbers_of history).nodes)) (sym (ap nodes_of (newest_but_room before after rows))) held.below;
+      made = ap (λ es. files_among (kinds_of es)) (newest_but_room before after rows) ∙ held.made;
       parts = same-nodes old now same ∙ held.parts;
       files = files-contents history ts old now same held.files;
       lines = held.lines;
@@ -143,7 +144,7 @@ take-front : {X : Type 0} (n : ℕ) (xs ys : List X) → n ≡ length xs → tak
 take-front n xs ys e = take-append-le n xs ys (omega (arith, e)) ∙ take_all n xs (omega (arith, e))
 
 -- what is staged is cut off again
-pub given-up : (history : List Command) (ts : List Triple) (ambition : Formula ℕ) (es : List Edit) (counts : Counts) (commits : List CommitMark) (mark : CommitMark) (ss : List EditPlan) (plan : Option (List Entry)) (file_of_line : List ℕ) (entries : Dated) (stored : List FilePart)
+pub given-up : (history : List Command) (ts : List Triple) (ambition : Formula ℕ) (es : List Edit) (counts : Counts) (commits : List CommitMark) (mark : CommitMark) (ss : List EditPlan) (plan : List Entry) (file_of_line : List ℕ) (entries : Dated) (stored : List FilePart)
     (commits' : List CommitMark) (file_of_line' : List ℕ) (entries' : Dated) (stored' : List FilePart) → AreCountsOf history counts → IsStaged history ts ambition es commits mark ss plan file_of_line entries stored
     → commits' ≡ commits → file_of_line' ≡ take counts.lines file_of_line → entries' ≡ entries → map contents stored' ≡ map contents (take (count_below counts.nodes (map part_node stored)) stored) → IsHeldBy history ts commits' file_of_line' entries' stored'
 given-up history ts ambition es counts commits mark ss plan file_of_line entries stored commits' file_of_line' entries' stored' are staged ce he xe ee =
@@ -226,7 +227,7 @@ first-nodes : (history : List Command) (counts : Counts) → AreCountsOf history
 first-nodes history counts are = let nodes = are.nodes in omega (arith, nodes)
 
 -- a command for which a commit is ready
-module _ (history : List Command) (names : List (List ℕ)) (ts : List Triple) (standing : Standing) (old new : Counts) (ks : ℕ) (commits : List CommitMark) (mark : CommitMark) (ss : List EditPlan) (plan : Option (List Entry)) (file_of_line : List ℕ) (entries : Dated) (stored : List FilePart)
+module _ (history : List Command) (names : List (List ℕ)) (ts : List Triple) (standing : Standing) (old new : Counts) (ks : ℕ) (commits : List CommitMark) (mark : CommitMark) (ss : List EditPlan) (plan : List Entry) (file_of_line : List ℕ) (entries : Dated) (stored : List FilePart)
     (state : IsStateOf history names ts standing old) where
   abbrev IsThat : Command → Type 0
   IsThat command = IsCommitReady history ts command ks commits file_of_line entries stored mark new ss plan
@@ -322,7 +323,7 @@ module _ (history : List Command) (counts : Counts) (es some : List Edit) (befor
       ∙ ap (λ xs. made_with item (numbers_of history).nodes xs kept) same
 
 -- what a plan makes of a commit's edits
-pub made-changes : (history : List Command) (counts : Counts) (ts : List Triple) (entries : Dated) (es some : List Edit) (before node at : ℕ) (plan : Option (List Entry)) → AreCountsOf history counts → before ≡ counts.nodes - 1 → at ≡ node → some ≡ es
+pub made-changes : (history : List Command) (counts : Counts) (ts : List Triple) (entries : Dated) (es some : List Edit) (before node at : ℕ) (plan : List Entry) → AreCountsOf history counts → before ≡ counts.nodes - 1 → at ≡ node → some ≡ es
     → Makes ts entries plan (edit_changes before before at some) → Makes ts entries plan (edit_changes (numbers_of history).nodes (numbers_of history).nodes node es)
 made-changes history counts ts entries es some before node at plan are is own same makes =
     subst (λ a. Makes ts entries plan (edit_changes (numbers_of history).nodes (numbers_of history).nodes a es)) own
@@ -374,7 +375,7 @@ module _ (history : List Command) (es : List Edit) (counts : Counts) (ts : List 
   held-low some e = subst (AreLow counts.lines) (sym e) (subst (λ m. AreLow m es) (sym are.lines) within.low)
 
   -- what is staged of them is ready
-  pub is-ready : (ambition : Formula ℕ) (spare : ℕ) (mark : CommitMark) (new : Counts) (before : List Triple) (plans : List EditPlan) (plan : Option (List Entry)) (commits' : List CommitMark) (file_of_line' : List ℕ) (entries' : Dated) (stored' : List FilePart) (some : List Edit) → some ≡ es
+  pub is-ready : (ambition : Formula ℕ) (spare : ℕ) (mark : CommitMark) (new : Counts) (before : List Triple) (plans : List EditPlan) (plan : List Entry) (commits' : List CommitMark) (file_of_line' : List ℕ) (entries' : Dated) (stored' : List FilePart) (some : List Edit) → some ≡ es
       → IsCommitPlan history before entries ambition es mark plan → Extends before ts
       → new ≡ record { lines = counts.lines + length (anchors_of 0 es); nodes = counts.nodes + nodes_made es; bytes = counts.bytes + text_bytes es }
       → ArePlanned mark.position stored (counts.nodes - 1) counts.lines mark.node ts counts.lines some plans
@@ -394,8 +395,14 @@ module _ (history : List Command) (es : List Edit) (counts : Counts) (ts : List 
           room = subst (λ x. AllByRecursion (HasRoom (numbers_of history).nodes (line_count history) x) stored') e
               (subst (λ m. AllByRecursion (HasRoom (numbers_of history).nodes m some) stored') are.lines (subst (λ n. AllByRecursion (HasRoom n counts.lines some) stored') nodes room));
           changes = makes-room ts entries entries' plan _ xe (plans_grow before ts entries plan _ grown planned_before.changes);
-          nodes = ap (λ (d : Dated). nodes_with plan d) xe ∙ planned_before.nodes ∙ ap (λ (d : Dated). made_by (numbers_of history).nodes es (nodes_in d)) (sym xe);
-          kinds = ap (λ (d : Dated). kinds_with plan d) xe ∙ planned_before.kinds ∙ ap (λ (d : Dated). kinds_made_by (numbers_of history).nodes es (kinds_in d)) (sym xe);
+          nodes =
+              ap (λ xs. nodes_of (entries_planned plan xs)) (newest_but_room entries entries' xe)
+              ∙ planned_before.nodes
+              ∙ ap (λ xs. made_by (numbers_of history).nodes es (nodes_of xs)) (sym (newest_but_room entries entries' xe));
+          kinds =
+              ap (λ xs. kinds_of (entries_planned plan xs)) (newest_but_room entries entries' xe)
+              ∙ planned_before.kinds
+              ∙ ap (λ xs. kinds_made_by (numbers_of history).nodes es (kinds_of xs)) (sym (newest_but_room entries entries' xe));
           row_room = row_room;
           stands = stands_later grown planned_before.stands;
           planned = subst (λ x. ArePlanned (length history + 1) stored (numbers_of history).nodes (line_count history) mark.node ts (line_count history) x plans) e

@@ -1,5 +1,5 @@
 -- The changes of rows that a commit's edits make.
-use Rattle.std.proofs.Common.{◌≡◌, ℕ, ◌+◌, ◌-◌, ◌<◌, ◌≤◌, Bool, true, false, cond, ◌||◌, nat_eq, nat_le, List, [], ◌∷◌, ◌++◌, length, map, take, get_or, Option, append-nil, append_assoc, refl, sym, ap, subst, ◌∙◌, arith}
+use Rattle.std.proofs.Common.{◌≡◌, ℕ, ◌+◌, ◌-◌, ◌<◌, ◌≤◌, Bool, true, false, cond, ◌||◌, nat_eq, nat_le, List, [], ◌∷◌, ◌++◌, length, map, take, get_or, append-nil, append_assoc, refl, sym, ap, subst, ◌∙◌, arith}
 use Rattle.std.specs.List.{fold, cons_option, AllByRecursion}
 use Rattle.std.proofs.lemmas.Bool.Decides.{nat_tests}
 use Rattle.std.proofs.lemmas.List.{length_push, take-append-le, take_all}
@@ -20,9 +20,11 @@ use Rattle.cov_edit.specs.Replay.{applying, applied, replay}
 use Rattle.cov_edit.proofs.CallerLemmas.{nodes-append, replay-commit, rest_of, rest-is}
 use Rattle.cov_history.proofs.CallerLemmas.{onto_both, replay-once}
 use Rattle.cov_tree.specs.declared.entry.Entry.{Entry}
-use Rattle.cov_tree.specs.Carried.{AreNodesAt, AreNodesWith, AreOnceAt}
+use Rattle.cov_tree.specs.Carried.{AreOnceAt}
 use Rattle.cov_tree.specs.Changes.{all_changed, Makes}
-use Rattle.cov_tree.specs.Dated.{Dated, rows_at, rows_with, nodes_in, nodes_with, without_room}
+use Rattle.cov_tree.specs.Dated.{Dated, rows_at, rows_with, planned, nodes_in, nodes_with, without_room}
+use Rattle.cov_tree.specs.Entries.{rows_in, AllAreWithin}
+use Rattle.cov_tree.proofs.CallerLemmas.{newest_but_room, nodes_but_room}
 use Rattle.cov_engine.specs.declared.counts.Counts.{Counts}
 use Rattle.cov_engine.specs.declared.store.CommitMark.{CommitMark}
 use Rattle.cov_engine.specs.declared.file_part.FilePart.{FilePart}
@@ -122,14 +124,14 @@ module _ (made next : ℕ) (edit d : Edit) (more : next ≡ made + nodes_made (e
       ∙ g
 
 -- changes one after another are those of both
-pub also-both : (ts us vs : List Triple) (entries : Dated) (p q r : Option (List Entry)) (xs ys : List (RowChange × ℕ)) → AlsoMakes ts us entries p q xs → AlsoMakes us vs entries q r ys → AlsoMakes ts vs entries p r (xs ++ ys)
+pub also-both : (ts us vs : List Triple) (entries : Dated) (p q r : List Entry) (xs ys : List (RowChange × ℕ)) → AlsoMakes ts us entries p q xs → AlsoMakes us vs entries q r ys → AlsoMakes ts vs entries p r (xs ++ ys)
 also-both ts us vs entries p q r xs ys first second = λ changes makes. subst (Makes vs entries r) (append_assoc changes xs ys) (second (changes ++ xs) (first changes makes))
 
-pub also-none : (ts : List Triple) (entries : Dated) (p : Option (List Entry)) → AlsoMakes ts ts entries p p []
+pub also-none : (ts : List Triple) (entries : Dated) (p : List Entry) → AlsoMakes ts ts entries p p []
 also-none ts entries p = λ changes makes. subst (Makes ts entries p) (sym (append-nil changes)) makes
 
 -- with nothing ahead all changes are made
-pub also-all : (ts us : List Triple) (entries : Dated) (p q : Option (List Entry)) (n made a : ℕ) (ahead : List Edit) (done all : List (RowChange × ℕ)) → length ahead < 1
+pub also-all : (ts us : List Triple) (entries : Dated) (p q : List Entry) (n made a : ℕ) (ahead : List Edit) (done all : List (RowChange × ℕ)) → length ahead < 1
     → done ++ edit_changes n made a ahead ≡ all → AlsoMakes ts us entries p q done → AlsoMakes ts us entries p q all
 also-all ts us entries p q n made a [] done all h e makes = subst (AlsoMakes ts us entries p q) (sym (append-nil done) ∙ e) makes
 also-all ts us entries p q n made a (x ∷ ahead) done all h e makes = absurd (omega (arith, h))
@@ -205,7 +207,7 @@ module _ (ts : List Triple) (node : ℕ) (ambition : Formula ℕ) (c : List Bool
       ∙ rows-edited (node_count_after made e) (line_count_after line e) (applied c v (applying ambition (numbered_edit ns t made line e))) es
 
 module _ (history : List Command) (base : ℕ) (choice : List Bool) (ambition : Formula ℕ) (es : List Edit) (ts : List Triple) (node : ℕ) (values : (c : List Bool) → value_in ts node c ≡ value ambition c)
-    (entries : Dated) (plan : Option (List Entry)) (of_entries : AreEntriesOf history ts entries)
+    (entries : Dated) (plan : List Entry) (of_entries : AreEntriesOf history ts entries)
     (makes : Makes ts entries plan (edit_changes (numbers_of history).nodes (numbers_of history).nodes node es)) where
   abbrev commit : Command
   commit = commands.Commit base choice ambition es
@@ -239,19 +241,21 @@ module _ (history : List Command) (base : ℕ) (choice : List Bool) (ambition : 
 -- entries are those of a history whatever room they have
 pub entries-room : (history : List Command) (ts : List Triple) (old new : Dated) → without_room new ≡ without_room old → AreEntriesOf history ts old → AreEntriesOf history ts new
 entries-room history ts old new same held = record {
-  rows = λ c p. ap (λ (d : Dated). rows_at ts c p d) same ∙ held.rows c p;
-  within = subst (λ (d : Dated). AreNodesAt ts d) (sym same) held.within;
+  rows = λ c p. ap (rows_in ts c) (nodes_but_room old new same p) ∙ held.rows c p;
+  within = λ p. subst (AllAreWithin ts) (sym (nodes_but_room old new same p)) (held.within p);
   from = let is : new.from ≡ old.from = ap (λ (d : Dated). d.from) same in let low = held.from in omega (arith, is, low);
 }
 
 -- a plan makes the same changes over entries with other room
-pub makes-room : (ts : List Triple) (old new : Dated) (plan : Option (List Entry)) (changes : List (RowChange × ℕ)) → without_room new ≡ without_room old → Makes ts old plan changes → Makes ts new plan changes
+pub makes-room : (ts : List Triple) (old new : Dated) (plan : List Entry) (changes : List (RowChange × ℕ)) → without_room new ≡ without_room old → Makes ts old plan changes → Makes ts new plan changes
 makes-room ts old new plan changes same makes = record {
   rows = λ c p le.
       let is : new.from ≡ old.from = ap (λ (d : Dated). d.from) same in
-      ap (λ (d : Dated). rows_with ts c plan d) same ∙ makes.rows c p (omega (arith, is, le)) ∙ ap (λ (d : Dated). all_changed ts c changes (rows_at ts c p d)) (sym same);
-  over = subst (λ (d : Dated). AreNodesAt ts d) (sym same) makes.over;
-  within = subst (λ (d : Dated). AreNodesWith ts plan d) (sym same) makes.within;
+      ap (λ es. rows_in ts c (planned plan es)) (newest_but_room old new same)
+      ∙ makes.rows c p (omega (arith, is, le))
+      ∙ ap (λ es. all_changed ts c changes (rows_in ts c es)) (sym (nodes_but_room old new same p));
+  over = λ p. subst (AllAreWithin ts) (sym (nodes_but_room old new same p)) (makes.over p);
+  within = subst (λ es. AllAreWithin ts (planned plan es)) (sym (newest_but_room old new same)) makes.within;
   ambitions = makes.ambitions;
 }
 
@@ -260,7 +264,7 @@ pub entries-once : (history : List Command) (ts : List Triple) (entries : Dated)
 entries-once history ts entries held = λ p c. subst AreOnce (sym (held.rows c p)) (replay-once c (take p history))
 
 -- the nodes of a plan that makes no change are those made before
-pub up-to-made : (history : List Command) (ts : List Triple) (commits : List CommitMark) (file_of_line : List ℕ) (entries : Dated) (stored : List FilePart) (counts : Counts) (before : ℕ) (plan : Option (List Entry)) → AreCountsOf history counts
+pub up-to-made : (history : List Command) (ts : List Triple) (commits : List CommitMark) (file_of_line : List ℕ) (entries : Dated) (stored : List FilePart) (counts : Counts) (before : ℕ) (plan : List Entry) → AreCountsOf history counts
     → nodes_with plan entries ≡ nodes_in entries → IsHeldBy history ts commits file_of_line entries stored → before ≡ counts.nodes - 1 → AreNodesUpTo before plan entries
 up-to-made history ts commits file_of_line entries stored counts before plan are same held is =
     let nodes = are.nodes in

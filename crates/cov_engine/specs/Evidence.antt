@@ -16,7 +16,7 @@ use Rattle.cov_history.specs.declared.refusal.Refusal.{Refusal}
 use Rattle.cov_history.specs.declared.refusal.Refusal.TheVariants as refusals
 
 -- the rows with a plan can be tested on the choices of so many options on which two nodes are true
-pub record CanBeTested (ts : List Triple) (entries : Dated) (plan : Option (List Entry)) (valid ambition count : ℕ) : Type 0 where
+pub record CanBeTested (ts : List Triple) (entries : Dated) (plan : List Entry) (valid ambition count : ℕ) : Type 0 where
   pub valid_within : valid < diagram_size ts
   pub ambition_within : ambition < diagram_size ts
   pub rows_within : AreNodesWith ts plan entries
@@ -26,7 +26,7 @@ pub record CanBeTested (ts : List Triple) (entries : Dated) (plan : Option (List
   pub ambition_options : span ts ambition ≤ count
   pub unread : AreUnreadWith ts plan entries count
 
-module _ (ts : List Triple) (entries : Dated) (plan : Option (List Entry)) (valid ambition count : ℕ) where
+module _ (ts : List Triple) (entries : Dated) (plan : List Entry) (valid ambition count : ℕ) where
   -- the rows with the plan on a choice
   abbrev planned_rows : List Bool → List Row
   planned_rows c = rows_with ts c plan entries

@@ -39,5 +39,5 @@ files_among ks = filter_map (λ k. if_file k.1 k.0) ks
 abbrev pub files_in : Dated → List ℕ
 files_in d = files_among (kinds_in d)
 
-abbrev pub files_with : Option (List Entry) → Dated → List ℕ
+abbrev pub files_with : List Entry → Dated → List ℕ
 files_with plan d = files_among (kinds_with plan d)

@@ -12,12 +12,11 @@ use Rattle.cov_engine.specs.declared.file_part.FilePart.{FilePart}
 use Rattle.cov_engine.specs.declared.reading.FileFault.{FileFault}
 use Rattle.cov_engine.specs.declared.reading.FileFault.TheVariants as faults
 
--- the file to which a path leads among rows, or why it leads to none; of want of memory nothing is said
+-- the file to which a path leads among rows, or why it leads to none
 abbrev pub IsFileAmong : List Row → List (List ℕ) → Result ℕ FileFault → Type 0
 IsFileAmong rows path (Ok node) = (path_node rows 0 path ≡ Some node) × (is_dir rows node ≡ false)
 IsFileAmong rows path (Err faults.NoSuchPath) = path_node rows 0 path ≡ None
 IsFileAmong rows path (Err faults.NotFile) = (node : ℕ) × (path_node rows 0 path ≡ Some node) × (is_dir rows node ≡ true)
-IsFileAmong rows path (Err faults.Memory) = Unit {0}
 
 -- the same in a variant
 abbrev pub IsFileAt : Variant → List (List ℕ) → Result ℕ FileFault → Type 0

@@ -1,5 +1,5 @@
 -- What is ready for a command.
-use Rattle.std.specs.Prelude.{◌≡◌, ℕ, ◌+◌, ◌<◌, ◌≤◌, true, List, length, Option, Some, None}
+use Rattle.std.specs.Prelude.{◌≡◌, ℕ, ◌+◌, ◌<◌, ◌≤◌, true, List, length, Some, None}
 use Rattle.cov_dd.specs.declared.triple.Triple.{Triple}
 use Rattle.cov_expr.specs.Formula.{Formula}
 use Rattle.cov_edit.specs.declared.edit.Edit.{Edit}
@@ -54,7 +54,7 @@ IsStagedReady history ts ambition es spare commits file_of_line entries stored (
     IsStaged history ts ambition es commits mark plans.items rows file_of_line entries stored × AreCountsWith history es counts × (0 < spare)
 
 -- a commit is staged, and there is room for it
-abbrev pub IsCommitReady : List Command → List Triple → Command → ℕ → List CommitMark → List ℕ → Dated → List FilePart → CommitMark → Counts → List EditPlan → Option (List Entry) → Type 0
+abbrev pub IsCommitReady : List Command → List Triple → Command → ℕ → List CommitMark → List ℕ → Dated → List FilePart → CommitMark → Counts → List EditPlan → List Entry → Type 0
 IsCommitReady history ts (commands.Commit base choice ambition es) spare commits file_of_line entries stored mark counts plans rows =
     MayCome history (commands.Commit base choice ambition es) × IsStaged history ts ambition es commits mark plans rows file_of_line entries stored × AreCountsWith history es counts × (0 < spare)
 IsCommitReady history ts command spare commits file_of_line entries stored mark counts plans rows = ⊥

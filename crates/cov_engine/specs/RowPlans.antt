@@ -1,5 +1,5 @@
 -- The changes of rows that a commit's edits make, and what installing them does.
-use Rattle.std.specs.Prelude.{◌≡◌, ℕ, ◌+◌, ◌<◌, ◌≤◌, Bool, List, [], ◌∷◌, ◌++◌, Option}
+use Rattle.std.specs.Prelude.{◌≡◌, ℕ, ◌+◌, ◌<◌, ◌≤◌, Bool, List, [], ◌∷◌, ◌++◌}
 use Rattle.std.specs.List.{AllByRecursion}
 use Rattle.cov_base.specs.Rows.{RowChange, Created, Renamed, Moved, Removed}
 use Rattle.cov_base.specs.declared.number.Kind.{Kind}
@@ -24,12 +24,12 @@ edit_changes n made ambition (edits.Move node parent ∷ es) = (Moved (node_numb
 edit_changes n made ambition (edits.Remove node ∷ es) = (Removed (node_number n node), ambition) ∷ edit_changes n made ambition es
 
 -- a plan makes the changes of edits besides those that another made
-abbrev pub AlsoMakes : List Triple → List Triple → Dated → Option (List Entry) → Option (List Entry) → List (RowChange × ℕ) → Type 0
+abbrev pub AlsoMakes : List Triple → List Triple → Dated → List Entry → List Entry → List (RowChange × ℕ) → Type 0
 AlsoMakes before after entries old new more =
     (changes : List (RowChange × ℕ)) → Makes before entries old changes → Makes after entries new (changes ++ more)
 
 -- the nodes of a plan have numbers up to a count
-abbrev pub AreNodesUpTo : ℕ → Option (List Entry) → Dated → Type 0
+abbrev pub AreNodesUpTo : ℕ → List Entry → Dated → Type 0
 AreNodesUpTo count plan entries = AllByRecursion (λ node. node ≤ count) (nodes_with plan entries)
 
 -- items with one for each node that edits make behind them, by its number and kind, so many nodes having been made before these edits
@@ -58,7 +58,7 @@ abbrev pub kinds_made_by : ℕ → List Edit → List (ℕ × Kind) → List (�
 kinds_made_by made es ks = made_with number_and_kind made es ks
 
 -- a plan is installed from a position on
-pub record IsSet (at : ℕ) (plan : Option (List Entry)) (old new : Dated) : Type 0 where
+pub record IsSet (at : ℕ) (plan : List Entry) (old new : Dated) : Type 0 where
   pub planned : (table : List Triple) (c : List Bool) (p : ℕ) → at ≤ p → rows_at table c p new ≡ rows_with table c plan old
   pub before : (table : List Triple) (c : List Bool) (p : ℕ) → p < at → rows_at table c p new ≡ rows_at table c p old
   pub from : new.from ≤ at

@@ -1,5 +1,5 @@
 -- A commit that is staged.
-use Rattle.std.specs.Prelude.{◌≡◌, ℕ, ◌+◌, ◌≤◌, List, length, map, ◌++◌, Option}
+use Rattle.std.specs.Prelude.{◌≡◌, ℕ, ◌+◌, ◌≤◌, List, length, map, ◌++◌}
 use Rattle.std.specs.List.{AllByRecursion}
 use Rattle.cov_dd.specs.declared.triple.Triple.{Triple}
 use Rattle.cov_dd.specs.Diagrams.{Stands}
@@ -23,7 +23,7 @@ use Rattle.cov_engine.specs.declared.edit_plan.EditPlan.{EditPlan}
 
 -- a commit is planned after a history: its position and what it touches are kept, its node stands for the ambition, which names
 -- declared options, and a plan makes its changes of rows, with the nodes that it makes behind those before
-pub record IsCommitPlan (history : List Command) (ts : List Triple) (entries : Dated) (ambition : Formula ℕ) (es : List Edit) (mark : CommitMark) (plan : Option (List Entry)) : Type 0 where
+pub record IsCommitPlan (history : List Command) (ts : List Triple) (entries : Dated) (ambition : Formula ℕ) (es : List Edit) (mark : CommitMark) (plan : List Entry) : Type 0 where
   pub at : mark.position ≡ length history + 1
   pub touches : mark.touched ≡ touched es
   pub named : reach ambition ≤ option_count history
@@ -34,7 +34,7 @@ pub record IsCommitPlan (history : List Command) (ts : List Triple) (entries : D
 
 -- a commit is staged: its files and the files of its lines are kept behind those of the history, each file has room for what it
 -- does to it and the entries for its changes of rows, and its ambition and the plans of its edits are ready
-pub record IsStaged (history : List Command) (ts : List Triple) (ambition : Formula ℕ) (es : List Edit) (commits : List CommitMark) (mark : CommitMark) (plans : List EditPlan) (plan : Option (List Entry)) (file_of_line : List ℕ) (entries : Dated) (stored : List FilePart) : Type 0 where
+pub record IsStaged (history : List Command) (ts : List Triple) (ambition : Formula ℕ) (es : List Edit) (commits : List CommitMark) (mark : CommitMark) (plans : List EditPlan) (plan : List Entry) (file_of_line : List ℕ) (entries : Dated) (stored : List FilePart) : Type 0 where
   pub old_file_of_line : List ℕ
   pub old_stored : List FilePart
   pub held : IsHeldBy history ts commits old_file_of_line entries old_stored

@@ -235,7 +235,7 @@ impl Engine {
 
     /// The file at a path, its names from the root on, in the variant of a choice at a position; beyond the history that is the one
     /// now. `NoSuchPath` and `NotFile` come exactly where a name on the path isn't there and where the path leads to a directory.
-    /// Reads rows alone, and no lines. It takes time in the rows, for each name of the path.
+    /// It takes no memory, and for each name of the path time in the nodes that ever had that name in that directory.
     pub fn file_at(&self, choice: Choice, at: Position, path: &[Name]) -> Result<NodeNo, FileFault>
         ensures { IsFileAt (replay choice (take at self.now.history)) path.now result }
     {
@@ -251,9 +251,9 @@ impl Engine {
         reading::lines_at(alloc, &self.state.visible, file, choice, at)
     }
 
-    /// Whether a node is in the variant of a choice at a position. It takes time in the rows.
-    pub fn has_node(&self, node: NodeNo, choice: Choice, at: Position) -> Result<bool, Memory>
-        ensures { IfOk result (λ is. is ≡ is_present (replay choice (take at self.now.history)).rows node) }
+    /// Whether a node is in the variant of a choice at a position. It takes no memory, and time in the places of that node.
+    pub fn has_node(&self, node: NodeNo, choice: Choice, at: Position) -> bool
+        ensures { result ≡ is_present (replay choice (take at self.now.history)).rows node }
     {
         reading::has_node(&self.state.visible, node, choice, at)
     }
@@ -270,7 +270,6 @@ impl Engine {
         ensures refused { IfErr result (λ refused. RefusedBy refused.1 (verdict self.history command)) }
     {
         let Engine { mut state } = self;
-        command.bounds_are_kept();
         match make_ready(&mut state, &command) {
             Ok(ready) => Ok(Prepared::new(state, command, ready)),
             Err(refusal) => Err((Engine { state }, refusal)),

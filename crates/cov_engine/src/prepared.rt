@@ -1,7 +1,8 @@
 // Commands that a history has accepted, and doesn't have yet.
-ghost use Rattle.std.specs.Prelude.{◌≡◌, ◌+◌, ◌++◌, [], ◌∷◌, length};
+ghost use Rattle.std.specs.Prelude.{◌≡◌, ◌<◌, ◌+◌, ◌++◌, [], ◌∷◌, None, length};
 ghost use Rattle.cov_dd.specs.Diagrams.{Extends};
-ghost use Rattle.cov_engine.specs.Ready.{IsNext, IsReady};
+ghost use Rattle.cov_engine.specs.Ready.{IsReady};
+ghost use Rattle.cov_history.specs.Verdict.{verdict};
 ghost use Rattle.cov_engine.specs.States.{IsStateOf, receipt_number};
 
 use crate::Engine;
@@ -51,11 +52,13 @@ pub struct Receipt {
 impl Prepared {
     pub(crate) fn new(state: EngineState, command: Command, ready: Ready) -> Prepared
         requires state { IsStateOf state.commands.commands state.options.names state.visible.table state.rules.standing state.counts }
-        requires next { IsNext state.commands.commands command state.commands.spare }
+        requires accepted { verdict state.commands.commands command ≡ None }
+        requires room { 0 < state.commands.spare }
         requires ready { IsReady state.commands.commands command state.options.spare state.visible.table state.rules
             state.store.commits.spare state.store.commits.items state.store.file_of_line.items state.visible.entries state.visible.files ready }
         ensures { result ≡ record { history = state.commands.commands; command = command; table = state.visible.table } }
     {
+        command.bounds_are_kept();
         Prepared {
             state,
             command,

@@ -96,7 +96,6 @@ refusal_stop refusal = stops.Refused (refusal_code refusal)
 
 -- a path that leads to no file
 abbrev pub file_stop : FileFault → Stop
-file_stop files.Memory = stops.Memory
 file_stop files.NoSuchPath = stops.Refused codes.NoSuchPath
 file_stop files.NotFile = stops.Refused codes.NotFile
 

@@ -203,7 +203,6 @@ impl From<FileFault> for Stop {
         match fault {
             FileFault::NoSuchPath => Stop::Refused(Code::NoSuchPath),
             FileFault::NotFile => Stop::Refused(Code::NotFile),
-            FileFault::Memory => Stop::Memory,
         }
     }
 }

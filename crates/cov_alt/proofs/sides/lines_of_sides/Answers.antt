@@ -11,6 +11,6 @@ returns c =
     IfOk-weaker c.mark_all.result _ _
     (λ lines is.
     is
-    ∙ (λ i. fold (with_marked history (c.in_ok-on.ensures i) (c.in_ok-off.ensures i)) [] ((c.as_slice.ensures ∙ c.in_ok-rows.ensures) i))
+    ∙ (λ i. fold (with_marked history (c.side_with-on.ensures i) (c.side_with-off.ensures i)) [] ((c.as_slice.ensures ∙ c.in_ok-rows.ensures) i))
     ∙ marked_sides history c.args.on c.args.off c.args.file)
     c.mark_all.ensures

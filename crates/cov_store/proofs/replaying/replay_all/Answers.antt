@@ -21,3 +21,7 @@ records-preserved g c =
       images = keeps_both g.D.Disk.images g.D.Disk.moment g.D.Disk.images_since c.args.disk.now c.records.disk c.replay_next.new.disk c.records.invariant.images c.replay_next.ensures.images;
       later = omega (arith, c.records.invariant.later, c.replay_next.ensures.later);
     }
+
+pub returns-in-Ok-End-clause-images : goal.returns-in-Ok-End-clause-images
+returns-in-Ok-End-clause-images g c =
+    keeps_both g.D.Disk.images g.D.Disk.moment g.D.Disk.images_since c.args.disk.now c.records.disk c.replay_next.new.disk c.records.invariant.images c.replay_next.ensures.images

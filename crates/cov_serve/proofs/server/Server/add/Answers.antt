@@ -1,17 +1,30 @@
 use Rattle.std.proofs.Common.{subst, ℕ, ◌<◌, List, length, Result}
-use Rattle.std.specs.Prelude.{IfSome}
+use Rattle.std.specs.Prelude.{IfOk, IfSome}
 use Rattle.cov_engine.specs.declared.prepared.Receipt.{Receipt}
 use Rattle.cov_store.specs.Stands.{IsStored, gate_of}
 use Rattle.cov_serve.specs.Acting.{Changes}
+use Rattle.cov_serve.specs.Adding.{HasReceipt}
 use Rattle.cov_serve.specs.Step.{appended}
 use Rattle.cov_serve.specs.declared.stop.Stop.{Stop}
-use Rattle.cov_serve.proofs.Additions.{finish-has, stop-gives, stop-has, there-kept}
+use Rattle.cov_serve.proofs.Additions.{finish-gives, finish-has, stop-gives, stop-has, stop-told, there-kept}
 use Rattle.cov_serve.proofs.server.Server.add.Goals as goal
 
 pub finish-requires : goal.finish-requires
 finish-requires g c =
     there-kept c.args.self c.args.addition.command c.in-Ok.server c.args.addition.ends
     (subst (λ (r : Result Receipt Stop). Changes (appended c.args.self c.args.addition.command) c.args.self c.in-Ok.server r) c.in-Ok-added.is c.in-Ok.ensures.changes) c.requires.there
+
+pub stop-requires : goal.stop-requires
+stop-requires g c =
+    stop-told c.args.self c.in-Ok.server c.args.addition.command c.in-Err-added.stop
+    (subst (λ (r : Result Receipt Stop). Changes (appended c.args.self c.args.addition.command) c.args.self c.in-Ok.server r) c.in-Err-added.is c.in-Ok.ensures.changes)
+
+pub returns-in-Ok-added-clause-gives : goal.returns-in-Ok-added-clause-gives
+returns-in-Ok-added-clause-gives g c =
+    finish-gives c.args.self c.in-Ok.server c.args.addition c.in-Ok-added.receipt c.finish.result
+    (subst (λ (r : Result Receipt Stop). Changes (appended c.args.self c.args.addition.command) c.args.self c.in-Ok.server r) c.in-Ok-added.is c.in-Ok.ensures.changes)
+    (subst (λ (r : Result Receipt Stop). IfOk r (λ receipt. HasReceipt c.args.self.history c.args.addition.command receipt)) c.in-Ok-added.is c.in-Ok.ensures.receipt)
+    c.finish.ensures.gives
 
 pub returns-in-Ok-added-clause-gate : goal.returns-in-Ok-added-clause-gate
 returns-in-Ok-added-clause-gate g c =

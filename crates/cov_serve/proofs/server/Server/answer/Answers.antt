@@ -1,4 +1,4 @@
-use Rattle.std.proofs.Common.{◌∙◌, sym, ap, subst, Ok}
+use Rattle.std.proofs.Common.{◌∙◌, sym, ap, subst, ℕ, List, Ok}
 use Rattle.std.specs.Prelude.{IfOk}
 use Rattle.cov_loop.specs.Answers.{Gives}
 use Rattle.cov_loop.specs.Keeping.{AreAll}
@@ -9,7 +9,9 @@ use Rattle.cov_serve.specs.Step.{acted, as_outcome, plainly, refused, step}
 use Rattle.cov_serve.specs.Storing.{grown, stored}
 use Rattle.cov_serve.specs.declared.handled.Handled.{Handled}
 use Rattle.cov_serve.specs.declared.stop.Stop.{Stop}
-use Rattle.cov_serve.proofs.Additions.{done-gives, refused-step, step-added, step-grown}
+use Rattle.cov_serve.specs.declared.stop.Stop.TheVariants as reasons
+use Rattle.cov_store.specs.Stands.{IsStored}
+use Rattle.cov_serve.proofs.Additions.{done-gives, refused-step, step-added, step-grown, stop-has}
 use Rattle.cov_serve.proofs.Leaving.{leaves-for}
 use Rattle.cov_serve.proofs.server.Server.answer.Goals as goal
 
@@ -52,3 +54,12 @@ returns-in-Err-Refused-clause-gives g c =
 
 pub returns-in-Err-Refused-clause-stopped : goal.returns-in-Err-Refused-clause-stopped
 returns-in-Err-Refused-clause-stopped g c = c.refuse.ensures.stopped (g.D.Disk.faults c.args.disk.now) (g.D.Disk.faults c.args.disk.now)
+
+pub returns-in-Err-Refused-clause-durable : goal.returns-in-Err-Refused-clause-durable
+returns-in-Err-Refused-clause-durable g c = λ all.
+    let st = c.self.inside.state in
+    let line = c.args.line.now in
+    let new = c.act.new.self in
+    let stops = subst (λ (s : Stop). Stops (acted st line) st new s) c.in-Err-Refused.field-0-is c.in-Err-Refused.ensures in
+    stop-has st new (λ h. (image : List ℕ) → g.D.Disk.images c.args.disk.now image → IsStored image h) (reasons.Refused c.in-Err-Refused.code) c.refuse.result
+    (subst (λ (t : State). AreAll (stored t) (g.D.Disk.images c.args.disk.now)) (sym (stops.same ∙ c.self.view_is)) all) c.refuse.ensures.gives
