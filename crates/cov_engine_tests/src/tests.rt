@@ -1,6 +1,7 @@
 mod declaring;
 mod lines;
 mod overtaking;
+mod positions;
 mod refusing;
 mod sides;
 mod steps;

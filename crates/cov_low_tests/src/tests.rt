@@ -1,3 +1,4 @@
+mod dated;
 mod diagrams;
 mod edits;
 mod entries;

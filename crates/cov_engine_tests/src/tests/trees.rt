@@ -45,7 +45,7 @@ fn one(alloc: Global, edit: Edit) -> Result<Edits, Fail>
     also(Edits::new(alloc), edit)
 }
 
-fn old(node: u32) -> NodeRef
+pub(crate) fn old(node: u32) -> NodeRef
     ensures { result ≡ nodes.Old node }
 {
     NodeRef::Old(NodeNo::new(node))
@@ -236,8 +236,8 @@ fn check_read(rt: &impl Abort, alloc: Global, engine: &Engine) -> Result<(), Fai
     assert!(rt; found(alloc, engine, Choice::new(2, 2), b"/a/z")? == Ok(NodeNo::new(1)));
     assert!(rt; found(alloc, engine, Choice::new(2, 2), b"/a")? == Err(FileFault::NotFile));
     assert!(rt; found(alloc, engine, Choice::new(1, 2), b"/y")? == Err(FileFault::NoSuchPath));
-    assert!(rt; engine.has_node(NodeNo::new(1), Choice::new(2, 2), Position::new(9))?);
-    assert!(rt; !engine.has_node(NodeNo::new(1), Choice::new(1, 2), Position::new(9))?);
+    assert!(rt; engine.has_node(NodeNo::new(1), Choice::new(2, 2), Position::new(9)));
+    assert!(rt; !engine.has_node(NodeNo::new(1), Choice::new(1, 2), Position::new(9)));
     assert_eq!(rt; count_lines(engine, Choice::new(1, 2), 9)?, 2);
     assert_eq!(rt; count_lines(engine, Choice::new(1, 2), 4)?, 1);
     Ok(())

@@ -139,7 +139,12 @@ fn last_row(rt: &impl Abort, rows: &NodeRows, index: usize, node: u32, parent: u
 }
 
 // The rows before the change, and after it where option 0 is off and where it is on.
-fn rows_there(rt: &impl Abort, entries: &Entries, table: &Table) -> Result<(), Fail> {
+fn rows_there(
+    rt: &impl Abort,
+    entries: &Entries,
+    table: &Table,
+    alloc: Global,
+) -> Result<(), Fail> {
     let on = Choice::new(1, 1);
     let first = entries.rows_at(table, on, Position::new(2))?;
     assert_eq!(rt; first.len(), 0);
@@ -149,7 +154,51 @@ fn rows_there(rt: &impl Abort, entries: &Entries, table: &Table) -> Result<(), F
     last_row(rt, &off, 1, 2, 1, b"m");
     let after = entries.rows_at(table, on, Position::new(5))?;
     last_row(rt, &after, 0, 2, 0, b"n");
+    found_there(rt, entries, table, alloc)?;
     rows_of_one(rt, entries, table)
+}
+
+// The file by its name and the kind of the directory before the change, and after it where option 0 is on.
+fn found_there(
+    rt: &impl Abort,
+    entries: &Entries,
+    table: &Table,
+    alloc: Global,
+) -> Result<(), Fail> {
+    let m = Name::read(alloc, b"m")?;
+    let n = Name::read(alloc, b"n")?;
+    is_child(rt, entries, table, 4, 1, &m);
+    is_no_child(rt, entries, table, 4, 1, &n);
+    is_no_child(rt, entries, table, 4, 0, &m);
+    is_child(rt, entries, table, 5, 0, &n);
+    is_no_child(rt, entries, table, 5, 0, &m);
+    is_no_child(rt, entries, table, 5, 1, &n);
+    is_dir_before(rt, entries, table);
+    Ok(())
+}
+
+// The file has that name in that directory, at a position where option 0 is on.
+fn is_child(rt: &impl Abort, entries: &Entries, table: &Table, at: u32, dir: u32, name: &Name) {
+    let on = Choice::new(1, 1);
+    let found = entries.child_at(table, on, Position::new(at), NodeNo::new(dir), name);
+    assert_eq!(rt; found, Some(NodeNo::new(2)));
+}
+
+// No node has that name there.
+fn is_no_child(rt: &impl Abort, entries: &Entries, table: &Table, at: u32, dir: u32, name: &Name) {
+    let on = Choice::new(1, 1);
+    let found = entries.child_at(table, on, Position::new(at), NodeNo::new(dir), name);
+    assert!(rt; found.is_none());
+}
+
+// The kind of the directory, which is gone after the change.
+fn is_dir_before(rt: &impl Abort, entries: &Entries, table: &Table) {
+    let on = Choice::new(1, 1);
+    let dir = NodeNo::new(1);
+    let before = entries.kind_at(table, on, Position::new(4), dir);
+    assert_eq!(rt; before, Some(Kind::Dir));
+    let after = entries.kind_at(table, on, Position::new(5), dir);
+    assert_eq!(rt; after, None);
 }
 
 // The rows of a node alone, before the change and after it where option 0 is on.
@@ -182,7 +231,7 @@ fn check_rows(rt: &impl Abort, table: &mut Table, alloc: Global) -> Result<(), F
     let on = table.literal(OptionId::new(0))?;
     let mut entries = two_nodes(table, alloc)?;
     let checked = match change_where_on(rt, &mut entries, table, alloc, on) {
-        Ok(()) => rows_there(rt, &entries, table),
+        Ok(()) => rows_there(rt, &entries, table, alloc),
         Err(fail) => Err(fail),
     };
     drop(entries);

@@ -29,6 +29,36 @@ fn lines_stand_after_their_anchors(rt: HostRuntime) -> Result<(), Fail> {
     Ok(())
 }
 
+const MANY: u32 = 1_000_000;
+
+// The line 1, and then the others up to the millionth, each directly after it.
+fn add_many(order: &mut Order) -> Result<LineNos, Memory>
+    requires { order.old.lines ≡ [] }
+{
+    order.reserve(MANY)?;
+    order.insert_after(LineNo::new(0), LineNo::new(1));
+    'numbers: for number in 2..=MANY {
+        order.insert_after(LineNo::new(1), LineNo::new(number));
+    }
+    order.walk()
+}
+
+fn is_newest_first(rt: &impl Abort, lines: &LineNos) {
+    assert!(rt; lines.len() == MANY as usize);
+    assert!(rt; lines.get(0) == Some(LineNo::new(1)));
+    for index in 1..MANY {
+        assert!(rt; lines.get(index as usize) == Some(LineNo::new(MANY + 1 - index)));
+    }
+}
+
+#[test]
+fn a_million_lines_in_time(rt: HostRuntime) -> Result<(), Fail> {
+    let mut order = Order::new(rt.alloc());
+    let lines = add_many(&mut order)?;
+    is_newest_first(&rt, &lines);
+    Ok(())
+}
+
 // Puts the line 1 in from position 3 on.
 fn add_line(alloc: Global, file: &mut FileLines) -> Result<(), Memory>
     requires lines { file.old.lines ≡ [] }
