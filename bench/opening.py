@@ -1,8 +1,10 @@
 #!/usr/bin/env python3
-"""Times the opening of a store of 100,000 commits, each of one line of 40 bytes, and tells its peak of memory. The store's bytes are
-made here, since the program takes far longer to make it: each session copies all lines of its variant."""
+"""Times the opening of a store of 100,000 commits, each of one line of 40 bytes, and tells its peak of memory: once where each line
+is put first into its file, and once where it is put behind one that is drawn from those of its file. The store's bytes are made here,
+since the program takes far longer to make it: each session copies all lines of its variant."""
 import hashlib
 import os
+import random
 import struct
 import sys
 import tempfile
@@ -22,20 +24,32 @@ def commit(base, edits):
     return struct.pack('>BIBBI', 5, base, 0, 1, len(edits)) + b''.join(edits)
 
 
-def records():
+def first(number):
+    """The head of the file, as what the line of a commit is put behind."""
+    return 0
+
+
+def drawn(number):
+    """A line of the commits before that is in the file of this one, or its head; lines have numbers from 1 on."""
+    before = number // FILES
+    which = random.Random(number).randrange(before + 1)
+    return which and (which - 1) * FILES + number % FILES + 1
+
+
+def records(anchor):
     names = [b'f%d' % number for number in range(FILES)]
     yield commit(0, [struct.pack('>BB', 1, 0) + node(0) + bytes([len(name)]) + name for name in names])
     for number in range(COMMITS):
         text = (b'line %d ' % number).ljust(TEXT, b'x')
-        yield commit(number + 1, [struct.pack('>B', 2) + node(number % FILES + 1) + node(0) + struct.pack('>H', TEXT) + text])
+        yield commit(number + 1, [struct.pack('>B', 2) + node(number % FILES + 1) + node(anchor(number)) + struct.pack('>H', TEXT) + text])
 
 
-def store(path):
+def store(path, anchor):
     """Writes the store; its number of bytes."""
     digest = bytes(32)
     with open(path, 'wb') as file:
         file.write(b'COVSTORE' + struct.pack('>I', 1))
-        for record in records():
+        for record in records(anchor):
             digest = hashlib.sha256(digest + record).digest()
             file.write(struct.pack('>BI', 1, len(record)) + record + digest)
         file.write(bytes(1))
@@ -43,20 +57,22 @@ def store(path):
 
 
 def main():
-    program, rounds = build(), []
-    with elsewhere():
-        size = store('store.cov')
-        for _ in range(REPETITIONS):
-            with tempfile.TemporaryFile() as out:
-                clock = Clock()
-                clock.run(program, 'check', out=out)
-                out.seek(0)
-                assert out.read() == b'ok %d records\n' % (COMMITS + 1)
-            rounds.append((clock,))
-        peak = peak_of([program, 'check'])
-    print('%d bytes of journal, %d of text; load average %.1f' % (size, COMMITS * TEXT, os.getloadavg()[0]))
-    for kind, (taken,) in least(rounds):
-        print('| %s | %.2f s | %.2f MB/s | %.0f MB |' % (kind, taken, size / taken / 1e6, peak / 1024))
+    program = build()
+    for anchor in (first, drawn):
+        rounds = []
+        with elsewhere():
+            size = store('store.cov', anchor)
+            for _ in range(REPETITIONS):
+                with tempfile.TemporaryFile() as out:
+                    clock = Clock()
+                    clock.run(program, 'check', out=out)
+                    out.seek(0)
+                    assert out.read() == b'ok %d records\n' % (COMMITS + 1)
+                rounds.append((clock,))
+            peak = peak_of([program, 'check'])
+        print('%s: %d bytes of journal, %d of text; load average %.1f' % (anchor.__name__, size, COMMITS * TEXT, os.getloadavg()[0]))
+        for kind, (taken,) in least(rounds):
+            print('| %s | %s | %.2f s | %.2f MB/s | %.0f MB |' % (anchor.__name__, kind, taken, size / taken / 1e6, peak / 1024))
 
 
 if __name__ == '__main__':

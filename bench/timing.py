@@ -22,6 +22,13 @@ def build():
     return os.path.join(TOP, 'crates', 'cov_cli', 'out', 'cov_cli')
 
 
+def built(name):
+    """The program of a crate of that name, which is proved and built if that isn't done."""
+    crate = os.path.join(TOP, 'crates', name)
+    subprocess.run(['rt', 'run'], cwd=crate, stdout=subprocess.DEVNULL, stderr=subprocess.DEVNULL, check=True)
+    return os.path.join(crate, 'out', name)
+
+
 def as_script(lines, source):
     source.write(''.join(line + '\n' for line in lines).encode())
     source.seek(0)
@@ -42,6 +49,15 @@ class Clock:
         self.elapsed += time.perf_counter() - start
         assert status == 0
         self.processor += usage.ru_utime + usage.ru_stime
+
+
+def told(command):
+    """The processor seconds of a command that ends well, and what it printed."""
+    clock = Clock()
+    with tempfile.TemporaryFile() as out:
+        clock.run(*command, out=out)
+        out.seek(0)
+        return clock.processor, out.read()
 
 
 def clocked(lines, program):
@@ -133,12 +149,10 @@ def peak(child):
         return next(int(line.split()[1]) for line in status if line.startswith('VmHWM:'))
 
 
-def counted(lines, program, name=None):
-    """The instructions of a run on these lines, all accepted, and those within the function of a name, as Debian's valgrind counts
-    them."""
-    with tempfile.TemporaryFile() as source, tempfile.NamedTemporaryFile() as counts:
-        as_script(lines, source)
-        command = ['valgrind', '--quiet', '--tool=callgrind', '--callgrind-out-file=' + counts.name, program, 'run']
+def instructions(command, source=None, name=None):
+    """The instructions of a command that ends well, and those within the function of a name, as Debian's valgrind counts them."""
+    with tempfile.NamedTemporaryFile() as counts:
+        command = ['valgrind', '--quiet', '--tool=callgrind', '--callgrind-out-file=' + counts.name, *command]
         with elsewhere():
             subprocess.run(command, stdin=source, stdout=subprocess.DEVNULL, check=True)
         command = ['callgrind_annotate', '--inclusive=yes', '--threshold=100', counts.name]
@@ -147,3 +161,10 @@ def counted(lines, program, name=None):
     total = next(count for count, of in rows if of == 'PROGRAM TOTALS')
     within = [count for count, of in rows if name and re.search(r'\b%s\b' % name, of)]
     return total, max(within, default=0)
+
+
+def counted(lines, program, name=None):
+    """The instructions of a run on these lines, all accepted, and those within the function of a name."""
+    with tempfile.TemporaryFile() as source:
+        as_script(lines, source)
+        return instructions([program, 'run'], source, name)

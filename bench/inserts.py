@@ -1,0 +1,35 @@
+#!/usr/bin/env python3
+"""Times the line `commit` of a session that inserted 16 lines into one file, and of one that inserted 16,384."""
+import statistics
+import sys
+
+from timing import ask, build, started
+
+COUNTS, SESSIONS = (16, 16384), 5
+
+
+def seconds(program, count):
+    """The median seconds of `commit` over sessions that each insert so many lines into a file of their own."""
+    taken = []
+    with started(program) as child:
+        ask(child, 'open start - for true')
+        for i in range(SESSIONS):
+            ask(child, 'mkfile start /f%d' % i)
+        ask(child, 'commit start')
+        for i in range(SESSIONS):
+            ask(child, 'open s - for true')
+            for j in range(count):
+                ask(child, 'insert s /f%d %s line %d' % (i, '+%d' % (j - 1) if j else '0', j))
+            taken.append(ask(child, 'commit s'))
+    return statistics.median(taken)
+
+
+def main():
+    program = build()
+    few, many = (seconds(program, count) for count in COUNTS)
+    print('a commit of %d inserts %.1f us, of %d %.1f us' % (COUNTS[0], 1e6 * few, COUNTS[1], 1e6 * many))
+    print('each insert more %.2f us' % (1e6 * (many - few) / (COUNTS[1] - COUNTS[0])))
+
+
+if __name__ == '__main__':
+    sys.exit(main())
