@@ -31,6 +31,7 @@ pub mod Started
 pub mod States
 pub mod StoredFiles
 pub mod TouchedRows
+pub mod Trials
 pub mod Trying
 pub mod Views
 pub mod Visibilities

@@ -1,30 +1,21 @@
--- Two views with the same rows, whose files have the same of the lines that edits name, refuse the same edit first.
-use Rattle.std.proofs.Common.{◌≡◌, refl, ap, sym, ◌∙◌, ℕ, zero, suc, ◌+◌, Bool, true, false, cond, ◌&&◌, ◌||◌, not, List, [], ◌∷◌, ◌++◌, length, map, Option, Some, None, option_map, is_some, unwrap_or, arith}
-use Rattle.std.specs.List.{list_any}
+-- What is seen of rows without their lines, and what is known of a line after an edit.
+use Rattle.std.proofs.Common.{◌≡◌, refl, ap, sym, ◌∙◌, ℕ, zero, suc, Bool, true, false, cond, ◌&&◌, ◌||◌, not, List, [], ◌∷◌, ◌++◌, length, map, Option, Some, None, option_map, is_some, unwrap_or}
 use Rattle.std.specs.Option.{option_map_or, option_or}
 use Rattle.std.specs.Str.{bytes_eq}
-use Rattle.std.proofs.lemmas.Bool.{or_right}
-use Rattle.std.proofs.lemmas.Bool.Decides.{nat_tests}
-use Rattle.std.proofs.lemmas.List.{length-map, map-append}
+use Rattle.std.proofs.lemmas.List.{length-map}
 use Rattle.std.proofs.lemmas.Map.Views.{any-filter_same}
 use Rattle.cov_base.specs.Addresses.{after_first}
 use Rattle.cov_base.specs.declared.number.Kind.TheVariants as kinds
 use Rattle.cov_base.specs.declared.number.LineRef.{LineRef}
-use Rattle.cov_base.specs.declared.number.LineRef.TheVariants as lines
 use Rattle.cov_base.specs.declared.number.NodeRef.{NodeRef}
-use Rattle.cov_base.specs.declared.number.NodeRef.TheVariants as nodes
 use Rattle.cov_base.proofs.CallerLemmas.{any-map, or_left_comm}
-use Rattle.cov_edit.specs.declared.edit.Edit.{Edit}
-use Rattle.cov_edit.specs.declared.edit.Edit.TheVariants as edits
 use Rattle.cov_view.specs.Lines.{is_among, after_ref, without_ref}
 use Rattle.cov_view.specs.References.{is_head, is_root, same_line, same_node}
-use Rattle.cov_view.specs.Seen.{Seen, at_row, has_child, has_child_beside, has_child_of, has_children, has_line_in, is_there, kind_in, kind_is_dir, lies_within, line_fault, move_fault, new_fault, remove_fault, rename_fault, row_at, seen_after, seen_fault, with_lines_by, with_name_by, with_parent_by, without_node}
-use Rattle.cov_view.specs.declared.fault.EditFault.{EditFault}
+use Rattle.cov_view.specs.Seen.{at_row, has_child, has_child_beside, has_child_of, has_children, has_line_in, is_there, kind_in, kind_is_dir, lies_within, move_fault, new_fault, remove_fault, rename_fault, row_at, with_lines_by, without_node}
 use Rattle.cov_view.specs.declared.fault.EditFault.TheVariants as faults
 use Rattle.cov_view.specs.declared.line.ViewLine.{ViewLine}
 use Rattle.cov_view.specs.declared.row.ViewRow.{ViewRow}
-use Rattle.cov_view.proofs.CallerLemmas.{line-same, node-itself, node-same, same_node-sym}
-use Rattle.cov_engine.specs.Trying.{place_of, place_refused}
+use Rattle.cov_view.proofs.CallerLemmas.{line-same, node-same, same_node-sym}
 
 -- a row without its lines
 abbrev pub bared : ViewRow → ViewRow
@@ -34,34 +25,9 @@ bared r = record { node = r.node; kind = r.kind; parent = r.parent; name = r.nam
 abbrev pub line_at : List ViewRow → NodeRef → LineRef → Option Bool
 line_at rows node line = option_map (λ (r : ViewRow). is_among line r.lines) (row_at rows node)
 
--- whether an edit names a line
-abbrev pub names_line : NodeRef → LineRef → Edit → Bool
-names_line node line (edits.New kind parent name) = false
-names_line node line (edits.Insert file after text) = same_node file node && same_line after line
-names_line node line (edits.Delete file gone) = same_node file node && same_line gone line
-names_line node line (edits.Rename other name) = false
-names_line node line (edits.Move other parent) = false
-names_line node line (edits.Remove other) = false
-
--- whether a line is one that edits make, or is named by some
-abbrev pub matters : List Edit → NodeRef → LineRef → Bool
-matters es node (lines.Old x) = list_any (names_line node (lines.Old x)) es
-matters es node (lines.New i) = true
-
--- two views match for edits: they have the same rows, and the same of the lines that matter
-pub record MatchFor (es : List Edit) (s t : Seen) : Type 0 where
-  pub nodes : s.nodes_made ≡ t.nodes_made
-  pub made : s.lines_made ≡ t.lines_made
-  pub rows : map bared s.rows ≡ map bared t.rows
-  pub lines : (node : NodeRef) (line : LineRef) → matters es node line ≡ true → line_at s.rows node line ≡ line_at t.rows node line
-
-line-itself : (l : LineRef) → same_line l l ≡ true
-line-itself (lines.Old x) = grind (arith, nat_tests)
-line-itself (lines.New i) = grind (arith, nat_tests)
-
 -- what is seen of rows without their lines
 
-row_at-bared : (rows : List ViewRow) (node : NodeRef) → row_at (map bared rows) node ≡ option_map bared (row_at rows node)
+pub row_at-bared : (rows : List ViewRow) (node : NodeRef) → row_at (map bared rows) node ≡ option_map bared (row_at rows node)
 row_at-bared [] node = refl
 row_at-bared (r ∷ rows) node = by (same_node r.node node) (row_at-bared rows node)
   where
@@ -109,13 +75,13 @@ children-bared : (rows : List ViewRow) (node : NodeRef) → has_children (map ba
 children-bared rows node = any-map (λ (r : ViewRow). same_node r.parent node) bared rows
 
 -- an edit of rows is refused on rows without their lines as with them
-new-bared : (rows : List ViewRow) (parent : NodeRef) (name : List ℕ) → new_fault (kind_in (map bared rows) parent) (has_child (map bared rows) parent name) ≡ new_fault (kind_in rows parent) (has_child rows parent name)
+pub new-bared : (rows : List ViewRow) (parent : NodeRef) (name : List ℕ) → new_fault (kind_in (map bared rows) parent) (has_child (map bared rows) parent name) ≡ new_fault (kind_in rows parent) (has_child rows parent name)
 new-bared rows parent name = λ i. new_fault (kind-bared rows parent i) (child-bared rows parent name i)
 
-rename-bared : (rows : List ViewRow) (node : NodeRef) (name : List ℕ) → rename_fault (map bared rows) node name ≡ rename_fault rows node name
+pub rename-bared : (rows : List ViewRow) (node : NodeRef) (name : List ℕ) → rename_fault (map bared rows) node name ≡ rename_fault rows node name
 rename-bared rows node name = λ i. cond (is_root node) (Some faults.IsRoot) (cond (not (is_some (kind-bared rows node i))) (Some faults.NoSuchNode) (cond (beside-bared rows node name i) (Some faults.NameTaken) None))
 
-move-bared : (rows : List ViewRow) (node parent : NodeRef) → move_fault (map bared rows) node parent ≡ move_fault rows node parent
+pub move-bared : (rows : List ViewRow) (node parent : NodeRef) → move_fault (map bared rows) node parent ≡ move_fault rows node parent
 move-bared rows node parent =
     (λ i. cond (is_root node) (Some faults.IsRoot) (cond (not (is_some (kind-bared rows node i))) (Some faults.NoSuchNode) (cond (not (is_some (kind-bared rows parent i))) (Some faults.NoSuchNode)
     (cond (not (kind_is_dir (kind-bared rows parent i))) (Some faults.NotDirectory) (cond (lies_within (map bared rows) (length-map rows bared i) node parent) (Some faults.IntoItself)
@@ -124,51 +90,16 @@ move-bared rows node parent =
     (cond (not (kind_is_dir (kind_in rows parent))) (Some faults.NotDirectory) (cond b (Some faults.IntoItself) (cond (has_child_of rows parent (row_at rows node)) (Some faults.NameTaken) None))))))
     (within-bared rows (length rows) node parent)
 
-remove-bared : (rows : List ViewRow) (node : NodeRef) → remove_fault (map bared rows) node ≡ remove_fault rows node
+pub remove-bared : (rows : List ViewRow) (node : NodeRef) → remove_fault (map bared rows) node ≡ remove_fault rows node
 remove-bared rows node = λ i. cond (is_root node) (Some faults.IsRoot) (cond (not (is_some (kind-bared rows node i))) (Some faults.NoSuchNode) (cond (children-bared rows node i) (Some faults.NotEmpty) None))
 
 -- whether a row has a line is what is known of it
-has-at : (rows : List ViewRow) (node : NodeRef) (line : LineRef) → has_line_in rows node line ≡ unwrap_or (line_at rows node line) false
+pub has-at : (rows : List ViewRow) (node : NodeRef) (line : LineRef) → has_line_in rows node line ≡ unwrap_or (line_at rows node line) false
 has-at rows node line = by (row_at rows node)
   where
     by : (o : Option ViewRow) → option_map_or (λ (r : ViewRow). is_among line r.lines) o false ≡ unwrap_or (option_map (λ (r : ViewRow). is_among line r.lines) o) false
     by None = refl
     by (Some r) = refl
-
-matters-own : (e : Edit) (es : List Edit) (node : NodeRef) (line : LineRef) → names_line node line e ≡ true → matters (e ∷ es) node line ≡ true
-matters-own e es node (lines.Old x) h = ap (λ b. b || list_any (names_line node (lines.Old x)) es) h
-matters-own e es node (lines.New i) h = refl
-
-matters-more : (e : Edit) (es : List Edit) (node : NodeRef) (line : LineRef) → matters es node line ≡ true → matters (e ∷ es) node line ≡ true
-matters-more e es node (lines.Old x) h = ap (λ b. names_line node (lines.Old x) e || b) h ∙ or_right (names_line node (lines.Old x) e) true refl
-matters-more e es node (lines.New i) h = refl
-
-own-line : (node : NodeRef) (line : LineRef) → (same_node node node && same_line line line) ≡ true
-own-line node line = λ i. node-itself node i && line-itself line i
-
--- views that match refuse the next edit for the same reason
-fault-matched : (s t : Seen) (e : Edit) (es : List Edit) → MatchFor (e ∷ es) s t → seen_fault s.rows e ≡ seen_fault t.rows e
-fault-matched s t e es h = by e h.lines (λ node line named. matters-own e es node line named)
-  where
-    fault-of : (F : List ViewRow → Option EditFault) → ((rows : List ViewRow) → F (map bared rows) ≡ F rows) → F s.rows ≡ F t.rows
-    fault-of F same = sym (same s.rows) ∙ ap F h.rows ∙ same t.rows
-
-    kinds-matched : (node : NodeRef) → kind_in s.rows node ≡ kind_in t.rows node
-    kinds-matched node = sym (kind-bared s.rows node) ∙ ap (λ rows. kind_in rows node) h.rows ∙ kind-bared t.rows node
-
-    had : (file : NodeRef) (line : LineRef) → line_at s.rows file line ≡ line_at t.rows file line → has_line_in s.rows file line ≡ has_line_in t.rows file line
-    had file line same = has-at s.rows file line ∙ ap (λ o. unwrap_or o false) same ∙ sym (has-at t.rows file line)
-
-    by : (d : Edit) → ((node : NodeRef) (line : LineRef) → matters (e ∷ es) node line ≡ true → line_at s.rows node line ≡ line_at t.rows node line)
-        → ((node : NodeRef) (line : LineRef) → names_line node line d ≡ true → matters (e ∷ es) node line ≡ true) → seen_fault s.rows d ≡ seen_fault t.rows d
-    by (edits.New kind parent name) same named = fault-of (λ rows. new_fault (kind_in rows parent) (has_child rows parent name)) (λ rows. new-bared rows parent name)
-    by (edits.Insert file after text) same named = λ i.
-        line_fault (kinds-matched file i) (is_head after || had file after (same file after (named file after (own-line file after))) i)
-    by (edits.Delete file line) same named = λ i.
-        line_fault (kinds-matched file i) (not (is_head line) && had file line (same file line (named file line (own-line file line))) i)
-    by (edits.Rename node name) same named = fault-of (λ rows. rename_fault rows node name) (λ rows. rename-bared rows node name)
-    by (edits.Move node parent) same named = fault-of (λ rows. move_fault rows node parent) (λ rows. move-bared rows node parent)
-    by (edits.Remove node) same named = fault-of (λ rows. remove_fault rows node) (λ rows. remove-bared rows node)
 
 -- what rows without their lines are after an edit
 
@@ -180,7 +111,7 @@ bared-lines node f (r ∷ rows) = by (same_node r.node node) (bared-lines node f
     by true rest = refl
     by false rest = ap (λ rs. bared r ∷ rs) rest
 
-bared-at : (node : NodeRef) (f : ViewRow → ViewRow) (rows : List ViewRow) → ((r : ViewRow) → bared (f r) ≡ f (bared r)) → map bared (at_row node f rows) ≡ at_row node f (map bared rows)
+pub bared-at : (node : NodeRef) (f : ViewRow → ViewRow) (rows : List ViewRow) → ((r : ViewRow) → bared (f r) ≡ f (bared r)) → map bared (at_row node f rows) ≡ at_row node f (map bared rows)
 bared-at node f [] same = refl
 bared-at node f (r ∷ rows) same = by (same_node r.node node) (bared-at node f rows same)
   where
@@ -188,7 +119,7 @@ bared-at node f (r ∷ rows) same = by (same_node r.node node) (bared-at node f 
     by true rest = ap (λ q. q ∷ map bared rows) (same r)
     by false rest = ap (λ rs. bared r ∷ rs) rest
 
-bared-without : (node : NodeRef) (rows : List ViewRow) → map bared (without_node node rows) ≡ without_node node (map bared rows)
+pub bared-without : (node : NodeRef) (rows : List ViewRow) → map bared (without_node node rows) ≡ without_node node (map bared rows)
 bared-without node [] = refl
 bared-without node (r ∷ rows) = by (not (same_node r.node node)) (bared-without node rows)
   where
@@ -228,7 +159,7 @@ at-lines file node line f g is (r ∷ rows) = by (same_node r.node file) (same_n
     by false false d e rest = ap (λ k. has (cond k (Some r) (row_at (at_row file (with_lines_by f) rows) node))) e ∙ rest
 
 -- where a row gets another name or parent
-at-kept : (other node : NodeRef) (line : LineRef) (f : ViewRow → ViewRow) → ((r : ViewRow) → (f r).node ≡ r.node) → ((r : ViewRow) → (f r).lines ≡ r.lines) → (rows : List ViewRow)
+pub at-kept : (other node : NodeRef) (line : LineRef) (f : ViewRow → ViewRow) → ((r : ViewRow) → (f r).node ≡ r.node) → ((r : ViewRow) → (f r).lines ≡ r.lines) → (rows : List ViewRow)
     → line_at (at_row other f rows) node line ≡ line_at rows node line
 at-kept other node line f same kept [] = refl
 at-kept other node line f same kept (r ∷ rows) = by (same_node r.node other) (at-kept other node line f same kept rows)
@@ -249,7 +180,7 @@ at-kept other node line f same kept (r ∷ rows) = by (same_node r.node other) (
     by false rest = behind (same_node r.node node) rest
 
 -- where a row is put behind
-at-push : (rows : List ViewRow) (r : ViewRow) (node : NodeRef) (line : LineRef) → line_at (rows ++ r ∷ []) node line ≡ option_or (line_at rows node line) (line_at (r ∷ []) node line)
+pub at-push : (rows : List ViewRow) (r : ViewRow) (node : NodeRef) (line : LineRef) → line_at (rows ++ r ∷ []) node line ≡ option_or (line_at rows node line) (line_at (r ∷ []) node line)
 at-push [] r node line = refl
 at-push (q ∷ rows) r node line = by (same_node q.node node) (at-push rows r node line)
   where
@@ -262,7 +193,7 @@ at-push (q ∷ rows) r node line = by (same_node q.node node) (at-push rows r no
     by false rest = rest
 
 -- where a row is taken out
-at-without : (other node : NodeRef) (line : LineRef) (rows : List ViewRow) → line_at (without_node other rows) node line ≡ cond (same_node node other) None (line_at rows node line)
+pub at-without : (other node : NodeRef) (line : LineRef) (rows : List ViewRow) → line_at (without_node other rows) node line ≡ cond (same_node node other) None (line_at rows node line)
 at-without other node line [] = none (same_node node other)
   where
     none : (b : Bool) → ◌≡◌ {A = Option Bool} None (cond b None None)
@@ -285,7 +216,7 @@ at-without other node line (r ∷ rows) = by (same_node r.node other) (same_node
     by false false d e rest = ap (λ k. has (cond k (Some r) (row_at (without_node other rows) node))) e ∙ rest
 
 -- a line that is put in is there, and so are those that were
-among-after : (line after : LineRef) (new : ViewLine) (ls : List ViewLine) → is_among line (after_ref after new ls) ≡ (same_line new.line line || is_among line ls)
+pub among-after : (line after : LineRef) (new : ViewLine) (ls : List ViewLine) → is_among line (after_ref after new ls) ≡ (same_line new.line line || is_among line ls)
 among-after line after new ls = by (is_head after)
   where
     behind : (ms : List ViewLine) → is_among line (after_first (λ (l : ViewLine). same_line l.line after) new ms) ≡ (same_line new.line line || is_among line ms)
@@ -302,65 +233,6 @@ among-after line after new ls = by (is_head after)
     by false = behind ls
 
 -- of the others a line that is taken out takes none with it
-among-without : (line gone : LineRef) (ls : List ViewLine) → is_among line (without_ref gone ls) ≡ (not (same_line line gone) && is_among line ls)
+pub among-without : (line gone : LineRef) (ls : List ViewLine) → is_among line (without_ref gone ls) ≡ (not (same_line line gone) && is_among line ls)
 among-without line gone ls =
     any-filter_same (λ l. same_line l.line line) (λ l. not (same_line l.line gone)) (not (same_line line gone)) (λ l is. ap (λ m. not (same_line m gone)) (line-same l.line line is)) ls
-
--- and match after it
-match-after : (s t : Seen) (e : Edit) (es : List Edit) → MatchFor (e ∷ es) s t → MatchFor es (seen_after s e) (seen_after t e)
-match-after s t e es h = by e (λ node line needed. h.lines node line (matters-more e es node line needed))
-  where
-    by : (d : Edit) → ((node : NodeRef) (line : LineRef) → matters es node line ≡ true → line_at s.rows node line ≡ line_at t.rows node line) → MatchFor es (seen_after s d) (seen_after t d)
-    by (edits.New kind parent name) same =
-        let new : Seen → ViewRow = λ u. record { node = nodes.New u.nodes_made; kind = kind; parent = parent; name = name; lines = [] } in
-        record {
-          nodes = ap (λ n. n + 1) h.nodes;
-          made = h.made;
-          rows = map-append bared s.rows (new s ∷ []) ∙ (λ i. h.rows i ++ record { node = nodes.New (h.nodes i); kind = kind; parent = parent; name = name; lines = [] } ∷ []) ∙ sym (map-append bared t.rows (new t ∷ []));
-          lines = λ node line needed.
-              at-push s.rows (new s) node line
-              ∙ (λ i. option_or (same node line needed i) (line_at (record { node = nodes.New (h.nodes i); kind = kind; parent = parent; name = name; lines = [] } ∷ []) node line))
-              ∙ sym (at-push t.rows (new t) node line);
-        }
-    by (edits.Insert file after text) same = record {
-      nodes = h.nodes;
-      made = ap (λ n. n + 1) h.made;
-      rows = bared-lines file (after_ref after (record { line = lines.New s.lines_made; text = text })) s.rows ∙ h.rows ∙ sym (bared-lines file (after_ref after (record { line = lines.New t.lines_made; text = text })) t.rows);
-      lines = λ node line needed.
-          let had : Seen → Bool → Bool = λ u b. same_line (lines.New u.lines_made) line || b in
-          at-lines file node line (after_ref after (record { line = lines.New s.lines_made; text = text })) (had s) (among-after line after (record { line = lines.New s.lines_made; text = text })) s.rows
-          ∙ (λ i. cond (same_node file node) (option_map (λ b. same_line (lines.New (h.made i)) line || b) (same node line needed i)) (same node line needed i))
-          ∙ sym (at-lines file node line (after_ref after (record { line = lines.New t.lines_made; text = text })) (had t) (among-after line after (record { line = lines.New t.lines_made; text = text })) t.rows);
-    }
-    by (edits.Delete file gone) same = record {
-      nodes = h.nodes;
-      made = h.made;
-      rows = bared-lines file (without_ref gone) s.rows ∙ h.rows ∙ sym (bared-lines file (without_ref gone) t.rows);
-      lines = λ node line needed.
-          at-lines file node line (without_ref gone) (λ b. not (same_line line gone) && b) (among-without line gone) s.rows
-          ∙ ap (λ o. cond (same_node file node) (option_map (λ b. not (same_line line gone) && b) o) o) (same node line needed)
-          ∙ sym (at-lines file node line (without_ref gone) (λ b. not (same_line line gone) && b) (among-without line gone) t.rows);
-    }
-    by (edits.Rename other name) same = record {
-      nodes = h.nodes;
-      made = h.made;
-      rows = bared-at other (with_name_by name) s.rows (λ r. refl) ∙ ap (at_row other (with_name_by name)) h.rows ∙ sym (bared-at other (with_name_by name) t.rows (λ r. refl));
-      lines = λ node line needed. at-kept other node line (with_name_by name) (λ r. refl) (λ r. refl) s.rows ∙ same node line needed ∙ sym (at-kept other node line (with_name_by name) (λ r. refl) (λ r. refl) t.rows);
-    }
-    by (edits.Move other parent) same = record {
-      nodes = h.nodes;
-      made = h.made;
-      rows = bared-at other (with_parent_by parent) s.rows (λ r. refl) ∙ ap (at_row other (with_parent_by parent)) h.rows ∙ sym (bared-at other (with_parent_by parent) t.rows (λ r. refl));
-      lines = λ node line needed. at-kept other node line (with_parent_by parent) (λ r. refl) (λ r. refl) s.rows ∙ same node line needed ∙ sym (at-kept other node line (with_parent_by parent) (λ r. refl) (λ r. refl) t.rows);
-    }
-    by (edits.Remove other) same = record {
-      nodes = h.nodes;
-      made = h.made;
-      rows = bared-without other s.rows ∙ ap (without_node other) h.rows ∙ sym (bared-without other t.rows);
-      lines = λ node line needed. at-without other node line s.rows ∙ ap (λ o. cond (same_node node other) None o) (same node line needed) ∙ sym (at-without other node line t.rows);
-    }
-
--- so they refuse the same edit first
-pub place-matched : (i : ℕ) (s t : Seen) (es : List Edit) → MatchFor es s t → place_refused i s es ≡ place_refused i t es
-place-matched i s t [] h = refl
-place-matched i s t (e ∷ es) h = λ j. place_of i (fault-matched s t e es h j) (place-matched (i + 1) (seen_after s e) (seen_after t e) es (match-after s t e es h) j)

@@ -1,6 +1,6 @@
 -- What edits are tried on, and the first of them that is refused there.
-use Rattle.std.specs.Prelude.{◌≡◌, ℕ, ◌+◌, Bool, nat_eq, List, [], ◌∷◌, map, Option, Some, None, if◌then◌else◌}
-use Rattle.std.specs.List.{fold, list_any}
+use Rattle.std.specs.Prelude.{ℕ, ◌+◌, Bool, true, false, not, ◌&&◌, ◌||◌, nat_eq, List, [], ◌∷◌, ◌++◌, map, set, slice_get, Option, Some, None, if◌then◌else◌}
+use Rattle.std.specs.List.{list_any}
 use Rattle.cov_base.specs.Rows.{Row}
 use Rattle.cov_base.specs.declared.number.Kind.{Kind}
 use Rattle.cov_base.specs.declared.number.Kind.TheVariants as kinds
@@ -15,62 +15,39 @@ use Rattle.cov_edit.specs.Touched.{touched}
 use Rattle.cov_history.specs.RowChanges.{changes_rows}
 use Rattle.cov_tree.specs.Dated.{rows_among, rows_at}
 use Rattle.cov_view.specs.declared.fault.EditFault.{EditFault}
+use Rattle.cov_view.specs.declared.line.ViewLine.{ViewLine}
 use Rattle.cov_view.specs.declared.row.ViewRow.{ViewRow}
-use Rattle.cov_view.specs.Seen.{Seen, kind_in, seen_after, seen_fault, with_file_row}
-use Rattle.cov_view.specs.Views.{FaultBy}
+use Rattle.cov_view.specs.References.{is_head, same_node}
+use Rattle.cov_view.specs.Seen.{Seen, kind_in, old_line, seen_after, seen_fault}
+use Rattle.indexmap.specs.IndexSet.{insert_key}
 use Rattle.cov_engine.specs.Parts.{part_of}
 use Rattle.cov_engine.specs.Reading.{stored_rows}
-use Rattle.cov_engine.specs.Showing.{bare_row}
 use Rattle.cov_engine.specs.declared.file_part.FilePart.{FilePart}
+use Rattle.cov_engine.specs.declared.trial.OldLine.{OldLine}
 use Rattle.cov_engine.specs.declared.visible.Visible.{Visible}
-
--- the file and the line that two references name, if a history has them
-abbrev pub named_by : NodeRef → LineRef → Option (ℕ × ℕ)
-named_by (nodes.Old file) (lines.Old line) = Some (file, line)
-named_by (nodes.Old file) (lines.New i) = None
-named_by (nodes.New i) line = None
-
--- the file and the line that an edit names, if a history has them
-abbrev pub line_named : Edit → Option (ℕ × ℕ)
-line_named (edits.New kind parent name) = None
-line_named (edits.Insert file after text) = named_by file after
-line_named (edits.Delete file line) = named_by file line
-line_named (edits.Rename node name) = None
-line_named (edits.Move node parent) = None
-line_named (edits.Remove node) = None
 
 module _ (ts : List Triple) (c : List Bool) (at : ℕ) (stored : List FilePart) where
   -- whether a file shows a line
   abbrev pub file_shows : ℕ → ℕ → Bool
   file_shows node line = list_any (λ r. nat_eq r.line line) (stored_rows ts c at (part_of stored node))
 
-  -- the rows with a line, without its text, at the end of its file, by the kind of that: if it is a file's and shows the line
-  abbrev pub with_shown : Option Kind → List ViewRow → ℕ → ℕ → List ViewRow
-  with_shown (Some kinds.File) rows node line = if file_shows node line then with_file_row node rows (record { line = line; text = [] }) else rows
-  with_shown (Some kinds.Dir) rows node line = rows
-  with_shown None rows node line = rows
+  -- the lines that a node shows, if it is a file
+  abbrev pub row_lines : Kind → ℕ → List ViewLine
+  row_lines kinds.File node = map old_line (stored_rows ts c at (part_of stored node))
+  row_lines kinds.Dir node = []
 
-  -- the rows with a line that is named, if there is one and its file shows it
-  abbrev pub with_line_of : List ViewRow → Option (ℕ × ℕ) → List ViewRow
-  with_line_of rows None = rows
-  with_line_of rows (Some named) = with_shown (kind_in rows (nodes.Old named.0)) rows named.0 named.1
-
-  -- the rows with the line that an edit names
-  abbrev pub with_named : List ViewRow → Edit → List ViewRow
-  with_named rows e = with_line_of rows (line_named e)
+  -- a row with its lines
+  abbrev pub whole_row : Row → ViewRow
+  whole_row r = record { node = nodes.Old r.node; kind = r.kind; parent = nodes.Old r.parent; name = r.name; lines = row_lines r.kind r.node }
 
 -- the rows that edits are tried on, on a choice at a position: all where one of them changes rows, and else those of the nodes that
 -- they touch
 abbrev pub rows_tried : Visible → List Bool → ℕ → List Edit → List Row
 rows_tried v c at es = if list_any changes_rows es then rows_at v.table c at v.entries else rows_among v.table c at (touched es) v.entries
 
--- what edits are tried on: these rows, with the lines that the edits name and that are shown, each as often as it is named
+-- what edits are tried on: these rows with their lines
 abbrev pub seen_tried : Visible → List Bool → ℕ → List Edit → Seen
-seen_tried v c at es = record { rows = fold (with_named v.table c at v.files) (map bare_row (rows_tried v c at es)) es; nodes_made = 0; lines_made = 0 }
-
--- an edit is refused with a fault, which isn't want of memory, and this is its place
-abbrev pub IsRefusedAt : ℕ → EditFault → Option ℕ → Type 0
-IsRefusedAt index fault found = (found ≡ Some index) × ((refused : Option EditFault) → FaultBy fault refused → refused ≡ Some fault)
+seen_tried v c at es = record { rows = map (whole_row v.table c at v.files) (rows_tried v c at es); nodes_made = 0; lines_made = 0 }
 
 -- the place of an edit with a fault, or else a later place
 abbrev pub place_of : ℕ → Option EditFault → Option ℕ → Option ℕ
@@ -81,3 +58,84 @@ place_of i (Some f) later = Some i
 abbrev pub place_refused : ℕ → Seen → List Edit → Option ℕ
 place_refused i s [] = None
 place_refused i s (e ∷ es) = place_of i (seen_fault s.rows e) (place_refused (i + 1) (seen_after s e) es)
+
+-- what a trial keeps: the rows, without lines; of each line that edits made its file, None where it was deleted again; and the lines
+-- of before that edits deleted
+pub record Trying : Type 0 where
+  pub rows : Seen
+  pub made : List (Option NodeRef)
+  pub deleted : List OldLine
+
+-- two lines of before are one
+abbrev pub same_old : OldLine → OldLine → Bool
+same_old l m = nat_eq l.file m.file && nat_eq l.line m.line
+
+-- whether edits deleted a line of before
+abbrev pub is_deleted : List OldLine → ℕ → ℕ → Bool
+is_deleted deleted file line = list_any (same_old (record { file = file; line = line })) deleted
+
+-- whether a line that edits made is in a file, by what is kept of it
+abbrev pub is_made_in : NodeRef → Option (Option NodeRef) → Bool
+is_made_in file None = false
+is_made_in file (Some None) = false
+is_made_in file (Some (Some other)) = same_node other file
+
+-- whether a kind is there and is that of files
+abbrev pub is_file : Option Kind → Bool
+is_file None = false
+is_file (Some kinds.File) = true
+is_file (Some kinds.Dir) = false
+
+-- the trial once a line of before was deleted
+abbrev pub old_deleted : Trying → NodeRef → ℕ → Trying
+old_deleted t (nodes.Old file) line = record { rows = t.rows; made = t.made; deleted = insert_key same_old t.deleted (record { file = file; line = line }) }
+old_deleted t (nodes.New i) line = t
+
+-- the trial once a line was deleted
+abbrev pub deleted_from : Trying → NodeRef → LineRef → Trying
+deleted_from t file (lines.Old line) = old_deleted t file line
+deleted_from t file (lines.New i) = record { rows = t.rows; made = set t.made i None; deleted = t.deleted }
+
+-- the trial once rows were changed
+abbrev pub rows_changed : Trying → Edit → Trying
+rows_changed t e = record { rows = seen_after t.rows e; made = t.made; deleted = t.deleted }
+
+-- the trial after an edit
+abbrev pub tried_after : Trying → Edit → Trying
+tried_after t (edits.New kind parent name) = rows_changed t (edits.New kind parent name)
+tried_after t (edits.Insert file after text) = record { rows = t.rows; made = t.made ++ Some file ∷ []; deleted = t.deleted }
+tried_after t (edits.Delete file line) = deleted_from t file line
+tried_after t (edits.Rename node name) = rows_changed t (edits.Rename node name)
+tried_after t (edits.Move node parent) = rows_changed t (edits.Move node parent)
+tried_after t (edits.Remove node) = rows_changed t (edits.Remove node)
+
+-- whether a trial takes an edit of rows, by its fault
+abbrev pub takes_rows : Option EditFault → Bool
+takes_rows None = true
+takes_rows (Some f) = false
+
+-- where files show those lines of before that are told
+module _ (shows : ℕ → ℕ → Bool) where
+  -- whether a file has a line of before after the edits so far
+  abbrev pub has_old : Trying → NodeRef → ℕ → Bool
+  has_old t (nodes.Old file) line = shows file line && not (is_deleted t.deleted file line)
+  has_old t (nodes.New i) line = false
+
+  -- whether a file has a line after the edits so far
+  abbrev pub has_tried : Trying → NodeRef → LineRef → Bool
+  has_tried t file (lines.Old line) = has_old t file line
+  has_tried t file (lines.New i) = is_made_in file (slice_get t.made i)
+
+  -- whether a trial takes an edit
+  abbrev pub takes : Trying → Edit → Bool
+  takes t (edits.New kind parent name) = takes_rows (seen_fault t.rows.rows (edits.New kind parent name))
+  takes t (edits.Insert file after text) = is_file (kind_in t.rows.rows file) && (is_head after || has_tried t file after)
+  takes t (edits.Delete file line) = is_file (kind_in t.rows.rows file) && (not (is_head line) && has_tried t file line)
+  takes t (edits.Rename node name) = takes_rows (seen_fault t.rows.rows (edits.Rename node name))
+  takes t (edits.Move node parent) = takes_rows (seen_fault t.rows.rows (edits.Move node parent))
+  takes t (edits.Remove node) = takes_rows (seen_fault t.rows.rows (edits.Remove node))
+
+  -- the place of the first edit that a trial doesn't take, if there is one; the first edit has the place i
+  abbrev pub place_tried : ℕ → Trying → List Edit → Option ℕ
+  place_tried i t [] = None
+  place_tried i t (e ∷ es) = if takes t e then place_tried (i + 1) (tried_after t e) es else Some i

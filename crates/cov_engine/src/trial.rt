@@ -1,28 +1,28 @@
 // Edits that are tried on as much of a variant as they depend on.
-ghost use Rattle.std.specs.Prelude.{◌≡◌, ◌≤◌, length, map, IfOk, OnOk, Some};
-ghost use Rattle.std.specs.List.{fold};
+ghost use Rattle.std.specs.Prelude.{◌≡◌, ◌≤◌, ◌<◌, ◌-◌, ◌^◌, true, false, length, map, Option, IfOk, OnOk};
 ghost use Rattle.cov_base.specs.Rows.{AreOnce};
 ghost use Rattle.cov_base.specs.declared.limits.TheConstants.{LIMITS};
-ghost use Rattle.cov_base.specs.declared.number.Kind.TheVariants.{File};
-ghost use Rattle.cov_base.specs.declared.number.NodeRef.TheVariants.{Old};
 ghost use Rattle.cov_edit.specs.Touched.{touched, AreRising};
 ghost use Rattle.cov_tree.specs.Dated.{rows_at};
-ghost use Rattle.cov_view.specs.Seen.{kind_in};
+ghost use Rattle.cov_view.specs.Seen.{kind_in, seen_fault};
+ghost use Rattle.cov_view.specs.Views.{FaultBy};
 ghost use Rattle.cov_engine.specs.Parts.{part_node};
-ghost use Rattle.cov_engine.specs.Trying.{file_shows, line_named, named_by, place_refused, rows_tried, seen_tried, with_line_of, with_named, IsRefusedAt};
+ghost use Rattle.cov_engine.specs.Trying.{deleted_from, file_shows, has_tried, is_file, place_refused, place_tried, rows_changed, rows_tried, seen_tried, takes, takes_rows, tried_after};
 
 use crate::Visible;
 use crate::evidence::change_rows;
 use crate::places::part_of;
 use crate::store::view_of_rows;
-use cov_base::{Choice, Kind, LineNo, LineRef, Memory, NodeNo, NodeRef, Position, Text};
+use cov_base::{Choice, Kind, LineNo, LineRef, Memory, NodeNo, NodeRef, Position};
 use cov_edit::{Edit, Edits, touched};
 use cov_tree::NodeRows;
-use cov_view::{EditFault, View};
+use cov_view::{EditFault, View, is_head};
+use indexmap::IndexSet;
 use std::alloc::Global;
+use std::marker::Model;
 
-/// The first edit, from 0, that is refused on a choice at a position. It takes time in the edits and what they touch, in the rows
-/// that are kept if an edit changes rows, and for each edit that of `View::apply`, which sees no lines but those that are named.
+/// The first edit, from 0, that is refused on a choice at a position. It takes time in the edits and what they touch, and in the rows
+/// that are kept if an edit changes rows. Each line that an edit names is looked up by itself, whatever else is in its file.
 pub(crate) fn first_refused(
     alloc: Global,
     visible: &Visible,
@@ -35,27 +35,19 @@ pub(crate) fn first_refused(
     requires few { length edits.now ≤ LIMITS.edits }
     ensures { IfOk result (λ found. found ≡ place_refused 0 (seen_tried visible.now choice at edits.now) edits.now) }
 {
-    let mut view = tried_view(alloc, visible, choice, at, edits)?;
-    try_all(&mut view, edits.as_slice())
-}
-
-// What edits are tried on.
-fn tried_view(
-    alloc: Global,
-    visible: &Visible,
-    choice: Choice,
-    at: Position,
-    edits: &Edits,
-) -> Result<View, Memory>
-    requires rising { AreRising (map part_node visible.now.files) }
-    requires once { AreOnce (rows_at visible.now.table choice at visible.now.entries) }
-    ensures { IfOk result (λ view. view ≡ seen_tried visible.now choice at edits.now) }
-{
     let nodes = touched(edits)?;
     let rows = rows_tried(visible, choice, at, edits.as_slice(), nodes.as_slice())?;
-    let mut view = view_of_rows(alloc, &visible.table, choice, rows.as_slice())?;
-    add_named(alloc, &mut view, visible, edits.as_slice(), choice, at)?;
-    Ok(view)
+    let mut trial = Trial {
+        rows: view_of_rows(alloc, &visible.table, choice, rows.as_slice())?,
+        made: Vec::new(alloc),
+        deleted: IndexSet::new(alloc),
+    };
+    let sight = Sight {
+        visible,
+        choice,
+        at,
+    };
+    trial.first_refused(&sight, edits.as_slice())
 }
 
 // The rows that edits are tried on, which touch these nodes.
@@ -77,109 +69,174 @@ fn rows_tried(
     }
 }
 
-// Adds the lines that edits name, where they are shown.
-fn add_named(
-    alloc: Global,
-    view: &mut View,
-    visible: &Visible,
-    edits: &[Edit],
+// Where lines of before are looked up: what a choice shows at a position.
+#[derive(Drop)]
+struct Sight<'a> {
+    visible: &'a Visible,
     choice: Choice,
     at: Position,
-) -> Result<(), Memory>
-    requires rising { AreRising (map part_node visible.now.files) }
-    ensures rows { OnOk result (view.new.rows ≡ fold (with_named visible.now.table choice at visible.now.files) view.old.rows edits.now) }
-    ensures nodes { view.new.nodes_made ≡ view.old.nodes_made }
-    ensures lines { view.new.lines_made ≡ view.old.lines_made }
-{
-    let mut ahead = edits;
-    while let [edit, rest @ ..] = ahead {
-        add_line_of(alloc, view, visible, line_named(edit), choice, at)?;
-        ahead = rest;
-    }
-    Ok(())
 }
 
-// The file and the line that an edit names, if a history has them.
-fn line_named(edit: &Edit) -> Option<(NodeNo, LineNo)>
-    ensures { result ≡ line_named edit.now }
-{
-    match edit {
-        Edit::Insert { file, after, .. } => named_by(file, after),
-        Edit::Delete { file, line } => named_by(file, line),
-        Edit::New { .. } | Edit::Rename { .. } | Edit::Move { .. } | Edit::Remove { .. } => None,
-    }
-}
-
-// The file and the line that two references name, if a history has them.
-fn named_by(file: &NodeRef, line: &LineRef) -> Option<(NodeNo, LineNo)>
-    ensures { result ≡ named_by file.now line.now }
-{
-    match (file, line) {
-        (NodeRef::Old(file), LineRef::Old(line)) => Some((*file, *line)),
-        (NodeRef::Old(_), LineRef::New(_)) | (NodeRef::New(_), _) => None,
-    }
-}
-
-// Adds the line that is named, if there is one, where its file shows it.
-fn add_line_of(
-    alloc: Global,
-    view: &mut View,
-    visible: &Visible,
-    named: Option<(NodeNo, LineNo)>,
-    choice: Choice,
-    at: Position,
-) -> Result<(), Memory>
-    requires rising { AreRising (map part_node visible.now.files) }
-    ensures rows { OnOk result (view.new.rows ≡ with_line_of visible.now.table choice at visible.now.files view.old.rows named) }
-    ensures nodes { view.new.nodes_made ≡ view.old.nodes_made }
-    ensures lines { view.new.lines_made ≡ view.old.lines_made }
-{
-    match named {
-        Some((file, line)) => match view.kind(NodeRef::Old(file)) {
-            Some(Kind::File) => match file_shows(visible, file, line, choice, at) {
-                true => view.add_line(file, line, &Text::new(alloc)),
-                false => Ok(()),
-            },
-            Some(Kind::Dir) | None => Ok(()),
-        },
-        None => Ok(()),
-    }
-}
-
-// Whether a file shows a line.
-fn file_shows(visible: &Visible, file: NodeNo, line: LineNo, choice: Choice, at: Position) -> bool
-    requires { AreRising (map part_node visible.now.files) }
-    ensures { result ≡ file_shows visible.now.table choice at visible.now.files file line }
-{
-    match part_of(visible.files.as_slice(), file) {
-        Some(part) => part.lines.is_visible(line, &visible.table, choice, at),
-        None => false,
-    }
-}
-
-// Applies edits in order, up to the first that is refused, and answers its place.
-fn try_all(view: &mut View, edits: &[Edit]) -> Result<Option<u32>, Memory>
-    requires few { length edits.now ≤ LIMITS.edits }
-    requires nodes { view.old.nodes_made ≡ 0 }
-    requires lines { view.old.lines_made ≡ 0 }
-    ensures { IfOk result (λ found. found ≡ place_refused 0 view.old edits.now) }
-{
-    let mut index = 0;
-    let mut ahead = edits;
-    while let [edit, rest @ ..] = ahead {
-        match view.apply(edit) {
-            Ok(()) => (),
-            Err(fault) => return refused_at(fault, index),
+impl Sight<'_> {
+    // Whether a file shows a line.
+    fn shows(&self, file: NodeNo, line: LineNo) -> bool
+        requires { AreRising (map part_node self.now.visible.now.files) }
+        ensures { result ≡ file_shows self.now.visible.now.table self.now.choice self.now.at self.now.visible.now.files file line }
+    {
+        match part_of(self.visible.files.as_slice(), file) {
+            Some(part) => part
+                .lines
+                .is_visible(line, &self.visible.table, self.choice, self.at),
+            None => false,
         }
-        index += 1;
-        ahead = rest;
     }
-    Ok(None)
 }
 
-// The place of an edit with a fault, unless memory is wanting.
-fn refused_at(fault: EditFault, index: u32) -> Result<Option<u32>, Memory>
-    ensures { IfOk result (IsRefusedAt index fault) }
+/// A line of before, with its file.
+#[derive(Clone, Copy, PartialEq, Eq, Hash)]
+struct OldLine {
+    file: NodeNo,
+    line: LineNo,
+}
+
+// The rows that edits are tried on, without lines, and what the edits so far did to lines: of each that they made its file, None where
+// they deleted it again, and the lines of before that they deleted. So no line is ever looked for among others.
+#[derive(Drop)]
+struct Trial {
+    rows: View,
+    made: Vec<Option<NodeRef>>,
+    deleted: IndexSet<OldLine>,
+}
+
+impl Model for Trial {
+    ghost use Rattle.cov_engine.specs.Trying.{Trying};
+
+    ghost Value = { Trying };
+
+    ghost view = { λ t. record { rows = t.rows; made = t.made.items; deleted = t.deleted.keys } };
+}
+
+impl Trial {
+    // The place of the first edit that isn't taken.
+    fn first_refused(&mut self, sight: &Sight<'_>, edits: &[Edit]) -> Result<Option<u32>, Memory>
+        requires rising { AreRising (map part_node sight.now.visible.now.files) }
+        requires few { length edits.now ≤ LIMITS.edits }
+        requires nodes { self.old.rows.nodes_made ≡ 0 }
+        requires lines { self.old.rows.lines_made ≡ 0 }
+        ensures { IfOk result (λ found. found ≡ place_tried (file_shows sight.now.visible.now.table sight.now.choice sight.now.at sight.now.visible.now.files) 0 self.old edits.now) }
+    {
+        let mut index = 0;
+        let mut ahead = edits;
+        while let [edit, rest @ ..] = ahead {
+            match self.takes(sight, edit)? {
+                true => (),
+                false => return Ok(Some(index)),
+            }
+            index += 1;
+            ahead = rest;
+        }
+        Ok(None)
+    }
+
+    // Whether an edit is taken. Then it is done.
+    fn takes(&mut self, sight: &Sight<'_>, edit: &Edit) -> Result<bool, Memory>
+        requires rising { AreRising (map part_node sight.now.visible.now.files) }
+        requires nodes { self.old.rows.nodes_made < 2 ^ 32 - 1 }
+        requires lines { self.old.rows.lines_made < 2 ^ 32 - 1 }
+        ensures taken { IfOk result (λ taken. taken ≡ takes (file_shows sight.now.visible.now.table sight.now.choice sight.now.at sight.now.visible.now.files) self.old edit.now) }
+        ensures done { IfOk result (λ taken. taken ≡ true → self.new ≡ tried_after self.old edit.now) }
+    {
+        match edit {
+            Edit::Insert { file, after, .. } => {
+                let taken = self.is_file(file) && (is_head(after) || self.has(sight, file, after));
+                if taken {
+                    self.made.push(Some(*file))?;
+                }
+                Ok(taken)
+            }
+            Edit::Delete { file, line } => {
+                let taken = self.is_file(file) && !is_head(line) && self.has(sight, file, line);
+                if taken {
+                    self.delete(file, line)?;
+                }
+                Ok(taken)
+            }
+            Edit::New { .. } | Edit::Rename { .. } | Edit::Move { .. } | Edit::Remove { .. } => {
+                self.takes_rows(edit)
+            }
+        }
+    }
+
+    // Whether there is a file.
+    fn is_file(&self, node: &NodeRef) -> bool
+        ensures { result ≡ is_file (kind_in self.now.rows.rows node.now) }
+    {
+        match self.rows.kind(*node) {
+            Some(Kind::File) => true,
+            Some(Kind::Dir) | None => false,
+        }
+    }
+
+    // Whether a file has a line after the edits so far.
+    fn has(&self, sight: &Sight<'_>, file: &NodeRef, line: &LineRef) -> bool
+        requires rising { AreRising (map part_node sight.now.visible.now.files) }
+        ensures { result ≡ has_tried (file_shows sight.now.visible.now.table sight.now.choice sight.now.at sight.now.visible.now.files) self.now file.now line.now }
+    {
+        match (file, line) {
+            (NodeRef::Old(file), LineRef::Old(line)) => {
+                let old = OldLine {
+                    file: *file,
+                    line: *line,
+                };
+                sight.shows(*file, *line) && !self.deleted.contains(&old)
+            }
+            (NodeRef::New(_), LineRef::Old(_)) => false,
+            (_, LineRef::New(number)) => match self.made.get(*number as usize) {
+                Some(Some(other)) => *other == *file,
+                Some(None) | None => false,
+            },
+        }
+    }
+
+    // Deletes a line that is there.
+    fn delete(&mut self, file: &NodeRef, line: &LineRef) -> Result<(), Memory>
+        ensures { OnOk result (self.new ≡ deleted_from self.old file.now line.now) }
+    {
+        match (file, line) {
+            (NodeRef::Old(file), LineRef::Old(line)) => {
+                self.deleted.insert(OldLine {
+                    file: *file,
+                    line: *line,
+                })?;
+            }
+            (NodeRef::New(_), LineRef::Old(_)) => (),
+            (_, LineRef::New(number)) => {
+                if let Some(made) = self.made.get_mut(*number as usize) {
+                    *made = None;
+                }
+            }
+        }
+        Ok(())
+    }
+
+    // Whether an edit of rows is taken. Then it is done.
+    fn takes_rows(&mut self, edit: &Edit) -> Result<bool, Memory>
+        requires nodes { self.old.rows.nodes_made < 2 ^ 32 - 1 }
+        requires lines { self.old.rows.lines_made < 2 ^ 32 - 1 }
+        ensures taken { IfOk result (λ taken. taken ≡ takes_rows (seen_fault self.old.rows.rows edit.now)) }
+        ensures done { IfOk result (λ taken. taken ≡ true → self.new ≡ rows_changed self.old edit.now) }
+    {
+        if let Err(fault) = self.rows.apply(edit) {
+            return not_taken(fault);
+        }
+        Ok(true)
+    }
+}
+
+// An edit with a fault isn't taken, unless memory is wanting.
+fn not_taken(fault: EditFault) -> Result<bool, Memory>
+    ensures told { IfOk result (λ taken. (refused : Option EditFault) → FaultBy fault refused → taken ≡ takes_rows refused) }
+    ensures not { IfOk result (λ taken. taken ≡ false) }
 {
     match fault {
         EditFault::Memory => Err(Memory),
@@ -190,6 +247,6 @@ fn refused_at(fault: EditFault, index: u32) -> Result<Option<u32>, Memory>
         | EditFault::NotEmpty
         | EditFault::IntoItself
         | EditFault::IsRoot
-        | EditFault::NoSuchLine => Ok(Some(index)),
+        | EditFault::NoSuchLine => Ok(false),
     }
 }

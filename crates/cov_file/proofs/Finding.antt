@@ -1,10 +1,11 @@
 -- Where the texts and the changes of lines are, and how they stay when one is put behind or replaced.
-use Rattle.std.proofs.Common.{◌≡◌, ℕ, suc, ◌+◌, ◌<◌, Bool, true, false, cond, not, nat_lt, nat_eq, ◌||◌, List, [], ◌∷◌, ◌++◌, length, set, Some, None, slice_get, position, unwrap_or, refl, sym, ap, ◌∙◌, arith}
-use Rattle.std.specs.List.{list_any, position_or_len}
+use Rattle.std.proofs.Common.{◌≡◌, ℕ, zero, suc, ◌+◌, ◌<◌, Bool, true, false, cond, not, nat_lt, nat_eq, ◌||◌, List, [], ◌∷◌, ◌++◌, length, set, Some, None, slice_get, position, unwrap_or, refl, sym, ap, ◌∙◌, arith}
+use Rattle.std.specs.List.{list_any, position_or_len, AllByRecursion, IsDistinct}
 use Rattle.std.specs.Map.{keys_of, lookup}
 use Rattle.std.proofs.lemmas.Bool.Decides.{nat_tests}
 use Rattle.std.proofs.lemmas.Option.{slice_get-get_or, unwrap_or-slice_get}
 use Rattle.indexmap.specs.IndexMap.{insert_entry}
+use Rattle.cov_base.proofs.CallerLemmas.{nat_eq-sym}
 use Rattle.cov_file.specs.Kept.{changes_at, changes_in, text_in}
 
 pub same_number : (n : ℕ) → nat_eq n n ≡ true
@@ -167,3 +168,34 @@ text_before n k t es h = ap (λ o. unwrap_or o []) (lookup_before n k t es h)
 
 pub text_behind : (k : ℕ) (t : List ℕ) (es : List (ℕ × List ℕ)) → list_any (nat_eq k) (keys_of es) ≡ false → text_in (es ++ (k, t) ∷ []) k ≡ t
 text_behind k t es h = ap (λ o. unwrap_or o []) (lookup_behind k t es h)
+
+-- where keys stand once, each stands at its place
+module _ (line : ℕ) where
+  apart_at : (keys : List ℕ) (i x : ℕ) → AllByRecursion (λ y. nat_eq x y ≡ false) keys → slice_get keys i ≡ Some line → nat_eq x line ≡ false
+  apart_at [] i x all h = absurd (cc)
+  apart_at (k ∷ ks) zero x all h = let same : k ≡ line = cc in ap (nat_eq x) (sym same) ∙ all.0
+  apart_at (k ∷ ks) (suc i) x all h = apart_at ks i x all.1 h
+
+  placed_at : (keys : List ℕ) (i : ℕ) → IsDistinct nat_eq keys → slice_get keys i ≡ Some line → (place line keys ≡ i) × (i < length keys)
+  unfolding IsDistinct
+  placed_at [] i distinct h = absurd (cc)
+  placed_at (k ∷ ks) zero distinct h =
+      let same : k ≡ line = cc in
+      (ap (λ b. cond (not b) (1 + place line ks) 0) (ap (nat_eq line) same ∙ same_number line), omega arith)
+  placed_at (k ∷ ks) (suc i) distinct h =
+      let rest = placed_at ks i distinct.1 h in
+      let differ : nat_eq line k ≡ false = nat_eq-sym line k ∙ apart_at ks i k distinct.0 h in
+      let there : 1 + place line ks ≡ suc i = omega (arith, rest.0) in
+      (ap (λ b. cond (not b) (1 + place line ks) 0) differ ∙ there, omega (arith, rest.1))
+
+  key_at : (texts : List (ℕ × List ℕ)) (i : ℕ) (text : List ℕ) → slice_get texts i ≡ Some (line, text) → slice_get (keys_of texts) i ≡ Some line
+  key_at [] i text h = absurd (cc)
+  key_at (t ∷ texts) zero text h = let same : t ≡ (line, text) = cc in ap (λ (p : ℕ × List ℕ). Some p.0) same
+  key_at (t ∷ texts) (suc i) text h = key_at texts i text h
+
+  -- so a text that stands with its key at an index is found there
+  pub found_at : (texts : List (ℕ × List ℕ)) (i : ℕ) (text : List ℕ) → IsDistinct nat_eq (keys_of texts) → slice_get texts i ≡ Some (line, text) → Some i ≡ position (nat_eq line) (keys_of texts)
+  found_at texts i text distinct h =
+      let at = placed_at (keys_of texts) i distinct (key_at texts i text h) in
+      let within : nat_lt i (length (keys_of texts)) ≡ true = grind (arith, nat_tests, at.1) in
+      sym (ap (λ n. cond (nat_lt n (length (keys_of texts))) (Some n) None) at.0 ∙ ap (λ b. cond b (Some i) None) within)

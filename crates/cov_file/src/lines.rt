@@ -1,7 +1,9 @@
 // The lines of a file.
-ghost use Rattle.std.specs.Prelude.{◌≡◌, ℕ, List, ◌<◌, ◌≤◌, ◌+◌, ◌-◌, ◌^◌, ◌++◌, ◌∷◌, [], true, false, nat_eq, IfOk, OnOk, if◌then◌else◌};
+ghost use Rattle.std.specs.Prelude.{◌≡◌, ℕ, List, ◌<◌, ◌≤◌, ◌+◌, ◌-◌, ◌^◌, ◌++◌, ◌∷◌, [], true, false, nat_eq, position, IfOk, OnOk, if◌then◌else◌};
 ghost use Rattle.std.specs.List.{list_any};
 ghost use Rattle.std.specs.Map.{keys_of};
+ghost use Rattle.std.specs.Option.{option_map};
+ghost use Rattle.indexmap.specs.IndexMap.{get};
 ghost use Rattle.cov_base.specs.Addresses.{after_anchor};
 ghost use Rattle.cov_dd.specs.Diagrams.{value_in};
 ghost use Rattle.cov_order.specs.Orders.{has_line, is_anchor};
@@ -219,9 +221,10 @@ struct Sight<'a> {
     at: Position,
 }
 
-// A node with its value on a choice.
+// What was looked at last: the index of a line, and a node with its value on a choice.
 #[derive(Clone, Copy)]
-struct Evaluated {
+struct Last {
+    index: usize,
     node: Node,
     value: bool,
 }
@@ -238,7 +241,8 @@ fn visible_rows(
     // What `len` ensures bounds the index for the proof.
     let _count = lines.len();
     let mut rows = FileRows::new(*texts.allocator());
-    let mut last = Evaluated {
+    let mut last = Last {
+        index: 0,
         node: FALSE,
         value: false,
     };
@@ -250,41 +254,57 @@ fn visible_rows(
     Ok(rows)
 }
 
-// Adds a line, if it is asked for. It looks the line up once.
+// Adds a line, if it is asked for. It looks the line up once, first behind the one that was looked at last.
 fn add_visible(
     rows: &mut FileRows,
     texts: &IndexMap<LineNo, Text>,
     changes: &Changes,
     line: LineNo,
     sight: &Sight<'_>,
-    last: &mut Evaluated,
+    last: &mut Last,
 ) -> Result<(), Memory>
     requires last { last.old.value ≡ value_in sight.now.table.now last.old.node sight.now.choice }
     ensures rows { OnOk result (rows.new ≡ rows.old ++ rows_at sight.now.table.now sight.now.choice sight.now.at (dated_lines texts.now.entries changes.now.lists (line ∷ []))) }
     ensures last { last.new.value ≡ value_in sight.now.table.now last.new.node sight.now.choice }
 {
-    match texts.get_full(&line) {
-        Some((index, _, text)) => {
-            *last = evaluate(sight, changes.at(index, sight.at), last);
+    match find(texts, line, last.index.saturating_add(1)) {
+        Some((index, text)) => {
+            *last = look(sight, index, changes.at(index, sight.at), last);
             add_shown(rows, line, text, last.value)
         }
         None => Ok(()),
     }
 }
 
-// A node with its value. Its diagram is walked only where the node isn't the last one that was evaluated.
-fn evaluate(sight: &Sight<'_>, node: Node, last: &Evaluated) -> Evaluated
+// The index of a line with its text. Lines that stand together were mostly inserted one after another, so it is first looked for
+// where it would be then.
+fn find(texts: &IndexMap<LineNo, Text>, line: LineNo, expected: usize) -> Option<(usize, &Text)>
+    ensures index { option_map (λ p. p.0) result ≡ position (nat_eq line) (keys_of texts.now.entries) }
+    ensures text { option_map (λ p. p.1.now) result ≡ get nat_eq texts.now line }
+{
+    // What `len` ensures is, for the proof, that no line stands twice.
+    let _count = texts.len();
+    match texts.get_index(expected) {
+        Some((other, text)) if *other == line => Some((expected, text)),
+        _ => match texts.get_full(&line) {
+            Some((index, _, text)) => Some((index, text)),
+            None => None,
+        },
+    }
+}
+
+// A node with its value, at the index of its line. Its diagram is walked only where the node isn't the last one.
+fn look(sight: &Sight<'_>, index: usize, node: Node, last: &Last) -> Last
     requires last { last.now.value ≡ value_in sight.now.table.now last.now.node sight.now.choice }
     ensures node { result.node ≡ node }
     ensures value { result.value ≡ value_in sight.now.table.now node sight.now.choice }
 {
-    if last.node == node {
-        return *last;
-    }
-    Evaluated {
-        node,
-        value: sight.table.value(node, sight.choice),
-    }
+    let value = if last.node == node {
+        last.value
+    } else {
+        sight.table.value(node, sight.choice)
+    };
+    Last { index, node, value }
 }
 
 // Adds a line, if it is shown.

@@ -8,6 +8,7 @@ use crate::target::{Target, append_target};
 use crate::word::{append_number, append_word};
 use cov_base::{Choice, Kind, LineNo, LineRef, Memory, Name, OptionId, Position, Text, Texts};
 use cov_expr::{Options, print_choice};
+use itoa::Buffer;
 use std::alloc::Global;
 
 /// The text of a reply; want of memory is its only refusal.
@@ -113,22 +114,16 @@ pub fn cat_line(alloc: Global, line: LineNo, text: &Text) -> Reply
     ensures { IfOk result (λ shown. shown ≡ cat_line line text.now) }
 {
     let mut shown = Text::new(alloc);
-    append_cat_line(alloc, &mut shown, line, text)?;
+    append_cat_line(&mut shown, line, text)?;
     Ok(shown)
 }
 
-/// Appends a line of a file under a choice to a reply; the text is copied into it alone.
-pub fn append_cat_line(
-    alloc: Global,
-    reply: &mut Text,
-    line: LineNo,
-    text: &Text,
-) -> Result<(), Memory>
+/// Appends a line of a file under a choice to a reply; nothing but the reply takes memory.
+pub fn append_cat_line(reply: &mut Text, line: LineNo, text: &Text) -> Result<(), Memory>
     ensures { OnOk result (reply.new ≡ reply.old ++ cat_line line text.now) }
 {
-    let number = line.number();
-    let head = format!(in alloc; "{number}")?;
-    reply.append(head.as_bytes())?;
+    let mut number = Buffer::new();
+    reply.append(number.format(line.number()).as_bytes())?;
     reply.append(b" ")?;
     reply.append(text.as_slice())?;
     reply.append(b"\n")

@@ -23,8 +23,8 @@ impl Told for FileRow {
 
     ghost line = { file_line };
 
-    fn tell(&self, alloc: Global, reply: &mut Text) -> Result<(), Memory> {
-        append_cat_line(alloc, reply, self.line, &self.text)
+    fn tell(&self, _alloc: Global, reply: &mut Text) -> Result<(), Memory> {
+        append_cat_line(reply, self.line, &self.text)
     }
 }
 

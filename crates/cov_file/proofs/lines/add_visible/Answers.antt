@@ -14,9 +14,9 @@ pub returns-in-Some-clause-rows : goal.returns-in-Some-clause-rows
 returns-in-Some-clause-rows c =
     let keys = keys_of c.args.texts.now.entries in
     let found : position (nat_eq c.args.line) keys ≡ Some c.in-Some.index = sym c.in-Some.ensures.index in
-    let text : c.in-Some.text.now ≡ text_in c.args.texts.now.entries c.args.line = ap (λ o. unwrap_or o []) c.in-Some.ensures.value in
+    let text : c.in-Some.text.now ≡ text_in c.args.texts.now.entries c.args.line = ap (λ o. unwrap_or o []) c.in-Some.ensures.text in
     let shown =
-    c.evaluate.ensures.value
+    c.look.ensures.value
     ∙ ap (λ v. value_in c.args.sight.now.table.now v c.args.sight.now.choice)
     (c.at.ensures ∙ ap (λ cs. vis_at cs c.args.sight.now.at) (list_found c.args.line keys c.args.changes.now.lists c.in-Some.index found)) in
     subst (λ (piece : List FileRow). OnOk c.add_shown.result (c.add_shown.new.rows ≡ c.args.rows.now ++ piece))
