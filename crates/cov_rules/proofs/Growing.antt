@@ -18,7 +18,7 @@ use Rattle.cov_base.proofs.CallerLemmas.{is_on-take}
 use Rattle.cov_rules.proofs.Holding.{expressions_more, reach_of-more}
 use Rattle.cov_rules.proofs.Deciding.{value_same, is_valid_same}
 
-reach-literal : (o : ℕ) (on : Bool) → reach (literal o on) ≡ o + 1
+pub reach-literal : (o : ℕ) (on : Bool) → reach (literal o on) ≡ o + 1
 reach-literal o true = refl
 reach-literal o false = refl
 

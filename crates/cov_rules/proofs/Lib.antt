@@ -2,10 +2,12 @@ mod Examples
 pub mod Alone
 pub mod Answering
 pub mod CallerLemmas
+pub mod Closing
 pub mod Completed
 pub mod Deciding
 pub mod Growing
 pub mod Holding
+pub mod Leaving
 pub mod Narrowing
 pub mod Opening
 pub mod Planning

@@ -42,7 +42,7 @@ find_never : (p : ℕ → Bool) (xs : List ℕ) → ((x : ℕ) → p x ≡ false
 find_never p [] h = refl
 find_never p (x ∷ xs) h = ap (λ b. cond b (Some x) (find p xs)) (h x) ∙ find_never p xs h
 
-find_fails : (p : ℕ → Bool) (m k : ℕ) → find p (range_with_len m k) ≡ None → (o : ℕ) → m ≤ o → o < m + k → p o ≡ false
+pub find_fails : (p : ℕ → Bool) (m k : ℕ) → find p (range_with_len m k) ≡ None → (o : ℕ) → m ≤ o → o < m + k → p o ≡ false
 find_fails p m zero h o low high = absurd (omega (arith, low, high))
 find_fails p m (suc k) h o low high = by (p m) refl h (find_fails p (m + 1) k)
   where

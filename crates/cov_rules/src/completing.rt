@@ -1,14 +1,13 @@
 // The steps by which rules complete a partial choice. Each narrows a node that stands for the choices that are left.
-ghost use Rattle.std.specs.Prelude.{◌≡◌, ◌<◌, ◌≤◌, ℕ, List, Bool, true, map, length, IfOk, IfErr};
-ghost use Rattle.std.specs.List.{list_any};
-ghost use Rattle.cov_base.specs.declared.limits.TheConstants.{CHOICE_WIDTH, LIMITS};
-ghost use Rattle.cov_dd.specs.Diagrams.{diagram_size, span, Extends};
-ghost use Rattle.cov_expr.specs.Formula.{Formula, reach, value};
-ghost use Rattle.cov_rules.specs.Completion.{Complete, answer_of, literals, has_any, keep, keep_all, least_unmet, first_open, is_open, IsSet, IsRefusalBy};
-ghost use Rattle.cov_rules.specs.Installing.{literal, expressions, reach_of, IsNodeOf, StandsForAll, AllStand};
+ghost use Rattle.std.specs.Prelude.{◌≡◌, ◌<◌, ◌≤◌, ℕ, List, Bool, map, length, IfOk};
+ghost use Rattle.cov_base.specs.declared.limits.TheConstants.{LIMITS};
+ghost use Rattle.cov_dd.specs.Diagrams.{diagram_size, Extends};
+ghost use Rattle.cov_expr.specs.Formula.{Formula, reach};
+ghost use Rattle.cov_rules.specs.Completion.{literals, has_any, keep, keep_all, least_unmet, IsSet};
+ghost use Rattle.cov_rules.specs.Installing.{expressions, reach_of, IsNodeOf, StandsForAll, AllStand};
 
 use crate::rules::{Installed, literal_node};
-use cov_base::{Choice, Memory, OptionId, Steps, Uncounted};
+use cov_base::{Memory, OptionId, Steps, Uncounted};
 use cov_dd::{Node, TRUE, Table};
 
 /// Why a partial choice isn't completed.
@@ -111,63 +110,4 @@ pub(crate) fn least_unmet(
         rule += 1;
     }
     Ok(rule)
-}
-
-/// The only choice of a node, or the least option that has both values among its choices.
-pub(crate) fn only_choice(table: &mut Table, node: Node, count: u8) -> Result<Choice, CompleteFault>
-    requires count { count ≤ CHOICE_WIDTH }
-    requires node { node < diagram_size table.old }
-    requires options { span table.old node ≤ count }
-    requires some { (cs : List (List Bool)) → IsSet table.old node count cs → has_any cs ≡ true }
-    ensures extends { Extends table.old table.new }
-    ensures complete { IfOk result (λ choice. (cs : List (List Bool)) → IsSet table.old node count cs → answer_of count cs ≡ Complete choice) }
-    ensures refused { IfErr result (λ fault. (cs : List (List Bool)) → IsSet table.old node count cs → IsRefusalBy (answer_of count cs) fault) }
-{
-    let Some(choice) = table.least(node, count) else {
-        unreachable!()
-    };
-    match first_open(table, node, count) {
-        Ok(None) => Ok(choice),
-        Ok(Some(option)) => Err(CompleteFault::Incomplete { option }),
-        Err(_) => Err(CompleteFault::Memory),
-    }
-}
-
-// The least of `count` options that has both values among the choices of a node.
-fn first_open(table: &mut Table, node: Node, count: u8) -> Result<Option<OptionId>, Memory>
-    requires count { count ≤ CHOICE_WIDTH }
-    requires node { node < diagram_size table.old }
-    ensures extends { Extends table.old table.new }
-    ensures first { IfOk result (λ option. (cs : List (List Bool)) → IsSet table.old node count cs → option ≡ first_open count cs) }
-{
-    for number in 0..count {
-        let option = OptionId::new(number);
-        if is_open(table, node, option)? {
-            return Ok(Some(option));
-        }
-    }
-    Ok(None)
-}
-
-// Whether an option has both values among the choices of a node.
-fn is_open(table: &mut Table, node: Node, option: OptionId) -> Result<bool, Memory>
-    requires node { node < diagram_size table.old }
-    ensures extends { Extends table.old table.new }
-    ensures both { IfOk result (λ both. (count : ℕ) (cs : List (List Bool)) → option < count → IsSet table.old node count cs → both ≡ is_open cs option) }
-{
-    if !has_value(table, node, option, true)? {
-        return Ok(false);
-    }
-    has_value(table, node, option, false)
-}
-
-// Whether an option has a value on one of the choices of a node.
-fn has_value(table: &mut Table, node: Node, option: OptionId, on: bool) -> Result<bool, Memory>
-    requires node { node < diagram_size table.old }
-    ensures extends { Extends table.old table.new }
-    ensures some { IfOk result (λ some. (count : ℕ) (cs : List (List Bool)) → option < count → IsSet table.old node count cs → some ≡ list_any (value (literal option on)) cs) }
-{
-    let literal = literal_node(table, option, on)?;
-    let both = table.and(node, literal, &mut Steps::<Uncounted>::new())?;
-    Ok(is_met(table, both))
 }

@@ -8,14 +8,14 @@ ghost use Rattle.cov_dd.specs.declared.triple.Triple.{Triple};
 ghost use Rattle.cov_dd.specs.Diagrams.{diagram_size, span, value_in, Extends, Stands};
 ghost use Rattle.cov_rules.specs.Installing.{expressions, expressions_at, reach_of, count_of, literal, with_rule, IsNodeOf, Holds, Plans, IsPlan};
 ghost use Rattle.cov_rules.specs.Completion.{Complete, Invalid as Broken, completed, fallbacks, keep_all, least_unmet, AreBelow, IsRefusalBy, IsSet};
+ghost use Rattle.cov_rules.specs.Lefts.{IsLeft};
 ghost use Rattle.cov_rules.specs.Refusals.{reach_of_rule, IsAccepted, IsRuleFaultOf};
 ghost use Rattle.cov_rules.specs.Growth.{Follows};
 ghost use Rattle.cov_rules.specs.declared.rules.RuleFault.TheVariants.{NoVariantLeft as no_variant_left, Memory as want_of_memory};
 ghost use Rattle.cov_rules.specs.declared.rules.Rule.TheVariants.{Constraint as a_constraint, Prefer as a_preference, Default as a_default};
 
-use crate::completing::{
-    CompleteFault, Wish, agreement, is_met, least_unmet, left_after, only_choice,
-};
+use crate::completing::{CompleteFault, Wish, agreement, is_met, least_unmet, left_after};
+use crate::lefts::Left;
 use cov_base::{Choice, LIMITS, Memory, OptionId, Position, Steps, Uncounted};
 use cov_dd::{Node, TRUE, Table};
 use cov_expr::{Expr, Partial};
@@ -68,8 +68,8 @@ pub(crate) struct Installed {
 /// A default with its node.
 #[derive(Debug, Drop)]
 pub(crate) struct Fallback {
-    option: OptionId,
-    on: bool,
+    pub(crate) option: OptionId,
+    pub(crate) on: bool,
     pub(crate) node: Node,
 }
 
@@ -328,11 +328,11 @@ impl Rules {
         if !is_met(table, valid) {
             return Err(self.unmet(table, agreeing));
         }
-        let left = match self.left(table, valid) {
-            Ok(node) => node,
+        let left = match self.left(table, valid, count) {
+            Ok(left) => left,
             Err(_) => return Err(CompleteFault::Memory),
         };
-        only_choice(table, left, count)
+        left.only(table)
     }
 
     // The refusal of choices that don't meet all constraints.
@@ -348,16 +348,18 @@ impl Rules {
         }
     }
 
-    // The choices that preferences and then defaults leave.
-    fn left(&self, table: &mut Table, node: Node) -> Result<Node, Memory>
+    // The choices of a node that preferences and then defaults leave. Each default binds its option, so that the node gets smaller.
+    fn left(&self, table: &mut Table, node: Node, count: u8) -> Result<Left, Memory>
         requires holds { Holds table.old self.now.standing }
+        requires below { AreBelow count self.now.standing }
         requires node { node < diagram_size table.old }
+        requires options { span table.old node ≤ count }
         ensures extends { Extends table.old table.new }
-        ensures within { IfOk result (λ r. r < diagram_size table.new) }
-        ensures kept { IfOk result (λ r. (count : ℕ) (cs : List (List Bool)) → IsSet table.old node count cs → reach_of (expressions self.now.standing.preferences) ≤ count → reach_of (fallbacks self.now.standing.defaults) ≤ count → IsSet table.new r count (keep_all (keep_all cs (expressions self.now.standing.preferences)) (fallbacks self.now.standing.defaults))) }
+        ensures kept { IfOk result (λ r. (cs : List (List Bool)) → IsSet table.old node count cs → IsLeft table.new count (keep_all (keep_all cs (expressions self.now.standing.preferences)) (fallbacks self.now.standing.defaults)) r) }
     {
         let preferred = left_after(table, node, self.preferences.as_slice())?;
-        left_after(table, preferred, self.defaults.as_slice())
+        let left = Left::of(preferred, count);
+        left.with_defaults(table, self.defaults.as_slice())
     }
 
     /// The node that is true on exactly the choices that meet all constraints.
