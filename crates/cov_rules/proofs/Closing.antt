@@ -1,26 +1,27 @@
 -- Options that are closed one after another, until one choice is left.
-use Rattle.std.proofs.Common.{◌≡◌, ℕ, zero, suc, ◌+◌, ◌-◌, ◌<◌, ◌≤◌, Bool, true, false, cond, ◌&&◌, not, List, [], ◌∷◌, length, None, true≢false, refl, sym, ap, subst, ◌∙◌, arith, ◌==◌, take, get_or}
+use Rattle.std.proofs.Common.{◌≡◌, ℕ, zero, suc, ◌+◌, ◌-◌, ◌<◌, ◌≤◌, Bool, true, false, cond, ◌&&◌, not, List, [], ◌∷◌, map, length, replicate, Some, true≢false, refl, sym, ap, subst, ◌∙◌, arith, ◌==◌, take, get_or}
 use Rattle.std.specs.List.{filter, find, range_with_len, AllByRecursion}
 use Rattle.std.proofs.lemmas.Bool.{eqb-true, eqb-false}
+use Rattle.std.proofs.lemmas.List.{length-replicate}
 use Rattle.cov_base.specs.Choices.{all_choices, bits_of, is_on, with_option}
+use Rattle.cov_base.specs.declared.limits.TheConstants.{CHOICE_WIDTH}
 use Rattle.cov_base.proofs.CallerLemmas.{is_on-same, is_on-other}
 use Rattle.cov_dd.specs.declared.triple.Triple.{Triple}
 use Rattle.cov_dd.specs.Diagrams.{value_in, Extends}
-use Rattle.cov_dd.proofs.CallerLemmas.{Order, below, level, above, ordered}
+use Rattle.cov_dd.proofs.CallerLemmas.{Order, below, level, above, ordered, some_nodes, span-constant, value-constant}
 use Rattle.cov_expr.specs.Formula.{Formula, value}
 use Rattle.cov_rules.specs.declared.lefts.Left.{Left}
 use Rattle.cov_rules.specs.declared.rules.Fallback.{Fallback}
-use Rattle.cov_rules.specs.Completion.{Complete, fallbacks, keep, keep_all, has_any, answer_of, first_open, is_open, IsSet}
+use Rattle.cov_rules.specs.Completion.{fallbacks, keep, keep_all, has_any, first_open, is_open}
 use Rattle.cov_rules.specs.Installing.{literal, reach_of}
-use Rattle.cov_rules.specs.Lefts.{same, agrees, choices_left, IsClosed, IsSound, IsLeft}
+use Rattle.cov_rules.specs.Lefts.{same, agrees, choices_left, IsClosed, IsSound, IsLeft, Keeps}
 use Rattle.cov_rules.proofs.Alone.{at_most_one}
 use Rattle.cov_rules.proofs.Answering.{all_whole}
-use Rattle.cov_rules.proofs.Narrowing.{value_in_same, any_filter, stated_more, keep_all-more}
-use Rattle.cov_rules.proofs.Opening.{find_fails, find_later}
+use Rattle.cov_rules.proofs.Narrowing.{any_filter, stated_more, keep_all-more}
 use Rattle.cov_rules.proofs.Growing.{reach-literal}
-use Rattle.cov_rules.proofs.Leaving.{other_passes, literal_other, same_true, bound_none, left_later, sound_later}
+use Rattle.cov_rules.proofs.Leaving.{other_passes, literal_other, same_true, any_left, bound_none, left_later, sound_later}
 
-none_bound : (n o : ℕ) → is_on (bits_of n 0) o ≡ false
+pub none_bound : (n o : ℕ) → is_on (bits_of n 0) o ≡ false
 none_bound zero o = refl
 none_bound (suc n) zero = refl
 none_bound (suc n) (suc o) = none_bound n o
@@ -35,19 +36,23 @@ length_none : (n : ℕ) → length (bits_of n 0) ≡ n
 length_none zero = refl
 length_none (suc n) = ap suc (length_none n)
 
--- the choices of a node, with no option bound
-pub none_left : (ts : List Triple) (node count : ℕ) (cs : List (List Bool)) → IsSet ts node count cs → IsLeft ts count cs (record { node = node; bound = bits_of count 0; values = bits_of count 0 })
-none_left ts node count cs is = record {
+pub filter_all : {X : Type 0} (xs : List X) → filter (λ _. true) xs ≡ xs
+filter_all [] = refl
+filter_all (x ∷ xs) = ap (λ ys. x ∷ ys) (filter_all xs)
+
+-- all choices, with no option bound
+pub all_left : (ts : List Triple) (count : ℕ) → count ≤ CHOICE_WIDTH → IsLeft ts count (all_choices count) (record { node = 1; bound = bits_of count 0; values = bits_of count 0 })
+all_left ts count few = record {
   sound = record {
-    few = omega (arith, is.few, length_none count);
+    few = omega (arith, few, length_none count);
     values = refl;
-    within = is.within;
-    options = omega (arith, is.options, length_none count);
-    free = λ c d h. value_in_same ts node c d (λ o _. h o (none_bound count o));
+    within = some_nodes ts;
+    options = omega (arith, span-constant ts 1 (omega arith));
+    free = λ c d h. value-constant ts 1 c (omega arith) ∙ sym (value-constant ts 1 d (omega arith));
   };
   count = length_none count;
-  choices = ap (λ n. filter (λ c. agrees (bits_of count 0) (bits_of count 0) c && value_in ts node c) (all_choices n)) (length_none count)
-      ∙ (λ j. filter (λ c. agrees_none count (bits_of count 0) c j && value_in ts node c) (all_choices count)) ∙ is.choices;
+  choices = ap (λ n. filter (λ c. agrees (bits_of count 0) (bits_of count 0) c && value_in ts 1 c) (all_choices n)) (length_none count)
+      ∙ (λ j. filter (λ c. agrees_none count (bits_of count 0) c j && value-constant ts 1 c (omega arith) j) (all_choices count)) ∙ filter_all (all_choices count);
 }
 
 open_by : (cs : List (List Bool)) (o : ℕ) → is_open cs o ≡ (has_any (filter (value (literal o true)) cs) && has_any (filter (value (literal o false)) cs))
@@ -138,29 +143,40 @@ head_passes P p (x ∷ xs) y ys all h = by (p x) refl h (head_passes P p xs y ys
     by true e h rest = let is : x ≡ y = cc in (subst P is all.0, ap p (sym is) ∙ e)
     by false e h rest = rest h
 
--- where all options are bound and none is open, what is bound is the only choice
-pub only_left : (ts : List Triple) (left : Left) (n : ℕ) (cs : List (List Bool)) → IsLeft ts n cs left → ((o : ℕ) → o < n → is_on left.bound o ≡ true) → first_open n cs ≡ None → has_any cs ≡ true
-    → answer_of n cs ≡ Complete left.values
-only_left ts left n [] is all none some = absurd (true≢false (sym some))
-only_left ts left n (c ∷ cs) is all none some = by cs few
-  where
-    head : (length c ≡ length left.bound) × ((agrees left.bound left.values c && value_in ts left.node c) ≡ true)
-    head = head_passes (λ d. length d ≡ length left.bound) (λ d. agrees left.bound left.values d && value_in ts left.node d) (all_choices (length left.bound)) c cs (all_whole (length left.bound)) is.choices
+-- where all options are bound, what is bound is the only choice
+module _ (ts : List Triple) (left : Left) (s : IsSound ts left) (all : (o : ℕ) → o < length left.bound → is_on left.bound o ≡ true) where
+  pub one_left : has_any (choices_left ts left) ≡ true → choices_left ts left ≡ left.values ∷ []
+  one_left some = by (choices_left ts left) refl some
+    where
+      first : (x y : Bool) → (x && y) ≡ true → x ≡ true
+      first true y h = refl
+      first false y h = absurd (true≢false (sym h))
 
-    first : (x y : Bool) → (x && y) ≡ true → x ≡ true
-    first true y h = refl
-    first false y h = absurd (true≢false (sym h))
+      itself : (c : List Bool) (cs : List (List Bool)) → choices_left ts left ≡ c ∷ cs → c ≡ left.values
+      itself c cs is =
+          let head = head_passes (λ d. length d ≡ length left.bound) (λ d. agrees left.bound left.values d && value_in ts left.node d) (all_choices (length left.bound)) c cs (all_whole (length left.bound)) is in
+          agrees_whole left.bound left.values c s.values head.0 all (first (agrees left.bound left.values c) (value_in ts left.node c) head.1)
 
-    itself : c ≡ left.values
-    itself = agrees_whole left.bound left.values c is.sound.values head.0 (λ o lt. all o (omega (arith, lt, is.count))) (first (agrees left.bound left.values c) (value_in ts left.node c) head.1)
+      few : length (choices_left ts left) ≤ 1
+      few = at_most_one (length left.bound) (λ d. agrees left.bound left.values d && value_in ts left.node d) (λ o lt. bound_shut ts left s o (all o lt))
 
-    few : length (c ∷ cs) ≤ 1
-    few = subst (λ ds. length ds ≤ 1) is.choices (at_most_one (length left.bound) (λ d. agrees left.bound left.values d && value_in ts left.node d)
-        (λ o lt. ap (λ ds. is_open ds o) is.choices ∙ find_fails (is_open (c ∷ cs)) 0 n none o (omega arith) (omega (arith, lt, is.count))))
+      by : (cs : List (List Bool)) → choices_left ts left ≡ cs → has_any cs ≡ true → cs ≡ left.values ∷ []
+      by [] is h = absurd (true≢false (sym h))
+      by (c ∷ []) is h = ap (λ d. d ∷ []) (itself c [] is)
+      by (c ∷ d ∷ cs) is h = absurd (omega (arith, few, ap length is))
 
-    by : (ds : List (List Bool)) → length (c ∷ ds) ≤ 1 → answer_of n (c ∷ ds) ≡ Complete left.values
-    by [] f = ap Complete itself
-    by (d ∷ ds) f = absurd (omega (arith, f))
+  -- where the node is TRUE, there is one
+  pub only_left : left.node ≡ 1 → choices_left ts left ≡ left.values ∷ []
+  only_left at = one_left (sym (any_left ts left s false (λ e. absurd (true≢false (sym e)), λ h. absurd (true≢false (sym (passes (replicate CHOICE_WIDTH false)) ∙ h (replicate CHOICE_WIDTH false) (length-replicate CHOICE_WIDTH false))))))
+    where
+      passes : (c : List Bool) → value_in ts left.node c ≡ true
+      passes c = ap (λ a. value_in ts a c) at ∙ value-constant ts 1 c (omega arith)
+
+-- the first of the options that passes a test comes behind one that doesn't
+find_later : (p : ℕ → Bool) (m n : ℕ) → m < n → p m ≡ false → find p (range_with_len m (n - m)) ≡ find p (range_with_len (m + 1) (n - (m + 1)))
+find_later p m n lt fails =
+    let k : n - m ≡ suc (n - (m + 1)) = omega (arith, lt) in
+    ap (λ l. find p (range_with_len m l)) k ∙ ap (λ b. cond b (Some m) (find p (range_with_len (m + 1) (n - (m + 1))))) fails
 
 -- one option more is closed
 module _ (us vs : List Triple) (left next : Left) (o number n : ℕ) (cs : List (List Bool)) (is : IsLeft us n cs left) (at : o ≡ number) (closed : IsClosed us vs left o next) where
@@ -188,22 +204,12 @@ fallback_at [] i d h = absurd (omega (arith, h))
 fallback_at (d ∷ ds) zero e h = omega (arith, reach-literal d.option d.on)
 fallback_at (d ∷ ds) (suc i) e h = omega (arith, fallback_at ds i e (omega (arith, h)))
 
--- one default more
-pub default_more : (us vs : List Triple) (left next : Left) (n i : ℕ) (cs : List (List Bool)) (ds : List Fallback) (d : Fallback) → i < length ds → d ≡ get_or ds i d
-    → IsLeft us n (keep_all cs (fallbacks (take i ds))) left → IsLeft vs (length left.bound) (keep (choices_left us left) (literal d.option d.on)) next
-    → IsLeft vs n (keep_all cs (fallbacks (take (i + 1) ds))) next
-default_more us vs left next n i cs ds d lt at before step = record {
+-- one wish more
+pub wish_more : {X : Type 0} (f : X → Formula ℕ) (xs : List X) (i : ℕ) (x : X) → i < length xs → x ≡ get_or xs i x
+    → (ts us vs : List Triple) (start left next : Left) → Keeps ts us start (map f (take i xs)) left → Keeps us vs left (f x ∷ []) next → Keeps ts vs start (map f (take (i + 1) xs)) next
+wish_more f xs i x lt at ts us vs start left next before step = record {
   sound = step.sound;
   count = step.count ∙ before.count;
-  choices = step.choices ∙ ap (λ es. keep es (literal d.option d.on)) before.choices
-      ∙ sym (ap (keep_all cs) (stated_more (λ (f : Fallback). literal f.option f.on) ds i d lt at) ∙ keep_all-more cs (fallbacks (take i ds)) (literal d.option d.on));
-}
-
--- what defaults leave of choices
-pub kept_left : (us vs : List Triple) (start r : Left) (n : ℕ) (cs : List (List Bool)) (es : List (Formula ℕ)) → IsLeft us n cs start → IsLeft vs (length start.bound) (keep_all (choices_left us start) es) r
-    → IsLeft vs n (keep_all cs es) r
-kept_left us vs start r n cs es is step = record {
-  sound = step.sound;
-  count = step.count ∙ is.count;
-  choices = step.choices ∙ ap (λ ds. keep_all ds es) is.choices;
+  choices = step.choices ∙ ap (λ es. keep es (f x)) before.choices
+      ∙ sym (ap (keep_all (choices_left ts start)) (stated_more f xs i x lt at) ∙ keep_all-more (choices_left ts start) (map f (take i xs)) (f x));
 }

@@ -16,7 +16,7 @@ use Rattle.cov_rules.specs.Installing.{literal}
 use Rattle.cov_rules.specs.Lefts.{same, agrees, choices_left, IsFree, IsSound, IsLeft}
 use Rattle.cov_rules.proofs.Answering.{all_whole}
 use Rattle.cov_rules.proofs.Deciding.{none_short, none_wide, none_passes, fails_on_each}
-use Rattle.cov_rules.proofs.Narrowing.{value_in_same, any_filter, filter_filter, or_else_some, or_else_none}
+use Rattle.cov_rules.proofs.Narrowing.{value_in_same, any_filter, filter_filter, or_else_none}
 
 and_swapped : (x y : Bool) → (x && y) ≡ (y && x)
 and_swapped true true = refl
@@ -49,7 +49,7 @@ other_passes t u other (x ∷ xs) h = by (t x) (other x) h (other_passes t u oth
     by false is h rest = ap (λ b. cond b (x ∷ filter u xs) (filter u xs)) is ∙ ap (λ ys. x ∷ ys) (rest h)
 
 -- an option's value as the test of a literal
-pub same_literal : (on : Bool) (o : ℕ) (c : List Bool) → same on (is_on c o) ≡ value (literal o on) c
+same_literal : (on : Bool) (o : ℕ) (c : List Bool) → same on (is_on c o) ≡ value (literal o on) c
 same_literal true o c = refl
 same_literal false o c = refl
 
@@ -66,12 +66,12 @@ same_true true x h = sym h
 same_true false true h = absurd (true≢false (sym h))
 same_true false false h = refl
 
-pub same_itself : (v : Bool) → same v v ≡ true
+same_itself : (v : Bool) → same v v ≡ true
 same_itself true = refl
 same_itself false = refl
 
 -- one option bound more
-pub agrees_with : (bound values c : List Bool) (o : ℕ) (on : Bool) → length values ≡ length bound → length c ≡ length bound → o < length bound → is_on bound o ≡ false
+agrees_with : (bound values c : List Bool) (o : ℕ) (on : Bool) → length values ≡ length bound → length c ≡ length bound → o < length bound → is_on bound o ≡ false
     → agrees (with_option bound o true) (with_option values o on) c ≡ (agrees bound values c && same on (is_on c o))
 agrees_with [] values c o on lv lc low free = absurd (omega (arith, low))
 agrees_with (b ∷ bound) [] c o on lv lc low free = absurd (omega (arith, lv))
@@ -188,7 +188,7 @@ module _ (ts : List Triple) (left : Left) (s : IsSound ts left) where
     bound_none e = filtered false e ∙ (λ j. filter (λ c. and_false (passes c) j) (all_choices (length left.bound))) ∙ filter_none (all_choices (length left.bound))
 
     -- one that is bound so keeps all
-    pub bound_all : same on (is_on left.values o) ≡ true → filter (value (literal o on)) (choices_left ts left) ≡ choices_left ts left
+    bound_all : same on (is_on left.values o) ≡ true → filter (value (literal o on)) (choices_left ts left) ≡ choices_left ts left
     bound_all e = filtered true e ∙ (λ j. filter (λ c. and_true (passes c) j) (all_choices (length left.bound)))
 
     -- a default of an option that is bound changes nothing
@@ -281,8 +281,5 @@ module _ (ts : List Triple) (left : Left) (s : IsSound ts left) where
   left_later us x = λ j. filter (λ c. agrees left.bound left.values c && x.value left.node s.within c j) (all_choices (length left.bound))
 
 -- a default that is kept, and one that is refused
-pub kept_default : (cs : List (List Bool)) (o : ℕ) (on : Bool) → has_any (filter (value (literal o on)) cs) ≡ true → filter (value (literal o on)) cs ≡ keep cs (literal o on)
-kept_default cs o on h = or_else_some (filter (value (literal o on)) cs) cs h
-
 pub refused_default : (cs : List (List Bool)) (o : ℕ) (on : Bool) → has_any (filter (value (literal o on)) cs) ≡ false → filter (value (literal o (not on))) cs ≡ keep cs (literal o on)
 refused_default cs o on h = other_passes (value (literal o on)) (value (literal o (not on))) (literal_other on o) cs h ∙ or_else_none (filter (value (literal o on)) cs) cs h

@@ -20,7 +20,7 @@ returns-then-not-is_any-clause-extends c = extends_trans c.args.table.now c.bind
 pub returns-then-not-is_any-clause-closes : goal.returns-then-not-is_any-clause-closes
 returns-then-not-is_any-clause-closes c =
     off_closed c.args.table.now c.bind.new.table c.bind-2.new.table c.args.self.now c.requires.sound c.in_ok-on.ensures.extends c.in_ok-off.ensures.extends c.args.option c.requires.option c.in_ok-on.on c.in_ok-off.off
-    c.in_ok-on.ensures.bound c.in_ok-off.ensures.bound c.in_ok-on.ensures.kept c.in_ok-off.ensures.kept c.is_any.result c.is_any.ensures c.if-not-is_any.true
+    c.in_ok-on.ensures.bound c.in_ok-off.ensures.bound c.in_ok-on.ensures.binds c.in_ok-off.ensures.binds c.is_any.result c.is_any.ensures c.if-not-is_any.true
 
 pub returns-then-is_any-clause-extends : goal.returns-then-is_any-clause-extends
 returns-then-is_any-clause-extends c = extends_trans c.args.table.now c.bind.new.table c.bind-2.new.table c.in_ok-on.ensures.extends c.in_ok-off.ensures.extends
@@ -28,7 +28,7 @@ returns-then-is_any-clause-extends c = extends_trans c.args.table.now c.bind.new
 pub returns-then-is_any-clause-closes : goal.returns-then-is_any-clause-closes
 returns-then-is_any-clause-closes c =
     both_open c.args.table.now c.bind.new.table c.bind-2.new.table c.args.self.now c.requires.sound c.in_ok-on.ensures.extends c.in_ok-off.ensures.extends c.args.option c.requires.option c.in_ok-on.on c.in_ok-off.off
-    c.in_ok-on.ensures.bound c.in_ok-off.ensures.bound c.in_ok-on.ensures.kept c.in_ok-off.ensures.kept c.is_any.result c.is_any.ensures c.is_any-2.result c.is_any-2.ensures c.if-not-is_any.false c.if-is_any.true
+    c.in_ok-on.ensures.bound c.in_ok-off.ensures.bound c.in_ok-on.ensures.binds c.in_ok-off.ensures.binds c.is_any.result c.is_any.ensures c.is_any-2.result c.is_any-2.ensures c.if-not-is_any.false c.if-is_any.true
 
 pub returns-clause-extends : goal.returns-clause-extends
 returns-clause-extends c = extends_trans c.args.table.now c.bind.new.table c.bind-2.new.table c.in_ok-on.ensures.extends c.in_ok-off.ensures.extends
@@ -36,4 +36,4 @@ returns-clause-extends c = extends_trans c.args.table.now c.bind.new.table c.bin
 pub returns-clause-closes : goal.returns-clause-closes
 returns-clause-closes c =
     on_closed c.args.table.now c.bind.new.table c.bind-2.new.table c.args.self.now c.requires.sound c.in_ok-on.ensures.extends c.in_ok-off.ensures.extends c.args.option c.requires.option c.in_ok-on.on c.in_ok-off.off
-    c.in_ok-on.ensures.bound c.in_ok-off.ensures.bound c.in_ok-on.ensures.kept c.in_ok-off.ensures.kept c.is_any.result c.is_any.ensures c.is_any-2.result c.is_any-2.ensures c.if-is_any.false
+    c.in_ok-on.ensures.bound c.in_ok-off.ensures.bound c.in_ok-on.ensures.binds c.in_ok-off.ensures.binds c.is_any.result c.is_any.ensures c.is_any-2.result c.is_any-2.ensures c.if-is_any.false

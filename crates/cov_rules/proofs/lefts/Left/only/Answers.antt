@@ -1,9 +1,8 @@
-use Rattle.std.proofs.Common.{length, subst, ◌∙◌, arith}
+use Rattle.std.proofs.Common.{length, ap, subst, sym, ◌∙◌, arith}
 use Rattle.cov_dd.proofs.CallerLemmas.{extends_trans}
-use Rattle.cov_rules.specs.Completion.{is_open}
+use Rattle.cov_rules.specs.Completion.{answer_of, has_any}
 use Rattle.cov_rules.specs.Lefts.{choices_left, Closes, IsClosed}
-use Rattle.cov_rules.proofs.Closing.{only_left, left_more, bound_more, ahead_more}
-use Rattle.cov_rules.proofs.Opening.{find_none}
+use Rattle.cov_rules.proofs.Closing.{one_left, left_more, bound_more, ahead_more}
 use Rattle.cov_rules.proofs.lefts.Left.only.Goals as goal
 
 pub returns-in-Ok-None-clause-extends : goal.returns-in-Ok-None-clause-extends
@@ -31,7 +30,7 @@ pub returns-clause-complete : goal.returns-clause-complete
 returns-clause-complete c =
     let n = length c.args.self.now.bound in
     let cs = choices_left c.args.table.now c.args.self.now in
-    only_left c.loop-number.table c.loop-number.left n cs c.loop-number.invariant.left
-    (λ o lt. c.loop-number.invariant.bound o (omega (arith, lt, c.loop-number-test.false, c.count-count.ensures.count)))
-    (c.loop-number.invariant.ahead ∙ find_none (is_open cs) c.loop-number.number n (omega (arith, c.loop-number-test.false, c.count-count.ensures.count)))
-    c.requires.some
+    let is = c.loop-number.invariant.left in
+    let alone = one_left c.loop-number.table c.loop-number.left is.sound
+    (λ o lt. c.loop-number.invariant.bound o (omega (arith, lt, is.count, c.loop-number-test.false, c.count-count.ensures.count))) (ap has_any is.choices ∙ c.requires.some) in
+    ap (answer_of n) (sym is.choices ∙ alone)

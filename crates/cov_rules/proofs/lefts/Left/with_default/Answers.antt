@@ -23,6 +23,6 @@ returns-clause-kept c =
     let left = c.args.self.now in
     let n = length left.bound in
     let old = choices_left c.args.table.now left in
-    let none = sym (ap has_any c.in_ok-kept.ensures.kept.choices) ∙ sym c.is_any.ensures ∙ c.if-is_any.false in
+    let none = sym (ap has_any c.in_ok-kept.ensures.binds.choices) ∙ sym c.is_any.ensures ∙ c.if-is_any.false in
     let same = ap (filter (value (literal c.args.option (not c.args.on)))) (left_later c.args.table.now left c.requires.sound c.bind.new.table c.in_ok-kept.ensures.extends) ∙ refused_default old c.args.option c.args.on none in
-    subst (λ (cs : List (List Bool)). IfOk c.bind-2.result (IsLeft c.bind-2.new.table n cs)) same c.bind-2.ensures.kept
+    subst (λ (cs : List (List Bool)). IfOk c.bind-2.result (IsLeft c.bind-2.new.table n cs)) same c.bind-2.ensures.binds

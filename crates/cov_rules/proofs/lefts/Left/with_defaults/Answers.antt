@@ -1,9 +1,9 @@
-use Rattle.std.proofs.Common.{◌≤◌, ◌+◌, length, subst, sym, arith}
+use Rattle.std.proofs.Common.{◌≤◌, ◌+◌, subst, sym, arith}
 use Rattle.cov_dd.proofs.CallerLemmas.{extends_trans}
 use Rattle.cov_rules.specs.Completion.{fallbacks}
-use Rattle.cov_rules.specs.Installing.{reach_of}
+use Rattle.cov_rules.specs.Installing.{literal, reach_of}
 use Rattle.cov_rules.specs.declared.rules.Fallback.{Fallback}
-use Rattle.cov_rules.proofs.Closing.{fallback_at, default_more}
+use Rattle.cov_rules.proofs.Closing.{fallback_at, wish_more}
 use Rattle.cov_rules.proofs.lefts.Left.with_defaults.Goals as goal
 
 pub with_default-requires-clause-option : goal.with_default-requires-clause-option
@@ -17,6 +17,6 @@ returns-in_err-left-clause-extends c = extends_trans c.args.table.now c.loop-def
 pub loop-default-preserved : goal.loop-default-preserved
 loop-default-preserved c = record {
   extends = extends_trans c.args.table.now c.loop-default.table c.with_default.new.table c.loop-default.invariant.extends c.in_ok-left.ensures.extends;
-  kept = default_more c.loop-default.table c.with_default.new.table c.loop-default.left c.in_ok-left.left (length c.args.self.now.bound) c.loop-default.default-index _ c.args.defaults.now c.default-item.result
-      c.loop-default-test.true c.default-item.is c.loop-default.invariant.kept c.in_ok-left.ensures.kept;
+  kept = wish_more (λ (d : Fallback). literal d.option d.on) c.args.defaults.now c.loop-default.default-index c.default-item.result c.loop-default-test.true c.default-item.is
+      c.args.table.now c.loop-default.table c.with_default.new.table c.args.self.now c.loop-default.left c.in_ok-left.left c.loop-default.invariant.kept c.in_ok-left.ensures.kept;
 }
