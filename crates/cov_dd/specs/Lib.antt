@@ -1,3 +1,4 @@
+pub mod Cofactors
 pub mod Combinations
 pub mod Diagrams
 pub mod Memos

@@ -21,7 +21,7 @@ abbrev wishing : Standing
 wishing = record {
   constraints = [];
   preferences = record { expr = On 0; node = 0; at = 3 } ∷ record { expr = And (Not (On 0)) (On 1); node = 0; at = 4 } ∷ [];
-  defaults = record { option = 0; on = false; node = 0 } ∷ record { option = 1; on = true; node = 0 } ∷ [];
+  defaults = record { option = 0; on = false } ∷ record { option = 1; on = true } ∷ [];
   conjunction = 0;
 }
 

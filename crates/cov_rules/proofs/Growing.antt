@@ -1,11 +1,10 @@
 -- What one more rule adds, and what more options change.
-use Rattle.std.proofs.Common.{◌≡◌, ℕ, ◌+◌, ◌≤◌, Bool, true, false, nat_le, nat_lt, List, [], ◌∷◌, ◌++◌, take, cond, if◌then◌else◌, refl, sym, ap, subst, ◌∙◌, arith}
-use Rattle.std.specs.List.{filter, list_all}
-use Rattle.std.proofs.lemmas.Bool.{and_parts, ltb-true}
+use Rattle.std.proofs.Common.{◌≡◌, ℕ, ◌+◌, ◌≤◌, Bool, true, false, nat_le, List, [], ◌∷◌, ◌++◌, take, cond, if◌then◌else◌, refl, sym, ap, subst, ◌∙◌, arith}
+use Rattle.std.specs.List.{filter}
 use Rattle.std.proofs.lemmas.List.{map-append}
 use Rattle.std.proofs.lemmas.List.Elements.{filter-append}
 use Rattle.cov_expr.specs.Formula.{Formula, reach}
-use Rattle.cov_rules.specs.Completion.{literals, fallbacks, AreBelow}
+use Rattle.cov_rules.specs.Completion.{fallbacks, AreBelow}
 use Rattle.cov_rules.specs.Growth.{Follows, StayBelow, ValueByFirstOptions, ValidByFirstOptions}
 use Rattle.cov_rules.specs.Installing.{Standing, literal, installed, with_rule, expressions, expressions_at, reach_of}
 use Rattle.cov_rules.specs.Refusals.{reach_of_rule}
@@ -18,16 +17,9 @@ use Rattle.cov_base.proofs.CallerLemmas.{is_on-take}
 use Rattle.cov_rules.proofs.Holding.{expressions_more, reach_of-more}
 use Rattle.cov_rules.proofs.Deciding.{value_same, is_valid_same}
 
-reach-literal : (o : ℕ) (on : Bool) → reach (literal o on) ≡ o + 1
+pub reach-literal : (o : ℕ) (on : Bool) → reach (literal o on) ≡ o + 1
 reach-literal o true = refl
 reach-literal o false = refl
-
--- bindings of the first n options, as expressions
-pub literals_below : (n : ℕ) (bs : List (ℕ × Bool)) → list_all (λ b. nat_lt b.0 n) bs ≡ true → reach_of (literals bs) ≤ n
-literals_below n [] h = omega arith
-literals_below n (b ∷ bs) h =
-    let parts = and_parts (nat_lt b.0 n) (list_all (λ c. nat_lt c.0 n) bs) h in
-    omega (arith, reach-literal b.0 b.1, ltb-true b.0 n parts.0, literals_below n bs parts.1)
 
 none_more : (es : List (Formula ℕ)) → es ≡ es ++ []
 none_more [] = refl
@@ -66,7 +58,7 @@ follows_with plan (rules.Prefer e) p s = record {
 follows_with plan (rules.Default o on) p s = record {
   constraints = none_more (expressions s.constraints);
   preferences = none_more (expressions s.preferences);
-  defaults = fallbacks_more s.defaults (record { option = o; on = on; node = plan.node });
+  defaults = fallbacks_more s.defaults (record { option = o; on = on });
   at = λ q. none_at (nat_le p q) (expressions_at q s.constraints);
 }
 
@@ -87,7 +79,7 @@ below_with plan (rules.Default o on) p s count h fits = record {
   few = h.few;
   constraints = h.constraints;
   preferences = h.preferences;
-  defaults = omega (arith, h.defaults, fits, reach-literal o on, reach_of-more (fallbacks s.defaults) (literal o on), ap reach_of (fallbacks_more s.defaults (record { option = o; on = on; node = plan.node })));
+  defaults = omega (arith, h.defaults, fits, reach-literal o on, reach_of-more (fallbacks s.defaults) (literal o on), ap reach_of (fallbacks_more s.defaults (record { option = o; on = on })));
 }
 
 module _ (plan : RulePlan) (rule : Rule) (p : ℕ) (old new : Standing) (is : new ≡ with_rule plan rule p old) where

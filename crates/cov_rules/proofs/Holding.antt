@@ -9,25 +9,23 @@ use Rattle.cov_dd.specs.Diagrams.{span, value_in, Extends, Stands}
 use Rattle.cov_dd.proofs.CallerLemmas.{stands_later, stands_weaker, constant_stands}
 use Rattle.cov_expr.specs.Formula.{Formula, value, reach}
 use Rattle.cov_expr.specs.Validity.{is_valid}
-use Rattle.cov_rules.specs.Installing.{Standing, literal, installed, with_rule, expressions, reach_of, IsNodeOf, StandsForAll, AllStand, Holds, Plans}
+use Rattle.cov_rules.specs.Installing.{Standing, installed, with_rule, expressions, reach_of, IsNodeOf, StandsForAll, AllStand, Holds, Plans}
 use Rattle.cov_rules.specs.declared.rules.Installed.{Installed}
 use Rattle.cov_rules.specs.declared.rules.Rule.{Rule}
 use Rattle.cov_rules.specs.declared.rules.Rule.TheVariants as rules
 use Rattle.cov_rules.specs.declared.rules.RulePlan.{RulePlan}
 
-module _ {X : Type 0} (node : X → ℕ) (expr : X → Formula ℕ) where
-  pub all_stand_later : {ts us : List Triple} → Extends ts us → (xs : List X) → AllStand ts xs node expr → AllStand us xs node expr
-  all_stand_later {ts} {us} x xs h = all-map (λ y. IsNodeOf ts (node y) (expr y)) (λ y. IsNodeOf us (node y) (expr y)) (λ y s. stands_later x s) xs h
+all_stand_later : {ts us : List Triple} → Extends ts us → (rs : List Installed) → AllStand ts rs → AllStand us rs
+all_stand_later {ts} {us} x rs h = all-map (λ (r : Installed). IsNodeOf ts r.node r.expr) (λ (r : Installed). IsNodeOf us r.node r.expr) (λ r s. stands_later x s) rs h
 
-  pub all_stand_more : (ts : List Triple) (xs : List X) (x : X) → AllStand ts xs node expr → IsNodeOf ts (node x) (expr x) → AllStand ts (xs ++ x ∷ []) node expr
-  all_stand_more ts xs x h new = all-append (λ y. IsNodeOf ts (node y) (expr y)) xs (x ∷ []) h (new, tt)
+all_stand_more : (ts : List Triple) (rs : List Installed) (r : Installed) → AllStand ts rs → IsNodeOf ts r.node r.expr → AllStand ts (rs ++ r ∷ [])
+all_stand_more ts rs r h new = all-append (λ (q : Installed). IsNodeOf ts q.node q.expr) rs (r ∷ []) h (new, tt)
 
 -- rules hold in a table that has grown
 pub holds_later : {ts us : List Triple} {s : Standing} → Extends ts us → Holds ts s → Holds us s
 holds_later {s = s} x h = record {
-  constraints = all_stand_later (λ r. r.node) (λ r. r.expr) x s.constraints h.constraints;
-  preferences = all_stand_later (λ r. r.node) (λ r. r.expr) x s.preferences h.preferences;
-  defaults = all_stand_later (λ d. d.node) (λ d. literal d.option d.on) x s.defaults h.defaults;
+  constraints = all_stand_later x s.constraints h.constraints;
+  preferences = all_stand_later x s.preferences h.preferences;
   conjunction = stands_later x h.conjunction;
 }
 
@@ -55,20 +53,13 @@ none_hold ts = stands_weaker 0 0 (is_valid []) (omega arith) (omega arith) (λ _
 -- rules hold with one more
 pub holds_with : (ts : List Triple) (s : Standing) (plan : RulePlan) (rule : Rule) (p : ℕ) → Holds ts s → Plans ts s rule plan → Holds ts (with_rule plan rule p s)
 holds_with ts s plan (rules.Constraint e) p h is = record {
-  constraints = all_stand_more (λ r. r.node) (λ r. r.expr) ts s.constraints (installed plan e p) h.constraints is.0;
+  constraints = all_stand_more ts s.constraints (installed plan e p) h.constraints is.0;
   preferences = h.preferences;
-  defaults = h.defaults;
   conjunction = subst (StandsForAll ts plan.conjunction) (sym (expressions_more s.constraints (installed plan e p))) is.1;
 }
 holds_with ts s plan (rules.Prefer e) p h is = record {
   constraints = h.constraints;
-  preferences = all_stand_more (λ r. r.node) (λ r. r.expr) ts s.preferences (installed plan e p) h.preferences is;
-  defaults = h.defaults;
+  preferences = all_stand_more ts s.preferences (installed plan e p) h.preferences is;
   conjunction = h.conjunction;
 }
-holds_with ts s plan (rules.Default o on) p h is = record {
-  constraints = h.constraints;
-  preferences = h.preferences;
-  defaults = all_stand_more (λ d. d.node) (λ d. literal d.option d.on) ts s.defaults (record { option = o; on = on; node = plan.node }) h.defaults is;
-  conjunction = h.conjunction;
-}
+holds_with ts s plan (rules.Default o on) p h is = record { constraints = h.constraints; preferences = h.preferences; conjunction = h.conjunction }

@@ -1,19 +1,15 @@
 -- What nodes say of lists of choices.
-use Rattle.std.proofs.Common.{◌≡◌, ℕ, zero, suc, ◌+◌, ◌<◌, ◌≤◌, ◌==◌, ◌↔◌, max, Bool, true, false, cond, ◌&&◌, ◌||◌, not, List, [], ◌∷◌, ◌++◌, map, length, take, get_or, true≢false, refl, sym, ap, subst, ◌∙◌, arith}
+use Rattle.std.proofs.Common.{◌≡◌, ℕ, zero, suc, ◌+◌, ◌<◌, ◌≤◌, ◌==◌, max, Bool, true, false, cond, ◌&&◌, ◌||◌, List, [], ◌∷◌, ◌++◌, map, length, take, get_or, refl, sym, ap, subst, ◌∙◌, arith}
 use Rattle.std.specs.List.{list_any, filter, AllByRecursion}
 use Rattle.std.proofs.lemmas.List.{take_more, map-append}
-use Rattle.cov_base.specs.Choices.{all_choices, is_on}
-use Rattle.cov_base.specs.declared.limits.TheConstants.{CHOICE_WIDTH}
+use Rattle.cov_base.specs.Choices.{is_on}
 use Rattle.cov_dd.specs.declared.triple.Triple.{Triple}
-use Rattle.cov_dd.specs.Combinations.{joint_span}
-use Rattle.cov_dd.specs.Diagrams.{diagram_size, span, value_in, Extends, Stands}
-use Rattle.cov_dd.proofs.CallerLemmas.{stands_later, stands_weaker}
-use Rattle.cov_expr.specs.Formula.{Formula, value, reach}
-use Rattle.cov_expr.specs.Validity.{is_valid}
-use Rattle.cov_rules.specs.Completion.{has_any, or_else, keep, keep_all, IsSet}
-use Rattle.cov_rules.specs.Installing.{literal, reach_of, IsNodeOf, StandsForAll, AllStand}
-use Rattle.cov_rules.proofs.Holding.{reach_of-more, is_valid-more}
-use Rattle.cov_rules.proofs.Deciding.{none_short, none_wide}
+use Rattle.cov_dd.specs.Diagrams.{diagram_size, span, value_in, Extends}
+use Rattle.cov_dd.proofs.CallerLemmas.{stands_later}
+use Rattle.cov_expr.specs.Formula.{Formula, reach}
+use Rattle.cov_rules.specs.Completion.{has_any, or_else, keep, keep_all}
+use Rattle.cov_rules.specs.Installing.{expressions, reach_of, IsNodeOf, AllStand}
+use Rattle.cov_rules.specs.declared.rules.Installed.{Installed}
 
 -- a node has the same value on choices that have the same values of its options
 pub value_in_same : (ts : List Triple) (a : ℕ) (c d : List Bool) → ((o : ℕ) → o < span ts a → is_on c o ≡ is_on d o) → value_in ts a c ≡ value_in ts a d
@@ -55,82 +51,30 @@ module _ {X : Type 0} where
   or_else_none [] cs h = refl
   or_else_none (d ∷ ds) cs h = absurd (cc)
 
--- a set of choices keeps its node as the table grows
-pub set_later : {ts us : List Triple} {node count : ℕ} {cs : List (List Bool)} → Extends ts us → IsSet ts node count cs → IsSet us node count cs
-set_later {node = node} {count = count} x is = record {
-  few = is.few;
-  within = omega (arith, is.within, x.count);
-  options = omega (arith, is.options, x.most node is.within);
-  choices = (λ j. filter (λ c. x.value node is.within c j) (all_choices count)) ∙ is.choices;
-}
-
-module _ (ts : List Triple) (node count : ℕ) (cs : List (List Bool)) (is : IsSet ts node count cs) where
-  any : list_any (value_in ts node) (all_choices count) ≡ has_any cs
-  any = any_filter (value_in ts node) (all_choices count) ∙ ap has_any is.choices
-
-  -- a node that is false on every choice of all options that it can have stands for no choice
-  pub decides : (b : Bool) → (b ≡ true) ↔ ((c : List Bool) → length c ≡ CHOICE_WIDTH → value_in ts node c ≡ false) → not b ≡ has_any cs
-  decides true h = sym (none_short count (span ts node) (value_in ts node) is.few (value_in_same ts node) (h.0 refl)) ∙ any
-  decides false h = by (list_any (value_in ts node) (all_choices count)) refl
-    where
-      by : (x : Bool) → list_any (value_in ts node) (all_choices count) ≡ x → true ≡ has_any cs
-      by true e = sym e ∙ any
-      by false e = absurd (true≢false (sym (h.1 (none_wide count (span ts node) (value_in ts node) is.few (value_in_same ts node) is.options e))))
-
--- the choices of a set on which an expression is true, and what a wish keeps
-module _ (ts us : List Triple) (a b both count first : ℕ) (cs : List (List Bool)) (e : Formula ℕ) (is : IsSet ts a count cs) (wish : IsNodeOf ts b e) (low : reach e ≤ count)
-    (s : Stands us both first (joint_span ts a b) (λ c. value_in ts a c && value_in ts b c)) where
-  pub both_set : IsSet us both count (filter (value e) cs)
-  both_set = record {
-    few = is.few;
-    within = s.within;
-    options = omega (arith, s.below, is.options, wish.below, low);
-    choices = (λ j. filter (λ c. (s.value c ∙ ap (λ v. value_in ts a c && v) (wish.value c)) j) (all_choices count))
-        ∙ sym (filter_filter (value_in ts a) (value e) (all_choices count)) ∙ ap (filter (value e)) is.choices;
-  }
-
-  pub keeps_both : has_any (filter (value e) cs) ≡ true → IsSet us both count (keep cs e)
-  keeps_both h = subst (IsSet us both count) (or_else_some (filter (value e) cs) cs h) both_set
-
-  pub keeps_all : Extends ts us → has_any (filter (value e) cs) ≡ false → IsSet us a count (keep cs e)
-  keeps_all x h = subst (IsSet us a count) (or_else_none (filter (value e) cs) cs h) (set_later x is)
-
 -- a wish after others
 pub keep_all-more : (cs : List (List Bool)) (es : List (Formula ℕ)) (e : Formula ℕ) → keep_all cs (es ++ e ∷ []) ≡ keep (keep_all cs es) e
 keep_all-more cs [] e = refl
 keep_all-more cs (d ∷ es) e = keep_all-more (keep cs d) es e
-
--- the conjunction of expressions and one more
-pub and_more : (ts us vs : List Triple) (node literal r first : ℕ) (es : List (Formula ℕ)) (e : Formula ℕ) → StandsForAll ts node es → Extends ts us → IsNodeOf us literal e
-    → Stands vs r first (joint_span us node literal) (λ c. value_in us node c && value_in us literal c) → StandsForAll vs r (es ++ e ∷ [])
-and_more ts us vs node literal r first es e old x new s =
-    let later : StandsForAll us node es = stands_later x old in
-    stands_weaker 0 (reach_of (es ++ e ∷ [])) (is_valid (es ++ e ∷ [])) (omega arith) (omega (arith, reach_of-more es e, later.below, new.below))
-    (λ c. (λ j. later.value c j && new.value c j) ∙ sym (is_valid-more es e c)) s
 
 all_at : {X : Type 0} (P : X → Type 0) (xs : List X) (i : ℕ) (d : X) → AllByRecursion P xs → i < length xs → P (get_or xs i d)
 all_at P [] i d h lt = absurd (omega (arith, lt))
 all_at P (x ∷ xs) zero d h lt = h.0
 all_at P (x ∷ xs) (suc i) d h lt = all_at P xs i d h.1 (omega (arith, lt))
 
--- the node of an item, in a table that has grown
-pub next_stands : {X : Type 0} (ts us : List Triple) → Extends ts us → (node : X → ℕ) (expr : X → Formula ℕ) (xs : List X) (i : ℕ) (x : X)
-    → AllStand ts xs node expr → i < length xs → x ≡ get_or xs i x → IsNodeOf us (node x) (expr x)
-next_stands ts us grown node expr xs i x h lt at =
-    stands_later grown (subst (λ y. IsNodeOf ts (node y) (expr y)) (sym at) (all_at (λ y. IsNodeOf ts (node y) (expr y)) xs i x h lt))
+-- the node of a rule, in a table that has grown
+pub next_stands : (ts us : List Triple) → Extends ts us → (rs : List Installed) (i : ℕ) (r : Installed) → AllStand ts rs → i < length rs → r ≡ get_or rs i r → IsNodeOf us r.node r.expr
+next_stands ts us grown rs i r h lt at =
+    stands_later grown (subst (λ (q : Installed). IsNodeOf ts q.node q.expr) (sym at) (all_at (λ (q : Installed). IsNodeOf ts q.node q.expr) rs i r h lt))
 
--- the statements of the first elements and one more
-module _ {X : Type 0} (f : X → Formula ℕ) (xs : List X) (i : ℕ) (x : X) (here : i < length xs) (at : x ≡ get_or xs i x) where
-  pub stated_more : map f (take (i + 1) xs) ≡ map f (take i xs) ++ f x ∷ []
-  stated_more = ap (map f) (take_more xs i x here ∙ ap (λ y. take i xs ++ y ∷ []) (sym at)) ∙ map-append f (take i xs) (x ∷ [])
+-- the expressions of the first elements and one more
+pub stated_more : {X : Type 0} (f : X → Formula ℕ) (xs : List X) (i : ℕ) (x : X) → i < length xs → x ≡ get_or xs i x → map f (take (i + 1) xs) ≡ map f (take i xs) ++ f x ∷ []
+stated_more f xs i x here at = ap (map f) (take_more xs i x here ∙ ap (λ y. take i xs ++ y ∷ []) (sym at)) ∙ map-append f (take i xs) (x ∷ [])
 
-  -- what is left after the wishes so far and one more
-  pub kept_more : (ts us vs : List Triple) (node left r wish : ℕ) (narrows : (count : ℕ) (cs : List (List Bool)) (e : Formula ℕ) → IsSet us left count cs → IsNodeOf us wish e → reach e ≤ count → IsSet vs r count (keep cs e))
-      → IsNodeOf us wish (f x)
-      → ((count : ℕ) (cs : List (List Bool)) → IsSet ts node count cs → reach_of (map f (take i xs)) ≤ count → IsSet us left count (keep_all cs (map f (take i xs))))
-      → (count : ℕ) (cs : List (List Bool)) → IsSet ts node count cs → reach_of (map f (take (i + 1) xs)) ≤ count → IsSet vs r count (keep_all cs (map f (take (i + 1) xs)))
-  kept_more ts us vs node left r wish narrows stands before count cs is low =
-      let both : max (reach_of (map f (take i xs))) (reach (f x)) ≤ count = omega (arith, low, ap reach_of stated_more, reach_of-more (map f (take i xs)) (f x)) in
-      subst (λ es. IsSet vs r count (keep_all cs es)) (sym stated_more)
-      (subst (IsSet vs r count) (sym (keep_all-more cs (map f (take i xs)) (f x)))
-      (narrows count (keep_all cs (map f (take i xs))) (f x) (before count cs is (omega (arith, both))) stands (omega (arith, both))))
+-- an expression is among those that have no other options than these
+pub reach_at : (rs : List Installed) (i : ℕ) (r : Installed) → i < length rs → r ≡ get_or rs i r → reach r.expr ≤ reach_of (expressions rs)
+reach_at rs i r lt at = subst (λ (q : Installed). reach q.expr ≤ reach_of (expressions rs)) (sym at) (among rs i r lt)
+  where
+    among : (rs : List Installed) (i : ℕ) (d : Installed) → i < length rs → reach (get_or rs i d).expr ≤ reach_of (expressions rs)
+    among [] i d h = absurd (omega (arith, h))
+    among (r ∷ rs) zero d h = omega arith
+    among (r ∷ rs) (suc i) d h = omega (arith, among rs i d (omega (arith, h)))

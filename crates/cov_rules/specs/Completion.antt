@@ -1,10 +1,8 @@
 -- How rules complete a partial choice.
-use Rattle.std.specs.Prelude.{ℕ, ◌+◌, ◌≡◌, ◌≤◌, ◌<◌, Bool, true, false, ◌&&◌, not, List, [], ◌∷◌, map, length, Option, Some, None}
+use Rattle.std.specs.Prelude.{ℕ, ◌+◌, ◌≡◌, ◌≤◌, Bool, true, false, ◌&&◌, not, List, [], ◌∷◌, map, length, Option, Some, None}
 use Rattle.std.specs.List.{filter, find, list_any, range_with_len}
 use Rattle.cov_base.specs.Choices.{all_choices, is_on}
 use Rattle.cov_base.specs.declared.limits.TheConstants.{CHOICE_WIDTH}
-use Rattle.cov_dd.specs.declared.triple.Triple.{Triple}
-use Rattle.cov_dd.specs.Diagrams.{diagram_size, span, value_in}
 use Rattle.cov_expr.specs.Formula.{Formula, value}
 use Rattle.cov_expr.specs.Validity.{is_valid, first_false}
 use Rattle.cov_rules.specs.Installing.{Standing, expressions, literal, reach_of}
@@ -99,13 +97,6 @@ abbrev pub IsRefusalBy : Completion → CompleteFault → Type 0
 IsRefusalBy answer faults.Memory = Unit {0}
 IsRefusalBy answer (faults.Invalid rule) = answer ≡ Invalid rule
 IsRefusalBy answer (faults.Incomplete option) = answer ≡ Incomplete (Some option)
-
--- a node has options below count and is true on exactly these of their choices, in order
-pub record IsSet (ts : List Triple) (node count : ℕ) (cs : List (List Bool)) : Type 0 where
-  pub few : count ≤ CHOICE_WIDTH
-  pub within : node < diagram_size ts
-  pub options : span ts node ≤ count
-  pub choices : filter (value_in ts node) (all_choices count) ≡ cs
 
 -- there may be so many options, and the rules have no others
 pub record AreBelow (count : ℕ) (s : Standing) : Type 0 where

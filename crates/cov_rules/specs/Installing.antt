@@ -39,15 +39,19 @@ count_of (rules.Default o on) s = length s.defaults
 abbrev pub installed : RulePlan → Formula ℕ → ℕ → Installed
 installed plan e p = record { expr = e; node = plan.node; at = p }
 
+-- the rules with one more default
+abbrev pub with_default : ℕ → Bool → Standing → Standing
+with_default o on s =
+    let fallback : Fallback = record { option = o; on = on } in
+    record { constraints = s.constraints; preferences = s.preferences; defaults = s.defaults ++ fallback ∷ []; conjunction = s.conjunction }
+
 -- the rules with one more at a position, by its plan
 abbrev pub with_rule : RulePlan → Rule → ℕ → Standing → Standing
 with_rule plan (rules.Constraint e) p s =
     record { constraints = s.constraints ++ installed plan e p ∷ []; preferences = s.preferences; defaults = s.defaults; conjunction = plan.conjunction }
 with_rule plan (rules.Prefer e) p s =
     record { constraints = s.constraints; preferences = s.preferences ++ installed plan e p ∷ []; defaults = s.defaults; conjunction = s.conjunction }
-with_rule plan (rules.Default o on) p s =
-    let fallback : Fallback = record { option = o; on = on; node = plan.node } in
-    record { constraints = s.constraints; preferences = s.preferences; defaults = s.defaults ++ fallback ∷ []; conjunction = s.conjunction }
+with_rule plan (rules.Default o on) p s = with_default o on s
 
 -- the expressions of rules, in order
 abbrev pub expressions : List Installed → List (Formula ℕ)
@@ -70,22 +74,21 @@ IsNodeOf ts node e = Stands ts node 0 (reach e) (value e)
 abbrev pub StandsForAll : List Triple → ℕ → List (Formula ℕ) → Type 0
 StandsForAll ts node es = Stands ts node 0 (reach_of es) (is_valid es)
 
--- the node of each item stands for its expression
-abbrev pub AllStand : {X : Type 0} → List Triple → List X → (X → ℕ) → (X → Formula ℕ) → Type 0
-AllStand ts items node expr = AllByRecursion (λ x. IsNodeOf ts (node x) (expr x)) items
+-- the node of each rule has the options and the values of its expression
+abbrev pub AllStand : List Triple → List Installed → Type 0
+AllStand ts rs = AllByRecursion (λ r. IsNodeOf ts r.node r.expr) rs
 
 -- each node that is kept has in this table the value of its rules
 pub record Holds (ts : List Triple) (s : Standing) : Type 0 where
-  pub constraints : AllStand ts s.constraints (λ r. r.node) (λ r. r.expr)
-  pub preferences : AllStand ts s.preferences (λ r. r.node) (λ r. r.expr)
-  pub defaults : AllStand ts s.defaults (λ d. d.node) (λ d. literal d.option d.on)
+  pub constraints : AllStand ts s.constraints
+  pub preferences : AllStand ts s.preferences
   pub conjunction : StandsForAll ts s.conjunction (expressions s.constraints)
 
--- the nodes of a plan are those of a rule
+-- the nodes of a plan are those of a rule; a default has none
 abbrev pub Plans : List Triple → Standing → Rule → RulePlan → Type 0
 Plans ts s (rules.Constraint e) plan = IsNodeOf ts plan.node e × StandsForAll ts plan.conjunction (expressions s.constraints ++ e ∷ [])
 Plans ts s (rules.Prefer e) plan = IsNodeOf ts plan.node e
-Plans ts s (rules.Default o on) plan = IsNodeOf ts plan.node (literal o on)
+Plans ts s (rules.Default o on) plan = Unit {0}
 
 -- a plan is one of this rule as the next of its kind, and there is room for it
 pub record IsPlan (ts : List Triple) (r : RulesValue) (rule : Rule) (plan : RulePlan) : Type 0 where

@@ -1,4 +1,5 @@
 pub mod Completion
 pub mod Growth
 pub mod Installing
+pub mod Lefts
 pub mod Refusals

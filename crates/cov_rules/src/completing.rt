@@ -1,15 +1,17 @@
-// The steps by which rules complete a partial choice. Each narrows a node that stands for the choices that are left.
-ghost use Rattle.std.specs.Prelude.{◌≡◌, ◌<◌, ◌≤◌, ℕ, List, Bool, true, map, length, IfOk, IfErr};
-ghost use Rattle.std.specs.List.{list_any};
+// Why a partial choice isn't completed, and what bindings, preferences, defaults and constraints in order leave of choices.
+ghost use Rattle.std.specs.Prelude.{◌≡◌, ◌≤◌, ℕ, true, nat_lt, length, IfOk};
+ghost use Rattle.std.specs.List.{list_all};
 ghost use Rattle.cov_base.specs.declared.limits.TheConstants.{CHOICE_WIDTH, LIMITS};
-ghost use Rattle.cov_dd.specs.Diagrams.{diagram_size, span, Extends};
-ghost use Rattle.cov_expr.specs.Formula.{Formula, reach, value};
-ghost use Rattle.cov_rules.specs.Completion.{Complete, answer_of, literals, has_any, keep, keep_all, least_unmet, first_open, is_open, IsSet, IsRefusalBy};
-ghost use Rattle.cov_rules.specs.Installing.{literal, expressions, reach_of, IsNodeOf, StandsForAll, AllStand};
+ghost use Rattle.cov_dd.specs.Diagrams.{Extends};
+ghost use Rattle.cov_expr.specs.Partials.{is_in_order};
+ghost use Rattle.cov_rules.specs.Completion.{agreeing, fallbacks};
+ghost use Rattle.cov_rules.specs.Installing.{expressions, reach_of, AllStand};
+ghost use Rattle.cov_rules.specs.Lefts.{IsLeastUnmet, IsLeft, IsSound, Keeps};
 
-use crate::rules::{Installed, literal_node};
-use cov_base::{Choice, Memory, OptionId, Steps, Uncounted};
-use cov_dd::{Node, TRUE, Table};
+use crate::lefts::Left;
+use crate::rules::{Fallback, Installed};
+use cov_base::{Memory, OptionId};
+use cov_dd::Table;
 
 /// Why a partial choice isn't completed.
 #[derive(Clone, Copy, Debug, PartialEq, Eq)]
@@ -21,153 +23,85 @@ pub enum CompleteFault {
     Incomplete { option: OptionId },
 }
 
-/// A rule by which choices are completed: those on which it is true are kept, if there are any.
-pub(crate) trait Wish {
-    /// The expression of the rule.
-    ghost wished: { Self → Formula ℕ };
-
-    /// The node that is kept for it.
-    ghost told: { Self → ℕ };
-
-    /// Tells that node.
-    fn node(&self) -> Node
-        ensures { result ≡ told self.now };
-}
-
-/// The node that is true on exactly the choices that agree with bindings.
-pub(crate) fn agreement(table: &mut Table, bindings: &[(OptionId, bool)]) -> Result<Node, Memory>
-    ensures extends { Extends table.old table.new }
-    ensures stands { IfOk result (λ node. StandsForAll table.new node (literals bindings.now)) }
-{
-    let mut node = TRUE;
-    for binding in bindings {
-        let literal = literal_node(table, binding.0, binding.1)?;
-        node = table.and(node, literal, &mut Steps::<Uncounted>::new())?;
-    }
-    Ok(node)
-}
-
-/// Whether a node is true on some choice.
-pub(crate) fn is_met(table: &Table, node: Node) -> bool
-    requires { node < diagram_size table.now }
-    ensures { (count : ℕ) (cs : List (List Bool)) → IsSet table.now node count cs → result ≡ has_any cs }
-{
-    !table.is_false(node)
-}
-
-// The choices on which a wish is true, if there are any, else all.
-fn narrowed(table: &mut Table, node: Node, wish: Node) -> Result<Node, Memory>
-    requires node { node < diagram_size table.old }
-    requires wish { wish < diagram_size table.old }
-    ensures extends { Extends table.old table.new }
-    ensures within { IfOk result (λ r. r < diagram_size table.new) }
-    ensures kept { IfOk result (λ r. (count : ℕ) (cs : List (List Bool)) (e : Formula ℕ) → IsSet table.old node count cs → IsNodeOf table.old wish e → reach e ≤ count → IsSet table.new r count (keep cs e)) }
-{
-    let both = table.and(node, wish, &mut Steps::<Uncounted>::new())?;
-    if is_met(table, both) {
-        return Ok(both);
-    }
-    Ok(node)
-}
-
-/// The choices that are left after each of these wishes in order.
-pub(crate) fn left_after<W: Wish>(
-    table: &mut Table,
-    node: Node,
-    wishes: &[W],
-) -> Result<Node, Memory>
-    requires node { node < diagram_size table.old }
-    requires wishes { AllStand table.old wishes.now W.told W.wished }
-    ensures extends { Extends table.old table.new }
-    ensures within { IfOk result (λ r. r < diagram_size table.new) }
-    ensures kept { IfOk result (λ r. (count : ℕ) (cs : List (List Bool)) → IsSet table.old node count cs → reach_of (map W.wished wishes.now) ≤ count → IsSet table.new r count (keep_all cs (map W.wished wishes.now))) }
-{
-    let mut left = node;
-    for wish in wishes {
-        left = narrowed(table, left, wish.node())?;
-    }
-    Ok(left)
-}
-
-/// How many of the constraints, in order, rule all choices of a node out.
-pub(crate) fn least_unmet(
-    table: &mut Table,
-    node: Node,
-    constraints: &[Installed],
-) -> Result<u32, Memory>
-    requires few { length constraints.now ≤ LIMITS.rules }
-    requires node { node < diagram_size table.old }
-    requires constraints { AllStand table.old constraints.now (λ r. r.node) (λ r. r.expr) }
-    ensures extends { Extends table.old table.new }
-    ensures unmet { IfOk result (λ rule. (count : ℕ) (cs : List (List Bool)) → IsSet table.old node count cs → reach_of (expressions constraints.now) ≤ count → rule ≡ least_unmet (expressions constraints.now) cs) }
-{
-    let mut left = node;
-    let mut rule = 0;
-    for constraint in constraints {
-        if !is_met(table, left) {
-            return Ok(rule);
+impl Left {
+    /// The choices of `count` options that agree with bindings.
+    pub(crate) fn agreeing(
+        table: &mut Table,
+        bindings: &[(OptionId, bool)],
+        count: u8,
+    ) -> Result<Left, Memory>
+        requires few { count ≤ CHOICE_WIDTH }
+        requires in_order { is_in_order bindings.now ≡ true }
+        requires below { list_all (λ b. nat_lt b.0 count) bindings.now ≡ true }
+        ensures extends { Extends table.old table.new }
+        ensures agree { IfOk result (IsLeft table.new count (agreeing count bindings.now)) }
+    {
+        let mut left = Left::all(count);
+        for binding in bindings {
+            left = left.bind(table, binding.0, binding.1)?;
         }
-        left = table.and(left, constraint.node, &mut Steps::<Uncounted>::new())?;
-        rule += 1;
+        Ok(left)
     }
-    Ok(rule)
-}
 
-/// The only choice of a node, or the least option that has both values among its choices.
-pub(crate) fn only_choice(table: &mut Table, node: Node, count: u8) -> Result<Choice, CompleteFault>
-    requires count { count ≤ CHOICE_WIDTH }
-    requires node { node < diagram_size table.old }
-    requires options { span table.old node ≤ count }
-    requires some { (cs : List (List Bool)) → IsSet table.old node count cs → has_any cs ≡ true }
-    ensures extends { Extends table.old table.new }
-    ensures complete { IfOk result (λ choice. (cs : List (List Bool)) → IsSet table.old node count cs → answer_of count cs ≡ Complete choice) }
-    ensures refused { IfErr result (λ fault. (cs : List (List Bool)) → IsSet table.old node count cs → IsRefusalBy (answer_of count cs) fault) }
-{
-    let Some(choice) = table.least(node, count) else {
-        unreachable!()
-    };
-    match first_open(table, node, count) {
-        Ok(None) => Ok(choice),
-        Ok(Some(option)) => Err(CompleteFault::Incomplete { option }),
-        Err(_) => Err(CompleteFault::Memory),
-    }
-}
-
-// The least of `count` options that has both values among the choices of a node.
-fn first_open(table: &mut Table, node: Node, count: u8) -> Result<Option<OptionId>, Memory>
-    requires count { count ≤ CHOICE_WIDTH }
-    requires node { node < diagram_size table.old }
-    ensures extends { Extends table.old table.new }
-    ensures first { IfOk result (λ option. (cs : List (List Bool)) → IsSet table.old node count cs → option ≡ first_open count cs) }
-{
-    for number in 0..count {
-        let option = OptionId::new(number);
-        if is_open(table, node, option)? {
-            return Ok(Some(option));
+    /// Those that are left after each of these preferences in order.
+    pub(crate) fn with_preferences(
+        &self,
+        table: &mut Table,
+        wishes: &[Installed],
+    ) -> Result<Left, Memory>
+        requires sound { IsSound table.old self.now }
+        requires nodes { AllStand table.old wishes.now }
+        requires below { reach_of (expressions wishes.now) ≤ length self.now.bound }
+        ensures extends { Extends table.old table.new }
+        ensures kept { IfOk result (Keeps table.old table.new self.now (expressions wishes.now)) }
+    {
+        let mut left = *self;
+        for wish in wishes {
+            left = left.with_preference(table, wish)?;
         }
+        Ok(left)
     }
-    Ok(None)
-}
 
-// Whether an option has both values among the choices of a node.
-fn is_open(table: &mut Table, node: Node, option: OptionId) -> Result<bool, Memory>
-    requires node { node < diagram_size table.old }
-    ensures extends { Extends table.old table.new }
-    ensures both { IfOk result (λ both. (count : ℕ) (cs : List (List Bool)) → option < count → IsSet table.old node count cs → both ≡ is_open cs option) }
-{
-    if !has_value(table, node, option, true)? {
-        return Ok(false);
+    /// Those that are left after each of these defaults in order.
+    pub(crate) fn with_defaults(
+        &self,
+        table: &mut Table,
+        defaults: &[Fallback],
+    ) -> Result<Left, Memory>
+        requires sound { IsSound table.old self.now }
+        requires below { reach_of (fallbacks defaults.now) ≤ length self.now.bound }
+        ensures extends { Extends table.old table.new }
+        ensures kept { IfOk result (Keeps table.old table.new self.now (fallbacks defaults.now)) }
+    {
+        let mut left = *self;
+        for default in defaults {
+            left = left.with_default(table, default.option, default.on)?;
+        }
+        Ok(left)
     }
-    has_value(table, node, option, false)
-}
 
-// Whether an option has a value on one of the choices of a node.
-fn has_value(table: &mut Table, node: Node, option: OptionId, on: bool) -> Result<bool, Memory>
-    requires node { node < diagram_size table.old }
-    ensures extends { Extends table.old table.new }
-    ensures some { IfOk result (λ some. (count : ℕ) (cs : List (List Bool)) → option < count → IsSet table.old node count cs → some ≡ list_any (value (literal option on)) cs) }
-{
-    let literal = literal_node(table, option, on)?;
-    let both = table.and(node, literal, &mut Steps::<Uncounted>::new())?;
-    Ok(is_met(table, both))
+    /// How many of the constraints, in order, rule all of them out.
+    pub(crate) fn least_unmet(
+        &self,
+        table: &mut Table,
+        constraints: &[Installed],
+    ) -> Result<u32, Memory>
+        requires sound { IsSound table.old self.now }
+        requires few { length constraints.now ≤ LIMITS.rules }
+        requires nodes { AllStand table.old constraints.now }
+        requires below { reach_of (expressions constraints.now) ≤ length self.now.bound }
+        ensures extends { Extends table.old table.new }
+        ensures unmet { IfOk result (IsLeastUnmet table.old self.now constraints.now) }
+    {
+        let mut left = *self;
+        let mut rule = 0;
+        for constraint in constraints {
+            if !left.is_any(table) {
+                return Ok(rule);
+            }
+            left = left.meet(table, constraint.node)?;
+            rule += 1;
+        }
+        Ok(rule)
+    }
 }

@@ -3,6 +3,7 @@
 
 mod completing;
 pub mod laws;
+mod lefts;
 mod rules;
 
 pub use completing::CompleteFault;

@@ -1,21 +1,21 @@
 // Rules in the order in which they were installed.
-ghost use Rattle.std.specs.Prelude.{◌≡◌, ◌<◌, ◌≤◌, ◌+◌, ◌-◌, ◌++◌, ◌∷◌, ℕ, List, [], Bool, ◌&&◌, max, true, false, nat_lt, length, None, Some, IfOk, IfErr, OnOk, OnErr};
+ghost use Rattle.std.specs.Prelude.{◌≡◌, ◌<◌, ◌≤◌, ◌+◌, ◌-◌, ◌++◌, ◌∷◌, ℕ, List, [], Bool, ◌&&◌, max, true, false, nat_lt, length, None, Some, IfOk, IfErr, IfSome, OnOk, OnErr};
 ghost use Rattle.std.specs.List.{list_all};
 ghost use Rattle.cov_base.specs.declared.limits.TheConstants.{CHOICE_WIDTH};
 ghost use Rattle.cov_expr.specs.Formula.{reach, value};
 ghost use Rattle.cov_expr.specs.Validity.{is_valid, first_false};
 ghost use Rattle.cov_dd.specs.declared.triple.Triple.{Triple};
 ghost use Rattle.cov_dd.specs.Diagrams.{diagram_size, span, value_in, Extends, Stands};
-ghost use Rattle.cov_rules.specs.Installing.{expressions, expressions_at, reach_of, count_of, literal, with_rule, IsNodeOf, Holds, Plans, IsPlan};
-ghost use Rattle.cov_rules.specs.Completion.{Complete, Invalid as Broken, completed, fallbacks, keep_all, least_unmet, AreBelow, IsRefusalBy, IsSet};
+ghost use Rattle.cov_rules.specs.Installing.{expressions_at, reach_of, count_of, with_default, with_rule, IsNodeOf, Holds, Plans, IsPlan};
+ghost use Rattle.cov_rules.specs.Completion.{Complete, completed, AreBelow, IsRefusalBy};
+ghost use Rattle.cov_rules.specs.Lefts.{unmet_answer, IsSound, IsWhole, Narrows};
 ghost use Rattle.cov_rules.specs.Refusals.{reach_of_rule, IsAccepted, IsRuleFaultOf};
 ghost use Rattle.cov_rules.specs.Growth.{Follows};
 ghost use Rattle.cov_rules.specs.declared.rules.RuleFault.TheVariants.{NoVariantLeft as no_variant_left, Memory as want_of_memory};
 ghost use Rattle.cov_rules.specs.declared.rules.Rule.TheVariants.{Constraint as a_constraint, Prefer as a_preference, Default as a_default};
 
-use crate::completing::{
-    CompleteFault, Wish, agreement, is_met, least_unmet, left_after, only_choice,
-};
+use crate::completing::CompleteFault;
+use crate::lefts::Left;
 use cov_base::{Choice, LIMITS, Memory, OptionId, Position, Steps, Uncounted};
 use cov_dd::{Node, TRUE, Table};
 use cov_expr::{Expr, Partial};
@@ -50,7 +50,8 @@ pub struct Invalid {
     pub rule: u32,
 }
 
-/// What `install` needs of a rule: its node, and for a constraint the node of all constraints with it.
+/// What `install` needs of a rule: the node of its expression, which is TRUE for a default since none is kept, and for a
+/// constraint the node of all constraints with it.
 #[derive(Clone, Copy, Debug)]
 pub struct RulePlan {
     node: Node,
@@ -65,32 +66,11 @@ pub(crate) struct Installed {
     at: Position,
 }
 
-/// A default with its node.
-#[derive(Debug, Drop)]
+/// A default.
+#[derive(Clone, Copy, Debug)]
 pub(crate) struct Fallback {
-    option: OptionId,
-    on: bool,
-    pub(crate) node: Node,
-}
-
-impl Wish for Installed {
-    ghost wished = { λ r. r.expr };
-
-    ghost told = { λ r. r.node };
-
-    fn node(&self) -> Node {
-        self.node
-    }
-}
-
-impl Wish for Fallback {
-    ghost wished = { λ d. literal d.option d.on };
-
-    ghost told = { λ d. d.node };
-
-    fn node(&self) -> Node {
-        self.node
-    }
+    pub(crate) option: OptionId,
+    pub(crate) on: bool,
 }
 
 /// The rules in the order in which they were installed. The nodes are those of one table, which the caller lends.
@@ -150,7 +130,8 @@ impl Rules {
         match rule {
             Rule::Constraint(expr) => self.prepare_constraint(table, expr),
             Rule::Prefer(expr) => self.prepare_preference(table, expr),
-            Rule::Default(option, on) => self.prepare_default(table, *option, *on),
+            Rule::Default(_, _) if self.defaults.len() >= LIMITS.rules => Err(RuleFault::Full),
+            Rule::Default(_, _) => self.planned(TRUE),
         }
     }
 
@@ -187,28 +168,6 @@ impl Rules {
             return Err(RuleFault::Full);
         }
         let node = match compile(table, expr) {
-            Ok(node) => node,
-            Err(_) => return Err(RuleFault::Memory),
-        };
-        self.planned(node)
-    }
-
-    fn prepare_default(
-        &mut self,
-        table: &mut Table,
-        option: OptionId,
-        on: bool,
-    ) -> Result<RulePlan, RuleFault>
-        ensures extends { Extends table.old table.new }
-        ensures same { self.new.standing ≡ self.old.standing }
-        ensures planned { IfOk result (IsPlan table.new self.new (a_default option on)) }
-        ensures accepted { IfOk result (λ _. IsAccepted self.old.standing (a_default option on)) }
-        ensures refused { IfErr result (IsRuleFaultOf self.old.standing (a_default option on)) }
-    {
-        if self.defaults.len() >= LIMITS.rules {
-            return Err(RuleFault::Full);
-        }
-        let node = match literal_node(table, option, on) {
             Ok(node) => node,
             Err(_) => return Err(RuleFault::Memory),
         };
@@ -255,7 +214,7 @@ impl Rules {
         match rule {
             Rule::Constraint(expr) => self.install_constraint(plan, expr, at),
             Rule::Prefer(expr) => self.install_preference(plan, expr, at),
-            Rule::Default(option, on) => self.install_default(plan, option, on),
+            Rule::Default(option, on) => self.install_default(option, on),
         }
     }
 
@@ -288,22 +247,22 @@ impl Rules {
         }
     }
 
-    fn install_default(&mut self, plan: RulePlan, option: OptionId, on: bool) -> u32
+    fn install_default(&mut self, option: OptionId, on: bool) -> u32
         requires few { length self.old.standing.defaults < LIMITS.rules }
         requires room { 0 < self.old.spare }
         ensures number { result ≡ length self.old.standing.defaults + 1 }
-        ensures with_rule { (p : ℕ) → self.new.standing ≡ with_rule plan (a_default option on) p self.old.standing }
+        ensures with_default { self.new.standing ≡ with_default option on self.old.standing }
         ensures spare { self.old.spare ≤ self.new.spare + 1 }
     {
-        let node = plan.node;
-        match self.defaults.push(Fallback { option, on, node }) {
+        match self.defaults.push(Fallback { option, on }) {
             Ok(()) => self.defaults.len() as u32,
             Err(_) => unreachable!(),
         }
     }
 
     /// Completes a partial choice of `count` options: of the valid choices that agree with it each preference in order
-    /// keeps those on which it is true, if there are any, then each default. The one choice left is the answer.
+    /// keeps those on which it is true, if there are any, then each default. The one choice left is the answer. A valid choice of
+    /// all options takes time in the options alone, and makes no node.
     pub fn complete(
         &self,
         table: &mut Table,
@@ -317,47 +276,62 @@ impl Rules {
         ensures complete { IfOk result (λ choice. completed count self.now.standing partial.now ≡ Complete choice) }
         ensures refused { IfErr result (IsRefusalBy (completed count self.now.standing partial.now)) }
     {
-        let agreeing = match agreement(table, partial.bindings()) {
-            Ok(node) => node,
+        let agreeing = match Left::agreeing(table, partial.bindings(), count) {
+            Ok(left) => left,
             Err(_) => return Err(CompleteFault::Memory),
         };
-        let valid = match table.and(agreeing, self.conjunction, &mut Steps::<Uncounted>::new()) {
-            Ok(node) => node,
-            Err(_) => return Err(CompleteFault::Memory),
-        };
-        if !is_met(table, valid) {
-            return Err(self.unmet(table, agreeing));
+        if let Some(choice) = self.valid_whole(table, &agreeing) {
+            return Ok(choice);
         }
-        let left = match self.left(table, valid) {
-            Ok(node) => node,
+        let valid = match agreeing.meet(table, self.conjunction) {
+            Ok(left) => left,
             Err(_) => return Err(CompleteFault::Memory),
         };
-        only_choice(table, left, count)
+        if !valid.is_any(table) {
+            return Err(self.unmet(table, &agreeing));
+        }
+        match self.narrowed(table, &valid) {
+            Ok(left) => left.only(table),
+            Err(_) => Err(CompleteFault::Memory),
+        }
+    }
+
+    // The only choice that is left, where all options are bound and it meets all constraints, which its value tells.
+    fn valid_whole(&self, table: &Table, left: &Left) -> Option<Choice>
+        requires holds { Holds table.now self.now.standing }
+        requires sound { IsSound table.now left.now }
+        ensures { IfSome result (IsWhole table.now left.now self.now.standing) }
+    {
+        match left.whole() {
+            Some(choice) if table.value(self.conjunction, choice) => Some(choice),
+            _ => None,
+        }
     }
 
     // The refusal of choices that don't meet all constraints.
-    fn unmet(&self, table: &mut Table, node: Node) -> CompleteFault
+    fn unmet(&self, table: &mut Table, left: &Left) -> CompleteFault
         requires holds { Holds table.old self.now.standing }
-        requires node { node < diagram_size table.old }
+        requires sound { IsSound table.old left.now }
+        requires below { AreBelow (length left.now.bound) self.now.standing }
         ensures extends { Extends table.old table.new }
-        ensures refused { (count : ℕ) (cs : List (List Bool)) → IsSet table.old node count cs → reach_of (expressions self.now.standing.constraints) ≤ count → IsRefusalBy (Broken (least_unmet (expressions self.now.standing.constraints) cs)) result }
+        ensures refused { IsRefusalBy (unmet_answer table.old left.now self.now.standing) result }
     {
-        match least_unmet(table, node, self.constraints.as_slice()) {
+        match left.least_unmet(table, self.constraints.as_slice()) {
             Ok(rule) => CompleteFault::Invalid { rule },
             Err(_) => CompleteFault::Memory,
         }
     }
 
     // The choices that preferences and then defaults leave.
-    fn left(&self, table: &mut Table, node: Node) -> Result<Node, Memory>
+    fn narrowed(&self, table: &mut Table, left: &Left) -> Result<Left, Memory>
         requires holds { Holds table.old self.now.standing }
-        requires node { node < diagram_size table.old }
+        requires sound { IsSound table.old left.now }
+        requires below { AreBelow (length left.now.bound) self.now.standing }
         ensures extends { Extends table.old table.new }
-        ensures within { IfOk result (λ r. r < diagram_size table.new) }
-        ensures kept { IfOk result (λ r. (count : ℕ) (cs : List (List Bool)) → IsSet table.old node count cs → reach_of (expressions self.now.standing.preferences) ≤ count → reach_of (fallbacks self.now.standing.defaults) ≤ count → IsSet table.new r count (keep_all (keep_all cs (expressions self.now.standing.preferences)) (fallbacks self.now.standing.defaults))) }
+        ensures narrows { IfOk result (Narrows table.old table.new left.now self.now.standing) }
     {
-        let preferred = left_after(table, node, self.preferences.as_slice())?;
-        left_after(table, preferred, self.defaults.as_slice())
+        let preferred = left.with_preferences(table, self.preferences.as_slice())?;
+        preferred.with_defaults(table, self.defaults.as_slice())
     }
 
     /// The node that is true on exactly the choices that meet all constraints.
@@ -390,18 +364,6 @@ fn conjoined(table: &mut Table, all: Node, expr: &Expr) -> Result<RulePlan, Memo
     let node = compile(table, expr)?;
     let conjunction = table.and(all, node, &mut Steps::<Uncounted>::new())?;
     Ok(RulePlan { node, conjunction })
-}
-
-// The node that is true where an option has a value.
-pub(crate) fn literal_node(table: &mut Table, option: OptionId, on: bool) -> Result<Node, Memory>
-    ensures extends { Extends table.old table.new }
-    ensures stands { IfOk result (λ node. IsNodeOf table.new node (literal option on)) }
-{
-    let node = table.literal(option)?;
-    if on {
-        return Ok(node);
-    }
-    table.not(node)
 }
 
 // A plan, unless its conjunction is false on every choice.

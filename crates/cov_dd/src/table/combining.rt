@@ -15,9 +15,9 @@ use cov_base::{CHOICE_WIDTH, Ledger, Memory, OptionId, Steps, Uncounted};
 
 /// The nodes that a node is where an option is off and where it is on.
 #[derive(Clone, Copy, Debug)]
-struct Sides {
-    off: Node,
-    on: Node,
+pub(super) struct Sides {
+    pub(super) off: Node,
+    pub(super) on: Node,
 }
 
 impl Table {
@@ -133,7 +133,7 @@ impl Table {
     }
 
     // Makes the node of a triple for a pair, or changes nothing.
-    fn join<L: Ledger>(
+    pub(super) fn join<L: Ledger>(
         &mut self,
         pair: Pair,
         triple: Triple,
@@ -166,7 +166,7 @@ impl Table {
     }
 
     // The option of a node, `CHOICE_WIDTH` for FALSE and TRUE.
-    fn top_of(&self, a: Node) -> u8
+    pub(super) fn top_of(&self, a: Node) -> u8
         ensures top { result ≡ top self.now a }
         ensures inner { 1 < a → a < diagram_size self.now → result < CHOICE_WIDTH }
     {
@@ -176,7 +176,7 @@ impl Table {
         }
     }
 
-    fn sides(&self, a: Node, option: OptionId) -> Sides
+    pub(super) fn sides(&self, a: Node, option: OptionId) -> Sides
         requires within { a < diagram_size self.now }
         requires first { option ≤ top self.now a }
         requires below { option < CHOICE_WIDTH }

@@ -18,7 +18,7 @@ pub returns-in-Prefer-clause-below : goal.returns-in-Prefer-clause-below
 returns-in-Prefer-clause-below c = below _ _ _ _ _ (of_rule c.args.plan _ _ _ _ _ c.in-Prefer.is c.install_preference.ensures.with_rule)
 
 default_standing : (c : After-install_default) → c.install_default.new.self.standing ≡ with_rule c.args.plan c.args.rule c.args.at c.args.self.now.standing
-default_standing c = of_rule c.args.plan _ _ _ _ _ c.in-Default.is (c.install_default.ensures.with_rule c.args.at)
+default_standing c = of_rule c.args.plan _ _ _ _ _ c.in-Default.is c.install_default.ensures.with_default
 
 pub returns-in-Default-clause-with_rule : goal.returns-in-Default-clause-with_rule
 returns-in-Default-clause-with_rule c = default_standing c

@@ -1,6 +1,6 @@
 use Rattle.std.proofs.Common.{List, ap, sym, subst, arith}
 use Rattle.cov_rules.specs.Completion.{fallbacks}
-use Rattle.cov_rules.specs.Installing.{expressions, reach_of, literal, AllStand, StandsForAll}
+use Rattle.cov_rules.specs.Installing.{expressions, reach_of, AllStand, StandsForAll}
 use Rattle.cov_rules.specs.declared.rules.Fallback.{Fallback}
 use Rattle.cov_rules.specs.declared.rules.Installed.{Installed}
 use Rattle.cov_rules.proofs.Holding.{none_hold}
@@ -8,9 +8,8 @@ use Rattle.cov_rules.proofs.rules.Rules.new.Goals as goal
 
 pub returns-clause-holds : goal.returns-clause-holds
 returns-clause-holds c ts = record {
-  constraints = subst (λ (rs : List Installed). AllStand ts rs (λ r. r.node) (λ r. r.expr)) (sym c.new.ensures.items) tt;
-  preferences = subst (λ (rs : List Installed). AllStand ts rs (λ r. r.node) (λ r. r.expr)) (sym c.new-2.ensures.items) tt;
-  defaults = subst (λ (ds : List Fallback). AllStand ts ds (λ d. d.node) (λ d. literal d.option d.on)) (sym c.new-3.ensures.items) tt;
+  constraints = subst (AllStand ts) (sym c.new.ensures.items) tt;
+  preferences = subst (AllStand ts) (sym c.new-2.ensures.items) tt;
   conjunction = subst (λ rs. StandsForAll ts 1 (expressions rs)) (sym c.new.ensures.items) (none_hold ts);
 }
 
