@@ -136,14 +136,42 @@ impl Journal {
             LeavesOnly D.moment D.images_since disk.old disk.new (λ c. IsWritten c payloads ⊎ IsWritten c (payloads ++ payload.now ∷ [])) }
         ensures cause { HasCause (D.faults disk.old) (D.faults disk.new) result }
     {
+        self.extend(disk, payload)?;
+        Ok(self)
+    }
+
+    /// Appends a record to a journal that is lent, which then goes on behind it: at every moment the disk
+    /// holds the payloads from before the call, with the new one or without. At `Err` the journal is to be
+    /// given up, and the disk opened again.
+    pub fn extend<D: Disk>(&mut self, disk: &mut D, payload: &[u8]) -> Result<(), Failed>
+        requires payload { length payload.now < 2 ^ 32 }
+        requires room { length payload.now + 37 ≤ self.old.spare }
+        requires end { self.old.at + length payload.now + 37 ≤ 2 ^ 62 }
+        requires gate { IfSome (D.contents disk.old) (λ bytes. self.old.at < length bytes) }
+        ensures fits { (payloads : List (List ℕ)) → FitsState self.old payloads →
+            FitsState self.new (payloads ++ payload.now ∷ []) }
+        ensures gate { OnOk result (HasGate (D.contents disk.new) self.new.at) }
+        ensures written { (payloads : List (List ℕ)) → FitsState self.old payloads →
+            IfSome (D.contents disk.old) (λ bytes. IsWritten bytes payloads) →
+            OnOk result (IfSome (D.contents disk.new)
+            (λ bytes. IsWritten bytes (payloads ++ payload.now ∷ []))) }
+        ensures stored { (payloads : List (List ℕ)) → FitsState self.old payloads →
+            ((c : List ℕ) → D.images disk.old c → IsWritten c payloads) →
+            OnOk result ((c : List ℕ) → D.images disk.new c →
+            IsWritten c (payloads ++ payload.now ∷ [])) }
+        ensures any_moment { (payloads : List (List ℕ)) → FitsState self.old payloads →
+            ((c : List ℕ) → D.images disk.old c → IsWritten c payloads) →
+            LeavesOnly D.moment D.images_since disk.old disk.new
+            (λ c. IsWritten c payloads ⊎ IsWritten c (payloads ++ payload.now ∷ [])) }
+        ensures cause { HasCause (D.faults disk.old) (D.faults disk.new) result }
+    {
         let digest = next_digest(&self.digest, payload);
         fill(&mut self.room, payload, &digest);
-        stage(disk, self.at, self.room.as_slice())?;
-        open_gate(disk, self.at)?;
-        Ok(Journal {
-            at: self.at + payload.len() as u64 + 37,
-            digest,
-            room: self.room,
-        })
+        let gate = self.at;
+        self.at = gate + payload.len() as u64 + 37;
+        self.digest = digest;
+        stage(disk, gate, self.room.as_slice())?;
+        open_gate(disk, gate)?;
+        Ok(())
     }
 }

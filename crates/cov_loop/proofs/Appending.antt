@@ -1,5 +1,5 @@
 -- What is appended in parts, where it is told.
-use Rattle.std.proofs.Common.{◌≡◌, refl, sym, ap, ◌∙◌, List, [], ◌++◌, append-nil, append_assoc, Option, Some, None, Result, Ok, Err, OnErr}
+use Rattle.std.proofs.Common.{◌≡◌, refl, sym, ap, ◌∙◌, List, [], ◌++◌, append-nil, append_assoc, Option, Some, None, Result, Ok, Err, OnOk, OnErr}
 use Rattle.cov_io.specs.Devices.{AppendsAll, AppendsSome}
 use Rattle.cov_loop.specs.Turns.{WritesFront}
 
@@ -7,6 +7,11 @@ use Rattle.cov_loop.specs.Turns.{WritesFront}
 pub failing : {T E : Type 0} (r : Result T E) {P : Type 0} → P → OnErr r P
 failing (Ok value) p = tt
 failing (Err error) p = p
+
+-- and where it didn't
+pub doing : {T E : Type 0} (r : Result T E) {P : Type 0} → P → OnOk r P
+doing (Ok value) p = p
+doing (Err error) p = tt
 
 -- what stays as it is
 pub same_all : {X : Type 0} (old new : Option (List X)) → new ≡ old → AppendsAll [] old new

@@ -163,9 +163,9 @@ module _ {S : Type 0} (step : S → List ℕ → Outcome S) (stored : S → List
         → (before bytes : List ℕ) (old new : Option (List ℕ)) → old ≡ Some before → new ≡ Some (before ++ bytes)
         → (images : List ℕ → Type 0) → AreAll (IsEither (stored start) (stored (step start line).state)) images
         → (new ≡ Some (before ++ (step start line).reply) → AreAll (stored (step start line).state) images)
-        → (r : Result (S × Answer) Ending) → OnErr r (AppendsSome (step start line).reply old new)
+        → (r : Result Answer Ending) → OnErr r (AppendsSome (step start line).reply old new)
         → OnErr (turn_of r) (AreAll (KeepsAnswered step stored count start lines bytes) images)
-    line_keeps start line lines rest all before bytes old new was is images either whole (Ok next) some = tt
+    line_keeps start line lines rest all before bytes old new was is images either whole (Ok answer) some = tt
     line_keeps start line lines rest all before bytes old new was is images either whole (Err ending) some =
         let o : Outcome S = step start line in
         let told : AppendsSome o.reply (Some before) new = rw was at some in

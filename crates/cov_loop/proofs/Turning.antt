@@ -22,9 +22,9 @@ use Rattle.cov_out.specs.declared.row.OutRow.{OutRow}
 abbrev pub TellsRows : {S : Type 0} → (S → List ℕ → Outcome S) → Type 0
 TellsRows {S} step = (state : S) (line : List ℕ) → (step state line).reply ≡ [] → (step state line).rows ≡ []
 
--- what was written of an outcome, by the answer
-pub record Serves {S : Type 0} (outcome : Outcome S) (old new : Output) (r : Result (S × Answer) Ending) : Type 0 where
-  pub served : IfOk r (λ next. IsServed outcome next.0 next.1)
+-- what was written of an outcome, by the answer, and the state after it
+pub record Serves {S : Type 0} (outcome : Outcome S) (next : S) (old new : Output) (r : Result Answer Ending) : Type 0 where
+  pub served : IfOk r (IsServed outcome next)
   pub all : OnOk r (AppendsAll outcome.reply old.bytes new.bytes)
   pub some : OnErr r (AppendsSome outcome.reply old.bytes new.bytes)
   pub rows_all : OnOk r (AppendsAll outcome.rows old.rows new.rows)
@@ -71,14 +71,14 @@ module _ {S : Type 0} (step : S → List ℕ → Outcome S) (told : TellsRows st
   }
 
 -- a line was served that is the first of a text
-first_served : {S : Type 0} (step : S → List ℕ → Outcome S) (told : TellsRows step) (state : S) (text line rest : List ℕ) (ahead : Option (List ℕ)) (old new : Output) (r : Result (S × Answer) Ending)
+first_served : {S : Type 0} (step : S → List ℕ → Outcome S) (told : TellsRows step) (state : S) (text line rest : List ℕ) (next : S) (ahead : Option (List ℕ)) (old new : Output) (r : Result Answer Ending)
     → lines_of text ≡ line ∷ lines_of rest
     → ahead ≡ Some rest
-    → Serves (step state line) old new r
-    → Turns step state text ahead old new (turn_of r)
-first_served step told state text line rest ahead old new (Ok next) lines is serves =
+    → Serves (step state line) next old new r
+    → Turns step state text next ahead old new (turn_of r)
+first_served step told state text line rest next ahead old new (Ok answer) lines is serves =
     record { line = line; rest = rest; lines = lines; ahead_is = is; served = serves.served; written = record { bytes = serves.all; rows = serves.rows_all } }
-first_served {S} step told state text line rest ahead old new (Err ending) lines is serves =
+first_served {S} step told state text line rest next ahead old new (Err ending) lines is serves =
     let o : Outcome S = step state line in
     let later : Outcome S = answers step o.state (lines_of rest) in
     record {
@@ -126,17 +126,17 @@ next_long text was now (Some left) (Some later) given ahead =
     record { line = given.0; long = given.2; is = record { rest = now.ahead ++ later; lines = rw (← here) given.1; ahead_is = refl } }
 
 -- the first line of a text was served
-pub line_turn : {S : Type 0} (step : S → List ℕ → Outcome S) (told : TellsRows step) (state : S) (text line : List ℕ) (ahead : Option (List ℕ)) (old new : Output) (r : Result (S × Answer) Ending)
+pub line_turn : {S : Type 0} (step : S → List ℕ → Outcome S) (told : TellsRows step) (state : S) (text line : List ℕ) (next : S) (ahead : Option (List ℕ)) (old new : Output) (r : Result Answer Ending)
     → IsFirst text line ahead
-    → Serves (step state line) old new r
-    → Turns step state text ahead old new (turn_of r)
-line_turn step told state text line ahead old new r first serves = first_served step told state text line first.rest ahead old new r first.lines first.ahead_is serves
+    → Serves (step state line) next old new r
+    → Turns step state text next ahead old new (turn_of r)
+line_turn step told state text line next ahead old new r first serves = first_served step told state text line first.rest next ahead old new r first.lines first.ahead_is serves
 
 -- what stops a line stops the turn
-pub turn_stopped : {S : Type 0} (progress : Progress) (old new : Counts) (r : Result (S × Answer) Ending)
+pub turn_stopped : (progress : Progress) (old new : Counts) (r : Result Answer Ending)
     → IfErr r (λ ending. StopsLine ending old.sink new.sink old.disk new.disk old.trees new.trees)
     → IfErr (turn_of r) (λ ending. StopsTurn ending progress old new)
-turn_stopped progress old new (Ok next) stops = tt
+turn_stopped progress old new (Ok answer) stops = tt
 turn_stopped progress old new (Err endings.Done) stops = absurd stops
 turn_stopped progress old new (Err endings.SomeRefused) stops = absurd stops
 turn_stopped progress old new (Err endings.NoMemory) stops = tt

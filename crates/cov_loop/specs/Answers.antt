@@ -1,12 +1,22 @@
 -- What one line comes to.
-use Rattle.std.specs.Prelude.{◌≡◌, ℕ, Bool, true, false, List, [], ◌∷◌}
+use Rattle.std.specs.Prelude.{◌≡◌, ℕ, nat_eq, nat_le, Bool, true, false, ◌&&◌, List, [], ◌∷◌, length}
 use Rattle.cov_base.specs.Causes.{Rose}
+use Rattle.cov_base.specs.declared.limits.TheConstants.{MOST_SCRIPT_LINE_BYTES}
 use Rattle.cov_loop.specs.Outcome.{Outcome}
 use Rattle.cov_loop.specs.declared.answer.Answer.{Answer}
 use Rattle.cov_loop.specs.declared.answer.Answer.TheVariants.{Nothing, Refused, Accepted}
 use Rattle.cov_loop.specs.declared.answer.Reply.{Reply}
 use Rattle.cov_loop.specs.declared.ending.Ending.{Ending}
 use Rattle.cov_loop.specs.declared.ending.Ending.TheVariants as endings
+
+-- whether a line is empty or a comment, which begins with a hash
+abbrev pub is_silent : List ℕ → Bool
+is_silent [] = true
+is_silent (b ∷ bs) = nat_eq b 35
+
+-- whether it is that, and not too long to be served
+abbrev pub is_passed_over : List ℕ → Bool
+is_passed_over line = nat_le (length line) MOST_SCRIPT_LINE_BYTES && is_silent line
 
 -- the kind of a reply: there is none, or it refuses, or it accepts
 abbrev pub kind_of : List ℕ → Bool → Answer

@@ -39,8 +39,8 @@ abbrev pub ahead_of : Progress → Option (List ℕ) → Option (List ℕ)
 ahead_of progress left = option_map (λ bytes. progress.ahead ++ bytes) left
 
 -- a line that was served, or how it ends the run, as a turn
-abbrev pub turn_of : {S : Type 0} → Result (S × Answer) Ending → Result (S × Turn) Ending
-turn_of (Ok next) = Ok (next.0, Served next.1)
+abbrev pub turn_of : Result Answer Ending → Result Turn Ending
+turn_of (Ok answer) = Ok (Served answer)
 turn_of (Err ending) = Err ending
 
 -- how each fault ends the run
@@ -96,10 +96,10 @@ abbrev pub Turned : {S : Type 0} → (S → List ℕ → Outcome S) → S → Li
 Turned step state text next ahead old new Ended = ServesNone state text next ahead old new
 Turned step state text next ahead old new (Served answer) = ServesFirst step state text next answer ahead old new
 
--- what one turn does with a text that is ahead, or a stop within it
-abbrev pub Turns : {S : Type 0} → (S → List ℕ → Outcome S) → S → List ℕ → Option (List ℕ) → Output → Output → Result (S × Turn) Ending → Type 0
-Turns step state text ahead old new (Ok next) = Turned step state text next.0 ahead old new next.1
-Turns step state text ahead old new (Err ending) = StopsAmid step state text old new
+-- what one turn does with a text that is ahead, and the state after it, or a stop within it
+abbrev pub Turns : {S : Type 0} → (S → List ℕ → Outcome S) → S → List ℕ → S → Option (List ℕ) → Output → Output → Result Turn Ending → Type 0
+Turns step state text next ahead old new (Ok turn) = Turned step state text next ahead old new turn
+Turns step state text next ahead old new (Err ending) = StopsAmid step state text old new
 
 -- why a turn ends the run
 abbrev pub StopsTurn : Ending → Progress → Counts → Counts → Type 0

@@ -4,111 +4,104 @@ ghost use Rattle.cov_base.specs.Causes.{HasCause};
 ghost use Rattle.cov_base.specs.declared.limits.TheConstants.{MOST_SCRIPT_LINE_BYTES};
 ghost use Rattle.cov_disk.specs.Images.{LeavesOnly};
 ghost use Rattle.cov_io.specs.Devices.{AppendsAll, AppendsSome};
-ghost use Rattle.cov_loop.specs.Answers.{IsServed, StopsLine};
+ghost use Rattle.cov_loop.specs.Answers.{IsServed, StopsLine, is_silent, is_passed_over};
 ghost use Rattle.cov_loop.specs.Keeping.{AreAll, IsEither};
 
 use crate::answer::{Answer, Reply};
 use crate::ending::Ending;
 use crate::line_server::LineServer;
 use crate::rows::put_rows;
-use cov_base::{Failed, Memory};
+use cov_base::{Failed, MOST_SCRIPT_LINE_BYTES, Memory};
 use cov_disk::Disk;
 use cov_io::Sink;
 use cov_out::Trees;
 
-/// Serves one line: stores what it adds, writes its rows, one call each, and then puts its reply in one call. At an `Err` the server is
-/// gone and the run ends.
+/// Serves one line: stores what it adds, writes its rows, one call each, and then puts its reply in one call. An empty line or a comment
+/// meets no server. At an `Err` the server is to be given up, and the run ends.
 pub fn serve_line<V: LineServer, K: Sink, D: Disk, T: Trees>(
-    server: V,
+    server: &mut V,
     line: &[u8],
     out: &mut K,
     disk: &mut D,
     trees: &mut T,
-) -> Result<(V, Answer), Ending>
-    requires gate { IfSome (D.contents disk.old) (V.gate server) }
-    ensures served { IfOk result (λ next. IsServed (V.step server line.now) next.0 next.1) }
-    ensures all { OnOk result (AppendsAll (V.step server line.now).reply (K.written out.old) (K.written out.new)) }
-    ensures some { OnErr result (AppendsSome (V.step server line.now).reply (K.written out.old) (K.written out.new)) }
-    ensures rows_all { OnOk result (AppendsAll (V.step server line.now).rows (T.rows trees.old) (T.rows trees.new)) }
-    ensures rows_some { OnErr result (AppendsSome (V.step server line.now).rows (T.rows trees.old) (T.rows trees.new)) }
-    ensures rows_first { OnErr result (AppendsAll (V.step server line.now).rows (T.rows trees.old) (T.rows trees.new) ⊎ (out.new ≡ out.old)) }
+) -> Result<Answer, Ending>
+    requires gate { IfSome (D.contents disk.old) (V.gate server.old) }
+    ensures served { IfOk result (IsServed (V.step server.old line.now) server.new) }
+    ensures all { OnOk result (AppendsAll (V.step server.old line.now).reply (K.written out.old) (K.written out.new)) }
+    ensures some { OnErr result (AppendsSome (V.step server.old line.now).reply (K.written out.old) (K.written out.new)) }
+    ensures rows_all { OnOk result (AppendsAll (V.step server.old line.now).rows (T.rows trees.old) (T.rows trees.new)) }
+    ensures rows_some { OnErr result (AppendsSome (V.step server.old line.now).rows (T.rows trees.old) (T.rows trees.new)) }
+    ensures rows_first { OnErr result (AppendsAll (V.step server.old line.now).rows (T.rows trees.old) (T.rows trees.new) ⊎ (out.new ≡ out.old)) }
 
     // What a read of the disk gives is stored for the state after the line, if it was for that before.
-    ensures gate { IfOk result (λ next. IfSome (D.contents disk.new) (V.gate next.0)) }
-    ensures stored { IfSome (D.contents disk.old) (V.stored server) → IfOk result (λ next. IfSome (D.contents disk.new) (V.stored next.0)) }
+    ensures gate { OnOk result (IfSome (D.contents disk.new) (V.gate server.new)) }
+    ensures stored { IfSome (D.contents disk.old) (V.stored server.old) → OnOk result (IfSome (D.contents disk.new) (V.stored server.new)) }
 
     // A crash at any moment leaves what is stored for the state before the line or after it, and once the whole reply is written, after
     // it.
-    ensures any_moment { AreAll (V.stored server) (D.images disk.old) →
-        LeavesOnly D.moment D.images_since disk.old disk.new (IsEither (V.stored server) (V.stored (V.step server line.now).state)) }
-    ensures durable { AreAll (V.stored server) (D.images disk.old) → IfOk result (λ next. AreAll (V.stored next.0) (D.images disk.new)) }
-    ensures acknowledged { (before : List ℕ) → AreAll (V.stored server) (D.images disk.old) →
-        K.written out.old ≡ Some before → K.written out.new ≡ Some (before ++ (V.step server line.now).reply) →
-        AreAll (V.stored (V.step server line.now).state) (D.images disk.new) }
+    ensures any_moment { AreAll (V.stored server.old) (D.images disk.old) →
+        LeavesOnly D.moment D.images_since disk.old disk.new (IsEither (V.stored server.old) (V.stored (V.step server.old line.now).state)) }
+    ensures durable { AreAll (V.stored server.old) (D.images disk.old) → OnOk result (AreAll (V.stored server.new) (D.images disk.new)) }
+    ensures acknowledged { (before : List ℕ) → AreAll (V.stored server.old) (D.images disk.old) →
+        K.written out.old ≡ Some before → K.written out.new ≡ Some (before ++ (V.step server.old line.now).reply) →
+        AreAll (V.stored (V.step server.old line.now).state) (D.images disk.new) }
 
     ensures stopped { IfErr result (λ ending. StopsLine ending (K.faults out.old) (K.faults out.new) (D.faults disk.old) (D.faults disk.new) (T.faults trees.old) (T.faults trees.new)) }
     ensures later { K.faults out.old ≤ K.faults out.new }
     ensures disk_later { D.faults disk.old ≤ D.faults disk.new }
     ensures trees_later { T.faults trees.old ≤ T.faults trees.new }
 {
+    if is_passed_over(line) {
+        return Ok(Answer::Nothing);
+    }
     match server.answer(line, disk) {
-        Ok((next, reply)) => put_or_close(next, &reply, out, trees),
+        Ok(reply) => put_reply(&reply, out, trees),
         Err(ending) => Err(ending),
+    }
+}
+
+// Whether a line is empty or a comment, and not too long to be served.
+fn is_passed_over(line: &[u8]) -> bool
+    ensures { result ≡ is_passed_over line.now }
+{
+    line.len() <= MOST_SCRIPT_LINE_BYTES && is_silent(line)
+}
+
+fn is_silent(line: &[u8]) -> bool
+    ensures { result ≡ is_silent line.now }
+{
+    match line {
+        [] => true,
+        [first, ..] => *first == b'#',
     }
 }
 
 // Serves a line of more than `MOST_SCRIPT_LINE_BYTES`, which was skipped. It calls no disk.
 pub(crate) fn serve_long<V: LineServer, K: Sink, T: Trees>(
-    server: V,
+    server: &mut V,
     out: &mut K,
     trees: &mut T,
-) -> Result<(V, Answer), Ending>
+) -> Result<Answer, Ending>
     ensures served { (line : List ℕ) → MOST_SCRIPT_LINE_BYTES < length line →
-        IfOk result (λ next. IsServed (V.step server line) next.0 next.1) }
+        IfOk result (IsServed (V.step server.old line) server.new) }
     ensures all { (line : List ℕ) → MOST_SCRIPT_LINE_BYTES < length line →
-        OnOk result (AppendsAll (V.step server line).reply (K.written out.old) (K.written out.new)) }
+        OnOk result (AppendsAll (V.step server.old line).reply (K.written out.old) (K.written out.new)) }
     ensures some { (line : List ℕ) → MOST_SCRIPT_LINE_BYTES < length line →
-        OnErr result (AppendsSome (V.step server line).reply (K.written out.old) (K.written out.new)) }
+        OnErr result (AppendsSome (V.step server.old line).reply (K.written out.old) (K.written out.new)) }
     ensures rows_all { (line : List ℕ) → MOST_SCRIPT_LINE_BYTES < length line →
-        OnOk result (AppendsAll (V.step server line).rows (T.rows trees.old) (T.rows trees.new)) }
+        OnOk result (AppendsAll (V.step server.old line).rows (T.rows trees.old) (T.rows trees.new)) }
     ensures rows_some { (line : List ℕ) → MOST_SCRIPT_LINE_BYTES < length line →
-        OnErr result (AppendsSome (V.step server line).rows (T.rows trees.old) (T.rows trees.new)) }
+        OnErr result (AppendsSome (V.step server.old line).rows (T.rows trees.old) (T.rows trees.new)) }
     ensures rows_first { (line : List ℕ) → MOST_SCRIPT_LINE_BYTES < length line →
-        OnErr result (AppendsAll (V.step server line).rows (T.rows trees.old) (T.rows trees.new) ⊎ (out.new ≡ out.old)) }
-    ensures same { IfOk result (λ next. next.0 ≡ server) }
+        OnErr result (AppendsAll (V.step server.old line).rows (T.rows trees.old) (T.rows trees.new) ⊎ (out.new ≡ out.old)) }
+    ensures same { OnOk result (server.new ≡ server.old) }
     ensures stopped { (disk disk' : ℕ) → IfErr result (λ ending. StopsLine ending (K.faults out.old) (K.faults out.new) disk disk' (T.faults trees.old) (T.faults trees.new)) }
     ensures later { K.faults out.old ≤ K.faults out.new }
     ensures trees_later { T.faults trees.old ≤ T.faults trees.new }
 {
     match server.answer_long() {
-        Ok((next, reply)) => put_or_close(next, &reply, out, trees),
+        Ok(reply) => put_reply(&reply, out, trees),
         Err(Memory) => Err(Ending::NoMemory),
-    }
-}
-
-// Writes the rows, and then the text. Where that fails, the server is given up.
-fn put_or_close<V: LineServer, K: Sink, T: Trees>(
-    server: V,
-    reply: &Reply,
-    out: &mut K,
-    trees: &mut T,
-) -> Result<(V, Answer), Ending>
-    ensures served { IfOk result (λ next. (next.0 ≡ server) × (next.1 ≡ reply.now.answer)) }
-    ensures all { OnOk result (AppendsAll reply.now.text (K.written out.old) (K.written out.new)) }
-    ensures some { OnErr result (AppendsSome reply.now.text (K.written out.old) (K.written out.new)) }
-    ensures rows_all { OnOk result (AppendsAll reply.now.rows (T.rows trees.old) (T.rows trees.new)) }
-    ensures rows_some { OnErr result (AppendsSome reply.now.rows (T.rows trees.old) (T.rows trees.new)) }
-    ensures rows_first { OnErr result (AppendsAll reply.now.rows (T.rows trees.old) (T.rows trees.new) ⊎ (out.new ≡ out.old)) }
-    ensures stopped { (disk disk' : ℕ) → IfErr result (λ ending. StopsLine ending (K.faults out.old) (K.faults out.new) disk disk' (T.faults trees.old) (T.faults trees.new)) }
-    ensures later { K.faults out.old ≤ K.faults out.new }
-    ensures trees_later { T.faults trees.old ≤ T.faults trees.new }
-{
-    match put_reply(reply, out, trees) {
-        Ok(answer) => Ok((server, answer)),
-        Err(ending) => {
-            server.close();
-            Err(ending)
-        }
     }
 }
 

@@ -1,5 +1,5 @@
 // One line after another, to the end of a script.
-ghost use Rattle.std.specs.Prelude.{◌≡◌, ◌||◌, ◌≤◌, ◌++◌, List, ℕ, Some, IfOk, IfErr, IfSome, OnErr};
+ghost use Rattle.std.specs.Prelude.{◌≡◌, ◌||◌, ◌≤◌, ◌++◌, List, ℕ, Some, IfOk, OnOk, IfErr, IfSome, OnErr};
 ghost use Rattle.cov_base.specs.Lines.{lines_of};
 ghost use Rattle.cov_disk.specs.Images.{LeavesOnly};
 ghost use Rattle.cov_io.specs.Progress.{CountsGiven};
@@ -29,25 +29,25 @@ pub(crate) enum Turn {
 
 // Serves the next line, if there is one.
 fn serve_next<V: LineServer, S: Source, K: Sink, D: Disk, T: Trees>(
-    server: V,
+    server: &mut V,
     lines: &mut Lines,
     script: &mut S,
     out: &mut K,
     disk: &mut D,
     trees: &mut T,
-) -> Result<(V, Turn), Ending>
-    requires gate { IfSome (D.contents disk.old) (V.gate server) }
+) -> Result<Turn, Ending>
+    requires gate { IfSome (D.contents disk.old) (V.gate server.old) }
     ensures told { (text : List ℕ) → ahead_of lines.old (S.left script.old) ≡ Some text →
-        Turns V.step server text (ahead_of lines.new (S.left script.new))
+        Turns V.step server.old text server.new (ahead_of lines.new (S.left script.new))
         (output (K.written out.old) (T.rows trees.old)) (output (K.written out.new) (T.rows trees.new)) result }
-    ensures gate { IfOk result (λ next. IfSome (D.contents disk.new) (V.gate next.0)) }
-    ensures stored { IfSome (D.contents disk.old) (V.stored server) → IfOk result (λ next. IfSome (D.contents disk.new) (V.stored next.0)) }
-    ensures any_moment { (text : List ℕ) → ahead_of lines.old (S.left script.old) ≡ Some text → AreAll (V.stored server) (D.images disk.old) →
-        LeavesOnly D.moment D.images_since disk.old disk.new (Reaches V.step V.stored server (lines_of text)) }
-    ensures durable { AreAll (V.stored server) (D.images disk.old) → IfOk result (λ next. AreAll (V.stored next.0) (D.images disk.new)) }
-    ensures acknowledged { (text before bytes : List ℕ) → ahead_of lines.old (S.left script.old) ≡ Some text → AreAll (V.stored server) (D.images disk.old) →
+    ensures gate { OnOk result (IfSome (D.contents disk.new) (V.gate server.new)) }
+    ensures stored { IfSome (D.contents disk.old) (V.stored server.old) → OnOk result (IfSome (D.contents disk.new) (V.stored server.new)) }
+    ensures any_moment { (text : List ℕ) → ahead_of lines.old (S.left script.old) ≡ Some text → AreAll (V.stored server.old) (D.images disk.old) →
+        LeavesOnly D.moment D.images_since disk.old disk.new (Reaches V.step V.stored server.old (lines_of text)) }
+    ensures durable { AreAll (V.stored server.old) (D.images disk.old) → OnOk result (AreAll (V.stored server.new) (D.images disk.new)) }
+    ensures acknowledged { (text before bytes : List ℕ) → ahead_of lines.old (S.left script.old) ≡ Some text → AreAll (V.stored server.old) (D.images disk.old) →
         K.written out.old ≡ Some before → K.written out.new ≡ Some (before ++ bytes) →
-        OnErr result (AreAll (KeepsAnswered V.step V.stored V.count server (lines_of text) bytes) (D.images disk.new)) }
+        OnErr result (AreAll (KeepsAnswered V.step V.stored V.count server.old (lines_of text) bytes) (D.images disk.new)) }
     ensures counted { Counted lines.old lines.new
         (counts (S.faults script.old) (K.faults out.old) (D.faults disk.old) (T.faults trees.old) (S.given script.old) (S.ends script.old))
         (counts (S.faults script.new) (K.faults out.new) (D.faults disk.new) (T.faults trees.new) (S.given script.new) (S.ends script.new)) }
@@ -55,24 +55,21 @@ fn serve_next<V: LineServer, S: Source, K: Sink, D: Disk, T: Trees>(
     ensures stopped { IfErr result (λ ending. StopsTurn ending lines.new
         (counts (S.faults script.old) (K.faults out.old) (D.faults disk.old) (T.faults trees.old) (S.given script.old) (S.ends script.old))
         (counts (S.faults script.new) (K.faults out.new) (D.faults disk.new) (T.faults trees.new) (S.given script.new) (S.ends script.new))) }
-    ensures falls { IfOk result (λ next. Falls lines.old lines.new next.1) }
+    ensures falls { IfOk result (Falls lines.old lines.new) }
 {
     match lines.next(script) {
-        Ok(Item::End) => Ok((server, Turn::Ended)),
+        Ok(Item::End) => Ok(Turn::Ended),
         Ok(Item::Line(line)) => as_turn(serve_line(server, line.as_slice(), out, disk, trees)),
         Ok(Item::Long) => as_turn(serve_long(server, out, trees)),
-        Err(fault) => {
-            server.close();
-            Err(ending_of(fault))
-        }
+        Err(fault) => Err(ending_of(fault)),
     }
 }
 
-fn as_turn<V: LineServer>(served: Result<(V, Answer), Ending>) -> Result<(V, Turn), Ending>
+fn as_turn(served: Result<Answer, Ending>) -> Result<Turn, Ending>
     ensures { result ≡ turn_of served }
 {
     match served {
-        Ok((next, answer)) => Ok((next, Turn::Served(answer))),
+        Ok(answer) => Ok(Turn::Served(answer)),
         Err(ending) => Err(ending),
     }
 }
@@ -87,46 +84,46 @@ fn ending_of(fault: LineFault) -> Ending
     }
 }
 
-/// Serves the lines that are ahead, to the end of the script or to the first failing call. The server is given up.
+/// Serves the lines that are ahead, to the end of the script or to the first failing call. Then the server is to be given up.
 pub fn serve_all<V: LineServer, S: Source, K: Sink, D: Disk, T: Trees>(
-    server: V,
+    server: &mut V,
     lines: &mut Lines,
     script: &mut S,
     out: &mut K,
     disk: &mut D,
     trees: &mut T,
 ) -> Ending
-    requires gate { IfSome (D.contents disk.old) (V.gate server) }
+    requires gate { IfSome (D.contents disk.old) (V.gate server.old) }
     ensures prefix { (text before : List ℕ) →
         ahead_of lines.old (S.left script.old) ≡ Some text → K.written out.old ≡ Some before →
-        WritesFront before (answers V.step server (lines_of text)).reply (K.written out.new) }
+        WritesFront before (answers V.step server.old (lines_of text)).reply (K.written out.new) }
     ensures whole { (text before : List ℕ) →
         ahead_of lines.old (S.left script.old) ≡ Some text → K.written out.old ≡ Some before →
-        IsWhole result (answers V.step server (lines_of text)) before (S.left script.new) (K.written out.new) }
+        IsWhole result (answers V.step server.old (lines_of text)) before (S.left script.new) (K.written out.new) }
     ensures rows_prefix { (text : List ℕ) (before : List OutRow) →
         ahead_of lines.old (S.left script.old) ≡ Some text → T.rows trees.old ≡ Some before →
-        WritesFront before (answers V.step server (lines_of text)).rows (T.rows trees.new) }
+        WritesFront before (answers V.step server.old (lines_of text)).rows (T.rows trees.new) }
     ensures rows_whole { (text : List ℕ) (before : List OutRow) →
         ahead_of lines.old (S.left script.old) ≡ Some text → T.rows trees.old ≡ Some before →
-        HasRows result (answers V.step server (lines_of text)) before (T.rows trees.new) }
+        HasRows result (answers V.step server.old (lines_of text)) before (T.rows trees.new) }
     ensures rows_first { (text before : List ℕ) (rows : List OutRow) →
         ahead_of lines.old (S.left script.old) ≡ Some text → K.written out.old ≡ Some before → T.rows trees.old ≡ Some rows →
-        RowsComeFirst V.step server (lines_of text) before rows (K.written out.new) (T.rows trees.new) }
+        RowsComeFirst V.step server.old (lines_of text) before rows (K.written out.new) (T.rows trees.new) }
 
     // At the end of the script, what a read of the disk gives is stored for the state that the whole script gives.
     ensures stored { (text : List ℕ) →
-        ahead_of lines.old (S.left script.old) ≡ Some text → IfSome (D.contents disk.old) (V.stored server) →
-        HasStored result V.stored (answers V.step server (lines_of text)) (D.contents disk.new) }
+        ahead_of lines.old (S.left script.old) ≡ Some text → IfSome (D.contents disk.old) (V.stored server.old) →
+        HasStored result V.stored (answers V.step server.old (lines_of text)) (D.contents disk.new) }
 
     // A crash at any moment leaves what is stored for the state after the first few lines, and at the return these have each command
     // whose whole reply is written.
     ensures any_moment { (text : List ℕ) →
-        ahead_of lines.old (S.left script.old) ≡ Some text → AreAll (V.stored server) (D.images disk.old) →
-        LeavesOnly D.moment D.images_since disk.old disk.new (Reaches V.step V.stored server (lines_of text)) }
+        ahead_of lines.old (S.left script.old) ≡ Some text → AreAll (V.stored server.old) (D.images disk.old) →
+        LeavesOnly D.moment D.images_since disk.old disk.new (Reaches V.step V.stored server.old (lines_of text)) }
     ensures acknowledged { (text before bytes : List ℕ) →
-        ahead_of lines.old (S.left script.old) ≡ Some text → AreAll (V.stored server) (D.images disk.old) →
+        ahead_of lines.old (S.left script.old) ≡ Some text → AreAll (V.stored server.old) (D.images disk.old) →
         K.written out.old ≡ Some before → K.written out.new ≡ Some (before ++ bytes) →
-        AreAll (KeepsAnswered V.step V.stored V.count server (lines_of text) bytes) (D.images disk.new) }
+        AreAll (KeepsAnswered V.step V.stored V.count server.old (lines_of text) bytes) (D.images disk.new) }
 
     ensures later { Later
         (counts (S.faults script.old) (K.faults out.old) (D.faults disk.old) (T.faults trees.old) (S.given script.old) (S.ends script.old))
@@ -136,19 +133,12 @@ pub fn serve_all<V: LineServer, S: Source, K: Sink, D: Disk, T: Trees>(
         (counts (S.faults script.old) (K.faults out.old) (D.faults disk.old) (T.faults trees.old) (S.given script.old) (S.ends script.old))
         (counts (S.faults script.new) (K.faults out.new) (D.faults disk.new) (T.faults trees.new) (S.given script.new) (S.ends script.new)) }
 {
-    let mut server = server;
     let mut refused = false;
-    loop {
+    'turns: loop {
         match serve_next(server, lines, script, out, disk, trees) {
-            Ok((next, turn)) => match turn {
-                Turn::Served(answer) => {
-                    server = next;
-                    refused = either(refused, answer);
-                }
-                Turn::Ended => {
-                    next.close();
-                    return ending_at_end(refused);
-                }
+            Ok(turn) => match turn {
+                Turn::Served(answer) => refused = either(refused, answer),
+                Turn::Ended => return ending_at_end(refused),
             },
             Err(ending) => return ending,
         }

@@ -1,6 +1,6 @@
 -- What a command that is added comes to.
 use Rattle.std.proofs.Common.{◌≡◌, ◌∙◌, refl, sym, ap, subst, ℕ, ◌+◌, true, false, List, [], length, is_some, Option, Some, None, option_map, Result, Ok, Err}
-use Rattle.std.specs.Prelude.{IfOk, IfSome}
+use Rattle.std.specs.Prelude.{IfOk, IfSome, OnOk}
 use Rattle.cov_edit.specs.declared.command.Command.{Command}
 use Rattle.cov_edit.specs.History.{option_count}
 use Rattle.cov_engine.specs.States.{receipt_number}
@@ -103,39 +103,33 @@ pub step-added : (st : State) (line : List ℕ) (a : Addition) → acted st line
 unfolding step
 step-added st line a h = ap (as_outcome st) (sym h)
 
+-- what holds, where a reply was made
+pub replied : {X : Type 0} (result : Result X Ending) {P : Type 0} → P → OnOk result P
+replied (Ok x) p = p
+replied (Err ending) p = tt
+
 -- what comes to a stop after a command that isn't added
 module _ (st server : State) where
   pub stop-told : (k : Command) (stop : Stop) → Stops (appended st k) st server stop → CanBeTold server stop
   stop-told k stops.Memory h = tt
   stop-told k (stops.Refused code) h = subst (λ (t : State). IsCodeOf (option_count t.history) code) (sym h.same) h.told
 
-  pub stop-gives : (a : Addition) (stop : Stop) (result : Result (State × Reply) Ending) → Stops (appended st a.command) st server stop → Refuses server stop result
-      → IfOk result (λ next. Gives (as_outcome st (plainly (command_added st a))) next.0 next.1)
-  stop-gives a stops.Memory (Ok next) h r = absurd r
+  pub stop-gives : (a : Addition) (stop : Stop) (result : Result Reply Ending) → Stops (appended st a.command) st server stop → Refuses server stop result
+      → IfOk result (Gives (as_outcome st (plainly (command_added st a))) server)
+  stop-gives a stops.Memory (Ok reply) h r = absurd r
   stop-gives a stops.Memory (Err ending) h r = tt
-  stop-gives a (stops.Refused code) (Ok next) h r = refused-gives st a server next.0 code next.1 h.is h.same r
+  stop-gives a (stops.Refused code) (Ok reply) h r = refused-gives st a server server code reply h.is h.same r
   stop-gives a (stops.Refused code) (Err ending) h r = tt
 
-  pub stop-has : (P : List Command → Type 0) (stop : Stop) (result : Result (State × Reply) Ending) → P server.history → Refuses server stop result
-      → IfOk result (λ next. P next.0.history)
-  stop-has P stops.Memory (Ok next) here r = absurd r
-  stop-has P stops.Memory (Err ending) here r = tt
-  stop-has P (stops.Refused code) (Ok next) here r = subst (λ (t : State). P t.history) (sym r.state_is) here
-  stop-has P (stops.Refused code) (Err ending) here r = tt
-
 -- what comes of a command that was appended
-module _ (st server : State) (a : Addition) (receipt : Receipt) where
-  abbrev Finishes : Result (State × Reply) Ending → Type 0
-  Finishes result = IfOk result (λ next. (next.0 ≡ ended_by server a.ends) × IsPlain (told_by a.telling receipt.number receipt.position) next.1)
+module _ (st server next : State) (a : Addition) (receipt : Receipt) where
+  pub finish-gives : (result : Result Reply Ending) → appended st a.command ≡ Ok server → next ≡ ended_by server a.ends → HasReceipt st.history a.command receipt
+      → IfOk result (IsPlain (told_by a.telling receipt.number receipt.position)) → IfOk result (Gives (as_outcome st (plainly (command_added st a))) next)
+  finish-gives (Ok reply) h ends numbers plain = added-gives st a server next receipt reply h ends numbers plain
+  finish-gives (Err ending) h ends numbers plain = tt
 
-  pub finish-gives : (result : Result (State × Reply) Ending) → appended st a.command ≡ Ok server → HasReceipt st.history a.command receipt → Finishes result
-      → IfOk result (λ next. Gives (as_outcome st (plainly (command_added st a))) next.0 next.1)
-  finish-gives (Ok next) h numbers f = added-gives st a server next.0 receipt next.1 h f.0 numbers f.1
-  finish-gives (Err ending) h numbers f = tt
-
-  pub finish-has : (P : List Command → Type 0) (result : Result (State × Reply) Ending) → P server.history → Finishes result → IfOk result (λ next. P next.0.history)
-  finish-has P (Ok next) here f = subst P (sym (ap (λ (t : State). t.history) f.0 ∙ ended-history server a.ends)) here
-  finish-has P (Err ending) here f = tt
+  pub finish-has : (P : List Command → Type 0) → next ≡ ended_by server a.ends → P server.history → P next.history
+  finish-has P ends here = subst P (sym (ap (λ (t : State). t.history) ends ∙ ended-history server a.ends)) here
 
 -- a line that is done
 pub done-gives : (st new : State) (line : List ℕ) (reply : Reply) → IsDone (acted st line) new reply → Gives (step st line) new reply

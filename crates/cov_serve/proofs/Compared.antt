@@ -38,4 +38,4 @@ module _ (st : State) (token : List ℕ) (path : List (List ℕ)) where
     alt-stops (faults.SideInvalid on rule) p o c h = record { is = by-sides p o c ∙ ap on-sides h; same = refl; told = tt }
     alt-stops faults.NoSuchPath p o c h = record { is = by-sides p o c ∙ ap on-sides h; same = refl; told = tt }
     alt-stops faults.NotFile p o c h = record { is = by-sides p o c ∙ ap on-sides h; same = refl; told = tt }
-    alt-stops faults.Memory p o c h = tt
+    alt-stops faults.Memory p o c h = refl

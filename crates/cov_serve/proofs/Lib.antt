@@ -1,5 +1,6 @@
 pub mod Acted
 pub mod Additions
+pub mod Appended
 pub mod Beginning
 pub mod Compared
 pub mod Crashing

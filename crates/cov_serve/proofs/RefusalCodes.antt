@@ -79,7 +79,7 @@ refusal-code history k r h = subst (Told (option_count history)) h (refusal-told
 
 -- a command that is refused changes nothing
 pub refusal-stops : (st : State) (k : Command) (r : Refusal) → RefusedBy r (verdict st.history k) → Stops (appended st k) st st (refusal_stop r)
-refusal-stops st k refusals.Memory h = tt
+refusal-stops st k refusals.Memory h = refl
 refusal-stops st k r h = record {
   is = ap (λ o. unless (option_map refusal_code o) (with_command st k)) h;
   same = refl;

@@ -25,7 +25,7 @@ use Rattle.cov_serve.proofs.Acted.{stops-later}
 -- a session's refusal is the line's
 pub fault-stops : {X : Type 0} (wanted : Result X SessionFault) (old new : State) (fault : SessionFault) → new ≡ old
     → IsSessionFaultOf wanted fault → NamesDeclared (option_count old.history) fault → Stops (by_code session_code wanted) old new (session_stop fault)
-fault-stops wanted old new faults.Memory same h d = tt
+fault-stops wanted old new faults.Memory same h d = ap (λ (t : State). t.history) same
 fault-stops wanted old new (faults.Edit edit_faults.Memory) same h d = absurd h
 fault-stops wanted old new (faults.Incomplete option) same h d = record { is = ap (by_code session_code) h; same = same; told = d }
 fault-stops wanted old new fault same h d = record { is = ap (by_code session_code) h; same = same; told = tt }

@@ -93,7 +93,7 @@ module _ {st : State} {name : List ℕ} {path : List (List ℕ)} {view : Seen} {
         same = refl;
         told = tt;
       }
-  read-stops reads.Memory absent dir = tt
+  read-stops reads.Memory absent dir = refl
 
   -- what is in a directory is told as the session sees it
   pub listed-nodes : (rows : List DirRow) (text : List ℕ)
@@ -123,7 +123,7 @@ module _ {st : State} {name : List ℕ} {path : List (List ℕ)} {view : Seen} {
         same = refl;
         told = tt;
       }
-  list-stops lists.Memory absent file = tt
+  list-stops lists.Memory absent file = refl
 
 -- the lines of the file at a path of a variant are told
 pub told-lines : (st : State) (v : Variant) (path : List (List ℕ)) (node : ℕ) (rows : List FileRow) (text : List ℕ) → IsFileAt v path (Ok node) → rows ≡ map line_row (lines_of v node)

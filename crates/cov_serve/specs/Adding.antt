@@ -1,14 +1,20 @@
 -- What a command that a line adds comes to.
-use Rattle.std.specs.Prelude.{◌≡◌, ℕ, ◌+◌, Bool, true, false, List, length, Option, Some, None, Ok}
+use Rattle.std.specs.Prelude.{◌≡◌, ℕ, ◌+◌, Bool, true, false, List, length, Option, Some, None, Result, Ok, Err}
 use Rattle.cov_edit.specs.declared.command.Command.{Command}
 use Rattle.cov_engine.specs.States.{receipt_number}
 use Rattle.cov_engine.specs.declared.prepared.Receipt.{Receipt}
+use Rattle.cov_loop.specs.declared.ending.Ending.{Ending}
+use Rattle.cov_loop.specs.declared.ending.Ending.TheVariants as endings
 use Rattle.cov_script.specs.Replies.{constraint_reply, prefer_reply, default_reply, commit_reply}
 use Rattle.cov_script.specs.declared.line.Line.{Line}
 use Rattle.cov_script.specs.declared.line.Line.TheVariants as lines
+use Rattle.cov_store.specs.declared.appending.AppendFault.{AppendFault}
+use Rattle.cov_store.specs.declared.appending.AppendFault.TheVariants as faults
 use Rattle.cov_serve.specs.Finding.{◌>>=◌}
 use Rattle.cov_serve.specs.States.{State}
 use Rattle.cov_serve.specs.Step.{Act, appended, ended}
+use Rattle.cov_serve.specs.Stops.{refusal_stop}
+use Rattle.cov_serve.specs.declared.stop.Stop.{Stop}
 use Rattle.cov_serve.specs.declared.handled.Addition.{Addition}
 use Rattle.cov_serve.specs.declared.handled.Telling.{Telling}
 use Rattle.cov_serve.specs.declared.handled.Telling.TheVariants as tellings
@@ -43,3 +49,9 @@ command_added st a = appended st a.command >>= (λ next. Ok (ended_by next a.end
 pub record HasReceipt (history : List Command) (command : Command) (receipt : Receipt) : Type 0 where
   pub number : receipt.number ≡ receipt_number history command
   pub position : receipt.position ≡ length history + 1
+
+-- what the appending of a command comes to: a receipt or why it isn't added, unless the disk fails
+abbrev pub added_as : Result Receipt AppendFault → Result (Result Receipt Stop) Ending
+added_as (Ok receipt) = Ok (Ok receipt)
+added_as (Err (faults.Refused refusal)) = Ok (Err (refusal_stop refusal))
+added_as (Err faults.DiskFault) = Err endings.DiskFault

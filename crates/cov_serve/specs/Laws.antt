@@ -1,20 +1,22 @@
 -- Laws of the model's step.
-use Rattle.std.specs.Prelude.{◌≡◌, ◌≢◌, ℕ, ◌<◌, Bool, true, false, nat_lt, List, [], ◌∷◌, length, Ok, Err, if◌then◌else◌}
+use Rattle.std.specs.Prelude.{◌≡◌, ◌≢◌, ℕ, ◌<◌, Bool, true, false, nat_le, nat_lt, List, [], ◌∷◌, length, Ok, Err, if◌then◌else◌}
 use Rattle.cov_base.specs.declared.limits.TheConstants.{MOST_SCRIPT_LINE_BYTES}
-use Rattle.std.proofs.Common.{ap, arith, refl}
-use Rattle.std.proofs.lemmas.Bool.{false≢true}
+use Rattle.std.proofs.Common.{ap, arith, refl, ◌∙◌}
+use Rattle.std.proofs.lemmas.Bool.{and_parts, false≢true}
 use Rattle.std.proofs.lemmas.Bool.Decides.{nat_tests}
 use Rattle.cov_edit.specs.Replay.{replay}
 use Rattle.cov_script.specs.declared.line.Line.{Line}
 use Rattle.cov_script.specs.declared.line.Line.TheVariants as lines
 use Rattle.cov_view.specs.Tree.{tree_of}
 use Rattle.cov_view.specs.declared.tree.TreeRow.{TreeRow}
-use Rattle.cov_script.specs.Lines.{form_of}
+use Rattle.cov_loop.specs.Answers.{is_silent, is_passed_over}
+use Rattle.cov_loop.specs.Outcome.{unchanged}
+use Rattle.cov_script.specs.Lines.{form_of, spoken}
 use Rattle.cov_script.specs.declared.code.Code.TheVariants.{Long, TreeTaken}
 use Rattle.cov_serve.specs.Codes.{syntax_code}
 use Rattle.cov_serve.specs.Finding.{Found, ◌>>=◌, by_code, completed_choice, found_partial}
 use Rattle.cov_serve.specs.States.{State}
-use Rattle.cov_serve.specs.Step.{Act, Done, acted, as_outcome, checked_out, done, is_taken, plainly, refused, served, step, written}
+use Rattle.cov_serve.specs.Step.{Act, Done, acted, as_outcome, checked_out, done, is_taken, plainly, refused, served, served_edit, served_session, served_text, step, written}
 
 -- whether there is no reply
 abbrev pub no_reply : List ℕ → Bool
@@ -85,3 +87,23 @@ long_refused st line long = ap (λ b. as_outcome st ((if b then Err Long else Ok
   where
     over : MOST_SCRIPT_LINE_BYTES < length line → nat_lt MOST_SCRIPT_LINE_BYTES (length line) ≡ true
     over h = grind (arith, nat_tests, h)
+
+-- an empty line or a comment does nothing
+silent_form : (line : List ℕ) → is_silent line ≡ true → form_of line ≡ Ok lines.Nothing
+silent_form [] silent = refl
+silent_form (b ∷ bs) silent = ap (λ hash. if hash then Ok lines.Nothing else spoken (b ∷ bs)) silent
+
+nothing_served : (st : State) → done st lines.Nothing ≡ Ok (record { state = st; reply = []; rows = [] })
+unfolding done served served_session served_edit served_text
+nothing_served st = refl
+
+pub silent_kept : (st : State) (line : List ℕ) → is_passed_over line ≡ true → step st line ≡ unchanged st
+unfolding step acted
+silent_kept st line passed =
+    let parts = and_parts (nat_le (length line) MOST_SCRIPT_LINE_BYTES) (is_silent line) passed in
+    ap (λ b. as_outcome st ((if b then Err Long else Ok line) >>= (λ short. by_code syntax_code (form_of short) >>= (λ form. done st form)))) (short parts.0)
+    ∙ ap (λ form. as_outcome st (by_code syntax_code form >>= done st)) (silent_form line parts.1)
+    ∙ ap (as_outcome st) (nothing_served st)
+  where
+    short : nat_le (length line) MOST_SCRIPT_LINE_BYTES ≡ true → nat_lt MOST_SCRIPT_LINE_BYTES (length line) ≡ false
+    short h = grind (arith, nat_tests, h)

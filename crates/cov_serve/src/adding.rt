@@ -1,90 +1,63 @@
-// How a command is added: it is stored on the disk, and only then part of the history.
-ghost use Rattle.std.specs.Prelude.{◌≡◌, ◌≤◌, true, map, is_some, IfOk, IfErr, IfSome};
+// How a command is added: to the history and to the disk, before there is a reply.
+ghost use Rattle.std.specs.Prelude.{◌≡◌, ◌≤◌, true, is_some, IfOk, OnOk, IfErr, IfSome};
 ghost use Rattle.cov_disk.specs.Images.{LeavesOnly};
 ghost use Rattle.cov_loop.specs.Answers.{StopsAnswer};
 ghost use Rattle.cov_loop.specs.Keeping.{AreAll, IsEither};
 ghost use Rattle.cov_serve.specs.Acting.{Changes};
-ghost use Rattle.cov_serve.specs.Adding.{HasReceipt, ended_by, told_by};
+ghost use Rattle.cov_serve.specs.Adding.{HasReceipt, added_as, ended_by, told_by};
 ghost use Rattle.cov_serve.specs.Step.{appended};
 ghost use Rattle.cov_serve.specs.Storing.{gated, grown, stored};
-ghost use Rattle.cov_session.specs.Calls.{AreOpen};
 ghost use Rattle.cov_session.specs.Named.{named};
-ghost use Rattle.cov_session.specs.Open.{as_named};
 ghost use Rattle.cov_store.specs.Stands.{IsStored};
 
 use crate::handled::Telling;
 use crate::server::Server;
-use crate::state::{ServerState, close_made};
+use crate::state::ServerState;
 use crate::stop::Stop;
-use crate::tree_names::TreeNames;
 use cov_base::{Memory, Name, Text};
 use cov_disk::Disk;
 use cov_edit::Command;
 use cov_engine::Receipt;
 use cov_loop::Ending;
 use cov_script::{reply_commit, reply_constraint, reply_default, reply_prefer};
+use cov_session::NoSession;
 use cov_session::laws::open_sessions_stay;
-use cov_session::{NoSession, Sessions};
-use cov_store::{ApplyFault, Store};
+use cov_store::{AppendFault, append};
 use std::alloc::Global;
 
 impl Server {
-    /// Stores a command on the disk and then appends it, unless the history refuses it or memory is wanting; then server and disk are
-    /// as before. At an `Err` the server is gone.
+    /// Appends a command and stores its record on the disk, unless the history refuses it or memory is wanting; then server and disk are
+    /// as before. At an `Err` the server is to be given up.
     pub(crate) fn append<D: Disk>(
-        self,
+        &mut self,
         command: Command,
         disk: &mut D,
-    ) -> Result<(Server, Result<Receipt, Stop>), Ending>
-        requires gate { IfSome (D.contents disk.old) (gated self) }
-        ensures changes { IfOk result (λ next. Changes (appended self command) self next.0 next.1) }
-        ensures receipt { IfOk result (λ next. IfOk next.1 (λ receipt. HasReceipt self.history command receipt)) }
-        ensures gate { IfOk result (λ next. IfSome (D.contents disk.new) (gated next.0)) }
-        ensures stored { IfSome (D.contents disk.old) (stored self) → IfOk result (λ next. IfSome (D.contents disk.new) (stored next.0)) }
-        ensures any_moment { AreAll (stored self) (D.images disk.old) →
-            LeavesOnly D.moment D.images_since disk.old disk.new (IsEither (stored self) (λ image. IsStored image (grown self.history command))) }
-        ensures durable { AreAll (stored self) (D.images disk.old) → IfOk result (λ next. AreAll (stored next.0) (D.images disk.new)) }
+    ) -> Result<Result<Receipt, Stop>, Ending>
+        requires gate { IfSome (D.contents disk.old) (gated self.old) }
+        ensures changes { IfOk result (Changes (appended self.old command) self.old self.new) }
+        ensures receipt { IfOk result (λ added. IfOk added (HasReceipt self.old.history command)) }
+        ensures gate { OnOk result (IfSome (D.contents disk.new) (gated self.new)) }
+        ensures stored { IfSome (D.contents disk.old) (stored self.old) → OnOk result (IfSome (D.contents disk.new) (stored self.new)) }
+        ensures any_moment { AreAll (stored self.old) (D.images disk.old) →
+            LeavesOnly D.moment D.images_since disk.old disk.new (IsEither (stored self.old) (λ image. IsStored image (grown self.old.history command))) }
+        ensures durable { AreAll (stored self.old) (D.images disk.old) → OnOk result (AreAll (stored self.new) (D.images disk.new)) }
         ensures stopped { IfErr result (λ ending. StopsAnswer ending (D.faults disk.old) (D.faults disk.new)) }
         ensures later { D.faults disk.old ≤ D.faults disk.new }
     {
         open_sessions_stay();
-        let Server { state, journal } = self;
-        let ServerState {
-            alloc,
-            engine,
-            sessions,
-            trees,
-        } = state;
-        match Store::from_parts(engine, journal).apply(disk, command) {
-            Ok((store, receipt)) => Ok((
-                Server::of_parts(alloc, store, sessions, trees),
-                Ok(receipt),
-            )),
-            Err(ApplyFault::Refused(store, refusal)) => Ok((
-                Server::of_parts(alloc, store, sessions, trees),
-                Err(Stop::from(refusal)),
-            )),
-            Err(ApplyFault::DiskFault) => {
-                close_made(sessions, trees);
-                Err(Ending::DiskFault)
-            }
-        }
+        let state = &mut self.state;
+        as_added(append(&mut state.engine, &mut self.journal, disk, command))
     }
+}
 
-    fn of_parts(alloc: Global, store: Store, sessions: Sessions, trees: TreeNames) -> Server
-        requires { AreOpen store.history sessions }
-        ensures { result ≡ record { history = store.history; sessions = map as_named sessions; trees = trees } }
-    {
-        let (engine, journal) = store.into_parts();
-        Server {
-            state: ServerState {
-                alloc,
-                engine,
-                sessions,
-                trees,
-            },
-            journal,
-        }
+// What the appending of a command comes to.
+fn as_added(appended: Result<Receipt, AppendFault>) -> Result<Result<Receipt, Stop>, Ending>
+    ensures { result ≡ added_as appended }
+{
+    match appended {
+        Ok(receipt) => Ok(Ok(receipt)),
+        Err(AppendFault::Refused(refusal)) => Ok(Err(Stop::from(refusal))),
+        Err(AppendFault::DiskFault) => Err(Ending::DiskFault),
     }
 }
 

@@ -1,68 +1,87 @@
 // How a line is answered: what it adds is stored before there is a reply.
-ghost use Rattle.std.specs.Prelude.{◌≡◌, ◌≤◌, ℕ, true, is_some, IfOk, IfErr, IfSome};
+ghost use Rattle.std.specs.Prelude.{◌≡◌, ◌≤◌, ℕ, true, is_some, IfOk, OnOk, IfErr, IfSome};
 ghost use Rattle.cov_disk.specs.Images.{LeavesOnly};
 ghost use Rattle.cov_edit.specs.History.{option_count};
 ghost use Rattle.cov_loop.specs.Answers.{Gives, StopsAnswer};
 ghost use Rattle.cov_loop.specs.Keeping.{AreAll, IsEither};
 ghost use Rattle.cov_script.specs.Replies.{IsCodeOf};
-ghost use Rattle.cov_serve.specs.Acting.{CanBeTold, IsPlain, Refuses};
+ghost use Rattle.cov_serve.specs.Acting.{CanBeTold, Handles, IsPlain, Refuses};
 ghost use Rattle.cov_serve.specs.Adding.{command_added, ended_by, told_by};
-ghost use Rattle.cov_serve.specs.Step.{as_outcome, plainly, refused, step};
+ghost use Rattle.cov_serve.specs.Step.{acted, as_outcome, plainly, refused};
 ghost use Rattle.cov_serve.specs.Storing.{gated, grown, stored};
 ghost use Rattle.cov_session.specs.Named.{named};
 ghost use Rattle.cov_store.specs.Stands.{IsStored};
 
 use crate::adding::tell;
 use crate::handled::{Addition, Handled, Telling};
-use crate::server::{Server, close_journal};
+use crate::server::Server;
 use crate::stop::Stop;
 use cov_base::{Memory, Name};
 use cov_disk::Disk;
 use cov_engine::Receipt;
-use cov_loop::{Ending, Reply};
+use cov_loop::{Ending, LineServer, Reply};
 use cov_script::Code;
 
-impl Server {
-    /// Does what a line says, stores the command that it adds, if it adds one, and makes its reply, with the rows that are to be
-    /// written before it. At an `Err` the server is gone.
-    pub(crate) fn answer<D: Disk>(
-        self,
-        line: &[u8],
-        disk: &mut D,
-    ) -> Result<(Server, Reply), Ending>
-        requires gate { IfSome (D.contents disk.old) (gated self) }
-        ensures gives { IfOk result (λ next. Gives (step self line.now) next.0 next.1) }
-        ensures gate { IfOk result (λ next. IfSome (D.contents disk.new) (gated next.0)) }
-        ensures stored { IfSome (D.contents disk.old) (stored self) → IfOk result (λ next. IfSome (D.contents disk.new) (stored next.0)) }
-        ensures any_moment { AreAll (stored self) (D.images disk.old) →
-            LeavesOnly D.moment D.images_since disk.old disk.new (IsEither (stored self) (stored (step self line.now).state)) }
-        ensures durable { AreAll (stored self) (D.images disk.old) → IfOk result (λ next. AreAll (stored next.0) (D.images disk.new)) }
-        ensures stopped { IfErr result (λ ending. StopsAnswer ending (D.faults disk.old) (D.faults disk.new)) }
-        ensures later { D.faults disk.old ≤ D.faults disk.new }
-    {
-        let Server { mut state, journal } = self;
-        match state.act(line) {
-            Ok(Handled::Done(reply)) => Ok((Server { state, journal }, reply)),
-            Ok(Handled::Adds(addition)) => Server { state, journal }.add(addition, disk),
-            Err(Stop::Refused(code)) => Server { state, journal }.refuse(&code),
-            Err(Stop::Memory) => {
-                state.close();
-                close_journal(journal);
-                Err(Ending::NoMemory)
-            }
+impl LineServer for Server {
+    ghost use Rattle.cov_serve.specs.Growth.{commands_told, counts_rise, long_kept, stored_told};
+    ghost use Rattle.cov_serve.specs.Laws.{silent_kept, refusal_told, rows_told};
+    ghost use Rattle.cov_serve.specs.Step.{step};
+    ghost use Rattle.cov_serve.specs.Storing.{count, gated, stored};
+
+    ghost step = { step };
+
+    ghost stored = { stored };
+
+    ghost gate = { gated };
+
+    ghost count = { count };
+
+    fn answer<D: Disk>(&mut self, line: &[u8], disk: &mut D) -> Result<Reply, Ending> {
+        match self.act(line) {
+            Ok(Handled::Done(reply)) => Ok(reply),
+            Ok(Handled::Adds(addition)) => self.add(addition, disk),
+            Err(Stop::Refused(code)) => self.refuse(&code),
+            Err(Stop::Memory) => Err(Ending::NoMemory),
         }
     }
 
+    fn answer_long(&mut self) -> Result<Reply, Memory> {
+        self.state.refuse(&Code::Long)
+    }
+
+    ghost refusal_told = { refusal_told };
+
+    ghost rows_told = { rows_told };
+
+    ghost long_kept = { long_kept };
+
+    ghost silent_kept = { silent_kept };
+
+    ghost commands_told = { commands_told };
+
+    ghost stored_told = { stored_told };
+
+    ghost counts_rise = { counts_rise };
+}
+
+impl Server {
+    // Does what a line says, or makes the command that it adds.
+    fn act(&mut self, line: &[u8]) -> Result<Handled, Stop>
+        ensures { Handles (acted self.old line.now) self.old self.new result }
+    {
+        self.state.act(line)
+    }
+
     // Adds a command, ends the session that ends with it, and makes the reply.
-    fn add<D: Disk>(self, addition: Addition, disk: &mut D) -> Result<(Server, Reply), Ending>
-        requires gate { IfSome (D.contents disk.old) (gated self) }
-        requires there { IfSome addition.ends (λ name. is_some (named self.sessions name) ≡ true) }
-        ensures gives { IfOk result (λ next. Gives (as_outcome self (plainly (command_added self addition))) next.0 next.1) }
-        ensures gate { IfOk result (λ next. IfSome (D.contents disk.new) (gated next.0)) }
-        ensures stored { IfSome (D.contents disk.old) (stored self) → IfOk result (λ next. IfSome (D.contents disk.new) (stored next.0)) }
-        ensures any_moment { AreAll (stored self) (D.images disk.old) →
-            LeavesOnly D.moment D.images_since disk.old disk.new (IsEither (stored self) (λ image. IsStored image (grown self.history addition.command))) }
-        ensures durable { AreAll (stored self) (D.images disk.old) → IfOk result (λ next. AreAll (stored next.0) (D.images disk.new)) }
+    fn add<D: Disk>(&mut self, addition: Addition, disk: &mut D) -> Result<Reply, Ending>
+        requires gate { IfSome (D.contents disk.old) (gated self.old) }
+        requires there { IfSome addition.ends (λ name. is_some (named self.old.sessions name) ≡ true) }
+        ensures gives { IfOk result (Gives (as_outcome self.old (plainly (command_added self.old addition))) self.new) }
+        ensures gate { OnOk result (IfSome (D.contents disk.new) (gated self.new)) }
+        ensures stored { IfSome (D.contents disk.old) (stored self.old) → OnOk result (IfSome (D.contents disk.new) (stored self.new)) }
+        ensures any_moment { AreAll (stored self.old) (D.images disk.old) →
+            LeavesOnly D.moment D.images_since disk.old disk.new (IsEither (stored self.old) (λ image. IsStored image (grown self.old.history addition.command))) }
+        ensures durable { AreAll (stored self.old) (D.images disk.old) → OnOk result (AreAll (stored self.new) (D.images disk.new)) }
         ensures stopped { IfErr result (λ ending. StopsAnswer ending (D.faults disk.old) (D.faults disk.new)) }
         ensures later { D.faults disk.old ≤ D.faults disk.new }
     {
@@ -72,9 +91,9 @@ impl Server {
             telling,
         } = addition;
         match self.append(command, disk) {
-            Ok((server, added)) => match added {
-                Ok(receipt) => server.finish(&ends, telling, &receipt),
-                Err(stop) => server.stop(&stop),
+            Ok(added) => match added {
+                Ok(receipt) => self.finish(&ends, telling, &receipt),
+                Err(stop) => self.stop(&stop),
             },
             Err(ending) => Err(ending),
         }
@@ -82,53 +101,45 @@ impl Server {
 
     // Ends the session that ends with a command that was appended, and makes the reply.
     fn finish(
-        mut self,
+        &mut self,
         ends: &Option<Name>,
         telling: Telling,
         receipt: &Receipt,
-    ) -> Result<(Server, Reply), Ending>
-        requires { IfSome ends.now (λ name. is_some (named self.sessions name) ≡ true) }
-        ensures gives { IfOk result (λ next. (next.0 ≡ ended_by self ends.now) × IsPlain (told_by telling receipt.now.number receipt.now.position) next.1) }
+    ) -> Result<Reply, Ending>
+        requires { IfSome ends.now (λ name. is_some (named self.old.sessions name) ≡ true) }
+        ensures ended { self.new ≡ ended_by self.old ends.now }
+        ensures gives { IfOk result (IsPlain (told_by telling receipt.now.number receipt.now.position)) }
         ensures stopped { (disk disk' : ℕ) → IfErr result (λ ending. StopsAnswer ending disk disk') }
     {
         let alloc = self.state.alloc;
         self.state.end(ends);
         match tell(alloc, telling, receipt) {
-            Ok(text) => Ok((self, Reply::to_done(alloc, text))),
-            Err(Memory) => {
-                self.close();
-                Err(Ending::NoMemory)
-            }
+            Ok(text) => Ok(Reply::to_done(alloc, text)),
+            Err(Memory) => Err(Ending::NoMemory),
         }
     }
 
     // Refuses a command that isn't added, or ends the run where memory is wanting.
-    fn stop(self, stop: &Stop) -> Result<(Server, Reply), Ending>
-        requires { CanBeTold self stop.now }
-        ensures gives { Refuses self stop.now result }
+    fn stop(&self, stop: &Stop) -> Result<Reply, Ending>
+        requires { CanBeTold self.now stop.now }
+        ensures gives { Refuses self.now stop.now result }
         ensures stopped { (disk disk' : ℕ) → IfErr result (λ ending. StopsAnswer ending disk disk') }
     {
         match stop {
             Stop::Refused(code) => self.refuse(code),
-            Stop::Memory => {
-                self.close();
-                Err(Ending::NoMemory)
-            }
+            Stop::Memory => Err(Ending::NoMemory),
         }
     }
 
-    /// Refuses a line. At an `Err` the server is gone.
-    pub(crate) fn refuse(self, code: &Code) -> Result<(Server, Reply), Ending>
-        requires { IsCodeOf (option_count self.history) code.now }
-        ensures gives { IfOk result (λ next. Gives (refused self code.now) next.0 next.1) }
+    // Refuses a line.
+    fn refuse(&self, code: &Code) -> Result<Reply, Ending>
+        requires { IsCodeOf (option_count self.now.history) code.now }
+        ensures gives { IfOk result (Gives (refused self.now code.now) self.now) }
         ensures stopped { (disk disk' : ℕ) → IfErr result (λ ending. StopsAnswer ending disk disk') }
     {
         match self.state.refuse(code) {
-            Ok(reply) => Ok((self, reply)),
-            Err(Memory) => {
-                self.close();
-                Err(Ending::NoMemory)
-            }
+            Ok(reply) => Ok(reply),
+            Err(Memory) => Err(Ending::NoMemory),
         }
     }
 }

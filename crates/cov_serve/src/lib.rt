@@ -15,7 +15,6 @@ mod locating;
 mod opening;
 mod program;
 mod reply;
-mod script_server;
 mod seeing;
 mod server;
 mod serving;

@@ -10,7 +10,6 @@ ghost use Rattle.cov_serve.specs.Step.{step};
 ghost use Rattle.cov_serve.specs.Storing.{stored};
 ghost use Rattle.cov_store.specs.Stands.{gate_of};
 
-use crate::script_server::ScriptServer;
 use crate::server::Server;
 use crate::status::Status;
 use cov_disk::Disk;
@@ -21,7 +20,7 @@ use cov_out::Trees;
 /// Serves one line: stores the command that it adds on the disk, writes its rows of trees, one call each, and then puts its reply in one
 /// call. At an `Err` the server is gone and the run ends.
 pub fn serve_line<K: Sink, D: Disk, T: Trees>(
-    server: Server,
+    mut server: Server,
     line: &[u8],
     out: &mut K,
     disk: &mut D,
@@ -52,12 +51,12 @@ pub fn serve_line<K: Sink, D: Disk, T: Trees>(
     ensures disk_later { D.faults disk.old ≤ D.faults disk.new }
     ensures trees_later { T.faults trees.old ≤ T.faults trees.new }
 {
-    let served = cov_loop::serve_line(ScriptServer { server }, line, out, disk, trees);
+    let served = cov_loop::serve_line(&mut server, line, out, disk, trees);
     match served {
-        Ok((next, answer)) => {
-            let ScriptServer { server } = next;
-            Ok((server, answer))
+        Ok(answer) => Ok((server, answer)),
+        Err(ending) => {
+            server.close();
+            Err(Status::from(ending))
         }
-        Err(ending) => Err(Status::from(ending)),
     }
 }

@@ -21,7 +21,6 @@ ghost use Rattle.cov_store.specs.Damages.{HasDamage};
 ghost use Rattle.cov_store.specs.Stands.{StandsFor, IsStored, gate_of};
 ghost use Rattle.cov_store.specs.declared.damage.StoreDamage.{StoreDamage};
 
-use crate::script_server::ScriptServer;
 use crate::server::Server;
 use crate::status::Status;
 use crate::store_opening::{check_line, open_or_tell, put_last};
@@ -233,7 +232,7 @@ fn serve_script<S: Source, K: Sink, D: Disk, T: Trees>(
 
 fn serve_opened<S: Source, K: Sink, D: Disk, T: Trees>(
     alloc: Global,
-    server: Server,
+    mut server: Server,
     script: &mut S,
     out: &mut K,
     disk: &mut D,
@@ -276,14 +275,9 @@ fn serve_opened<S: Source, K: Sink, D: Disk, T: Trees>(
 {
     match Lines::new(alloc) {
         Ok(mut lines) => {
-            Status::from(serve_all(
-                ScriptServer { server },
-                &mut lines,
-                script,
-                out,
-                disk,
-                trees,
-            ))
+            let ending = serve_all(&mut server, &mut lines, script, out, disk, trees);
+            server.close();
+            Status::from(ending)
         }
         Err(Memory) => {
             server.close();

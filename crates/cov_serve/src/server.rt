@@ -86,12 +86,5 @@ impl Server {
     }
 
     /// Drops a server, in the one place where that is done.
-    pub(crate) fn close(self) {
-        let Server { state, journal } = self;
-        state.close();
-        close_journal(journal);
-    }
+    pub(crate) fn close(self) {}
 }
-
-/// Drops a journal, in the one place where that is done.
-pub(crate) fn close_journal(_: Journal) {}

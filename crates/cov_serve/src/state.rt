@@ -48,29 +48,4 @@ impl ServerState {
             trees: TreeNames::new(alloc),
         }
     }
-
-    /// Drops a state, in the one place where that is done.
-    pub(crate) fn close(self) {
-        let ServerState {
-            alloc: _,
-            engine,
-            sessions,
-            trees,
-        } = self;
-        close_engine(engine);
-        close_made(sessions, trees);
-    }
 }
-
-// Drops an engine, in the one place where that is done.
-fn close_engine(_: Engine) {}
-
-/// Drops what is made beside the history, in the one place where that is done.
-pub(crate) fn close_made(sessions: Sessions, trees: TreeNames) {
-    close_sessions(sessions);
-    close_names(trees);
-}
-
-fn close_sessions(_: Sessions) {}
-
-fn close_names(_: TreeNames) {}

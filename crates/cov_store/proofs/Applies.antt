@@ -52,24 +52,16 @@ module _ (history : List Command) (c : Command) (p : List ℕ) (a : IsAccepted h
           weakened moment images_since old new (λ image. IsWritten image (payloads history) ⊎ IsWritten image (payloads history ++ q ∷ []))
           (λ image. IsStored image history ⊎ IsStored image (history ++ c ∷ [])) either_with run
 
--- the same of an equal history and command
-pub stored_as : (old new : List ℕ → Type 0) (h k : List Command) (c d : Command) → h ≡ k → c ≡ d
-    → (((image : List ℕ) → old image → IsStored image h) → (image : List ℕ) → new image → IsStored image (h ++ c ∷ []))
-    → ((image : List ℕ) → old image → IsStored image k) → (image : List ℕ) → new image → IsStored image (k ++ d ∷ [])
-stored_as old new h k c d is same to =
-    subst (λ d. ((image : List ℕ) → old image → IsStored image k) → (image : List ℕ) → new image → IsStored image (k ++ d ∷ [])) same
-    (subst (λ k. ((image : List ℕ) → old image → IsStored image k) → (image : List ℕ) → new image → IsStored image (k ++ c ∷ [])) is to)
+-- a journal in which only the room has changed
+pub journal_still : (old new : State) (history : List Command) → new.at ≡ old.at → new.digest ≡ old.digest → IsJournalOf old history → IsJournalOf new history
+journal_still old new history at digest of = record {
+  fits = record { place = at ∙ of.fits.place; digest = digest ∙ of.fits.digest };
+  records = of.records;
+}
 
-pub written_as : (o w : Option (List ℕ)) (h k : List Command) (c d : Command) → h ≡ k → c ≡ d
-    → (IfSome o (λ image. IsStored image h) → IfSome w (λ image. IsStored image (h ++ c ∷ [])))
-    → IfSome o (λ image. IsStored image k) → IfSome w (λ image. IsStored image (k ++ d ∷ []))
-written_as o w h k c d is same to =
-    subst (λ d. IfSome o (λ image. IsStored image k) → IfSome w (λ image. IsStored image (k ++ d ∷ []))) same
-    (subst (λ k. IfSome o (λ image. IsStored image k) → IfSome w (λ image. IsStored image (k ++ c ∷ []))) is to)
-
-pub moments_as : {D : Type 0} (moment : D → ℕ) (images_since : D → ℕ → List ℕ → Type 0) (before now : D) (old : List ℕ → Type 0) (h k : List Command) (c d : Command) → h ≡ k → c ≡ d
+-- the same of an equal history
+pub moments_as : {D : Type 0} (moment : D → ℕ) (images_since : D → ℕ → List ℕ → Type 0) (before now : D) (old : List ℕ → Type 0) (h k : List Command) (c : Command) → h ≡ k
     → (((image : List ℕ) → old image → IsStored image h) → LeavesOnly moment images_since before now (λ image. IsStored image h ⊎ IsStored image (h ++ c ∷ [])))
-    → ((image : List ℕ) → old image → IsStored image k) → LeavesOnly moment images_since before now (λ image. IsStored image k ⊎ IsStored image (k ++ d ∷ []))
-moments_as moment images_since before now old h k c d is same to =
-    subst (λ d. ((image : List ℕ) → old image → IsStored image k) → LeavesOnly moment images_since before now (λ image. IsStored image k ⊎ IsStored image (k ++ d ∷ []))) same
-    (subst (λ k. ((image : List ℕ) → old image → IsStored image k) → LeavesOnly moment images_since before now (λ image. IsStored image k ⊎ IsStored image (k ++ c ∷ []))) is to)
+    → ((image : List ℕ) → old image → IsStored image k) → LeavesOnly moment images_since before now (λ image. IsStored image k ⊎ IsStored image (k ++ c ∷ []))
+moments_as moment images_since before now old h k c is to =
+    subst (λ k. ((image : List ℕ) → old image → IsStored image k) → LeavesOnly moment images_since before now (λ image. IsStored image k ⊎ IsStored image (k ++ c ∷ []))) is to

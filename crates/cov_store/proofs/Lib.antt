@@ -1,6 +1,5 @@
 mod Applies
 mod Framing
-mod Given
 mod Legal
 mod Opens
 mod Replays

@@ -1,3 +1,4 @@
+pub mod Appending
 pub mod Applying
 pub mod Damages
 pub mod Laws

@@ -1,18 +1,14 @@
 // Opening a disk as a store.
-ghost use Rattle.std.specs.Prelude.{◌≡◌, ◌≤◌, [], List, ℕ, IfErr, IfOk, IfSome};
+ghost use Rattle.std.specs.Prelude.{◌≡◌, ◌≤◌, List, ℕ, IfErr, IfOk, IfSome};
 ghost use Rattle.cov_disk.specs.Images.{LeavesOnly};
 ghost use Rattle.cov_edit.specs.declared.command.Command.{Command};
 ghost use Rattle.cov_journal.specs.Gates.{HasGate};
-ghost use Rattle.cov_journal.specs.Moments.{KeepsImages};
 ghost use Rattle.cov_store.specs.Opening.{IsImageFaultOf, HasReason, IsOfVerdict, OnImageRefused};
-ghost use Rattle.cov_store.specs.Replaying.{StandsBehind, Replays};
 ghost use Rattle.cov_store.specs.Stands.{StandsFor, IsStored, gate_of};
 
 use crate::replaying::replay_all;
 use crate::{Store, StoreFault};
-use cov_base::Memory;
 use cov_disk::Disk;
-use cov_engine::Engine;
 use cov_journal::{OpenFault, Reader};
 use std::alloc::Global;
 
@@ -33,25 +29,9 @@ pub(crate) fn open<D: Disk>(alloc: Global, disk: &mut D) -> Result<Store, StoreF
     ensures later { D.faults disk.old ≤ D.faults disk.new }
 {
     match Reader::open(alloc, disk) {
-        Ok(reader) => begin(alloc, disk, reader),
+        Ok(reader) => replay_all(alloc, disk, reader),
         Err(OpenFault::NotAStore) => Err(StoreFault::NotAStore),
         Err(OpenFault::DiskFault) => Err(StoreFault::DiskFault),
         Err(OpenFault::Memory) => Err(StoreFault::Memory),
-    }
-}
-
-// Begins with the empty history.
-fn begin<D: Disk>(alloc: Global, disk: &mut D, reader: Reader) -> Result<Store, StoreFault>
-    requires behind { StandsBehind (D.contents disk.old) reader [] }
-    ensures replays { Replays (D.contents disk.old) result }
-    ensures reason { IfErr result (HasReason (D.faults disk.old) (D.faults disk.new)) }
-    ensures verdict { IfErr result IsOfVerdict }
-    ensures same { D.contents disk.new ≡ D.contents disk.old }
-    ensures images { KeepsImages D.images D.moment D.images_since disk.old disk.new }
-    ensures later { D.faults disk.old ≤ D.faults disk.new }
-{
-    match Engine::new(alloc) {
-        Ok(engine) => replay_all(alloc, disk, engine, reader),
-        Err(Memory) => Err(StoreFault::Memory),
     }
 }

@@ -8,7 +8,7 @@ ghost use Rattle.cov_store.specs.Replaying.{StandsBehind, IsDamaged, IsRefused, 
 ghost use Rattle.cov_store.specs.declared.damage.StoreFault.TheVariants.{DiskFault as failed, Memory as wanting};
 
 use crate::{Store, StoreDamage, StoreFault};
-use cov_base::{MemoryOr, Text};
+use cov_base::{Memory, MemoryOr, Text};
 use cov_disk::Disk;
 use cov_edit::Command;
 use cov_engine::{Engine, Refusal};
@@ -32,14 +32,13 @@ pub(crate) enum Step {
     End(Store),
 }
 
-/// Accepts the command of one record after another, to the end of the journal or to the first that is damaged.
+/// Accepts the command of one record after another, from the empty history to the end of the journal or to the first that is damaged.
 pub(crate) fn replay_all<D: Disk>(
     alloc: Global,
     disk: &mut D,
-    engine: Engine,
     reader: Reader,
 ) -> Result<Store, StoreFault>
-    requires behind { StandsBehind (D.contents disk.old) reader engine.history }
+    requires behind { StandsBehind (D.contents disk.old) reader [] }
     ensures replays { Replays (D.contents disk.old) result }
     ensures reason { IfErr result (HasReason (D.faults disk.old) (D.faults disk.new)) }
     ensures verdict { IfErr result IsOfVerdict }
@@ -47,6 +46,10 @@ pub(crate) fn replay_all<D: Disk>(
     ensures images { KeepsImages D.images D.moment D.images_since disk.old disk.new }
     ensures later { D.faults disk.old ≤ D.faults disk.new }
 {
+    let engine = match Engine::new(alloc) {
+        Ok(engine) => engine,
+        Err(Memory) => return Err(StoreFault::Memory),
+    };
     let mut replay = Replay { engine, reader };
     'records: loop {
         match replay_next(alloc, disk, replay) {
@@ -89,17 +92,14 @@ fn read(alloc: Global, engine: Engine, reader: Reader, payload: Text) -> Result<
 }
 
 // Accepts a command, or tells its refusal.
-fn accept(engine: Engine, reader: Reader, command: Command) -> Result<Step, StoreFault>
+fn accept(mut engine: Engine, reader: Reader, command: Command) -> Result<Step, StoreFault>
     requires most { length engine.history ≤ 2 ^ 20 }
     ensures reads { (payload : List ℕ) → IsRecordOf payload command → Reads engine.history payload reader result }
     ensures reason { (before now : ℕ) → IfErr result (HasReason before now) }
 {
-    match engine.prepare(command) {
-        Ok(prepared) => {
-            let (engine, _) = prepared.install();
-            Ok(Step::On(Replay { engine, reader }))
-        }
-        Err((engine, refusal)) => Err(refuse(engine, refusal)),
+    match engine.append(command) {
+        Ok(_) => Ok(Step::On(Replay { engine, reader })),
+        Err(refusal) => Err(refuse(engine, refusal)),
     }
 }
 
@@ -165,5 +165,5 @@ fn lose(engine: Engine) -> StoreFault
     StoreFault::DiskFault
 }
 
-// Drops a history, here alone.
-fn close(_engine: Engine) {}
+/// Drops a history, here alone.
+pub(crate) fn close(_engine: Engine) {}

@@ -15,10 +15,10 @@ ghost use Rattle.cov_store.specs.Opening.{IsImageFaultOf, HasReason, IsOfVerdict
 ghost use Rattle.cov_store.specs.Stands.{StandsFor, IsStored, IsJournalOf, gate_of};
 ghost use Rattle.cov_store.specs.declared.damage.StoreDamage.{StoreDamage};
 
-use crate::StoreFault;
-use crate::applying::{make_ready, write};
+use crate::appending::append;
 use crate::opening::open;
-use cov_base::Failed;
+use crate::replaying::close;
+use crate::{AppendFault, StoreFault};
 use cov_disk::Disk;
 use cov_edit::Command;
 use cov_engine::{Engine, Receipt, Refusal};
@@ -85,9 +85,9 @@ impl Store {
         open(alloc, disk)
     }
 
-    /// Applies a command: prepares it, takes the room for its record, appends the record to the journal, and only then makes it part of
-    /// the history. Want of memory comes before the first write. Where it is refused, store and disk are as before. It takes the time
-    /// of `Engine::prepare`, and of writing the record.
+    /// Applies a command, as `append` does to a history and a journal that are lent: makes its record and the room for that, makes it part
+    /// of the history, and then writes the record. Want of memory comes before the first write. Where it is refused, store and disk are
+    /// as before. It takes the time of `Engine::append`, and of writing the record.
     pub fn apply<D: Disk>(
         self,
         disk: &mut D,
@@ -112,13 +112,19 @@ impl Store {
             LeavesOnly D.moment D.images_since disk.old disk.new (λ image. IsStored image self.history ⊎ IsStored image (self.history ++ command ∷ [])) }
         ensures later { D.faults disk.old ≤ D.faults disk.new }
     {
-        let ready = match make_ready(self, command) {
-            Ok(ready) => ready,
-            Err((store, refusal)) => return Err(ApplyFault::Refused(store, refusal)),
-        };
-        match write(ready, disk) {
-            Ok(done) => Ok(done),
-            Err(Failed) => Err(ApplyFault::DiskFault),
+        let Store {
+            mut engine,
+            mut journal,
+        } = self;
+        match append(&mut engine, &mut journal, disk, command) {
+            Ok(receipt) => Ok((Store { engine, journal }, receipt)),
+            Err(AppendFault::Refused(refusal)) => {
+                Err(ApplyFault::Refused(Store { engine, journal }, refusal))
+            }
+            Err(AppendFault::DiskFault) => {
+                close(engine);
+                Err(ApplyFault::DiskFault)
+            }
         }
     }
 

@@ -1,12 +1,11 @@
-use Rattle.std.proofs.Common.{◌≡◌, ◌∙◌, ◌+◌, ◌<◌, arith, ℕ, List, length, replicate}
+use Rattle.std.proofs.Common.{◌∙◌, ◌+◌, ◌<◌, arith, ℕ, List, length, replicate}
 use Rattle.std.proofs.lemmas.List.{length-replicate}
-use Rattle.std.proofs.lemmas.Result.{IfOk-weaker}
 use Rattle.cov_base.specs.declared.limits.TheConstants.{MOST_SCRIPT_LINE_BYTES}
+use Rattle.cov_loop.proofs.Appending.{doing}
 use Rattle.cov_loop.proofs.line.serve_long.Goals as goal
 
 pub returns-in-Ok-clause-same : goal.returns-in-Ok-clause-same
 returns-in-Ok-clause-same g c =
     let line : List ℕ = replicate (MOST_SCRIPT_LINE_BYTES + 1) 0 in
     let long : MOST_SCRIPT_LINE_BYTES < length line = omega (arith, length-replicate {A = ℕ} (MOST_SCRIPT_LINE_BYTES + 1) 0) in
-    IfOk-weaker c.put_or_close.result _ (λ next. next.0 ≡ c.args.server)
-    (λ next served. served.0 ∙ (c.in-Ok.ensures line long).state_is ∙ g.met.V.LineServer.long_kept c.args.server line long) c.put_or_close.ensures.served
+    doing c.put_reply.result ((c.in-Ok.ensures line long).state_is ∙ g.met.V.LineServer.long_kept c.args.server.now line long)

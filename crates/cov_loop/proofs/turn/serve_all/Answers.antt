@@ -10,120 +10,120 @@ use Rattle.cov_loop.proofs.LoopInvariant.{all_amid, begins, ended, ends_whole, g
 use Rattle.cov_loop.proofs.Moments.{uncalled}
 use Rattle.cov_loop.proofs.turn.serve_all.Goals as goal
 
-pub loop-next-init : goal.loop-next-init
-loop-next-init g c = record {
+pub turns-init : goal.turns-init
+turns-init g c = record {
   told = λ text ahead.
-      begins g.V.LineServer.step c.args.server text (ahead_of c.args.lines.now (g.S.Source.left c.args.script.now)) (output (g.K.Sink.written c.args.out.now) (g.T.Trees.rows c.args.trees.now)) ahead;
+      begins g.V.LineServer.step c.args.server.now text (ahead_of c.args.lines.now (g.S.Source.left c.args.script.now)) (output (g.K.Sink.written c.args.out.now) (g.T.Trees.rows c.args.trees.now)) ahead;
   gate = c.requires.gate;
   stored = λ was. was;
   durable = λ was. was;
   any_moment = λ text ahead all.
-      uncalled g.D.Disk.moment g.D.Disk.images_since g.D.Disk.images g.met.D.Disk.only_now c.args.disk.now (Reaches g.V.LineServer.step g.V.LineServer.stored c.args.server (lines_of text))
-      (λ image here. reaches_none g.V.LineServer.step g.V.LineServer.stored c.args.server (lines_of text) image (all image here));
+      uncalled g.D.Disk.moment g.D.Disk.images_since g.D.Disk.images g.met.D.Disk.only_now c.args.disk.now (Reaches g.V.LineServer.step g.V.LineServer.stored c.args.server.now (lines_of text))
+      (λ image here. reaches_none g.V.LineServer.step g.V.LineServer.stored c.args.server.now (lines_of text) image (all image here));
   counted = search rules;
   left = search rules;
 }
 
-pub loop-next-preserved : goal.loop-next-preserved
-loop-next-preserved g c = record {
+pub turns-preserved : goal.turns-preserved
+turns-preserved g c = record {
   told = λ text ahead.
-      goes_on c.in-Ok.next c.either-refused.result c.in-Served.answer
+      goes_on c.serve_next.new.server c.either-refused.result c.in-Served.answer
       (ahead_of c.serve_next.new.lines (g.S.Source.left c.serve_next.new.script)) (output (g.K.Sink.written c.serve_next.new.out) (g.T.Trees.rows c.serve_next.new.trees)) g.met.V.LineServer.refusal_told
-      (c.loop-next.invariant.told text ahead) (λ t a. rw c.in-Served.is at (c.in-Ok.ensures.told t a)) c.either-refused.ensures;
+      (c.turns.invariant.told text ahead) (λ t a. rw c.in-Served.is at (c.in-Ok.ensures.told t a)) c.either-refused.ensures;
   gate = c.in-Ok.ensures.gate;
-  stored = λ was. c.in-Ok.ensures.stored (c.loop-next.invariant.stored was);
-  durable = λ was. c.in-Ok.ensures.durable (c.loop-next.invariant.durable was);
+  stored = λ was. c.in-Ok.ensures.stored (c.turns.invariant.stored was);
+  durable = λ was. c.in-Ok.ensures.durable (c.turns.invariant.durable was);
   any_moment = λ text ahead all.
-      moments_on g.V.LineServer.step g.V.LineServer.stored g.D.Disk.moment g.D.Disk.images_since c.args.disk.now c.loop-next.disk c.serve_next.new.disk
-      (c.loop-next.invariant.told text ahead) (c.loop-next.invariant.any_moment text ahead all)
-      (λ t a. c.serve_next.ensures.any_moment t a (c.loop-next.invariant.durable all));
-  counted = counted_then c.loop-next.invariant.counted c.serve_next.ensures.counted;
-  left = given_then (g.S.Source.left c.args.script.now) (g.S.Source.left c.loop-next.script) (g.S.Source.left c.serve_next.new.script)
-      (g.S.Source.given c.args.script.now) (g.S.Source.given c.loop-next.script) (g.S.Source.given c.serve_next.new.script)
-      c.loop-next.invariant.left c.serve_next.ensures.left;
+      moments_on g.V.LineServer.step g.V.LineServer.stored g.D.Disk.moment g.D.Disk.images_since c.args.disk.now c.turns.disk c.serve_next.new.disk
+      (c.turns.invariant.told text ahead) (c.turns.invariant.any_moment text ahead all)
+      (λ t a. c.serve_next.ensures.any_moment t a (c.turns.invariant.durable all));
+  counted = counted_then c.turns.invariant.counted c.serve_next.ensures.counted;
+  left = given_then (g.S.Source.left c.args.script.now) (g.S.Source.left c.turns.script) (g.S.Source.left c.serve_next.new.script)
+      (g.S.Source.given c.args.script.now) (g.S.Source.given c.turns.script) (g.S.Source.given c.serve_next.new.script)
+      c.turns.invariant.left c.serve_next.ensures.left;
 }
 
 pub returns-in-Ended-clause-prefix : goal.returns-in-Ended-clause-prefix
 returns-in-Ended-clause-prefix g c text before ahead told =
-    let e = ended c.in-Ok.next (ahead_of c.serve_next.new.lines (g.S.Source.left c.serve_next.new.script)) (output (g.K.Sink.written c.serve_next.new.out) (g.T.Trees.rows c.serve_next.new.trees))
-    (c.loop-next.invariant.told text ahead) (λ t a. rw c.in-Ended.is at (c.in-Ok.ensures.told t a)) in
-    let amid = all_amid g.V.LineServer.step c.args.server text (output (g.K.Sink.written c.args.out.now) (g.T.Trees.rows c.args.trees.now)) (output (g.K.Sink.written c.serve_next.new.out) (g.T.Trees.rows c.serve_next.new.trees)) e.written in
-    front_of (answers g.V.LineServer.step c.args.server (lines_of text)).reply before (g.K.Sink.written c.args.out.now) (g.K.Sink.written c.serve_next.new.out) amid.bytes told
+    let e = ended c.serve_next.new.server (ahead_of c.serve_next.new.lines (g.S.Source.left c.serve_next.new.script)) (output (g.K.Sink.written c.serve_next.new.out) (g.T.Trees.rows c.serve_next.new.trees))
+    (c.turns.invariant.told text ahead) (λ t a. rw c.in-Ended.is at (c.in-Ok.ensures.told t a)) in
+    let amid = all_amid g.V.LineServer.step c.args.server.now text (output (g.K.Sink.written c.args.out.now) (g.T.Trees.rows c.args.trees.now)) (output (g.K.Sink.written c.serve_next.new.out) (g.T.Trees.rows c.serve_next.new.trees)) e.written in
+    front_of (answers g.V.LineServer.step c.args.server.now (lines_of text)).reply before (g.K.Sink.written c.args.out.now) (g.K.Sink.written c.serve_next.new.out) amid.bytes told
 
 pub returns-in-Ended-clause-whole : goal.returns-in-Ended-clause-whole
 returns-in-Ended-clause-whole g c text before ahead told =
-    let e = ended c.in-Ok.next (ahead_of c.serve_next.new.lines (g.S.Source.left c.serve_next.new.script)) (output (g.K.Sink.written c.serve_next.new.out) (g.T.Trees.rows c.serve_next.new.trees))
-    (c.loop-next.invariant.told text ahead) (λ t a. rw c.in-Ended.is at (c.in-Ok.ensures.told t a)) in
+    let e = ended c.serve_next.new.server (ahead_of c.serve_next.new.lines (g.S.Source.left c.serve_next.new.script)) (output (g.K.Sink.written c.serve_next.new.out) (g.T.Trees.rows c.serve_next.new.trees))
+    (c.turns.invariant.told text ahead) (λ t a. rw c.in-Ended.is at (c.in-Ok.ensures.told t a)) in
     rw c.ending_at_end.ensures
-    (ends_whole c.loop-next.refused (answers g.V.LineServer.step c.args.server (lines_of text)) before (g.S.Source.left c.serve_next.new.script) (g.K.Sink.written c.serve_next.new.out)
-    (e.refused_is, left_is_empty c.serve_next.new.lines (g.S.Source.left c.serve_next.new.script) e.ahead_is, told_all (answers g.V.LineServer.step c.args.server (lines_of text)).reply before (g.K.Sink.written c.args.out.now) (g.K.Sink.written c.serve_next.new.out) e.written.bytes told))
+    (ends_whole c.turns.refused (answers g.V.LineServer.step c.args.server.now (lines_of text)) before (g.S.Source.left c.serve_next.new.script) (g.K.Sink.written c.serve_next.new.out)
+    (e.refused_is, left_is_empty c.serve_next.new.lines (g.S.Source.left c.serve_next.new.script) e.ahead_is, told_all (answers g.V.LineServer.step c.args.server.now (lines_of text)).reply before (g.K.Sink.written c.args.out.now) (g.K.Sink.written c.serve_next.new.out) e.written.bytes told))
 
 pub returns-in-Ended-clause-stored : goal.returns-in-Ended-clause-stored
 returns-in-Ended-clause-stored g c text ahead was =
-    let e = ended c.in-Ok.next (ahead_of c.serve_next.new.lines (g.S.Source.left c.serve_next.new.script)) (output (g.K.Sink.written c.serve_next.new.out) (g.T.Trees.rows c.serve_next.new.trees))
-    (c.loop-next.invariant.told text ahead) (λ t a. rw c.in-Ended.is at (c.in-Ok.ensures.told t a)) in
+    let e = ended c.serve_next.new.server (ahead_of c.serve_next.new.lines (g.S.Source.left c.serve_next.new.script)) (output (g.K.Sink.written c.serve_next.new.out) (g.T.Trees.rows c.serve_next.new.trees))
+    (c.turns.invariant.told text ahead) (λ t a. rw c.in-Ended.is at (c.in-Ok.ensures.told t a)) in
     rw c.ending_at_end.ensures
-    (has_stored c.loop-next.refused g.V.LineServer.stored (answers g.V.LineServer.step c.args.server (lines_of text)) (g.D.Disk.contents c.serve_next.new.disk)
-    (rw e.state_is at (c.in-Ok.ensures.stored (c.loop-next.invariant.stored was))))
+    (has_stored c.turns.refused g.V.LineServer.stored (answers g.V.LineServer.step c.args.server.now (lines_of text)) (g.D.Disk.contents c.serve_next.new.disk)
+    (rw e.state_is at (c.in-Ok.ensures.stored (c.turns.invariant.stored was))))
 
 pub returns-in-Ended-clause-any_moment : goal.returns-in-Ended-clause-any_moment
 returns-in-Ended-clause-any_moment g c text ahead all =
-    moments_on g.V.LineServer.step g.V.LineServer.stored g.D.Disk.moment g.D.Disk.images_since c.args.disk.now c.loop-next.disk c.serve_next.new.disk
-    (c.loop-next.invariant.told text ahead) (c.loop-next.invariant.any_moment text ahead all)
-    (λ t a. c.serve_next.ensures.any_moment t a (c.loop-next.invariant.durable all))
+    moments_on g.V.LineServer.step g.V.LineServer.stored g.D.Disk.moment g.D.Disk.images_since c.args.disk.now c.turns.disk c.serve_next.new.disk
+    (c.turns.invariant.told text ahead) (c.turns.invariant.any_moment text ahead all)
+    (λ t a. c.serve_next.ensures.any_moment t a (c.turns.invariant.durable all))
 
 pub returns-in-Ended-clause-acknowledged : goal.returns-in-Ended-clause-acknowledged
 returns-in-Ended-clause-acknowledged g c text before bytes ahead all was is image here =
-    let e = ended c.in-Ok.next (ahead_of c.serve_next.new.lines (g.S.Source.left c.serve_next.new.script)) (output (g.K.Sink.written c.serve_next.new.out) (g.T.Trees.rows c.serve_next.new.trees))
-    (c.loop-next.invariant.told text ahead) (λ t a. rw c.in-Ended.is at (c.in-Ok.ensures.told t a)) in
-    keeps_all g.V.LineServer.step g.V.LineServer.stored g.V.LineServer.count g.met.V.LineServer.counts_rise c.args.server (lines_of text) bytes image
-    (rw e.state_is at (c.in-Ok.ensures.durable (c.loop-next.invariant.durable all) image here))
+    let e = ended c.serve_next.new.server (ahead_of c.serve_next.new.lines (g.S.Source.left c.serve_next.new.script)) (output (g.K.Sink.written c.serve_next.new.out) (g.T.Trees.rows c.serve_next.new.trees))
+    (c.turns.invariant.told text ahead) (λ t a. rw c.in-Ended.is at (c.in-Ok.ensures.told t a)) in
+    keeps_all g.V.LineServer.step g.V.LineServer.stored g.V.LineServer.count g.met.V.LineServer.counts_rise c.args.server.now (lines_of text) bytes image
+    (rw e.state_is at (c.in-Ok.ensures.durable (c.turns.invariant.durable all) image here))
 
 pub returns-in-Ended-clause-rows_prefix : goal.returns-in-Ended-clause-rows_prefix
 returns-in-Ended-clause-rows_prefix g c text before ahead told =
-    let e = ended c.in-Ok.next (ahead_of c.serve_next.new.lines (g.S.Source.left c.serve_next.new.script)) (output (g.K.Sink.written c.serve_next.new.out) (g.T.Trees.rows c.serve_next.new.trees))
-    (c.loop-next.invariant.told text ahead) (λ t a. rw c.in-Ended.is at (c.in-Ok.ensures.told t a)) in
-    let amid = all_amid g.V.LineServer.step c.args.server text (output (g.K.Sink.written c.args.out.now) (g.T.Trees.rows c.args.trees.now)) (output (g.K.Sink.written c.serve_next.new.out) (g.T.Trees.rows c.serve_next.new.trees)) e.written in
-    front_of (answers g.V.LineServer.step c.args.server (lines_of text)).rows before (g.T.Trees.rows c.args.trees.now) (g.T.Trees.rows c.serve_next.new.trees) amid.rows told
+    let e = ended c.serve_next.new.server (ahead_of c.serve_next.new.lines (g.S.Source.left c.serve_next.new.script)) (output (g.K.Sink.written c.serve_next.new.out) (g.T.Trees.rows c.serve_next.new.trees))
+    (c.turns.invariant.told text ahead) (λ t a. rw c.in-Ended.is at (c.in-Ok.ensures.told t a)) in
+    let amid = all_amid g.V.LineServer.step c.args.server.now text (output (g.K.Sink.written c.args.out.now) (g.T.Trees.rows c.args.trees.now)) (output (g.K.Sink.written c.serve_next.new.out) (g.T.Trees.rows c.serve_next.new.trees)) e.written in
+    front_of (answers g.V.LineServer.step c.args.server.now (lines_of text)).rows before (g.T.Trees.rows c.args.trees.now) (g.T.Trees.rows c.serve_next.new.trees) amid.rows told
 
 pub returns-in-Ended-clause-rows_whole : goal.returns-in-Ended-clause-rows_whole
 returns-in-Ended-clause-rows_whole g c text before ahead told =
-    let e = ended c.in-Ok.next (ahead_of c.serve_next.new.lines (g.S.Source.left c.serve_next.new.script)) (output (g.K.Sink.written c.serve_next.new.out) (g.T.Trees.rows c.serve_next.new.trees))
-    (c.loop-next.invariant.told text ahead) (λ t a. rw c.in-Ended.is at (c.in-Ok.ensures.told t a)) in
+    let e = ended c.serve_next.new.server (ahead_of c.serve_next.new.lines (g.S.Source.left c.serve_next.new.script)) (output (g.K.Sink.written c.serve_next.new.out) (g.T.Trees.rows c.serve_next.new.trees))
+    (c.turns.invariant.told text ahead) (λ t a. rw c.in-Ended.is at (c.in-Ok.ensures.told t a)) in
     rw c.ending_at_end.ensures
-    (has_rows c.loop-next.refused (answers g.V.LineServer.step c.args.server (lines_of text)) before (g.T.Trees.rows c.serve_next.new.trees) (told_all (answers g.V.LineServer.step c.args.server (lines_of text)).rows before (g.T.Trees.rows c.args.trees.now) (g.T.Trees.rows c.serve_next.new.trees) e.written.rows told))
+    (has_rows c.turns.refused (answers g.V.LineServer.step c.args.server.now (lines_of text)) before (g.T.Trees.rows c.serve_next.new.trees) (told_all (answers g.V.LineServer.step c.args.server.now (lines_of text)).rows before (g.T.Trees.rows c.args.trees.now) (g.T.Trees.rows c.serve_next.new.trees) e.written.rows told))
 
 pub returns-in-Ended-clause-rows_first : goal.returns-in-Ended-clause-rows_first
 returns-in-Ended-clause-rows_first g c text before rows ahead told grew =
-    let e = ended c.in-Ok.next (ahead_of c.serve_next.new.lines (g.S.Source.left c.serve_next.new.script)) (output (g.K.Sink.written c.serve_next.new.out) (g.T.Trees.rows c.serve_next.new.trees))
-    (c.loop-next.invariant.told text ahead) (λ t a. rw c.in-Ended.is at (c.in-Ok.ensures.told t a)) in
-    let amid = all_amid g.V.LineServer.step c.args.server text (output (g.K.Sink.written c.args.out.now) (g.T.Trees.rows c.args.trees.now)) (output (g.K.Sink.written c.serve_next.new.out) (g.T.Trees.rows c.serve_next.new.trees)) e.written in
+    let e = ended c.serve_next.new.server (ahead_of c.serve_next.new.lines (g.S.Source.left c.serve_next.new.script)) (output (g.K.Sink.written c.serve_next.new.out) (g.T.Trees.rows c.serve_next.new.trees))
+    (c.turns.invariant.told text ahead) (λ t a. rw c.in-Ended.is at (c.in-Ok.ensures.told t a)) in
+    let amid = all_amid g.V.LineServer.step c.args.server.now text (output (g.K.Sink.written c.args.out.now) (g.T.Trees.rows c.args.trees.now)) (output (g.K.Sink.written c.serve_next.new.out) (g.T.Trees.rows c.serve_next.new.trees)) e.written in
     amid.first before rows told grew
 
 pub returns-in-Err-clause-prefix : goal.returns-in-Err-clause-prefix
 returns-in-Err-clause-prefix g c text before ahead told =
-    let amid = stopped (output (g.K.Sink.written c.serve_next.new.out) (g.T.Trees.rows c.serve_next.new.trees)) (c.loop-next.invariant.told text ahead) c.in-Err.ensures.told in
-    front_of (answers g.V.LineServer.step c.args.server (lines_of text)).reply before (g.K.Sink.written c.args.out.now) (g.K.Sink.written c.serve_next.new.out) amid.bytes told
+    let amid = stopped (output (g.K.Sink.written c.serve_next.new.out) (g.T.Trees.rows c.serve_next.new.trees)) (c.turns.invariant.told text ahead) c.in-Err.ensures.told in
+    front_of (answers g.V.LineServer.step c.args.server.now (lines_of text)).reply before (g.K.Sink.written c.args.out.now) (g.K.Sink.written c.serve_next.new.out) amid.bytes told
 
 pub returns-in-Err-clause-rows_prefix : goal.returns-in-Err-clause-rows_prefix
 returns-in-Err-clause-rows_prefix g c text before ahead told =
-    let amid = stopped (output (g.K.Sink.written c.serve_next.new.out) (g.T.Trees.rows c.serve_next.new.trees)) (c.loop-next.invariant.told text ahead) c.in-Err.ensures.told in
-    front_of (answers g.V.LineServer.step c.args.server (lines_of text)).rows before (g.T.Trees.rows c.args.trees.now) (g.T.Trees.rows c.serve_next.new.trees) amid.rows told
+    let amid = stopped (output (g.K.Sink.written c.serve_next.new.out) (g.T.Trees.rows c.serve_next.new.trees)) (c.turns.invariant.told text ahead) c.in-Err.ensures.told in
+    front_of (answers g.V.LineServer.step c.args.server.now (lines_of text)).rows before (g.T.Trees.rows c.args.trees.now) (g.T.Trees.rows c.serve_next.new.trees) amid.rows told
 
 pub returns-in-Err-clause-rows_first : goal.returns-in-Err-clause-rows_first
 returns-in-Err-clause-rows_first g c text before rows ahead told grew =
-    let amid = stopped (output (g.K.Sink.written c.serve_next.new.out) (g.T.Trees.rows c.serve_next.new.trees)) (c.loop-next.invariant.told text ahead) c.in-Err.ensures.told in
+    let amid = stopped (output (g.K.Sink.written c.serve_next.new.out) (g.T.Trees.rows c.serve_next.new.trees)) (c.turns.invariant.told text ahead) c.in-Err.ensures.told in
     amid.first before rows told grew
 
 pub returns-in-Err-clause-any_moment : goal.returns-in-Err-clause-any_moment
 returns-in-Err-clause-any_moment g c text ahead all =
-    moments_on g.V.LineServer.step g.V.LineServer.stored g.D.Disk.moment g.D.Disk.images_since c.args.disk.now c.loop-next.disk c.serve_next.new.disk
-    (c.loop-next.invariant.told text ahead) (c.loop-next.invariant.any_moment text ahead all)
-    (λ t a. c.serve_next.ensures.any_moment t a (c.loop-next.invariant.durable all))
+    moments_on g.V.LineServer.step g.V.LineServer.stored g.D.Disk.moment g.D.Disk.images_since c.args.disk.now c.turns.disk c.serve_next.new.disk
+    (c.turns.invariant.told text ahead) (c.turns.invariant.any_moment text ahead all)
+    (λ t a. c.serve_next.ensures.any_moment t a (c.turns.invariant.durable all))
 
 pub returns-in-Err-clause-acknowledged : goal.returns-in-Err-clause-acknowledged
 returns-in-Err-clause-acknowledged g c text before bytes ahead all was is =
     keeps_on g.V.LineServer.step g.V.LineServer.stored g.V.LineServer.count g.met.V.LineServer.counts_rise before bytes
     (output (g.K.Sink.written c.serve_next.new.out) (g.T.Trees.rows c.serve_next.new.trees)) (g.D.Disk.images c.serve_next.new.disk)
-    (c.loop-next.invariant.told text ahead) was is c.in-Err.ensures.told
-    (λ t sent part ahead' was' is'. c.in-Err.ensures.acknowledged t sent part ahead' (c.loop-next.invariant.durable all) was' is')
+    (c.turns.invariant.told text ahead) was is c.in-Err.ensures.told
+    (λ t sent part ahead' was' is'. c.in-Err.ensures.acknowledged t sent part ahead' (c.turns.invariant.durable all) was' is')

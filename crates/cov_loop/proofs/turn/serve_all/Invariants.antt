@@ -7,8 +7,8 @@ use Rattle.cov_loop.specs.Keeping.{AreAll, Reaches}
 use Rattle.cov_loop.specs.Turns.{GoesOn, ahead_of, output}
 use Rattle.cov_loop.proofs.turn.serve_all.Given as goal
 
-abbrev pub invariant-loop-next : goal.invariant-loop-next
-invariant-loop-next g l = record {
+abbrev pub invariant-turns : goal.invariant-turns
+invariant-turns g l = record {
   told : (text : List ℕ) → ahead_of l.fn.lines (g.S.Source.left l.fn.script) ≡ Some text
       → GoesOn g.V.LineServer.step l.fn.server text l.server l.refused (ahead_of l.lines (g.S.Source.left l.script))
       (output (g.K.Sink.written l.fn.out) (g.T.Trees.rows l.fn.trees)) (output (g.K.Sink.written l.out) (g.T.Trees.rows l.trees));
@@ -23,5 +23,5 @@ invariant-loop-next g l = record {
   left : CountsGiven (g.S.Source.left l.fn.script) (g.S.Source.left l.script) (g.S.Source.given l.fn.script) (g.S.Source.given l.script);
 }
 
-abbrev pub decreases-loop-next : goal.decreases-loop-next
-decreases-loop-next g l = potential l.lines
+abbrev pub decreases-turns : goal.decreases-turns
+decreases-turns g l = potential l.lines

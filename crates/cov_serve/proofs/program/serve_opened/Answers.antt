@@ -20,49 +20,49 @@ use Rattle.cov_serve.proofs.program.serve_opened.Goals as goal
 
 pub returns-in-Ok-clause-whole : goal.returns-in-Ok-clause-whole
 returns-in-Ok-clause-whole g c history text before begins left wrote =
-    let ending = c.serve_all.result in
+    let ending = c.serve_all-ending.result in
     let ahead = ahead_first c.in-Ok.lines (g.S.Source.left c.args.script.now) text c.in-Ok.ensures left in
-    let unread = g.S.Source.left c.serve_all.new.script in
-    let written = g.K.Sink.written c.serve_all.new.out in
+    let unread = g.S.Source.left c.serve_all-ending.new.script in
+    let written = g.K.Sink.written c.serve_all-ending.new.out in
     subst (λ status. OnServed status (λ refused. EndsWith refused (model history text) before unread written)) (sym c.from.ensures)
     (whole_status ending (model history text) before unread written
-    (subst (λ s. IsWhole ending (answers step s (lines_of text)) before unread written) begins (c.serve_all.ensures.whole text before ahead wrote)))
+    (subst (λ s. IsWhole ending (answers step s (lines_of text)) before unread written) begins (c.serve_all-ending.ensures.whole text before ahead wrote)))
 
 pub returns-in-Ok-clause-stands : goal.returns-in-Ok-clause-stands
 returns-in-Ok-clause-stands g c history text begins left here =
-    let ending = c.serve_all.result in
+    let ending = c.serve_all-ending.result in
     let ahead = ahead_first c.in-Ok.lines (g.S.Source.left c.args.script.now) text c.in-Ok.ensures left in
-    let contents = g.D.Disk.contents c.serve_all.new.disk in
+    let contents = g.D.Disk.contents c.serve_all-ending.new.disk in
     let last = (model history text).state.history in
     subst (λ status. OnServed status (λ refused. IfSome contents (λ image. StandsFor image last))) (sym c.from.ensures)
     (stored_status ending stored (λ image. StandsFor image last) (model history text) contents
     (some_to (λ image. IsStored image last) (λ image. StandsFor image last) (λ image is. stands_for image last is))
     (subst (λ s. HasStored ending stored (answers step s (lines_of text)) contents) begins
-    (c.serve_all.ensures.stored text ahead (subst (λ s. IfSome (g.D.Disk.contents c.args.disk.now) (stored s)) (sym begins) here))))
+    (c.serve_all-ending.ensures.stored text ahead (subst (λ s. IfSome (g.D.Disk.contents c.args.disk.now) (stored s)) (sym begins) here))))
 
 pub returns-in-Ok-clause-rows_whole : goal.returns-in-Ok-clause-rows_whole
 returns-in-Ok-clause-rows_whole g c history text before begins left grew =
-    let ending = c.serve_all.result in
+    let ending = c.serve_all-ending.result in
     let ahead = ahead_first c.in-Ok.lines (g.S.Source.left c.args.script.now) text c.in-Ok.ensures left in
-    let grown = g.T.Trees.rows c.serve_all.new.trees in
+    let grown = g.T.Trees.rows c.serve_all-ending.new.trees in
     subst (λ status. OnServed status (λ refused. grown ≡ Some (before ++ (model history text).rows))) (sym c.from.ensures)
     (rows_status ending (model history text) before grown
-    (subst (λ s. HasRows ending (answers step s (lines_of text)) before grown) begins (c.serve_all.ensures.rows_whole text before ahead grew)))
+    (subst (λ s. HasRows ending (answers step s (lines_of text)) before grown) begins (c.serve_all-ending.ensures.rows_whole text before ahead grew)))
 
 pub returns-in-Ok-clause-any_moment : goal.returns-in-Ok-clause-any_moment
 returns-in-Ok-clause-any_moment g c history text begins left all =
     let ahead = ahead_first c.in-Ok.lines (g.S.Source.left c.args.script.now) text c.in-Ok.ensures left in
-    leaves_weaker g.D.Disk.moment g.D.Disk.images_since c.args.disk.now c.serve_all.new.disk (Reaches step stored (starting history) (lines_of text)) (StandsBetween history text)
+    leaves_weaker g.D.Disk.moment g.D.Disk.images_since c.args.disk.now c.serve_all-ending.new.disk (Reaches step stored (starting history) (lines_of text)) (StandsBetween history text)
     (between history text)
-    (subst (λ s. LeavesOnly g.D.Disk.moment g.D.Disk.images_since c.args.disk.now c.serve_all.new.disk (Reaches step stored s (lines_of text))) begins
-    (c.serve_all.ensures.any_moment text ahead (λ image now. subst (λ s. stored s image) (sym begins) (all image now))))
+    (subst (λ s. LeavesOnly g.D.Disk.moment g.D.Disk.images_since c.args.disk.now c.serve_all-ending.new.disk (Reaches step stored s (lines_of text))) begins
+    (c.serve_all-ending.ensures.any_moment text ahead (λ image now. subst (λ s. stored s image) (sym begins) (all image now))))
 
 pub returns-in-Ok-clause-acknowledged : goal.returns-in-Ok-clause-acknowledged
 returns-in-Ok-clause-acknowledged g c history text before bytes begins left all wrote writes image now =
     let ahead = ahead_first c.in-Ok.lines (g.S.Source.left c.args.script.now) text c.in-Ok.ensures left in
     answered history text bytes image
     (subst (λ s. KeepsAnswered step stored count s (lines_of text) bytes image) begins
-    (c.serve_all.ensures.acknowledged text before bytes ahead (λ i was. subst (λ s. stored s i) (sym begins) (all i was)) wrote writes image now))
+    (c.serve_all-ending.ensures.acknowledged text before bytes ahead (λ i was. subst (λ s. stored s i) (sym begins) (all i was)) wrote writes image now))
 
 pub returns-in-Err-clause-rows_first : goal.returns-in-Err-clause-rows_first
 returns-in-Err-clause-rows_first g c history text before rows begins left wrote grew =

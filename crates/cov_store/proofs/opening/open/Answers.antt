@@ -4,27 +4,27 @@ use Rattle.cov_store.proofs.opening.open.Goals as goal
 
 pub returns-in-Ok-clause-opened : goal.returns-in-Ok-clause-opened
 returns-in-Ok-clause-opened g c =
-    opened_stands (g.D.Disk.contents c.args.disk.now) (g.D.Disk.contents c.open.new.disk) c.in-Ok.ensures.contents c.begin.result c.begin.ensures.replays
+    opened_stands (g.D.Disk.contents c.args.disk.now) (g.D.Disk.contents c.open.new.disk) c.in-Ok.ensures.contents c.replay_all.result c.replay_all.ensures.replays
 
 pub returns-in-Ok-clause-faulty : goal.returns-in-Ok-clause-faulty
 returns-in-Ok-clause-faulty g c =
-    opened_faulty (g.D.Disk.contents c.args.disk.now) (g.D.Disk.contents c.open.new.disk) c.in-Ok.ensures.contents c.begin.result c.begin.ensures.replays
+    opened_faulty (g.D.Disk.contents c.args.disk.now) (g.D.Disk.contents c.open.new.disk) c.in-Ok.ensures.contents c.replay_all.result c.replay_all.ensures.replays
 
 pub returns-in-Ok-clause-kept : goal.returns-in-Ok-clause-kept
 returns-in-Ok-clause-kept g c =
-    same_where_refused (g.D.Disk.contents c.args.disk.now) (g.D.Disk.contents c.open.new.disk) (g.D.Disk.contents c.begin.new.disk) c.begin.result c.in-Ok.ensures.contents c.begin.ensures.same c.begin.ensures.replays
+    same_where_refused (g.D.Disk.contents c.args.disk.now) (g.D.Disk.contents c.open.new.disk) (g.D.Disk.contents c.replay_all.new.disk) c.replay_all.result c.in-Ok.ensures.contents c.replay_all.ensures.same c.replay_all.ensures.replays
 
 pub returns-in-Ok-clause-stored : goal.returns-in-Ok-clause-stored
 returns-in-Ok-clause-stored g c =
     stored_now g.D.Disk.contents g.D.Disk.images g.D.Disk.moment g.D.Disk.images_since g.met.D.Disk.as_read g.met.D.Disk.told g.met.D.Disk.counts_now
-    c.open.new.disk c.begin.new.disk c.begin.result c.in-Ok.ensures.only c.begin.ensures.images c.begin.ensures.replays
+    c.open.new.disk c.replay_all.new.disk c.replay_all.result c.in-Ok.ensures.only c.replay_all.ensures.images c.replay_all.ensures.replays
 
 pub returns-in-Ok-clause-any_moment : goal.returns-in-Ok-clause-any_moment
 returns-in-Ok-clause-any_moment g c history all =
     kept_on g.D.Disk.contents g.D.Disk.images g.D.Disk.moment g.D.Disk.images_since g.met.D.Disk.as_read g.met.D.Disk.told g.met.D.Disk.counts_now
-    c.args.disk.now c.open.new.disk c.begin.new.disk (λ image. StandsFor image history)
+    c.args.disk.now c.open.new.disk c.replay_all.new.disk (λ image. StandsFor image history)
     (stands_since g.D.Disk.contents g.D.Disk.images g.D.Disk.moment g.D.Disk.images_since g.met.D.Disk.as_read g.met.D.Disk.told g.met.D.Disk.counts_now
-    c.args.disk.now c.open.new.disk history all c.open.ensures.any_moment) c.begin.ensures.images
+    c.args.disk.now c.open.new.disk history all c.open.ensures.any_moment) c.replay_all.ensures.images
 
 pub returns-in-Err-NotAStore-clause-any_moment : goal.returns-in-Err-NotAStore-clause-any_moment
 returns-in-Err-NotAStore-clause-any_moment g c history all =
@@ -38,7 +38,7 @@ returns-in-Err-DiskFault-clause-any_moment g c history all =
 
 pub returns-in-Ok-clause-stays : goal.returns-in-Ok-clause-stays
 returns-in-Ok-clause-stays g c =
-    stands_later (g.D.Disk.contents c.args.disk.now) (g.D.Disk.contents c.open.new.disk) (g.D.Disk.contents c.begin.new.disk) c.open.ensures.stays c.begin.ensures.same
+    stands_later (g.D.Disk.contents c.args.disk.now) (g.D.Disk.contents c.open.new.disk) (g.D.Disk.contents c.replay_all.new.disk) c.open.ensures.stays c.replay_all.ensures.same
 
 pub returns-in-Err-NotAStore-clause-stays : goal.returns-in-Err-NotAStore-clause-stays
 returns-in-Err-NotAStore-clause-stays g c = stands_on (g.D.Disk.contents c.args.disk.now) (g.D.Disk.contents c.open.new.disk) c.open.ensures.stays

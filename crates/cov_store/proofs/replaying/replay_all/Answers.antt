@@ -5,7 +5,7 @@ use Rattle.cov_store.proofs.replaying.replay_all.Goals as goal
 
 pub records-init : goal.records-init
 records-init g c = record {
-  behind = c.requires.behind;
+  behind = subst (StandsBehind (g.D.Disk.contents c.args.disk.now) c.args.reader) (sym c.in-Ok.ensures) c.requires.behind;
   same = search rules;
   images = record { crash = record { among = λ i now. now }; since = started g.D.Disk.moment g.D.Disk.images_since c.args.disk.now (g.D.Disk.images c.args.disk.now) (g.met.D.Disk.only_now c.args.disk.now) };
   later = omega arith;

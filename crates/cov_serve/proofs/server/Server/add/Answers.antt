@@ -6,63 +6,61 @@ use Rattle.cov_serve.specs.Acting.{Changes}
 use Rattle.cov_serve.specs.Adding.{HasReceipt}
 use Rattle.cov_serve.specs.Step.{appended}
 use Rattle.cov_serve.specs.declared.stop.Stop.{Stop}
-use Rattle.cov_serve.proofs.Additions.{finish-gives, finish-has, stop-gives, stop-has, stop-told, there-kept}
+use Rattle.cov_serve.proofs.Additions.{finish-gives, finish-has, replied, stop-gives, stop-told, there-kept}
 use Rattle.cov_serve.proofs.server.Server.add.Goals as goal
 
 pub finish-requires : goal.finish-requires
 finish-requires g c =
-    there-kept c.args.self c.args.addition.command c.in-Ok.server c.args.addition.ends
-    (subst (λ (r : Result Receipt Stop). Changes (appended c.args.self c.args.addition.command) c.args.self c.in-Ok.server r) c.in-Ok-added.is c.in-Ok.ensures.changes) c.requires.there
+    there-kept c.args.self.now c.args.addition.command c.append.new.self c.args.addition.ends
+    (subst (λ (r : Result Receipt Stop). Changes (appended c.args.self.now c.args.addition.command) c.args.self.now c.append.new.self r) c.in-Ok-added.is c.in-Ok.ensures.changes) c.requires.there
 
 pub stop-requires : goal.stop-requires
 stop-requires g c =
-    stop-told c.args.self c.in-Ok.server c.args.addition.command c.in-Err-added.stop
-    (subst (λ (r : Result Receipt Stop). Changes (appended c.args.self c.args.addition.command) c.args.self c.in-Ok.server r) c.in-Err-added.is c.in-Ok.ensures.changes)
+    stop-told c.args.self.now c.append.new.self c.args.addition.command c.in-Err-added.stop
+    (subst (λ (r : Result Receipt Stop). Changes (appended c.args.self.now c.args.addition.command) c.args.self.now c.append.new.self r) c.in-Err-added.is c.in-Ok.ensures.changes)
 
 pub returns-in-Ok-added-clause-gives : goal.returns-in-Ok-added-clause-gives
 returns-in-Ok-added-clause-gives g c =
-    finish-gives c.args.self c.in-Ok.server c.args.addition c.in-Ok-added.receipt c.finish.result
-    (subst (λ (r : Result Receipt Stop). Changes (appended c.args.self c.args.addition.command) c.args.self c.in-Ok.server r) c.in-Ok-added.is c.in-Ok.ensures.changes)
-    (subst (λ (r : Result Receipt Stop). IfOk r (λ receipt. HasReceipt c.args.self.history c.args.addition.command receipt)) c.in-Ok-added.is c.in-Ok.ensures.receipt)
+    finish-gives c.args.self.now c.append.new.self c.finish.new.self c.args.addition c.in-Ok-added.receipt c.finish.result
+    (subst (λ (r : Result Receipt Stop). Changes (appended c.args.self.now c.args.addition.command) c.args.self.now c.append.new.self r) c.in-Ok-added.is c.in-Ok.ensures.changes)
+    c.finish.ensures.ended
+    (subst (λ (r : Result Receipt Stop). IfOk r (HasReceipt c.args.self.now.history c.args.addition.command)) c.in-Ok-added.is c.in-Ok.ensures.receipt)
     c.finish.ensures.gives
 
 pub returns-in-Ok-added-clause-gate : goal.returns-in-Ok-added-clause-gate
 returns-in-Ok-added-clause-gate g c =
-    finish-has c.args.self c.in-Ok.server c.args.addition c.in-Ok-added.receipt (λ h. IfSome (g.D.Disk.contents c.append.new.disk) (λ image. gate_of h < length image)) c.finish.result
-    c.in-Ok.ensures.gate c.finish.ensures.gives
+    replied c.finish.result
+    (finish-has c.args.self.now c.append.new.self c.finish.new.self c.args.addition c.in-Ok-added.receipt (λ h. IfSome (g.D.Disk.contents c.append.new.disk) (λ image. gate_of h < length image))
+    c.finish.ensures.ended c.in-Ok.ensures.gate)
 
 pub returns-in-Ok-added-clause-stored : goal.returns-in-Ok-added-clause-stored
 returns-in-Ok-added-clause-stored g c = λ here.
-    finish-has c.args.self c.in-Ok.server c.args.addition c.in-Ok-added.receipt (λ h. IfSome (g.D.Disk.contents c.append.new.disk) (λ image. IsStored image h)) c.finish.result
-    (c.in-Ok.ensures.stored here) c.finish.ensures.gives
+    replied c.finish.result
+    (finish-has c.args.self.now c.append.new.self c.finish.new.self c.args.addition c.in-Ok-added.receipt (λ h. IfSome (g.D.Disk.contents c.append.new.disk) (λ image. IsStored image h))
+    c.finish.ensures.ended (c.in-Ok.ensures.stored here))
 
 pub returns-in-Ok-added-clause-durable : goal.returns-in-Ok-added-clause-durable
 returns-in-Ok-added-clause-durable g c = λ all.
-    finish-has c.args.self c.in-Ok.server c.args.addition c.in-Ok-added.receipt (λ h. (image : List ℕ) → g.D.Disk.images c.append.new.disk image → IsStored image h) c.finish.result
-    (c.in-Ok.ensures.durable all) c.finish.ensures.gives
+    replied c.finish.result
+    (finish-has c.args.self.now c.append.new.self c.finish.new.self c.args.addition c.in-Ok-added.receipt (λ h. (image : List ℕ) → g.D.Disk.images c.append.new.disk image → IsStored image h)
+    c.finish.ensures.ended (c.in-Ok.ensures.durable all))
 
 pub returns-in-Ok-added-clause-stopped : goal.returns-in-Ok-added-clause-stopped
 returns-in-Ok-added-clause-stopped g c = c.finish.ensures.stopped (g.D.Disk.faults c.args.disk.now) (g.D.Disk.faults c.append.new.disk)
 
 pub returns-in-Ok-clause-gives : goal.returns-in-Ok-clause-gives
 returns-in-Ok-clause-gives g c =
-    stop-gives c.args.self c.in-Ok.server c.args.addition c.in-Err-added.stop c.stop.result
-    (subst (λ (r : Result Receipt Stop). Changes (appended c.args.self c.args.addition.command) c.args.self c.in-Ok.server r) c.in-Err-added.is c.in-Ok.ensures.changes) c.stop.ensures.gives
+    stop-gives c.args.self.now c.append.new.self c.args.addition c.in-Err-added.stop c.stop.result
+    (subst (λ (r : Result Receipt Stop). Changes (appended c.args.self.now c.args.addition.command) c.args.self.now c.append.new.self r) c.in-Err-added.is c.in-Ok.ensures.changes) c.stop.ensures.gives
 
 pub returns-in-Ok-clause-gate : goal.returns-in-Ok-clause-gate
-returns-in-Ok-clause-gate g c =
-    stop-has c.args.self c.in-Ok.server (λ h. IfSome (g.D.Disk.contents c.append.new.disk) (λ image. gate_of h < length image)) c.in-Err-added.stop c.stop.result
-    c.in-Ok.ensures.gate c.stop.ensures.gives
+returns-in-Ok-clause-gate g c = replied c.stop.result c.in-Ok.ensures.gate
 
 pub returns-in-Ok-clause-stored : goal.returns-in-Ok-clause-stored
-returns-in-Ok-clause-stored g c = λ here.
-    stop-has c.args.self c.in-Ok.server (λ h. IfSome (g.D.Disk.contents c.append.new.disk) (λ image. IsStored image h)) c.in-Err-added.stop c.stop.result
-    (c.in-Ok.ensures.stored here) c.stop.ensures.gives
+returns-in-Ok-clause-stored g c = λ here. replied c.stop.result (c.in-Ok.ensures.stored here)
 
 pub returns-in-Ok-clause-durable : goal.returns-in-Ok-clause-durable
-returns-in-Ok-clause-durable g c = λ all.
-    stop-has c.args.self c.in-Ok.server (λ h. (image : List ℕ) → g.D.Disk.images c.append.new.disk image → IsStored image h) c.in-Err-added.stop c.stop.result
-    (c.in-Ok.ensures.durable all) c.stop.ensures.gives
+returns-in-Ok-clause-durable g c = λ all. replied c.stop.result (c.in-Ok.ensures.durable all)
 
 pub returns-in-Ok-clause-stopped : goal.returns-in-Ok-clause-stopped
 returns-in-Ok-clause-stopped g c = c.stop.ensures.stopped (g.D.Disk.faults c.args.disk.now) (g.D.Disk.faults c.append.new.disk)

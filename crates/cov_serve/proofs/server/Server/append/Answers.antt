@@ -1,83 +1,101 @@
-use Rattle.std.proofs.Common.{◌≡◌, ◌∙◌, sym, ap, subst, List, [], ◌∷◌, ◌++◌, map}
-use Rattle.std.specs.Prelude.{IfSome}
-use Rattle.cov_edit.specs.declared.command.Command.{Command}
-use Rattle.cov_engine.specs.States.{EngineValue}
-use Rattle.cov_history.specs.Verdict.{RefusedBy, verdict}
+use Rattle.std.proofs.Common.{◌≡◌, ◌∙◌, sym, subst, ℕ, ◌<◌, List, length, map}
+use Rattle.std.specs.Prelude.{IfErr, IfOk, IfSome, OnOk}
+use Rattle.cov_disk.specs.Images.{LeavesOnly}
+use Rattle.cov_loop.specs.Answers.{StopsAnswer}
+use Rattle.cov_loop.specs.Keeping.{AreAll, IsEither}
 use Rattle.cov_session.specs.Open.{as_named}
-use Rattle.cov_store.specs.Applying.{HandsBack, IsRefusedBy, OnCommandRefused}
-use Rattle.cov_store.specs.Stands.{IsStored}
-use Rattle.cov_store.specs.declared.store.ApplyFault.{ApplyFault}
-use Rattle.cov_serve.specs.Acting.{Stops}
+use Rattle.cov_store.specs.Stands.{IsStored, gate_of}
+use Rattle.cov_serve.specs.Acting.{Changes}
+use Rattle.cov_serve.specs.Adding.{HasReceipt, added_as}
 use Rattle.cov_serve.specs.States.{State}
 use Rattle.cov_serve.specs.Step.{appended}
 use Rattle.cov_serve.specs.Storing.{gated, grown, stored}
-use Rattle.cov_serve.specs.Stops.{refusal_stop}
-use Rattle.cov_serve.specs.declared.stop.Stop.{Stop}
-use Rattle.cov_serve.proofs.Growing.{stay-open}
-use Rattle.cov_serve.proofs.Leaving.{leaves-grown, leaves-same}
-use Rattle.cov_serve.proofs.RefusalCodes.{refusal-stops}
+use Rattle.cov_serve.proofs.Appended.{appends, carried, has-receipt, moments, still-open, with_history, write-stops}
 use Rattle.cov_serve.proofs.server.Server.append.Goals as goal
 
-pub of_parts-requires : goal.of_parts-requires
-of_parts-requires g c =
-    stay-open c.open_sessions_stay.ensures c.state.inside.engine.history c.in-Ok.store.history c.args.command c.state.inside.sessions
-    (c.in-Ok.ensures.history ∙ ap (λ (e : EngineValue). e.history ++ c.args.command ∷ []) c.from_parts.ensures) c.state.invariant
+pub invariant_of-state : goal.invariant_of-state
+invariant_of-state g c =
+    still-open c.open_sessions_stay.ensures c.state.inside.engine.history c.append.new.engine.history c.args.command c.state.inside.sessions c.append.result c.append.ensures.history c.state.invariant
 
-pub returns-in-Ok-clause-gate : goal.returns-in-Ok-clause-gate
-returns-in-Ok-clause-gate g c = subst (λ (st : State). IfSome (g.D.Disk.contents c.apply.new.disk) (gated st)) (sym c.of_parts.ensures) c.in-Ok.ensures.gate
+pub returns-clause-changes : goal.returns-clause-changes
+returns-clause-changes g c =
+    let st : State = record { history = c.state.inside.engine.history; sessions = map as_named c.state.inside.sessions; trees = c.state.inside.trees } in
+    let is : st ≡ c.args.self.now = c.state.view_is ∙ c.self.view_is in
+    let k = c.args.command in
+    let now = c.append.new.engine.history in
+    let r = c.append.result in
+    subst (λ res. IfOk res (Changes (appended c.args.self.now k) c.args.self.now (with_history st now))) (sym c.as_added.ensures)
+    (subst (λ (t : State). IfOk (added_as r) (Changes (appended t k) t (with_history st now))) is
+    (appends st k now r c.append.ensures.history c.append.ensures.accepted c.append.ensures.refused))
 
-pub returns-in-Ok-clause-stored : goal.returns-in-Ok-clause-stored
-returns-in-Ok-clause-stored g c = λ here.
-    let base : c.from_parts.result.history ≡ c.args.self.history = ap (λ (e : EngineValue). e.history) c.from_parts.ensures ∙ ap (λ (st : State). st.history) (c.state.view_is ∙ c.self.view_is) in
-    subst (λ (st : State). IfSome (g.D.Disk.contents c.apply.new.disk) (stored st)) (sym c.of_parts.ensures)
-    (subst (λ (h : List Command). IfSome (g.D.Disk.contents c.apply.new.disk) (λ image. IsStored image h)) (sym c.in-Ok.ensures.history)
-    (c.in-Ok.ensures.written (subst (λ (h : List Command). IfSome (g.D.Disk.contents c.args.disk.now) (λ image. IsStored image h)) (sym base) here)))
+pub returns-clause-receipt : goal.returns-clause-receipt
+returns-clause-receipt g c =
+    let st : State = record { history = c.state.inside.engine.history; sessions = map as_named c.state.inside.sessions; trees = c.state.inside.trees } in
+    let is : st ≡ c.args.self.now = c.state.view_is ∙ c.self.view_is in
+    let k = c.args.command in
+    let now = c.append.new.engine.history in
+    let r = c.append.result in
+    subst (λ res. IfOk res (λ added. IfOk added (HasReceipt c.args.self.now.history k))) (sym c.as_added.ensures)
+    (subst (λ (t : State). IfOk (added_as r) (λ added. IfOk added (HasReceipt t.history k))) is
+    (has-receipt st k now r c.append.ensures.number c.append.ensures.position))
 
-pub returns-in-Ok-clause-any_moment : goal.returns-in-Ok-clause-any_moment
-returns-in-Ok-clause-any_moment g c = λ all.
-    let base : c.from_parts.result.history ≡ c.args.self.history = ap (λ (e : EngineValue). e.history) c.from_parts.ensures ∙ ap (λ (st : State). st.history) (c.state.view_is ∙ c.self.view_is) in
-    leaves-grown g.D.Disk.moment g.D.Disk.images_since c.args.disk.now c.apply.new.disk c.args.self c.from_parts.result.history c.args.command base c.in-Ok.ensures.accepted
-    (c.in-Ok.ensures.any_moment (λ image now. subst (λ (h : List Command). IsStored image h) (sym base) (all image now)))
+pub returns-clause-gate : goal.returns-clause-gate
+returns-clause-gate g c =
+    let st : State = record { history = c.state.inside.engine.history; sessions = map as_named c.state.inside.sessions; trees = c.state.inside.trees } in
+    let is : st ≡ c.args.self.now = c.state.view_is ∙ c.self.view_is in
+    let k = c.args.command in
+    let now = c.append.new.engine.history in
+    let r = c.append.result in
+    let old = c.args.disk.now in
+    let new = c.append.new.disk in
+    subst (λ res. OnOk res (IfSome (g.D.Disk.contents new) (λ image. gate_of now < length image))) (sym c.as_added.ensures)
+    (carried st k now old new (λ d l. IfSome (g.D.Disk.contents d) (λ image. gate_of l < length image)) r c.append.ensures.history
+    (subst (λ (t : State). IfSome (g.D.Disk.contents old) (gated t)) (sym is) c.requires.gate) c.append.ensures.gate c.append.ensures.same)
 
-pub returns-in-Ok-clause-durable : goal.returns-in-Ok-clause-durable
-returns-in-Ok-clause-durable g c = λ all image now.
-    let base : c.from_parts.result.history ≡ c.args.self.history = ap (λ (e : EngineValue). e.history) c.from_parts.ensures ∙ ap (λ (st : State). st.history) (c.state.view_is ∙ c.self.view_is) in
-    subst (λ (st : State). IsStored image st.history) (sym c.of_parts.ensures)
-    (subst (λ (h : List Command). IsStored image h) (sym c.in-Ok.ensures.history)
-    (c.in-Ok.ensures.stored (λ i was. subst (λ (h : List Command). IsStored i h) (sym base) (all i was)) image now))
+pub returns-clause-stored : goal.returns-clause-stored
+returns-clause-stored g c here =
+    let st : State = record { history = c.state.inside.engine.history; sessions = map as_named c.state.inside.sessions; trees = c.state.inside.trees } in
+    let is : st ≡ c.args.self.now = c.state.view_is ∙ c.self.view_is in
+    let k = c.args.command in
+    let now = c.append.new.engine.history in
+    let r = c.append.result in
+    let old = c.args.disk.now in
+    let new = c.append.new.disk in
+    subst (λ res. OnOk res (IfSome (g.D.Disk.contents new) (λ image. IsStored image now))) (sym c.as_added.ensures)
+    (let was = subst (λ (t : State). IfSome (g.D.Disk.contents old) (stored t)) (sym is) here in
+    carried st k now old new (λ d l. IfSome (g.D.Disk.contents d) (λ image. IsStored image l)) r c.append.ensures.history was (c.append.ensures.written was) c.append.ensures.same)
 
-pub returns-in-Err-Refused-clause-changes : goal.returns-in-Err-Refused-clause-changes
-returns-in-Err-Refused-clause-changes g c =
-    let st = c.args.self in
-    let back = subst (λ (fault : ApplyFault). HandsBack c.from_parts.result fault) c.in-Err-Refused.field-0-is c.in-Err-Refused.ensures.back in
-    let refused = subst (λ (fault : ApplyFault). IsRefusedBy (verdict c.from_parts.result.history c.args.command) fault) c.in-Err-Refused.field-0-is c.in-Err-Refused.ensures.refused in
-    let base : c.from_parts.result.history ≡ st.history = ap (λ (e : EngineValue). e.history) c.from_parts.ensures ∙ ap (λ (t : State). t.history) (c.state.view_is ∙ c.self.view_is) in
-    let same : c.of_parts-in-Err-Refused.result ≡ st =
-    c.of_parts-in-Err-Refused.ensures
-    ∙ ap (λ (h : List Command). record { history = h; sessions = map as_named c.state.inside.sessions; trees = c.state.inside.trees }) (back.0 ∙ ap (λ (e : EngineValue). e.history) c.from_parts.ensures)
-    ∙ c.state.view_is ∙ c.self.view_is in
-    subst (λ (stop : Stop). Stops (appended st c.args.command) st c.of_parts-in-Err-Refused.result stop) (sym c.from.ensures)
-    (subst (λ (t : State). Stops (appended st c.args.command) st t (refusal_stop c.in-Err-Refused.refusal)) (sym same)
-    (refusal-stops st c.args.command c.in-Err-Refused.refusal
-    (subst (λ (h : List Command). RefusedBy c.in-Err-Refused.refusal (verdict h c.args.command)) base refused)))
+pub returns-clause-durable : goal.returns-clause-durable
+returns-clause-durable g c all =
+    let st : State = record { history = c.state.inside.engine.history; sessions = map as_named c.state.inside.sessions; trees = c.state.inside.trees } in
+    let is : st ≡ c.args.self.now = c.state.view_is ∙ c.self.view_is in
+    let k = c.args.command in
+    let now = c.append.new.engine.history in
+    let r = c.append.result in
+    let old = c.args.disk.now in
+    let new = c.append.new.disk in
+    subst (λ res. OnOk res ((image : List ℕ) → g.D.Disk.images new image → IsStored image now)) (sym c.as_added.ensures)
+    (let was = subst (λ (t : State). AreAll (stored t) (g.D.Disk.images old)) (sym is) all in
+    carried st k now old new (λ d l. (image : List ℕ) → g.D.Disk.images d image → IsStored image l) r c.append.ensures.history was (c.append.ensures.stored was) c.append.ensures.same)
 
-pub returns-in-Err-Refused-clause-any_moment : goal.returns-in-Err-Refused-clause-any_moment
-returns-in-Err-Refused-clause-any_moment g c = λ all.
-    let same = subst (λ (fault : ApplyFault). OnCommandRefused fault (c.apply.new.disk ≡ c.args.disk.now)) c.in-Err-Refused.field-0-is c.in-Err-Refused.ensures.same in
-    leaves-same g.D.Disk.moment g.D.Disk.images_since g.D.Disk.images c.args.disk.now c.apply.new.disk (g.met.D.Disk.only_now c.args.disk.now) same c.args.self
-    (λ image. IsStored image (grown c.args.self.history c.args.command)) all
+pub returns-clause-any_moment : goal.returns-clause-any_moment
+returns-clause-any_moment g c all =
+    let st : State = record { history = c.state.inside.engine.history; sessions = map as_named c.state.inside.sessions; trees = c.state.inside.trees } in
+    let is : st ≡ c.args.self.now = c.state.view_is ∙ c.self.view_is in
+    let k = c.args.command in
+    let now = c.append.new.engine.history in
+    let r = c.append.result in
+    let old = c.args.disk.now in
+    let new = c.append.new.disk in
+    subst (λ (t : State). LeavesOnly g.D.Disk.moment g.D.Disk.images_since old new (IsEither (stored t) (λ image. IsStored image (grown t.history k)))) is
+    (let was = subst (λ (t : State). AreAll (stored t) (g.D.Disk.images old)) (sym is) all in
+    moments st k now g.D.Disk.moment g.D.Disk.images_since g.D.Disk.images old new (g.met.D.Disk.only_now old) r
+    c.append.ensures.accepted c.append.ensures.refused c.append.ensures.same was (c.append.ensures.any_moment was))
 
-pub returns-in-Err-Refused-clause-durable : goal.returns-in-Err-Refused-clause-durable
-returns-in-Err-Refused-clause-durable g c = λ all image now.
-    let back = subst (λ (fault : ApplyFault). HandsBack c.from_parts.result fault) c.in-Err-Refused.field-0-is c.in-Err-Refused.ensures.back in
-    let same = subst (λ (fault : ApplyFault). OnCommandRefused fault (c.apply.new.disk ≡ c.args.disk.now)) c.in-Err-Refused.field-0-is c.in-Err-Refused.ensures.same in
-    let base : c.from_parts.result.history ≡ c.args.self.history = ap (λ (e : EngineValue). e.history) c.from_parts.ensures ∙ ap (λ (st : State). st.history) (c.state.view_is ∙ c.self.view_is) in
-    subst (λ (h : List Command). IsStored image h) (sym (ap (λ (st : State). st.history) c.of_parts-in-Err-Refused.ensures ∙ back.0 ∙ base))
-    (all image (subst (λ disk. g.D.Disk.images disk image) same now))
-
-pub returns-in-Err-DiskFault-clause-any_moment : goal.returns-in-Err-DiskFault-clause-any_moment
-returns-in-Err-DiskFault-clause-any_moment g c = λ all.
-    let base : c.from_parts.result.history ≡ c.args.self.history = ap (λ (e : EngineValue). e.history) c.from_parts.ensures ∙ ap (λ (st : State). st.history) (c.state.view_is ∙ c.self.view_is) in
-    leaves-grown g.D.Disk.moment g.D.Disk.images_since c.args.disk.now c.apply.new.disk c.args.self c.from_parts.result.history c.args.command base
-    (subst (λ (fault : ApplyFault). IsRefusedBy (verdict c.from_parts.result.history c.args.command) fault) c.in-Err-DiskFault.field-0-is c.in-Err-DiskFault.ensures.refused)
-    (c.in-Err-DiskFault.ensures.any_moment (λ image now. subst (λ (h : List Command). IsStored image h) (sym base) (all image now)))
+pub returns-clause-stopped : goal.returns-clause-stopped
+returns-clause-stopped g c =
+    let r = c.append.result in
+    let old = c.args.disk.now in
+    let new = c.append.new.disk in
+    subst (λ res. IfErr res (λ ending. StopsAnswer ending (g.D.Disk.faults old) (g.D.Disk.faults new))) (sym c.as_added.ensures)
+    (write-stops (g.D.Disk.faults old) (g.D.Disk.faults new) r c.append.ensures.failed)

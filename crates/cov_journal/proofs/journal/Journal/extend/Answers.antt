@@ -7,7 +7,7 @@ use Rattle.cov_disk.proofs.CallerLemmas.{joined, weakened}
 use Rattle.cov_journal.proofs.Moments.{told_after, all_after}
 use Rattle.cov_journal.proofs.Records.{fits_push}
 use Rattle.cov_journal.proofs.Appending.{IsStaged, torn_behind, staged_behind, torn_gate, written_gate}
-use Rattle.cov_journal.proofs.journal.Journal.append.Goals as goal
+use Rattle.cov_journal.proofs.journal.Journal.extend.Goals as goal
 
 pub returns-in_err-stage-clause-any_moment : goal.returns-in_err-stage-clause-any_moment
 returns-in_err-stage-clause-any_moment g c payloads fits all =
@@ -15,6 +15,18 @@ returns-in_err-stage-clause-any_moment g c payloads fits all =
     let inside : Fits at c.self.inside.digest payloads = subst (λ (s : State). FitsState s payloads) (sym c.self.view_is) fits in
     weakened g.D.Disk.moment g.D.Disk.images_since c.args.disk.now c.stage.new.disk _ _
     (λ f from. inl (torn_behind at _ payloads inside _ from.0 f (all from.0 from.1) from.2)) c.stage.ensures.since
+
+pub returns-in_err-stage-clause-fits : goal.returns-in_err-stage-clause-fits
+returns-in_err-stage-clause-fits g c payloads fits =
+    let at = c.self.inside.at in
+    let inside : Fits at c.self.inside.digest payloads = subst (λ (s : State). FitsState s payloads) (sym c.self.view_is) fits in
+    subst (λ d. Fits (at + length c.args.payload.now + 37) d (payloads ++ c.args.payload.now ∷ [])) (sym c.next_digest-digest.ensures) (fits_push at c.self.inside.digest payloads c.args.payload.now inside)
+
+pub returns-in_err-open_gate-clause-fits : goal.returns-in_err-open_gate-clause-fits
+returns-in_err-open_gate-clause-fits g c payloads fits =
+    let at = c.self.inside.at in
+    let inside : Fits at c.self.inside.digest payloads = subst (λ (s : State). FitsState s payloads) (sym c.self.view_is) fits in
+    subst (λ d. Fits (at + length c.args.payload.now + 37) d (payloads ++ c.args.payload.now ∷ [])) (sym c.next_digest-digest.ensures) (fits_push at c.self.inside.digest payloads c.args.payload.now inside)
 
 pub returns-clause-fits : goal.returns-clause-fits
 returns-clause-fits g c payloads fits =

@@ -1,4 +1,4 @@
-use Rattle.std.proofs.Common.{◌∙◌, sym, ap, subst, ℕ, List, Ok}
+use Rattle.std.proofs.Common.{◌∙◌, sym, ap, subst, Ok}
 use Rattle.std.specs.Prelude.{IfOk}
 use Rattle.cov_loop.specs.Answers.{Gives}
 use Rattle.cov_loop.specs.Keeping.{AreAll}
@@ -9,57 +9,53 @@ use Rattle.cov_serve.specs.Step.{acted, as_outcome, plainly, refused, step}
 use Rattle.cov_serve.specs.Storing.{grown, stored}
 use Rattle.cov_serve.specs.declared.handled.Handled.{Handled}
 use Rattle.cov_serve.specs.declared.stop.Stop.{Stop}
-use Rattle.cov_serve.specs.declared.stop.Stop.TheVariants as reasons
-use Rattle.cov_store.specs.Stands.{IsStored}
-use Rattle.cov_serve.proofs.Additions.{done-gives, refused-step, step-added, step-grown, stop-has}
+use Rattle.cov_serve.proofs.Additions.{done-gives, refused-step, replied, step-added, step-grown}
 use Rattle.cov_serve.proofs.Leaving.{leaves-for}
-use Rattle.cov_serve.proofs.server.Server.answer.Goals as goal
+use Rattle.cov_serve.proofs.answering.ServerLineServer.answer.Goals as goal
 
 pub returns-in-Ok-Done-clause-gives : goal.returns-in-Ok-Done-clause-gives
 returns-in-Ok-Done-clause-gives g c =
-    let st = c.self.inside.state in
+    let st = c.args.self.now in
     let line = c.args.line.now in
     let new = c.act.new.self in
     let done = subst (λ (h : Handled). Handles (acted st line) st new (Ok h)) c.in-Ok-Done.field-0-is c.in-Ok-Done.ensures in
-    subst (λ (t : State). Gives (step t line) new c.in-Ok-Done.reply) c.self.view_is (done-gives st new line c.in-Ok-Done.reply done.0)
+    done-gives st new line c.in-Ok-Done.reply done.0
 
 pub returns-in-Ok-Adds-clause-gives : goal.returns-in-Ok-Adds-clause-gives
 returns-in-Ok-Adds-clause-gives g c =
-    let st = c.self.inside.state in
+    let st = c.args.self.now in
     let line = c.args.line.now in
     let a = c.in-Ok-Adds.addition in
     let adding = subst (λ (h : Handled). Handles (acted st line) st c.act.new.self (Ok h)) c.in-Ok-Adds.field-0-is c.in-Ok-Adds.ensures in
-    subst (λ o. IfOk c.add.result (λ next. Gives o next.0 next.1))
-    (ap (λ (t : State). as_outcome t (plainly (command_added t a))) adding.same ∙ step-added st line a adding.is ∙ ap (λ (t : State). step t line) c.self.view_is) c.add.ensures.gives
+    subst (λ o. IfOk c.add.result (Gives o c.add.new.self))
+    (ap (λ (t : State). as_outcome t (plainly (command_added t a))) adding.same ∙ step-added st line a adding.is) c.add.ensures.gives
 
 pub returns-in-Ok-Adds-clause-any_moment : goal.returns-in-Ok-Adds-clause-any_moment
 returns-in-Ok-Adds-clause-any_moment g c = λ all.
-    let st = c.self.inside.state in
+    let st = c.args.self.now in
     let line = c.args.line.now in
     let a = c.in-Ok-Adds.addition in
     let adding = subst (λ (h : Handled). Handles (acted st line) st c.act.new.self (Ok h)) c.in-Ok-Adds.field-0-is c.in-Ok-Adds.ensures in
-    leaves-for g.D.Disk.moment g.D.Disk.images_since c.args.disk.now c.add.new.disk c.args.self c.act.new.self (grown c.act.new.self.history a.command) (step c.args.self line).state.history
-    (adding.same ∙ c.self.view_is)
-    (ap (λ (t : State). grown t.history a.command) adding.same ∙ sym (step-grown st a line adding.is) ∙ ap (λ (t : State). (step t line).state.history) c.self.view_is)
-    (c.add.ensures.any_moment (subst (λ (t : State). AreAll (stored t) (g.D.Disk.images c.args.disk.now)) (sym (adding.same ∙ c.self.view_is)) all))
+    leaves-for g.D.Disk.moment g.D.Disk.images_since c.args.disk.now c.add.new.disk st c.act.new.self (grown c.act.new.self.history a.command) (step st line).state.history
+    adding.same
+    (ap (λ (t : State). grown t.history a.command) adding.same ∙ sym (step-grown st a line adding.is))
+    (c.add.ensures.any_moment (subst (λ (t : State). AreAll (stored t) (g.D.Disk.images c.args.disk.now)) (sym adding.same) all))
 
 pub returns-in-Err-Refused-clause-gives : goal.returns-in-Err-Refused-clause-gives
 returns-in-Err-Refused-clause-gives g c =
-    let st = c.self.inside.state in
+    let st = c.args.self.now in
     let line = c.args.line.now in
     let code = c.in-Err-Refused.code in
     let stops = subst (λ (s : Stop). Stops (acted st line) st c.act.new.self s) c.in-Err-Refused.field-0-is c.in-Err-Refused.ensures in
-    subst (λ o. IfOk c.refuse.result (λ next. Gives o next.0 next.1))
-    (ap (λ (t : State). refused t code) stops.same ∙ refused-step st line code stops.is ∙ ap (λ (t : State). step t line) c.self.view_is) c.refuse.ensures.gives
+    subst (λ o. IfOk c.refuse.result (Gives o c.act.new.self))
+    (ap (λ (t : State). refused t code) stops.same ∙ refused-step st line code stops.is) c.refuse.ensures.gives
 
 pub returns-in-Err-Refused-clause-stopped : goal.returns-in-Err-Refused-clause-stopped
 returns-in-Err-Refused-clause-stopped g c = c.refuse.ensures.stopped (g.D.Disk.faults c.args.disk.now) (g.D.Disk.faults c.args.disk.now)
 
 pub returns-in-Err-Refused-clause-durable : goal.returns-in-Err-Refused-clause-durable
 returns-in-Err-Refused-clause-durable g c = λ all.
-    let st = c.self.inside.state in
+    let st = c.args.self.now in
     let line = c.args.line.now in
-    let new = c.act.new.self in
-    let stops = subst (λ (s : Stop). Stops (acted st line) st new s) c.in-Err-Refused.field-0-is c.in-Err-Refused.ensures in
-    stop-has st new (λ h. (image : List ℕ) → g.D.Disk.images c.args.disk.now image → IsStored image h) (reasons.Refused c.in-Err-Refused.code) c.refuse.result
-    (subst (λ (t : State). AreAll (stored t) (g.D.Disk.images c.args.disk.now)) (sym (stops.same ∙ c.self.view_is)) all) c.refuse.ensures.gives
+    let stops = subst (λ (s : Stop). Stops (acted st line) st c.act.new.self s) c.in-Err-Refused.field-0-is c.in-Err-Refused.ensures in
+    replied c.refuse.result (subst (λ (t : State). AreAll (stored t) (g.D.Disk.images c.args.disk.now)) (sym stops.same) all)
