@@ -32,6 +32,7 @@ pub mod States
 pub mod StoredFiles
 pub mod TouchedRows
 pub mod Trials
+pub mod TriedRows
 pub mod Trying
 pub mod Views
 pub mod Visibilities

@@ -26,6 +26,7 @@ mod staging;
 mod state;
 mod store;
 mod trial;
+mod tried_rows;
 mod visible;
 
 pub use counts::Counts;

@@ -12,11 +12,11 @@ ghost use Rattle.cov_engine.specs.Trying.{deleted_from, file_shows, has_tried, i
 use crate::Visible;
 use crate::evidence::change_rows;
 use crate::places::part_of;
-use crate::store::view_of_rows;
+use crate::tried_rows::TriedRows;
 use cov_base::{Choice, Kind, LineNo, LineRef, Memory, NodeNo, NodeRef, Position};
 use cov_edit::{Edit, Edits, touched};
 use cov_tree::NodeRows;
-use cov_view::{EditFault, View, is_head};
+use cov_view::{EditFault, is_head};
 use indexmap::IndexSet;
 use std::alloc::Global;
 use std::marker::Model;
@@ -38,7 +38,7 @@ pub(crate) fn first_refused(
     let nodes = touched(edits)?;
     let rows = rows_tried(visible, choice, at, edits.as_slice(), nodes.as_slice())?;
     let mut trial = Trial {
-        rows: view_of_rows(alloc, &visible.table, choice, rows.as_slice())?,
+        rows: TriedRows::new(alloc, &visible.table, choice, rows)?,
         made: Vec::new(alloc),
         deleted: IndexSet::new(alloc),
     };
@@ -103,7 +103,7 @@ struct OldLine {
 // they deleted it again, and the lines of before that they deleted. So no line is ever looked for among others.
 #[derive(Drop)]
 struct Trial {
-    rows: View,
+    rows: TriedRows,
     made: Vec<Option<NodeRef>>,
     deleted: IndexSet<OldLine>,
 }
@@ -162,7 +162,7 @@ impl Trial {
                 Ok(taken)
             }
             Edit::New { .. } | Edit::Rename { .. } | Edit::Move { .. } | Edit::Remove { .. } => {
-                self.takes_rows(edit)
+                self.takes_rows(sight, edit)
             }
         }
     }
@@ -171,7 +171,7 @@ impl Trial {
     fn is_file(&self, node: &NodeRef) -> bool
         ensures { result ≡ is_file (kind_in self.now.rows.rows node.now) }
     {
-        match self.rows.kind(*node) {
+        match self.rows.kind(node) {
             Some(Kind::File) => true,
             Some(Kind::Dir) | None => false,
         }
@@ -220,13 +220,15 @@ impl Trial {
     }
 
     // Whether an edit of rows is taken. Then it is done.
-    fn takes_rows(&mut self, edit: &Edit) -> Result<bool, Memory>
+    fn takes_rows(&mut self, sight: &Sight<'_>, edit: &Edit) -> Result<bool, Memory>
         requires nodes { self.old.rows.nodes_made < 2 ^ 32 - 1 }
         requires lines { self.old.rows.lines_made < 2 ^ 32 - 1 }
         ensures taken { IfOk result (λ taken. taken ≡ takes_rows (seen_fault self.old.rows.rows edit.now)) }
         ensures done { IfOk result (λ taken. taken ≡ true → self.new ≡ rows_changed self.old edit.now) }
     {
-        if let Err(fault) = self.rows.apply(edit) {
+        let alloc = *self.made.allocator();
+        let table = &sight.visible.table;
+        if let Err(fault) = self.rows.apply(alloc, table, sight.choice, edit) {
             return not_taken(fault);
         }
         Ok(true)
