@@ -4,7 +4,7 @@ use Rattle.std.specs.List.{filter}
 use Rattle.std.proofs.lemmas.Bool.Decides.{nat_tests}
 use Rattle.cov_base.specs.Rows.{Row, row_of}
 use Rattle.cov_base.specs.Faults.{from_parent, is_reached}
-use Rattle.cov_base.specs.Reaching.{Reaches, root, below, ReachedInTime}
+use Rattle.cov_base.specs.Reaching.{Reaches, root, below, WaysAreShort}
 
 equal : (m n : ℕ) → nat_eq m n ≡ true → m ≡ n
 equal m n e = grind (arith, nat_tests, e)
@@ -133,6 +133,6 @@ in_time zero [] len k x h = none_reached k x h
 in_time zero (r ∷ rows) len k x h = absurd (omega (arith, len))
 in_time (suc n) rows len k x h = in_time_by n (in_time n) rows len k k x (omega arith) h
 
-pub reached_in_time : ReachedInTime
-reached_in_time rows x =
+pub ways_are_short : WaysAreShort
+ways_are_short rows x =
     (λ h. let s = in_some rows x h in in_time (length rows) rows (omega arith) s.0 x s.1, reaches rows (length rows) x)

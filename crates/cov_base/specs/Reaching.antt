@@ -20,8 +20,8 @@ abbrev pub has_lost : List Row → Bool
 has_lost rows = list_any (λ r. not (is_reached rows (length rows) r.node)) rows
 
 -- the root is reached from a node exactly where it is in as many steps as there are rows
-abbrev pub ReachedInTime : Type 0
-ReachedInTime = (rows : List Row) (node : ℕ) → Reaches rows node ↔ (is_reached rows (length rows) node ≡ true)
+abbrev pub WaysAreShort : Type 0
+WaysAreShort = (rows : List Row) (node : ℕ) → Reaches rows node ↔ (is_reached rows (length rows) node ≡ true)
 
 -- rows, in whatever order, have a fault exactly where two clash or the root isn't reached from one
 abbrev pub FaultsAreFound : Type 0

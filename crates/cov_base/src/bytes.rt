@@ -7,7 +7,7 @@ use std::alloc::Global;
 use std::marker::Model;
 use std::rc::Rc;
 
-/// A list of bytes. Copies of a copy share its bytes, until one of them is changed.
+/// A list of bytes. Copies of a copy, and those of a shared text, share its bytes, until one of them is changed.
 #[derive(Debug)]
 pub struct Text {
     bytes: Bytes,
@@ -48,6 +48,16 @@ impl Text {
         ensures { IfOk result (λ text. text ≡ bytes.now) }
     {
         Ok(Text::owning(Vec::from_slice(alloc, bytes)?))
+    }
+
+    /// A text that shares its bytes with each copy, as one that is kept does.
+    pub fn shared(alloc: Global, bytes: &[u8]) -> Result<Text, Memory>
+        ensures { IfOk result (λ text. text ≡ bytes.now) }
+    {
+        let shared = Rc::new(alloc, Vec::from_slice(alloc, bytes)?)?;
+        Ok(Text {
+            bytes: Bytes::Shared(shared),
+        })
     }
 
     // A text that is the one owner of its bytes.
@@ -144,8 +154,8 @@ impl Text {
         }
     }
 
-    /// A text of the same bytes. A copy of a copy shares them: it takes no memory, and time that doesn't depend on how many they are;
-    /// `Memory` comes there only where its owners can't be counted.
+    /// A text of the same bytes. A copy of a copy, or of a shared text, shares them: it takes no memory, and time that doesn't
+    /// depend on how many they are; `Memory` comes there only where its owners can't be counted.
     pub fn copy(&self) -> Result<Text, Memory>
         ensures { IfOk result (λ text. text ≡ self.now) }
     {

@@ -29,7 +29,8 @@ impl Name {
     pub fn read(alloc: Global, bytes: &[u8]) -> Result<Name, MemoryOr<BadName>>
         ensures bytes { IfOk result (λ name. name ≡ bytes.now) }
         ensures spelling { IfOk result (λ name. is_name name ≡ true) }
-        ensures refused { IsErrOf result (MemoryOr.Refused (record {})) → is_name bytes.now ≡ false }
+        ensures refused { IsErrOf result (MemoryOr.Refused (record {})) →
+            is_name bytes.now ≡ false }
     {
         if !is_well_spelt(bytes) {
             return Err(MemoryOr::Refused(BadName));
@@ -114,7 +115,8 @@ impl Path {
     fn read_names(alloc: Global, bytes: &[u8]) -> Result<Path, MemoryOr<BadName>>
         ensures names { IfOk result (λ path. path ≡ parts_of bytes.now) }
         ensures spelling { IfOk result (λ path. list_all is_name path ≡ true) }
-        ensures refused { IsErrOf result (MemoryOr.Refused (record {})) → list_all is_name (parts_of bytes.now) ≡ false }
+        ensures refused { IsErrOf result (MemoryOr.Refused (record {})) →
+            list_all is_name (parts_of bytes.now) ≡ false }
     {
         let mut path = Path::new(alloc);
         let mut rest = Some(bytes);
@@ -129,7 +131,8 @@ impl Path {
 
 // What stands before the first slash, and what stands after it if there is one.
 fn cut(bytes: &[u8]) -> (&[u8], Option<&[u8]>)
-    ensures parts { parts_of bytes.now ≡ result.0.now ∷ option_map_or (λ rest. parts_of rest.now) result.1 [] }
+    ensures parts { parts_of bytes.now ≡
+        result.0.now ∷ option_map_or (λ rest. parts_of rest.now) result.1 [] }
     ensures shorter { IfSome result.1 (λ rest. length rest.now < length bytes.now) }
 {
     match first_slash(bytes) {

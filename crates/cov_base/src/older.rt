@@ -37,7 +37,10 @@ impl<T> Model for OlderLists<T> {
 
     ghost coded = { older_code T.code };
 
-    ghost view = { λ o. record { lists = reverse o.lists.items; room = vec_capacity o.lists - vec_len o.lists } };
+    ghost view = { λ o. record {
+      lists = reverse o.lists.items;
+      room = vec_capacity o.lists - vec_len o.lists;
+    } };
 }
 
 impl<T: Drop> OlderLists<T> {
@@ -63,10 +66,7 @@ impl<T: Drop> OlderLists<T> {
         requires room { 0 < self.old.room }
         ensures { self.new.lists ≡ (from, items.items) ∷ self.old.lists }
     {
-        match self.lists.push(OlderList { from, items }) {
-            Ok(()) => (),
-            Err(_) => unreachable!(),
-        }
+        self.lists.push_reserved(OlderList { from, items });
     }
 
     /// The newest list not beyond a position, an empty one where all are.

@@ -28,7 +28,8 @@ impl OptionName {
     pub fn read(alloc: Global, bytes: &[u8]) -> Result<OptionName, MemoryOr<BadName>>
         ensures bytes { IfOk result (λ name. name ≡ bytes.now) }
         ensures spelling { IfOk result (λ name. is_option_name name ≡ true) }
-        ensures refused { IsErrOf result (MemoryOr.Refused (record {})) → is_option_name bytes.now ≡ false }
+        ensures refused { IsErrOf result (MemoryOr.Refused (record {})) →
+            is_option_name bytes.now ≡ false }
     {
         if !is_well_spelt(bytes) {
             return Err(MemoryOr::Refused(BadName));

@@ -57,7 +57,8 @@ impl MemoryDisk {
         requires { at ≤ length self.old.kept.content }
         ensures same { self.new.kept.content ≡ self.old.kept.content }
         ensures misses { Misses at count self.old self.new }
-        ensures crash { Follows (Torn at count) (IsImageNow self.old.kept.log self.old.kept.content) (IsImageNow self.new.kept.log self.new.kept.content) }
+        ensures crash { Follows (Torn at count) (IsImageNow self.old.kept.log self.old.kept.content)
+            (IsImageNow self.new.kept.log self.new.kept.content) }
         ensures later { self.old.calls.faults ≤ self.new.calls.faults }
         ensures rose { Rose self.old.calls.faults self.new.calls.faults }
     {
@@ -110,8 +111,12 @@ impl Disk for MemoryDisk {
         // As each disk.
         ensures length { IfOk result (λ n. n ≡ length self.old.kept.content) }
         ensures same { self.new.kept.content ≡ self.old.kept.content }
-        ensures crash { AddsNone (IsImageNow self.old.kept.log self.old.kept.content) (IsImageNow self.new.kept.log self.new.kept.content) }
-        ensures time { Elapses (length self.old.kept.log) (length self.new.kept.log) (IsImageSince self.old.kept.log self.old.kept.content) (IsImageSince self.new.kept.log self.new.kept.content) (IsImageNow self.new.kept.log self.new.kept.content) }
+        ensures crash { AddsNone (IsImageNow self.old.kept.log self.old.kept.content)
+            (IsImageNow self.new.kept.log self.new.kept.content) }
+        ensures time { Elapses (length self.old.kept.log) (length self.new.kept.log)
+            (IsImageSince self.old.kept.log self.old.kept.content)
+            (IsImageSince self.new.kept.log self.new.kept.content)
+            (IsImageNow self.new.kept.log self.new.kept.content) }
         ensures cause { HasCause self.old.calls.faults self.new.calls.faults result }
 
         // In memory.
@@ -128,10 +133,15 @@ impl Disk for MemoryDisk {
     fn read_at(&mut self, at: u64, into: &mut [u8]) -> Result<(), Failed>
         requires { at + length into.old ≤ length self.old.kept.content }
         // As each disk.
-        ensures read { OnOk result (into.new ≡ slice_range self.old.kept.content at (at + length into.old)) }
+        ensures read { OnOk result (into.new ≡
+            slice_range self.old.kept.content at (at + length into.old)) }
         ensures same { self.new.kept.content ≡ self.old.kept.content }
-        ensures crash { AddsNone (IsImageNow self.old.kept.log self.old.kept.content) (IsImageNow self.new.kept.log self.new.kept.content) }
-        ensures time { Elapses (length self.old.kept.log) (length self.new.kept.log) (IsImageSince self.old.kept.log self.old.kept.content) (IsImageSince self.new.kept.log self.new.kept.content) (IsImageNow self.new.kept.log self.new.kept.content) }
+        ensures crash { AddsNone (IsImageNow self.old.kept.log self.old.kept.content)
+            (IsImageNow self.new.kept.log self.new.kept.content) }
+        ensures time { Elapses (length self.old.kept.log) (length self.new.kept.log)
+            (IsImageSince self.old.kept.log self.old.kept.content)
+            (IsImageSince self.new.kept.log self.new.kept.content)
+            (IsImageNow self.new.kept.log self.new.kept.content) }
         ensures cause { HasCause self.old.calls.faults self.new.calls.faults result }
 
         // In memory.
@@ -150,10 +160,17 @@ impl Disk for MemoryDisk {
     fn write_at(&mut self, at: u64, bytes: &[u8]) -> Result<(), Failed>
         requires { at ≤ length self.old.kept.content }
         // As each disk.
-        ensures written { OnOk result (Written at bytes.now self.old.kept.content self.new.kept.content) }
-        ensures torn { OnErr result (Torn at (length bytes.now) self.old.kept.content self.new.kept.content) }
-        ensures crash { Follows (Torn at (length bytes.now)) (IsImageNow self.old.kept.log self.old.kept.content) (IsImageNow self.new.kept.log self.new.kept.content) }
-        ensures time { Elapses (length self.old.kept.log) (length self.new.kept.log) (IsImageSince self.old.kept.log self.old.kept.content) (IsImageSince self.new.kept.log self.new.kept.content) (IsImageNow self.new.kept.log self.new.kept.content) }
+        ensures written { OnOk result (Written at bytes.now self.old.kept.content
+            self.new.kept.content) }
+        ensures torn { OnErr result (Torn at (length bytes.now) self.old.kept.content
+            self.new.kept.content) }
+        ensures crash { Follows (Torn at (length bytes.now))
+            (IsImageNow self.old.kept.log self.old.kept.content)
+            (IsImageNow self.new.kept.log self.new.kept.content) }
+        ensures time { Elapses (length self.old.kept.log) (length self.new.kept.log)
+            (IsImageSince self.old.kept.log self.old.kept.content)
+            (IsImageSince self.new.kept.log self.new.kept.content)
+            (IsImageNow self.new.kept.log self.new.kept.content) }
         ensures cause { HasCause self.old.calls.faults self.new.calls.faults result }
 
         // In memory.
@@ -176,10 +193,15 @@ impl Disk for MemoryDisk {
 
     fn sync(&mut self) -> Result<(), Failed>
         // As each disk.
-        ensures durable { OnOk result (Only (Some self.old.kept.content) (IsImageNow self.new.kept.log self.new.kept.content)) }
+        ensures durable { OnOk result (Only (Some self.old.kept.content)
+            (IsImageNow self.new.kept.log self.new.kept.content)) }
         ensures same { self.new.kept.content ≡ self.old.kept.content }
-        ensures crash { AddsNone (IsImageNow self.old.kept.log self.old.kept.content) (IsImageNow self.new.kept.log self.new.kept.content) }
-        ensures time { Elapses (length self.old.kept.log) (length self.new.kept.log) (IsImageSince self.old.kept.log self.old.kept.content) (IsImageSince self.new.kept.log self.new.kept.content) (IsImageNow self.new.kept.log self.new.kept.content) }
+        ensures crash { AddsNone (IsImageNow self.old.kept.log self.old.kept.content)
+            (IsImageNow self.new.kept.log self.new.kept.content) }
+        ensures time { Elapses (length self.old.kept.log) (length self.new.kept.log)
+            (IsImageSince self.old.kept.log self.old.kept.content)
+            (IsImageSince self.new.kept.log self.new.kept.content)
+            (IsImageNow self.new.kept.log self.new.kept.content) }
         ensures cause { HasCause self.old.calls.faults self.new.calls.faults result }
 
         // In memory.

@@ -3,7 +3,7 @@ use Rattle.std.specs.Prelude.{◌≡◌, ℕ, true, false, List, [], ◌∷◌, 
 use Rattle.cov_expr.specs.Options.{is_declared, option_number, option_name}
 use Rattle.cov_expr.specs.ChoiceText.{bindings_of, choice_text}
 use Rattle.cov_expr.specs.Partials.{bound_value}
-use Rattle.cov_expr.specs.Binding.{bound, full_choice}
+use Rattle.cov_expr.specs.Binding.{bound}
 use Rattle.cov_expr.specs.declared.binding.BindFault.TheVariants.{UnknownOption, Repeated}
 
 abbrev names : List (List ℕ)
@@ -43,14 +43,6 @@ value_of_second = refl
 
 value_of_third : bound_value ((0, false) ∷ (1, true) ∷ []) 2 ≡ None
 value_of_third = refl
-
--- a full choice binds each option, in order
-full : map (full_choice names) (((codes "a", true) ∷ (codes "b", false) ∷ (codes "long_name", true) ∷ []) ∷ ((codes "a", true) ∷ (codes "b", false) ∷ []) ∷ ((codes "b", false) ∷ (codes "a", true) ∷ (codes "long_name", true) ∷ []) ∷ [])
-    ≡ Some (true ∷ false ∷ true ∷ []) ∷ None ∷ None ∷ []
-full = refl
-
-of_no_option : full_choice [] [] ≡ Some []
-of_no_option = refl
 
 -- the text of a choice may be of fewer options, or of none
 printed : map (choice_text names) ((true ∷ false ∷ true ∷ []) ∷ (true ∷ []) ∷ [] ∷ [])

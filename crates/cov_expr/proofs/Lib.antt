@@ -3,7 +3,6 @@ mod Examples
 pub mod CallerLemmas
 pub mod FrontReads
 pub mod Fronts
-pub mod FullChoices
 pub mod Gathering
 pub mod Lexing
 pub mod ListLemmas

@@ -1,8 +1,6 @@
 -- What the bindings of a choice are, given the options' names.
 use Rattle.std.specs.Prelude.{◌≡◌, ℕ, Bool, not, nat_eq, List, [], ◌∷◌, ◌++◌, map, length, Option, Some, None, Result, Ok, Err, if◌then◌else◌}
 use Rattle.std.specs.List.{find, list_any}
-use Rattle.std.specs.Str.{bytes_eq}
-use Rattle.std.specs.Cmp.Lexicographic.{pointwise}
 use Rattle.cov_expr.specs.Options.{is_declared, option_number}
 use Rattle.cov_expr.specs.Partials.{partial_of}
 use Rattle.cov_expr.specs.declared.binding.BindFault.{BindFault}
@@ -35,10 +33,6 @@ partial_unless None None partial = Ok partial
 abbrev pub bound : List (List ℕ) → List (List ℕ × Bool) → Result (List (ℕ × Bool)) BindFault
 bound names bindings =
     partial_unless (first_undeclared names bindings) (first_repeated (numbered names bindings)) (partial_of (length names) (numbered names bindings))
-
--- the choice that bindings are which bind each option exactly once and in order of declaration
-abbrev pub full_choice : List (List ℕ) → List (List ℕ × Bool) → Option (List Bool)
-full_choice names bindings = if pointwise bytes_eq (map (λ b. b.0) bindings) names then Some (map (λ b. b.1) bindings) else None
 
 -- a fault is want of memory, or what the definition answers
 abbrev pub IsBindFaultOf : Result (List (ℕ × Bool)) BindFault → BindFault → Type 0

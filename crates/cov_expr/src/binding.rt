@@ -37,7 +37,8 @@ pub(crate) fn resolve(
 ) -> Result<Vec<(OptionId, bool)>, BindFault>
     ensures declared { OnOk result (first_undeclared options.now.names bindings.now ≡ None) }
     ensures numbers { IfOk result (λ found. found.items ≡ numbered options.now.names bindings.now) }
-    ensures within { IfOk result (λ found. list_all (λ b. nat_lt b.0 (length options.now.names)) found.items ≡ true) }
+    ensures within { IfOk result (λ found.
+        list_all (λ b. nat_lt b.0 (length options.now.names)) found.items ≡ true) }
     ensures unknown { IfErr result (IsUnknown (first_undeclared options.now.names bindings.now)) }
 {
     let mut found = Vec::new(alloc);
@@ -75,7 +76,8 @@ fn fill(values: &mut [Option<bool>], bindings: &[(OptionId, bool)]) -> Option<Op
     requires blank { (k : ℕ) → slice_index_or values.old k None ≡ None }
     requires within { list_all (λ b. nat_lt b.0 (length values.old)) bindings.now ≡ true }
     ensures repeated { result ≡ first_repeated bindings.now }
-    ensures values { IfNone result (values.new ≡ map (bound_value bindings.now) (range_with_len 0 (length values.old))) }
+    ensures values { IfNone result (values.new ≡
+        map (bound_value bindings.now) (range_with_len 0 (length values.old))) }
 {
     for (option, on) in bindings {
         let value = &mut values[option.number() as usize];

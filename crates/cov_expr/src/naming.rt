@@ -40,9 +40,11 @@ pub(crate) fn bind_tree(alloc: Global, tree: &Tree, options: &Options) -> Result
 #[cycle(binding)]
 fn bind_part(alloc: Global, part: &RawPart, options: &Options) -> Result<Part, NameFault>
     ensures known { OnOk result (first_unknown options.now.names (raw_formula part.now) ≡ None) }
-    ensures part { IfOk result (λ bound. formula bound ≡ with_numbers options.now.names (raw_formula part.now)) }
+    ensures part { IfOk result (λ bound.
+        formula bound ≡ with_numbers options.now.names (raw_formula part.now)) }
     ensures within { IfOk result (λ bound. reach (formula bound) ≤ length options.now.names) }
-    ensures unknown { IfErr result (IsUnknownName (first_unknown options.now.names (raw_formula part.now))) }
+    ensures unknown { IfErr result (IsUnknownName
+        (first_unknown options.now.names (raw_formula part.now))) }
 {
     match part {
         RawPart::False => Ok(Part::False),
@@ -75,11 +77,16 @@ fn bind_both(
     right: &RawPart,
     options: &Options,
 ) -> Result<(Part, Part), NameFault>
-    ensures known { OnOk result (first_unknown options.now.names (And (raw_formula left.now) (raw_formula right.now)) ≡ None) }
-    ensures left { IfOk result (λ bound. formula bound.0 ≡ with_numbers options.now.names (raw_formula left.now)) }
-    ensures right { IfOk result (λ bound. formula bound.1 ≡ with_numbers options.now.names (raw_formula right.now)) }
-    ensures within { IfOk result (λ bound. max (reach (formula bound.0)) (reach (formula bound.1)) ≤ length options.now.names) }
-    ensures unknown { IfErr result (IsUnknownName (first_unknown options.now.names (And (raw_formula left.now) (raw_formula right.now)))) }
+    ensures known { OnOk result (first_unknown options.now.names
+        (And (raw_formula left.now) (raw_formula right.now)) ≡ None) }
+    ensures left { IfOk result (λ bound.
+        formula bound.0 ≡ with_numbers options.now.names (raw_formula left.now)) }
+    ensures right { IfOk result (λ bound.
+        formula bound.1 ≡ with_numbers options.now.names (raw_formula right.now)) }
+    ensures within { IfOk result (λ bound.
+        max (reach (formula bound.0)) (reach (formula bound.1)) ≤ length options.now.names) }
+    ensures unknown { IfErr result (IsUnknownName
+        (first_unknown options.now.names (And (raw_formula left.now) (raw_formula right.now)))) }
 {
     let left = bind_part(alloc, left, options)?;
     let right = bind_part(alloc, right, options)?;

@@ -27,9 +27,13 @@ impl Model for Options {
 
     ghost Value = { Declared };
 
-    ghost view = { λ o. record { names = map (λ name. name.items) o.names.keys; spare = spare o.names } };
+    ghost view = { λ o. record {
+      names = map (λ name. name.items) o.names.keys;
+      spare = spare o.names;
+    } };
 
-    ghost invariant = { λ o. (length o.names.keys ≤ LIMITS.options) × (list_all (λ name. is_option_name name.items) o.names.keys ≡ true) };
+    ghost invariant = { λ o. (length o.names.keys ≤ LIMITS.options) ×
+        (list_all (λ name. is_option_name name.items) o.names.keys ≡ true) };
 }
 
 impl Options {

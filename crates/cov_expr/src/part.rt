@@ -44,7 +44,8 @@ impl Part {
 /// The depth of recursion is at most `room`.
 #[tactic(auto, using(crate::proofs::PartCounts::part_count_positive))]
 pub(crate) fn room_after(part: &Part, room: u32) -> Option<u32>
-    ensures { MatchOption result (room < part_count (formula part.now)) (λ rest. rest + part_count (formula part.now) ≡ room) }
+    ensures { MatchOption result (room < part_count (formula part.now))
+        (λ rest. rest + part_count (formula part.now) ≡ room) }
 {
     if room == 0 {
         return None;

@@ -12,7 +12,8 @@ use cov_base::{Memory, Text};
 #[cycle(append)]
 pub(crate) fn append_part(text: &mut Text, options: &Options, part: &Part) -> Result<(), Memory>
     requires { reach (formula part.now) ≤ length options.now.names }
-    ensures { OnOk result (text.new ≡ text.old ++ text_of (option_name options.now.names) (formula part.now)) }
+    ensures { OnOk result (text.new ≡ text.old ++
+        text_of (option_name options.now.names) (formula part.now)) }
 {
     match part {
         Part::False => text.append(b"false"),
@@ -44,7 +45,8 @@ fn append_grouped(
     in_parentheses: bool,
 ) -> Result<(), Memory>
     requires { reach (formula part.now) ≤ length options.now.names }
-    ensures { OnOk result (text.new ≡ text.old ++ grouped in_parentheses (text_of (option_name options.now.names) (formula part.now))) }
+    ensures { OnOk result (text.new ≡ text.old ++
+        grouped in_parentheses (text_of (option_name options.now.names) (formula part.now))) }
 {
     if !in_parentheses {
         return append_part(text, options, part);

@@ -30,7 +30,8 @@ impl Partial {
     /// Binds what the choice binds.
     pub fn of(alloc: Global, choice: Choice) -> Result<Partial, Memory>
         ensures bindings { IfOk result (λ partial. partial ≡ enumerate_from 0 choice) }
-        ensures within { IfOk result (λ partial. list_all (λ b. nat_lt b.0 (length choice)) partial ≡ true) }
+        ensures within { IfOk result (λ partial.
+            list_all (λ b. nat_lt b.0 (length choice)) partial ≡ true) }
     {
         let mut bindings = Vec::new(alloc);
         for number in 0..choice.count() {
@@ -44,7 +45,8 @@ impl Partial {
     pub(crate) fn of_values(alloc: Global, values: &[Option<bool>]) -> Result<Partial, Memory>
         requires { length values.now ≤ CHOICE_WIDTH }
         ensures bindings { IfOk result (λ partial. partial ≡ places_from 0 values.now) }
-        ensures within { IfOk result (λ partial. list_all (λ b. nat_lt b.0 (length values.now)) partial ≡ true) }
+        ensures within { IfOk result (λ partial.
+            list_all (λ b. nat_lt b.0 (length values.now)) partial ≡ true) }
     {
         let mut bindings = Vec::new(alloc);
         for (number, value) in values.iter().enumerate() {

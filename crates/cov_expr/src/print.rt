@@ -36,7 +36,8 @@ fn append_binding(
     requires bound { number < length choice }
     requires declared { number < length options.now.names }
     requires small { number < CHOICE_WIDTH }
-    ensures { OnOk result (text.new ≡ text.old ++ binding_text (option_name options.now.names number) (is_on choice number)) }
+    ensures { OnOk result (text.new ≡ text.old ++
+        binding_text (option_name options.now.names number) (is_on choice number)) }
 {
     let option = OptionId::new(number);
     text.append(options.name(option))?;

@@ -2,12 +2,12 @@
 ghost use Rattle.std.specs.Prelude.{◌≡◌, ◌<◌, ◌∷◌, [], ℕ, List, Bool, true, nat_eq, nat_lt, None, Some, map, length, position, is_some, IfSome, IfNone, IfOk, IfErr, IsErrOf};
 ghost use Rattle.std.specs.Option.{option_map, option_copied};
 ghost use Rattle.std.specs.List.{before_first, after_first, list_all, position_or_len, slice_split};
-ghost use Rattle.cov_expr.specs.Binding.{bound, full_choice, IsBindFaultOf};
+ghost use Rattle.cov_expr.specs.Binding.{bound, IsBindFaultOf};
 ghost use Rattle.cov_expr.specs.ChoiceText.{switch_of, binding_of, bindings_between_commas, bindings_of};
 
 use crate::binding::{gather, resolve};
 use crate::{BindFault, Options, Partial};
-use cov_base::{Choice, MemoryOr, OptionId, Text, spells_word};
+use cov_base::{MemoryOr, Text, spells_word};
 use std::alloc::Global;
 use std::marker::Model;
 
@@ -34,7 +34,8 @@ impl RawChoice {
     /// text is neither.
     pub fn parse(alloc: Global, bytes: &[u8]) -> Result<RawChoice, MemoryOr<ChoiceSyntax>>
         ensures ok { IfOk result (λ raw. bindings_of bytes.now ≡ Some raw) }
-        ensures refused { IsErrOf result (MemoryOr.Refused (record {})) → bindings_of bytes.now ≡ None }
+        ensures refused { IsErrOf result (MemoryOr.Refused (record {})) →
+            bindings_of bytes.now ≡ None }
     {
         if matches!(bytes, b"-") {
             return Ok(RawChoice {
@@ -53,7 +54,8 @@ impl RawChoice {
     /// are sought in the order of the text.
     pub fn bind(&self, alloc: Global, options: &Options) -> Result<Partial, BindFault>
         ensures ok { IfOk result (λ partial. bound options.now.names self.now ≡ Ok partial) }
-        ensures within { IfOk result (λ partial. list_all (λ b. nat_lt b.0 (length options.now.names)) partial ≡ true) }
+        ensures within { IfOk result (λ partial.
+            list_all (λ b. nat_lt b.0 (length options.now.names)) partial ≡ true) }
         ensures refused { IfErr result (IsBindFaultOf (bound options.now.names self.now)) }
     {
         match resolve(alloc, self.bindings.as_slice(), options) {
@@ -61,39 +63,13 @@ impl RawChoice {
             Ok(bindings) => gather(alloc, bindings.as_slice(), options.count()),
         }
     }
-
-    /// The choice that the bindings are, None exactly where they don't bind each option once and in order of
-    /// declaration. It takes no memory.
-    pub fn bind_full(&self, options: &Options) -> Option<Choice>
-        ensures choice { result ≡ full_choice options.now.names self.now }
-        ensures count { IfSome result (λ choice. length choice ≡ length options.now.names) }
-    {
-        full_choice_of(self.bindings.as_slice(), options)
-    }
-}
-
-fn full_choice_of(bindings: &[(Text, bool)], options: &Options) -> Option<Choice>
-    ensures choice { result ≡ full_choice options.now.names bindings.now }
-    ensures count { IfSome result (λ choice. length choice ≡ length options.now.names) }
-{
-    if bindings.len() != options.count() as usize {
-        return None;
-    }
-    let mut choice = Choice::new(0, options.count());
-    for (number, (name, on)) in bindings.iter().enumerate() {
-        let option = OptionId::new(number as u8);
-        if name.as_slice() != options.name(option) {
-            return None;
-        }
-        choice = choice.with(option, *on);
-    }
-    Some(choice)
 }
 
 // Reads bindings with one comma between two.
 fn read_bindings(alloc: Global, text: &[u8]) -> Result<Vec<(Text, bool)>, MemoryOr<ChoiceSyntax>>
     ensures ok { IfOk result (λ bindings. bindings_between_commas text.now ≡ Some bindings.items) }
-    ensures refused { IsErrOf result (MemoryOr.Refused (record {})) → bindings_between_commas text.now ≡ None }
+    ensures refused { IsErrOf result (MemoryOr.Refused (record {})) →
+        bindings_between_commas text.now ≡ None }
 {
     let mut bindings = Vec::new(alloc);
     let mut ahead = Some(text);
@@ -111,7 +87,9 @@ fn read_bindings(alloc: Global, text: &[u8]) -> Result<Vec<(Text, bool)>, Memory
 // The part of a text before the first comma, and what stands behind that comma.
 fn first_part(text: &[u8]) -> (&[u8], Option<&[u8]>)
     ensures none { IfNone result.1 (slice_split (λ b. nat_eq b 44) text.now ≡ result.0.now ∷ []) }
-    ensures some { IfSome result.1 (λ rest. slice_split (λ b. nat_eq b 44) text.now ≡ result.0.now ∷ slice_split (λ b. nat_eq b 44) rest.now) }
+    ensures some { IfSome result.1 (λ rest.
+        slice_split (λ b. nat_eq b 44) text.now ≡
+        result.0.now ∷ slice_split (λ b. nat_eq b 44) rest.now) }
     ensures shorter { IfSome result.1 (λ rest. length rest.now < length text.now) }
 {
     match split_once(text, b',') {
@@ -135,7 +113,8 @@ fn binding_in(text: &[u8]) -> Option<(&[u8], bool)>
 // What stands before and behind the first byte of a kind.
 fn split_once(text: &[u8], byte: u8) -> Option<(&[u8], &[u8])>
     ensures none { IfNone result (position (λ b. nat_eq b byte) text.now ≡ None) }
-    ensures found { IfSome result (λ _. position_or_len (λ b. nat_eq b byte) text.now < length text.now) }
+    ensures found { IfSome result (λ _.
+        position_or_len (λ b. nat_eq b byte) text.now < length text.now) }
     ensures before { IfSome result (λ r. r.0.now ≡ before_first (λ b. nat_eq b byte) text.now) }
     ensures after { IfSome result (λ r. r.1.now ≡ after_first (λ b. nat_eq b byte) text.now) }
 {

@@ -95,7 +95,8 @@ fn read_operand(
     token: Token,
 ) -> Result<Option<Reading>, Memory>
     requires { level.nots < 2 ^ 32 }
-    ensures { IfOk result (λ read. option_map state_of read ≡ after_token (reverse outer.items) level None token) }
+    ensures { IfOk result (λ read. option_map state_of read ≡
+        after_token (reverse outer.items) level None token) }
 {
     match token {
         Token::Word(word) => Ok(Some(settle(alloc, outer, level, Tree::word(word))?)),
@@ -128,7 +129,8 @@ fn read_operator(
     operand: Tree,
     token: Token,
 ) -> Result<Option<Reading>, Memory>
-    ensures { IfOk result (λ read. option_map state_of read ≡ after_token (reverse outer.items) level (Some operand) token) }
+    ensures { IfOk result (λ read. option_map state_of read ≡
+        after_token (reverse outer.items) level (Some operand) token) }
 {
     match token {
         Token::Amp => Ok(Some(Reading {

@@ -70,7 +70,8 @@ fn parse_tree(alloc: Global, bytes: &[u8]) -> Result<Tree, ExprFault>
 fn read_tokens(alloc: Global, bytes: &[u8]) -> Result<Tree, ExprFault>
     requires short { length bytes.now < 2 ^ 32 }
     requires lexed { HasTokens (tokens_of bytes.now) }
-    ensures { IsOrMemory is_memory (read_lexed (tokens_of bytes.now) (length bytes.now) start) result }
+    ensures { IsOrMemory is_memory (read_lexed (tokens_of bytes.now) (length bytes.now) start)
+        result }
 {
     let mut reading = Reading::new(alloc);
     let mut at = 0;
@@ -121,7 +122,8 @@ fn read_token(
     bytes: usize,
 ) -> Result<Option<Front>, Memory>
     requires { reading.level.nots < 2 ^ 32 }
-    ensures state { IfOk result (λ front. option_map (λ s. state_of s.reading) front ≡ next (state_of reading) token) }
+    ensures state { IfOk result (λ front.
+        option_map (λ s. state_of s.reading) front ≡ next (state_of reading) token) }
     ensures bytes { IfOk result (λ front. IfSome front (λ s. s.bytes ≡ bytes)) }
 {
     match reading.read(alloc, token)? {

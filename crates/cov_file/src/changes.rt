@@ -37,7 +37,13 @@ impl Model for Changes {
 
     ghost Value = { LineChanges };
 
-    ghost view = { λ c. record { lists = lists_of c.newest.items c.earlier.items; newest = c.from; inserts = vec_capacity c.newest - vec_len c.newest; room = min (vec_capacity c.earlier - vec_len c.earlier) (2 ^ 32 - 1 - vec_len c.earlier); is_open = c.is_open } };
+    ghost view = { λ c. record {
+      lists = lists_of c.newest.items c.earlier.items;
+      newest = c.from;
+      inserts = vec_capacity c.newest - vec_len c.newest;
+      room = min (vec_capacity c.earlier - vec_len c.earlier) (2 ^ 32 - 1 - vec_len c.earlier);
+      is_open = c.is_open;
+    } };
 
     ghost invariant = { λ c. AreChanges c.from c.newest.items c.earlier.items };
 }
@@ -91,10 +97,7 @@ impl Changes {
             from: at,
             before: 0,
         };
-        match self.newest.push(change) {
-            Ok(()) => (),
-            Err(_) => unreachable!(),
-        }
+        self.newest.push_reserved(change);
     }
 
     /// Gives a line another node from a position on, in the place of the one that it has from there on. It takes no memory.
@@ -102,10 +105,12 @@ impl Changes {
         requires index { index < length self.old.lists }
         requires later { self.old.newest ≤ at }
         requires room { is_at at (changes_at self.old.lists index) ≡ false → 0 < self.old.room }
-        ensures lists { self.new.lists ≡ set self.old.lists index (with_node at node (changes_at self.old.lists index)) }
+        ensures lists { self.new.lists ≡
+            set self.old.lists index (with_node at node (changes_at self.old.lists index)) }
         ensures newest { self.new.newest ≡ at }
         ensures inserts { self.new.inserts ≡ self.old.inserts }
-        ensures room { self.old.room ≤ self.new.room + (if is_at at (changes_at self.old.lists index) then 0 else 1) }
+        ensures room { self.old.room ≤ self.new.room + (if is_at at
+            (changes_at self.old.lists index) then 0 else 1) }
         ensures open { self.new.is_open ≡ false }
     {
         self.begin(at);
@@ -138,7 +143,8 @@ impl Changes {
     /// The newest node of the line at an index, None exactly where there is no such line.
     pub(crate) fn get(&self, index: usize) -> Option<Node>
         ensures newest { result ≡ option_map newest_vis (slice_get self.now.lists index) }
-        ensures latest { (p : ℕ) → self.now.newest ≤ p → result ≡ option_map (λ cs. vis_at cs p) (slice_get self.now.lists index) }
+        ensures latest { (p : ℕ) → self.now.newest ≤ p →
+            result ≡ option_map (λ cs. vis_at cs p) (slice_get self.now.lists index) }
     {
         match self.newest.get(index) {
             Some(change) => Some(change.node),
@@ -167,10 +173,8 @@ fn put_behind(earlier: &mut Vec<Change>, change: Change) -> u32
     ensures len { vec_len earlier.new ≡ vec_len earlier.old + 1 }
     ensures count { result ≡ vec_len earlier.new }
 {
-    match earlier.push(change) {
-        Ok(()) => earlier.len() as u32,
-        Err(_) => unreachable!(),
-    }
+    earlier.push_reserved(change);
+    earlier.len() as u32
 }
 
 // The node at a position of a line by its newest change.
@@ -193,7 +197,8 @@ fn node_at(earlier: &[Change], newest: Change, position: Position) -> Node
 fn change_before(earlier: &[Change], number: u32) -> Option<Change>
     requires linked { AreLinked (reverse earlier.now) }
     requires end { number ≤ length earlier.now }
-    ensures changes { changes_before (reverse earlier.now) number ≡ option_map_or (changes_of (reverse earlier.now)) result [] }
+    ensures changes { changes_before (reverse earlier.now) number ≡
+        option_map_or (changes_of (reverse earlier.now)) result [] }
     ensures falls { IfSome result (λ c. c.before < number) }
 {
     if number == 0 {

@@ -40,9 +40,20 @@ impl Model for FileLines {
 
     ghost Value = { DatedFile };
 
-    ghost view = { λ f. record { lines = dated_lines f.texts.entries f.changes.lists f.order.lines; newest = f.changes.newest; room = record { inserts = min f.order.spare (min (spare f.texts) f.changes.inserts); changes = changeable f.changes (keys_of f.texts.entries) f.coming.deletes.items f.order.lines; position = position_of f.changes }; coming = record { inserts = f.coming.inserts; deletes = f.coming.deletes.items } } };
+    ghost view = { λ f. record {
+      lines = dated_lines f.texts.entries f.changes.lists f.order.lines;
+      newest = f.changes.newest;
+      room = record {
+        inserts = min f.order.spare (min (spare f.texts) f.changes.inserts);
+        changes = changeable f.changes (keys_of f.texts.entries) f.coming.deletes.items
+            f.order.lines;
+        position = position_of f.changes;
+      };
+      coming = record { inserts = f.coming.inserts; deletes = f.coming.deletes.items };
+    } };
 
-    ghost invariant = { λ f. AreKept f.order.lines f.texts.entries f.changes f.coming.deletes.items };
+    ghost invariant = { λ f. AreKept f.order.lines f.texts.entries f.changes
+        f.coming.deletes.items };
 }
 
 impl FileLines {
@@ -63,7 +74,8 @@ impl FileLines {
     pub fn prepare(&mut self, inserts: u32, deletes: &LineNos) -> Result<(), Memory>
         ensures lines { self.new.lines ≡ self.old.lines }
         ensures newest { self.new.newest ≡ self.old.newest }
-        ensures room { OnOk result (IsMade self.new.room (line_numbers_of self.new.lines) inserts deletes.now) }
+        ensures room { OnOk result (IsMade self.new.room (line_numbers_of self.new.lines) inserts
+            deletes.now) }
     {
         self.changes.prepare(inserts, deletes.len())?;
         self.coming.inserts = inserts;
@@ -76,9 +88,11 @@ impl FileLines {
     pub fn expect_insert(&mut self) -> Result<(), Memory>
         ensures lines { self.new.lines ≡ self.old.lines }
         ensures newest { self.new.newest ≡ self.old.newest }
-        ensures inserts { (count : ℕ) → count ≤ self.old.coming.inserts + 1 → count < 2 ^ 32 - 1 → count ≤ self.new.coming.inserts }
+        ensures inserts { (count : ℕ) → count ≤ self.old.coming.inserts + 1 → count < 2 ^ 32 - 1 →
+            count ≤ self.new.coming.inserts }
         ensures deletes { self.new.coming.deletes ≡ self.old.coming.deletes }
-        ensures room { OnOk result (IsMade self.new.room (line_numbers_of self.new.lines) self.new.coming.inserts self.new.coming.deletes) }
+        ensures room { OnOk result (IsMade self.new.room (line_numbers_of self.new.lines)
+            self.new.coming.inserts self.new.coming.deletes) }
     {
         if self.coming.inserts < u32::MAX {
             self.coming.inserts += 1;
@@ -92,8 +106,10 @@ impl FileLines {
         ensures lines { self.new.lines ≡ self.old.lines }
         ensures newest { self.new.newest ≡ self.old.newest }
         ensures inserts { self.new.coming.inserts ≡ self.old.coming.inserts }
-        ensures deletes { OnOk result (self.new.coming.deletes ≡ self.old.coming.deletes ++ line ∷ []) }
-        ensures room { OnOk result (IsMade self.new.room (line_numbers_of self.new.lines) self.new.coming.inserts self.new.coming.deletes) }
+        ensures deletes { OnOk result (self.new.coming.deletes ≡
+            self.old.coming.deletes ++ line ∷ []) }
+        ensures room { OnOk result (IsMade self.new.room (line_numbers_of self.new.lines)
+            self.new.coming.inserts self.new.coming.deletes) }
     {
         let deletes = self.coming.deletes.len() + 1;
         self.changes.prepare(self.coming.inserts, deletes)?;
@@ -116,7 +132,8 @@ impl FileLines {
         ensures lines { self.new.lines ≡ self.old.lines }
         ensures newest { self.new.newest ≡ self.old.newest }
         ensures coming { self.new.coming ≡ self.old.coming }
-        ensures room { OnOk result (IsMade self.new.room (line_numbers_of self.new.lines) self.new.coming.inserts self.new.coming.deletes) }
+        ensures room { OnOk result (IsMade self.new.room (line_numbers_of self.new.lines)
+            self.new.coming.inserts self.new.coming.deletes) }
     {
         self.order.reserve(self.coming.inserts)?;
         self.texts.reserve(self.coming.inserts as usize)?;
@@ -133,8 +150,10 @@ impl FileLines {
         requires later { self.old.newest ≤ at }
         requires room { 0 < self.old.room.inserts }
         requires position { is_room_at at self.old.room ≡ true }
-        ensures lines { AreAlike self.new.lines (with_line anchor (new_line line text vis at) self.old.lines) }
-        ensures numbers { line_numbers_of self.new.lines ≡ after_anchor anchor line (line_numbers_of self.old.lines) }
+        ensures lines { AreAlike self.new.lines
+            (with_line anchor (new_line line text vis at) self.old.lines) }
+        ensures numbers { line_numbers_of self.new.lines ≡
+            after_anchor anchor line (line_numbers_of self.old.lines) }
         ensures newest { self.new.newest ≡ at }
         ensures room { IsLeft self.old.room self.new.room at 1 }
         ensures own { has_line line self.new.room.changes ≡ true }
@@ -177,7 +196,8 @@ impl FileLines {
     /// Whether a line is among those that are visible on a choice at a position. It looks the line up once, goes through its
     /// changes beyond the position, evaluates at most one node, and takes no memory.
     pub fn is_visible(&self, line: LineNo, table: &Table, choice: Choice, at: Position) -> bool
-        ensures { result ≡ list_any (λ r. nat_eq r.line line) (rows_at table.now choice at self.now.lines) }
+        ensures { result ≡ list_any (λ r. nat_eq r.line line)
+            (rows_at table.now choice at self.now.lines) }
     {
         match self.texts.get_index_of(&line) {
             Some(index) => table.value(self.changes.at(index, at), choice),
@@ -236,7 +256,9 @@ fn visible_rows(
     lines: &LineNos,
     sight: &Sight<'_>,
 ) -> Result<FileRows, Memory>
-    ensures { IfOk result (λ rows. rows ≡ rows_at sight.now.table.now sight.now.choice sight.now.at (dated_lines texts.now.entries changes.now.lists lines.now)) }
+    ensures { IfOk result (λ rows. rows ≡
+        rows_at sight.now.table.now sight.now.choice sight.now.at
+        (dated_lines texts.now.entries changes.now.lists lines.now)) }
 {
     // What `len` ensures bounds the index for the proof.
     let _count = lines.len();
@@ -264,7 +286,10 @@ fn add_visible(
     last: &mut Last,
 ) -> Result<(), Memory>
     requires last { last.old.value ≡ value_in sight.now.table.now last.old.node sight.now.choice }
-    ensures rows { OnOk result (rows.new ≡ rows.old ++ rows_at sight.now.table.now sight.now.choice sight.now.at (dated_lines texts.now.entries changes.now.lists (line ∷ []))) }
+    ensures rows { OnOk result (rows.new ≡
+        rows.old ++
+        rows_at sight.now.table.now sight.now.choice sight.now.at
+        (dated_lines texts.now.entries changes.now.lists (line ∷ []))) }
     ensures last { last.new.value ≡ value_in sight.now.table.now last.new.node sight.now.choice }
 {
     match find(texts, line, last.index.saturating_add(1)) {
@@ -279,7 +304,8 @@ fn add_visible(
 // The index of a line with its text. Lines that stand together were mostly inserted one after another, so it is first looked for
 // where it would be then.
 fn find(texts: &IndexMap<LineNo, Text>, line: LineNo, expected: usize) -> Option<(usize, &Text)>
-    ensures index { option_map (λ p. p.0) result ≡ position (nat_eq line) (keys_of texts.now.entries) }
+    ensures index { option_map (λ p. p.0) result ≡
+        position (nat_eq line) (keys_of texts.now.entries) }
     ensures text { option_map (λ p. p.1.now) result ≡ get nat_eq texts.now line }
 {
     // What `len` ensures is, for the proof, that no line stands twice.
@@ -309,7 +335,8 @@ fn look(sight: &Sight<'_>, index: usize, node: Node, last: &Last) -> Last
 
 // Adds a line, if it is shown.
 fn add_shown(rows: &mut FileRows, line: LineNo, text: &Text, shown: bool) -> Result<(), Memory>
-    ensures { OnOk result (rows.new ≡ rows.old ++ (if shown then record { line = line; text = text.now } ∷ [] else [])) }
+    ensures { OnOk result (rows.new ≡ rows.old ++
+        (if shown then record { line = line; text = text.now } ∷ [] else [])) }
 {
     if shown {
         let text = text.copy()?;

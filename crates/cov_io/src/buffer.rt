@@ -38,7 +38,8 @@ impl Model for Buffer {
 
     ghost view = { λ b. slice_range b.bytes.items b.from b.to };
 
-    ghost invariant = { λ b. (b.from ≤ b.to) × (b.to ≤ length b.bytes.items) × (length b.bytes.items ≡ READ_BYTES) };
+    ghost invariant = { λ b. (b.from ≤ b.to) × (b.to ≤ length b.bytes.items) ×
+        (length b.bytes.items ≡ READ_BYTES) };
 }
 
 impl Buffer {
@@ -95,7 +96,8 @@ impl Buffer {
     pub(crate) fn fill<S: Source>(&mut self, source: &mut S) -> Result<usize, Failed>
         ensures count { IfOk result (λ n. n ≡ length self.new) }
         ensures bound { IfOk result (λ n. n ≤ READ_BYTES) }
-        ensures bytes { IfOk result (λ n. Reads n self.new (S.left source.old) (S.left source.new)) }
+        ensures bytes { IfOk result (λ n.
+            Reads n self.new (S.left source.old) (S.left source.new)) }
         ensures unread { OnErr result (Unread (S.left source.old) (S.left source.new)) }
         ensures given { Gives result (S.given source.old) (S.given source.new) }
         ensures ends { CountsEnd result (S.ends source.old) (S.ends source.new) }
@@ -111,7 +113,8 @@ impl Buffer {
 
 /// The line so far with more bytes at its end, which is no longer kept once it is too long.
 fn grown(line: Option<Text>, bytes: &[u8]) -> Result<Option<Text>, Memory>
-    ensures { IfOk result (λ more. (piece : List ℕ) → Holds line piece → Holds more (piece ++ bytes.now)) }
+    ensures { IfOk result (λ more. (piece : List ℕ) → Holds line piece →
+        Holds more (piece ++ bytes.now)) }
 {
     match line {
         Some(mut text) => {

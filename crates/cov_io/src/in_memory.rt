@@ -86,7 +86,8 @@ impl Source for MemorySource {
 
         // As each source.
         ensures bound { IfOk result (λ n. n ≤ length into.old) }
-        ensures bytes { IfOk result (λ n. Reads n into.new (Some self.old.left) (Some self.new.left)) }
+        ensures bytes { IfOk result (λ n.
+            Reads n into.new (Some self.old.left) (Some self.new.left)) }
         ensures unread { OnErr result (Unread (Some self.old.left) (Some self.new.left)) }
         ensures given { Gives result self.old.given self.new.given }
         ensures ends { CountsEnd result self.old.ends self.new.ends }
@@ -176,8 +177,10 @@ impl Sink for MemorySink {
 
     fn put(&mut self, bytes: &[u8]) -> Result<(), Failed>
         // As each sink.
-        ensures all { OnOk result (AppendsAll bytes.now (Some self.old.written) (Some self.new.written)) }
-        ensures some { OnErr result (AppendsSome bytes.now (Some self.old.written) (Some self.new.written)) }
+        ensures all { OnOk result (AppendsAll bytes.now (Some self.old.written)
+            (Some self.new.written)) }
+        ensures some { OnErr result (AppendsSome bytes.now (Some self.old.written)
+            (Some self.new.written)) }
         ensures cause { HasCause self.old.faults self.new.faults result }
 
         // In memory.

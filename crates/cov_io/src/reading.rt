@@ -72,29 +72,35 @@ impl Lines {
     /// The next line. After `End` a further call reads again. `TooMuch` comes where more would have
     /// to be read after `TOO_MANY_SCRIPT_BYTES`, `Memory` also where that is so after 2^63 bytes and an end.
     pub fn next<S: Source>(&mut self, source: &mut S) -> Result<Item, LineFault>
-        ensures items { IfOk result (GivesTold self.old self.new (S.left source.old) (S.left source.new)) }
+        ensures items { IfOk result (GivesTold self.old self.new (S.left source.old)
+            (S.left source.new)) }
         ensures short { IfOk result IsShort }
         ensures unterminated { IfOk result IsUnterminated }
         ensures shrinks { IfOk result (Shrinks self.old self.new) }
 
         // Why it fails.
-        ensures read_fault { IsErrOf result LineFault.ReadFault → Rose (S.faults source.old) (S.faults source.new) }
+        ensures read_fault { IsErrOf result LineFault.ReadFault →
+            Rose (S.faults source.old) (S.faults source.new) }
         ensures too_much { IsErrOf result LineFault.TooMuch → IsTooMuch self.new }
 
         // What is counted, at every return.
         ensures later { S.faults source.old ≤ S.faults source.new }
         ensures taken { self.new.taken + S.given source.old ≡ self.old.taken + S.given source.new }
-        ensures counted { CountsGiven (S.left source.old) (S.left source.new) (S.given source.old) (S.given source.new) }
+        ensures counted { CountsGiven (S.left source.old) (S.left source.new) (S.given source.old)
+            (S.given source.new) }
         ensures bounded { IsBounded self.new.ended self.new.taken }
-        ensures ended { TracksEnd self.old.ended self.new.ended (S.ends source.old) (S.ends source.new) }
+        ensures ended { TracksEnd self.old.ended self.new.ended (S.ends source.old)
+            (S.ends source.new) }
     {
         self.gather(source)
     }
 
     /// Takes pieces of one line until its end or the end of input.
     fn gather<S: Source>(&mut self, source: &mut S) -> Result<Item, LineFault>
-        ensures { let before = account (S.left source.old) (S.given source.old) (S.faults source.old) (S.ends source.old) in
-            let after = account (S.left source.new) (S.given source.new) (S.faults source.new) (S.ends source.new) in
+        ensures { let before = account (S.left source.old) (S.given source.old)
+            (S.faults source.old) (S.ends source.old) in
+            let after = account (S.left source.new) (S.given source.new)
+            (S.faults source.new) (S.ends source.new) in
             MatchResult result
             (λ item. Arrives item self.old self.new before after)
             (λ fault. Stops fault self.old self.new before after) }
@@ -117,8 +123,10 @@ impl Lines {
     /// Reads once, into an empty buffer. False says that the end was met.
     fn fill<S: Source>(&mut self, source: &mut S) -> Result<bool, LineFault>
         requires { self.old.ahead ≡ [] }
-        ensures { let before = account (S.left source.old) (S.given source.old) (S.faults source.old) (S.ends source.old) in
-            let after = account (S.left source.new) (S.given source.new) (S.faults source.new) (S.ends source.new) in
+        ensures { let before = account (S.left source.old) (S.given source.old)
+            (S.faults source.old) (S.ends source.old) in
+            let after = account (S.left source.new) (S.given source.new)
+            (S.faults source.new) (S.ends source.new) in
             Fills result self.old self.new before after }
     {
         if self.taken >= TOO_MANY_SCRIPT_BYTES && !self.ended {

@@ -99,8 +99,10 @@ impl<W: Write> Sink for StdSink<W> {
 
 /// Writes and flushes. A writer that takes nothing has failed.
 fn write_whole<W: Write>(writer: &mut W, bytes: &[u8]) -> Result<(), Failed>
-    ensures all { OnOk result (AppendsAll bytes.now (W.contents writer.old) (W.contents writer.new)) }
-    ensures some { OnErr result (AppendsSome bytes.now (W.contents writer.old) (W.contents writer.new)) }
+    ensures all { OnOk result (AppendsAll bytes.now (W.contents writer.old)
+        (W.contents writer.new)) }
+    ensures some { OnErr result (AppendsSome bytes.now (W.contents writer.old)
+        (W.contents writer.new)) }
 {
     let mut rest = bytes;
     while !rest.is_empty() {

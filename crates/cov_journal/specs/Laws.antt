@@ -12,5 +12,5 @@ abbrev pub OneJournal : Type 0
 OneJournal = (image : List ℕ) (ps qs : List (List ℕ)) → AreShort ps → AreShort qs → Holds image ps → Holds image qs → ps ≡ qs
 
 -- the next gate of what fits the payloads of an image is within it
-abbrev pub BoundedGate : Type 0
-BoundedGate = (image : List ℕ) (payloads : List (List ℕ)) (at : ℕ) (last : List ℕ) → Fits at last payloads → IsWritten image payloads → at < length image
+abbrev pub GateIsWithin : Type 0
+GateIsWithin = (image : List ℕ) (payloads : List (List ℕ)) (at : ℕ) (last : List ℕ) → Fits at last payloads → IsWritten image payloads → at < length image

@@ -22,8 +22,10 @@ pub(crate) fn framed_at<D: Disk>(
     count: u32,
 ) -> Result<Framed, MemoryOr<Failed>>
     requires { IfSome (D.contents disk.old) (λ bytes. at + count + 32 ≤ length bytes) }
-    ensures payload { IfOk result (λ framed. IfSome (D.contents disk.old) (λ bytes. framed.payload ≡ take count (drop at bytes))) }
-    ensures digest { IfOk result (λ framed. IfSome (D.contents disk.old) (λ bytes. framed.digest ≡ take 32 (drop (at + count) bytes))) }
+    ensures payload { IfOk result (λ framed.
+        IfSome (D.contents disk.old) (λ bytes. framed.payload ≡ take count (drop at bytes))) }
+    ensures digest { IfOk result (λ framed.
+        IfSome (D.contents disk.old) (λ bytes. framed.digest ≡ take 32 (drop (at + count) bytes))) }
     ensures length { IfOk result (λ framed. length framed.payload ≡ count) }
     ensures same { D.contents disk.new ≡ D.contents disk.old }
     ensures images { KeepsImages D.images D.moment D.images_since disk.old disk.new }

@@ -22,7 +22,8 @@ pub(crate) enum Front {
 pub(crate) fn front_at<D: Disk>(disk: &mut D, gate: u64) -> Result<Front, Failed>
     requires far { gate < 2 ^ 62 }
     requires within { IfSome (D.contents disk.old) (λ bytes. gate < length bytes) }
-    ensures front { IfOk result (λ front. IfSome (D.contents disk.old) (λ bytes. HasFront gate bytes front)) }
+    ensures front { IfOk result (λ front.
+        IfSome (D.contents disk.old) (λ bytes. HasFront gate bytes front)) }
     ensures same { D.contents disk.new ≡ D.contents disk.old }
     ensures images { KeepsImages D.images D.moment D.images_since disk.old disk.new }
     ensures cause { HasCause (D.faults disk.old) (D.faults disk.new) result }
@@ -38,7 +39,8 @@ pub(crate) fn front_at<D: Disk>(disk: &mut D, gate: u64) -> Result<Front, Failed
 fn short_front_at<D: Disk>(disk: &mut D, gate: u64) -> Result<Front, Failed>
     requires within { IfSome (D.contents disk.old) (λ bytes. gate < length bytes) }
     requires short { IfSome (D.contents disk.old) (λ bytes. length bytes < gate + 5) }
-    ensures front { IfOk result (λ front. IfSome (D.contents disk.old) (λ bytes. HasFront gate bytes front)) }
+    ensures front { IfOk result (λ front.
+        IfSome (D.contents disk.old) (λ bytes. HasFront gate bytes front)) }
     ensures same { D.contents disk.new ≡ D.contents disk.old }
     ensures images { KeepsImages D.images D.moment D.images_since disk.old disk.new }
     ensures cause { HasCause (D.faults disk.old) (D.faults disk.new) result }
@@ -49,7 +51,8 @@ fn short_front_at<D: Disk>(disk: &mut D, gate: u64) -> Result<Front, Failed>
 }
 
 fn short_front(byte: u8) -> Front
-    ensures { (gate : ℕ) (image : List ℕ) → slice_index image gate ≡ byte → length image < gate + 5 → HasFront gate image result }
+    ensures { (gate : ℕ) (image : List ℕ) → slice_index image gate ≡ byte →
+        length image < gate + 5 → HasFront gate image result }
 {
     if byte == 1 {
         return Front::Cut;
@@ -61,7 +64,8 @@ fn short_front(byte: u8) -> Front
 fn long_front_at<D: Disk>(disk: &mut D, gate: u64, end: u64) -> Result<Front, Failed>
     requires long { gate + 5 ≤ end }
     requires end { IfSome (D.contents disk.old) (λ bytes. end ≡ length bytes) }
-    ensures front { IfOk result (λ front. IfSome (D.contents disk.old) (λ bytes. HasFront gate bytes front)) }
+    ensures front { IfOk result (λ front.
+        IfSome (D.contents disk.old) (λ bytes. HasFront gate bytes front)) }
     ensures same { D.contents disk.new ≡ D.contents disk.old }
     ensures images { KeepsImages D.images D.moment D.images_since disk.old disk.new }
     ensures cause { HasCause (D.faults disk.old) (D.faults disk.new) result }

@@ -73,9 +73,11 @@ fn fill(room: &mut Vec<u8>, payload: &[u8], digest: &[u8; 32])
 fn stage<D: Disk>(disk: &mut D, gate: u64, staged: &[u8]) -> Result<(), Failed>
     requires far { gate < 2 ^ 62 }
     requires within { IfSome (D.contents disk.old) (λ old. gate < length old) }
-    ensures written { OnOk result (Told (Written (gate + 1) staged.now) (D.contents disk.old) (D.contents disk.new)) }
+    ensures written { OnOk result (Told (Written (gate + 1) staged.now) (D.contents disk.old)
+        (D.contents disk.new)) }
     ensures durable { OnOk result (Only (D.contents disk.new) (D.images disk.new)) }
-    ensures since { LeavesOnly D.moment D.images_since disk.old disk.new (IsTornFrom (D.images disk.old) (gate + 1) (length staged.now)) }
+    ensures since { LeavesOnly D.moment D.images_since disk.old disk.new
+        (IsTornFrom (D.images disk.old) (gate + 1) (length staged.now)) }
     ensures cause { HasCause (D.faults disk.old) (D.faults disk.new) result }
 {
     write_synced(disk, gate + 1, staged)
@@ -84,9 +86,11 @@ fn stage<D: Disk>(disk: &mut D, gate: u64, staged: &[u8]) -> Result<(), Failed>
 // Opens a gate.
 fn open_gate<D: Disk>(disk: &mut D, gate: u64) -> Result<(), Failed>
     requires { IfSome (D.contents disk.old) (λ old. gate < length old) }
-    ensures written { OnOk result (Told (Written gate (1 ∷ [])) (D.contents disk.old) (D.contents disk.new)) }
+    ensures written { OnOk result (Told (Written gate (1 ∷ [])) (D.contents disk.old)
+        (D.contents disk.new)) }
     ensures durable { OnOk result (Only (D.contents disk.new) (D.images disk.new)) }
-    ensures since { LeavesOnly D.moment D.images_since disk.old disk.new (IsTornFrom (D.images disk.old) gate 1) }
+    ensures since { LeavesOnly D.moment D.images_since disk.old disk.new
+        (IsTornFrom (D.images disk.old) gate 1) }
     ensures cause { HasCause (D.faults disk.old) (D.faults disk.new) result }
 {
     write_synced(disk, gate, &[1])
@@ -127,13 +131,16 @@ impl Journal {
         ensures gate { IfOk result (λ journal. HasGate (D.contents disk.new) journal.at) }
         ensures written { (payloads : List (List ℕ)) → FitsState self payloads →
             IfSome (D.contents disk.old) (λ bytes. IsWritten bytes payloads) →
-            OnOk result (IfSome (D.contents disk.new) (λ bytes. IsWritten bytes (payloads ++ payload.now ∷ []))) }
+            OnOk result (IfSome (D.contents disk.new)
+            (λ bytes. IsWritten bytes (payloads ++ payload.now ∷ []))) }
         ensures stored { (payloads : List (List ℕ)) → FitsState self payloads →
             ((c : List ℕ) → D.images disk.old c → IsWritten c payloads) →
-            OnOk result ((c : List ℕ) → D.images disk.new c → IsWritten c (payloads ++ payload.now ∷ [])) }
+            OnOk result ((c : List ℕ) → D.images disk.new c →
+            IsWritten c (payloads ++ payload.now ∷ [])) }
         ensures any_moment { (payloads : List (List ℕ)) → FitsState self payloads →
             ((c : List ℕ) → D.images disk.old c → IsWritten c payloads) →
-            LeavesOnly D.moment D.images_since disk.old disk.new (λ c. IsWritten c payloads ⊎ IsWritten c (payloads ++ payload.now ∷ [])) }
+            LeavesOnly D.moment D.images_since disk.old disk.new
+            (λ c. IsWritten c payloads ⊎ IsWritten c (payloads ++ payload.now ∷ [])) }
         ensures cause { HasCause (D.faults disk.old) (D.faults disk.new) result }
     {
         self.extend(disk, payload)?;

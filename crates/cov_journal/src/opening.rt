@@ -28,13 +28,17 @@ pub enum OpenFault {
 pub(crate) fn open<D: Disk>(alloc: Global, disk: &mut D) -> Result<Reader, OpenFault>
     ensures reader { IfOk result (λ reader. HasGiven reader []) }
     ensures contents { OnOk result (Told IsOpened (D.contents disk.old) (D.contents disk.new)) }
-    ensures kept { IfSome (D.contents disk.old) (λ bytes. 13 < length bytes → D.contents disk.new ≡ Some bytes) }
-    ensures stays { (payloads : List (List ℕ)) → IfSome (D.contents disk.old) (λ bytes. Holds bytes payloads →
+    ensures kept { IfSome (D.contents disk.old) (λ bytes. 13 < length bytes →
+        D.contents disk.new ≡ Some bytes) }
+    ensures stays { (payloads : List (List ℕ)) →
+        IfSome (D.contents disk.old) (λ bytes. Holds bytes payloads →
         IfSome (D.contents disk.new) (λ now. Holds now payloads)) }
     ensures only { OnOk result (Only (D.contents disk.new) (D.images disk.new)) }
-    ensures any_moment { (payloads : List (List ℕ)) → ((c : List ℕ) → D.images disk.old c → Holds c payloads) →
+    ensures any_moment { (payloads : List (List ℕ)) →
+        ((c : List ℕ) → D.images disk.old c → Holds c payloads) →
         LeavesOnly D.moment D.images_since disk.old disk.new (λ c. Holds c payloads) }
-    ensures fault { IfErr result (IsOpenFault (D.contents disk.old) (D.faults disk.old) (D.faults disk.new)) }
+    ensures fault { IfErr result (IsOpenFault (D.contents disk.old) (D.faults disk.old)
+        (D.faults disk.new)) }
     ensures later { D.faults disk.old ≤ D.faults disk.new }
 {
     match settled_length(disk) {
@@ -49,11 +53,14 @@ fn open_settled<D: Disk>(alloc: Global, disk: &mut D, count: u64) -> Result<Read
     requires only { Only (D.contents disk.old) (D.images disk.old) }
     ensures reader { IfOk result (λ reader. HasGiven reader []) }
     ensures contents { OnOk result (Told IsOpened (D.contents disk.old) (D.contents disk.new)) }
-    ensures kept { IfSome (D.contents disk.old) (λ bytes. 13 < length bytes → D.contents disk.new ≡ Some bytes) }
+    ensures kept { IfSome (D.contents disk.old) (λ bytes. 13 < length bytes →
+        D.contents disk.new ≡ Some bytes) }
     ensures only { OnOk result (Only (D.contents disk.new) (D.images disk.new)) }
-    ensures any_moment { (payloads : List (List ℕ)) → ((c : List ℕ) → D.images disk.old c → Holds c payloads) →
+    ensures any_moment { (payloads : List (List ℕ)) →
+        ((c : List ℕ) → D.images disk.old c → Holds c payloads) →
         LeavesOnly D.moment D.images_since disk.old disk.new (λ c. Holds c payloads) }
-    ensures fault { IfErr result (IsOpenFault (D.contents disk.old) (D.faults disk.old) (D.faults disk.new)) }
+    ensures fault { IfErr result (IsOpenFault (D.contents disk.old) (D.faults disk.old)
+        (D.faults disk.new)) }
     ensures later { D.faults disk.old ≤ D.faults disk.new }
 {
     if count <= 13 {
@@ -68,11 +75,14 @@ fn made<D: Disk>(alloc: Global, disk: &mut D) -> Result<Reader, OpenFault>
     requires only { Only (D.contents disk.old) (D.images disk.old) }
     ensures reader { IfOk result (λ reader. HasGiven reader []) }
     ensures contents { OnOk result (Told IsOpened (D.contents disk.old) (D.contents disk.new)) }
-    ensures kept { IfSome (D.contents disk.old) (λ bytes. 13 < length bytes → D.contents disk.new ≡ Some bytes) }
+    ensures kept { IfSome (D.contents disk.old) (λ bytes. 13 < length bytes →
+        D.contents disk.new ≡ Some bytes) }
     ensures only { OnOk result (Only (D.contents disk.new) (D.images disk.new)) }
-    ensures any_moment { (payloads : List (List ℕ)) → ((c : List ℕ) → D.images disk.old c → Holds c payloads) →
+    ensures any_moment { (payloads : List (List ℕ)) →
+        ((c : List ℕ) → D.images disk.old c → Holds c payloads) →
         LeavesOnly D.moment D.images_since disk.old disk.new (λ c. Holds c payloads) }
-    ensures fault { IfErr result (IsOpenFault (D.contents disk.old) (D.faults disk.old) (D.faults disk.new)) }
+    ensures fault { IfErr result (IsOpenFault (D.contents disk.old) (D.faults disk.old)
+        (D.faults disk.new)) }
     ensures later { D.faults disk.old ≤ D.faults disk.new }
 {
     match write_synced(disk, 0, b"COVSTORE\x00\x00\x00\x01\x00".as_slice()) {
@@ -87,11 +97,14 @@ fn found<D: Disk>(alloc: Global, disk: &mut D) -> Result<Reader, OpenFault>
     requires only { Only (D.contents disk.old) (D.images disk.old) }
     ensures reader { IfOk result (λ reader. HasGiven reader []) }
     ensures contents { OnOk result (Told IsOpened (D.contents disk.old) (D.contents disk.new)) }
-    ensures kept { IfSome (D.contents disk.old) (λ bytes. 13 < length bytes → D.contents disk.new ≡ Some bytes) }
+    ensures kept { IfSome (D.contents disk.old) (λ bytes. 13 < length bytes →
+        D.contents disk.new ≡ Some bytes) }
     ensures only { OnOk result (Only (D.contents disk.new) (D.images disk.new)) }
-    ensures any_moment { (payloads : List (List ℕ)) → ((c : List ℕ) → D.images disk.old c → Holds c payloads) →
+    ensures any_moment { (payloads : List (List ℕ)) →
+        ((c : List ℕ) → D.images disk.old c → Holds c payloads) →
         LeavesOnly D.moment D.images_since disk.old disk.new (λ c. Holds c payloads) }
-    ensures fault { IfErr result (IsOpenFault (D.contents disk.old) (D.faults disk.old) (D.faults disk.new)) }
+    ensures fault { IfErr result (IsOpenFault (D.contents disk.old) (D.faults disk.old)
+        (D.faults disk.new)) }
     ensures later { D.faults disk.old ≤ D.faults disk.new }
 {
     match has_header(disk) {
@@ -116,7 +129,8 @@ fn settled_length<D: Disk>(disk: &mut D) -> Result<u64, Failed>
 // Whether the disk begins with the header.
 fn has_header<D: Disk>(disk: &mut D) -> Result<bool, Failed>
     requires { IfSome (D.contents disk.old) (λ bytes. 12 ≤ length bytes) }
-    ensures header { IfOk result (λ is. IfSome (D.contents disk.old) (λ bytes. HasHeader is bytes)) }
+    ensures header { IfOk result (λ is. IfSome (D.contents disk.old)
+        (λ bytes. HasHeader is bytes)) }
     ensures same { D.contents disk.new ≡ D.contents disk.old }
     ensures images { KeepsImages D.images D.moment D.images_since disk.old disk.new }
     ensures cause { HasCause (D.faults disk.old) (D.faults disk.new) result }

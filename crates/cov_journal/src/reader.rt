@@ -75,18 +75,24 @@ impl Reader {
     pub fn open<D: Disk>(alloc: Global, disk: &mut D) -> Result<Reader, OpenFault>
         ensures reader { IfOk result (λ reader. HasGiven reader []) }
         ensures contents { OnOk result (Told IsOpened (D.contents disk.old) (D.contents disk.new)) }
-        ensures kept { IfSome (D.contents disk.old) (λ bytes. 13 < length bytes → D.contents disk.new ≡ Some bytes) }
-        ensures stays { (payloads : List (List ℕ)) → IfSome (D.contents disk.old) (λ bytes. Holds bytes payloads →
+        ensures kept { IfSome (D.contents disk.old) (λ bytes. 13 < length bytes →
+            D.contents disk.new ≡ Some bytes) }
+        ensures stays { (payloads : List (List ℕ)) →
+            IfSome (D.contents disk.old) (λ bytes. Holds bytes payloads →
             IfSome (D.contents disk.new) (λ now. Holds now payloads)) }
         ensures gate { IfOk result (λ reader. HasGate (D.contents disk.new) reader.at) }
-        ensures held { (payloads : List (List ℕ)) → IfSome (D.contents disk.old) (λ bytes. Holds bytes payloads) →
+        ensures held { (payloads : List (List ℕ)) →
+            IfSome (D.contents disk.old) (λ bytes. Holds bytes payloads) →
             OnOk result (IfSome (D.contents disk.new) (λ bytes. IsWritten bytes payloads)) }
         ensures only { OnOk result (Only (D.contents disk.new) (D.images disk.new)) }
-        ensures stored { (payloads : List (List ℕ)) → IfSome (D.contents disk.old) (λ bytes. Holds bytes payloads) →
+        ensures stored { (payloads : List (List ℕ)) →
+            IfSome (D.contents disk.old) (λ bytes. Holds bytes payloads) →
             OnOk result ((c : List ℕ) → D.images disk.new c → IsWritten c payloads) }
-        ensures any_moment { (payloads : List (List ℕ)) → ((c : List ℕ) → D.images disk.old c → Holds c payloads) →
+        ensures any_moment { (payloads : List (List ℕ)) →
+            ((c : List ℕ) → D.images disk.old c → Holds c payloads) →
             LeavesOnly D.moment D.images_since disk.old disk.new (λ c. Holds c payloads) }
-        ensures fault { IfErr result (IsOpenFault (D.contents disk.old) (D.faults disk.old) (D.faults disk.new)) }
+        ensures fault { IfErr result (IsOpenFault (D.contents disk.old) (D.faults disk.old)
+            (D.faults disk.new)) }
         ensures later { D.faults disk.old ≤ D.faults disk.new }
     {
         open(alloc, disk)
@@ -98,8 +104,10 @@ impl Reader {
         requires gate { IfSome (D.contents disk.old) (λ bytes. self.at < length bytes) }
         ensures next { IfOk result (IsNext self (D.contents disk.old)) }
         ensures gate { IfOk result (HasNextGate (D.contents disk.new)) }
-        ensures given { (payloads : List (List ℕ)) → HasGiven self payloads → IfOk result (GivesOn payloads) }
-        ensures fault { IfErr result (IsFault self (D.contents disk.old) (D.faults disk.old) (D.faults disk.new)) }
+        ensures given { (payloads : List (List ℕ)) → HasGiven self payloads →
+            IfOk result (GivesOn payloads) }
+        ensures fault { IfErr result (IsFault self (D.contents disk.old) (D.faults disk.old)
+            (D.faults disk.new)) }
         ensures same { D.contents disk.new ≡ D.contents disk.old }
         ensures images { KeepsImages D.images D.moment D.images_since disk.old disk.new }
         ensures later { D.faults disk.old ≤ D.faults disk.new }
@@ -128,9 +136,11 @@ impl Reader {
         requires few { self.given ≤ 2 ^ 20 }
         requires gate { IfSome (D.contents disk.old) (λ bytes. self.at < length bytes) }
         requires opened { IfSome (D.contents disk.old) (λ bytes. slice_index bytes self.at ≡ 1) }
-        requires whole { IfSome (D.contents disk.old) (λ bytes. HasLength (drop (self.at + 1) bytes) count) }
+        requires whole { IfSome (D.contents disk.old)
+            (λ bytes. HasLength (drop (self.at + 1) bytes) count) }
         ensures next { IfOk result (IsNext self (D.contents disk.old)) }
-        ensures fault { IfErr result (IsFault self (D.contents disk.old) (D.faults disk.old) (D.faults disk.new)) }
+        ensures fault { IfErr result (IsFault self (D.contents disk.old) (D.faults disk.old)
+            (D.faults disk.new)) }
         ensures same { D.contents disk.new ≡ D.contents disk.old }
         ensures images { KeepsImages D.images D.moment D.images_since disk.old disk.new }
         ensures later { D.faults disk.old ≤ D.faults disk.new }

@@ -11,9 +11,11 @@ use cov_disk::Disk;
 /// Writes and syncs.
 pub(crate) fn write_synced<D: Disk>(disk: &mut D, at: u64, bytes: &[u8]) -> Result<(), Failed>
     requires { IfSome (D.contents disk.old) (λ old. at ≤ length old) }
-    ensures written { OnOk result (Told (Written at bytes.now) (D.contents disk.old) (D.contents disk.new)) }
+    ensures written { OnOk result (Told (Written at bytes.now) (D.contents disk.old)
+        (D.contents disk.new)) }
     ensures durable { OnOk result (Only (D.contents disk.new) (D.images disk.new)) }
-    ensures since { LeavesOnly D.moment D.images_since disk.old disk.new (IsTornFrom (D.images disk.old) at (length bytes.now)) }
+    ensures since { LeavesOnly D.moment D.images_since disk.old disk.new
+        (IsTornFrom (D.images disk.old) at (length bytes.now)) }
     ensures cause { HasCause (D.faults disk.old) (D.faults disk.new) result }
 {
     disk.write_at(at, bytes)?;

@@ -29,5 +29,5 @@ AreRising table lines [] = Unit {0}
 AreRising table lines (insert ∷ inserts) = IsNewest table insert.0 insert.1 lines × AreRising table (after_anchor insert.0 insert.1 lines) inserts
 
 -- lines that were put directly after their anchors, with rising numbers, stand in address order
-abbrev pub FilledInOrder : Type 0
-FilledInOrder = (table : List (List ℕ)) (inserts : List (ℕ × ℕ)) → IsTable table → AreRising table [] inserts → AreInOrder (address_in table) (filled [] inserts)
+abbrev pub RisingLinesStandInOrder : Type 0
+RisingLinesStandInOrder = (table : List (List ℕ)) (inserts : List (ℕ × ℕ)) → IsTable table → AreRising table [] inserts → AreInOrder (address_in table) (filled [] inserts)

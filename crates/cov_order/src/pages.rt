@@ -47,7 +47,8 @@ impl Pages {
         ensures paged { IsPaged self.new }
         ensures lines { lines_of self.new ≡ lines_of self.old }
         ensures room { OnOk result (HasRoom self.new n) }
-        ensures few { OnOk result (vec_len self.new.empty ≤ min n (vec_len self.old.pages + n / 128)) }
+        ensures few { OnOk result (vec_len self.new.empty ≤
+            min n (vec_len self.old.pages + n / 128)) }
         ensures kept { OnErr result ((m : ℕ) → HasRoom self.old m → HasRoom self.new m) }
     {
         let wanted = most_splits(self.pages.len(), n);
@@ -141,7 +142,8 @@ impl Pages {
         ensures index { spare self.new.index ≡ spare self.old.index }
         ensures begun { 0 < vec_len self.new.pages }
         ensures empty { vec_len self.old.empty ≤ vec_len self.new.empty + 1 }
-        ensures crowding { crowding self.new.pages.items + 128 * vec_len self.old.empty ≤ crowding self.old.pages.items + 128 * vec_len self.new.empty }
+        ensures crowding { crowding self.new.pages.items + 128 * vec_len self.old.empty ≤
+            crowding self.old.pages.items + 128 * vec_len self.new.empty }
     {
         let number = self.page_of(anchor);
         if !self.pages[number].is_full() {
@@ -184,7 +186,9 @@ impl Pages {
         ensures lines { lines_of self.new ≡ lines_of self.old }
         ensures number { result ≡ length self.old.pages.items }
         ensures pages { self.new.pages.items ≡ halved self.old.pages.items number }
-        ensures sequence { self.new.sequence.items ≡ after_first (λ n. nat_eq n number) (length self.old.pages.items) self.old.sequence.items }
+        ensures sequence { self.new.sequence.items ≡
+            after_first (λ n. nat_eq n number) (length self.old.pages.items)
+            self.old.sequence.items }
         ensures first { length (lines_on self.new.pages.items number) < 256 }
         ensures second { length (lines_on self.new.pages.items result) < 256 }
         ensures crowding { crowding self.new.pages.items + 128 ≡ crowding self.old.pages.items }
@@ -304,7 +308,8 @@ fn add_lines(walked: &mut LineNos, lines: &[LineNo]) -> Result<(), Memory>
 
 // Gives each line of the index that is among some lines a new page.
 fn move_lines(index: &mut Index, lines: &[LineNo], number: usize)
-    ensures lines { (q : ℕ) → get nat_eq index.new q ≡ moved number (has_line q lines.now) (get nat_eq index.old q) }
+    ensures lines { (q : ℕ) → get nat_eq index.new q ≡
+        moved number (has_line q lines.now) (get nat_eq index.old q) }
     ensures spare { spare index.new ≡ spare index.old }
 {
     'lines: for line in lines {
@@ -314,7 +319,8 @@ fn move_lines(index: &mut Index, lines: &[LineNo], number: usize)
 
 // Gives a line a new page, if it is in the index.
 fn move_line(index: &mut Index, line: LineNo, number: usize)
-    ensures lines { (q : ℕ) → get nat_eq index.new q ≡ moved number (nat_eq line q) (get nat_eq index.old q) }
+    ensures lines { (q : ℕ) → get nat_eq index.new q ≡
+        moved number (nat_eq line q) (get nat_eq index.old q) }
     ensures spare { spare index.new ≡ spare index.old }
 {
     if let Some(page) = index.get_mut(&line) {
@@ -324,7 +330,8 @@ fn move_line(index: &mut Index, line: LineNo, number: usize)
 
 // The place behind a page in the sequence.
 fn place_of(sequence: &[usize], number: usize) -> usize
-    ensures place { (next : ℕ) → insert sequence.now result next ≡ after_first (λ n. nat_eq n number) next sequence.now }
+    ensures place { (next : ℕ) → insert sequence.now result next ≡
+        after_first (λ n. nat_eq n number) next sequence.now }
     ensures within { result ≤ length sequence.now }
 {
     match find(sequence, number) {

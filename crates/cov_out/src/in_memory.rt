@@ -67,7 +67,8 @@ impl MemoryTrees {
 
     // Adds the row of a directory, or of a file where there are bytes.
     fn add(&mut self, path: &[u8], bytes: Option<&[u8]>) -> Result<(), Failed>
-        ensures ok { OnOk result (Adds (out_row path.now (option_map (λ b. b.now) bytes.entry)) self.old self.new) }
+        ensures ok { OnOk result (Adds (out_row path.now (option_map (λ b. b.now) bytes.entry))
+            self.old self.new) }
         ensures err { OnErr result (FailsToAdd self.old self.new) }
         ensures cause { HasCause self.old.faults self.new.faults result }
     {
@@ -92,7 +93,8 @@ impl Trees for MemoryTrees {
 
     fn make_dir(&mut self, path: &[u8]) -> Result<(), Failed>
         // As all trees.
-        ensures row { OnOk result (AddsRow (dir_row path.now) (Some self.old.rows) (Some self.new.rows)) }
+        ensures row { OnOk result (AddsRow (dir_row path.now) (Some self.old.rows)
+            (Some self.new.rows)) }
         ensures none { OnErr result (Some self.new.rows ≡ Some self.old.rows) }
         ensures cause { HasCause self.old.faults self.new.faults result }
 
@@ -105,7 +107,8 @@ impl Trees for MemoryTrees {
 
     fn put_file(&mut self, path: &[u8], bytes: &[u8]) -> Result<(), Failed>
         // As all trees.
-        ensures row { OnOk result (AddsRow (file_row path.now bytes.now) (Some self.old.rows) (Some self.new.rows)) }
+        ensures row { OnOk result (AddsRow (file_row path.now bytes.now) (Some self.old.rows)
+            (Some self.new.rows)) }
         ensures none { OnErr result (Some self.new.rows ≡ Some self.old.rows) }
         ensures cause { HasCause self.old.faults self.new.faults result }
 
@@ -118,7 +121,8 @@ impl Trees for MemoryTrees {
 }
 
 fn push_row(rows: &mut OutRows, path: &[u8], bytes: Option<&[u8]>) -> Result<(), Memory>
-    ensures ok { OnOk result (rows.new ≡ rows.old ++ out_row path.now (option_map (λ b. b.now) bytes.entry) ∷ []) }
+    ensures ok { OnOk result (rows.new ≡
+        rows.old ++ out_row path.now (option_map (λ b. b.now) bytes.entry) ∷ []) }
     ensures err { OnErr result (rows.new ≡ rows.old) }
 {
     let row = row(rows.allocator(), path, bytes)?;

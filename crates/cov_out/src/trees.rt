@@ -23,7 +23,8 @@ pub trait Trees {
 
     /// Writes a file of these bytes.
     fn put_file(&mut self, path: &[u8], bytes: &[u8]) -> Result<(), Failed>
-        ensures row { OnOk result (AddsRow (file_row path.now bytes.now) (rows self.old) (rows self.new)) }
+        ensures row { OnOk result (AddsRow (file_row path.now bytes.now) (rows self.old)
+            (rows self.new)) }
         ensures none { OnErr result (rows self.new ≡ rows self.old) }
         ensures cause { HasCause (faults self.old) (faults self.new) result };
 }

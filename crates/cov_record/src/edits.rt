@@ -85,7 +85,7 @@ pub(crate) fn take_text(alloc: Global, ahead: &mut Ahead<'_>) -> Result<Text, Fa
     if !is_line_text(bytes) {
         return Err(MemoryOr::Refused(NotARecord));
     }
-    match Text::from_slice(alloc, bytes) {
+    match Text::shared(alloc, bytes) {
         Ok(text) => Ok(text),
         Err(_) => Err(MemoryOr::Memory),
     }
@@ -199,7 +199,8 @@ pub(crate) fn take_edits(alloc: Global, ahead: &mut Ahead<'_>, count: u32) -> Re
 }
 
 fn fill(alloc: Global, ahead: &mut Ahead<'_>, edits: &mut Edits, count: u32) -> Option<Fault>
-    ensures { EndsReading (joined edits.old (front_edits count ahead.old)) edits.new result ahead.new }
+    ensures { EndsReading (joined edits.old (front_edits count ahead.old)) edits.new
+        result ahead.new }
 {
     for read in 0..count {
         if let Some(fault) = take_one(alloc, ahead, edits) {

@@ -175,7 +175,8 @@ fn put(alloc: Global, stack: &mut Vec<Tree>, sign: Sign) -> Result<(), Memory>
 
 // All parts take those that they stand over, from the last.
 fn put_all(alloc: Global, stack: &mut Vec<Tree>, signs: &mut Vec<Sign>) -> Result<(), Memory>
-    ensures { OnOk result (reverse stack.new.items ≡ pushed signs.old.items (reverse stack.old.items)) }
+    ensures { OnOk result (reverse stack.new.items ≡
+        pushed signs.old.items (reverse stack.old.items)) }
 {
     'signs: while let Some(sign) = signs.pop() {
         put(alloc, stack, sign)?;

@@ -94,11 +94,19 @@ impl Model for Rules {
     ghost coded = { Prim.hlevel (codes, formula_code coded_ℕ) };
 
     ghost view = { λ r. record {
-      standing = record { constraints = r.constraints.items; preferences = r.preferences.items; defaults = r.defaults.items; conjunction = r.conjunction };
-      spare = min (vec_capacity r.constraints - vec_len r.constraints) (min (vec_capacity r.preferences - vec_len r.preferences) (vec_capacity r.defaults - vec_len r.defaults));
+      standing = record {
+        constraints = r.constraints.items;
+        preferences = r.preferences.items;
+        defaults = r.defaults.items;
+        conjunction = r.conjunction;
+      };
+      spare = min (vec_capacity r.constraints - vec_len r.constraints)
+          (min (vec_capacity r.preferences - vec_len r.preferences)
+          (vec_capacity r.defaults - vec_len r.defaults));
     } };
 
-    ghost invariant = { λ r. (vec_len r.constraints ≤ LIMITS.rules) × (vec_len r.preferences ≤ LIMITS.rules) × (vec_len r.defaults ≤ LIMITS.rules) };
+    ghost invariant = { λ r. (vec_len r.constraints ≤ LIMITS.rules) ×
+        (vec_len r.preferences ≤ LIMITS.rules) × (vec_len r.defaults ≤ LIMITS.rules) };
 }
 
 impl Rules {
@@ -207,9 +215,11 @@ impl Rules {
         ensures number { result ≡ count_of rule self.old.standing + 1 }
         ensures with_rule { self.new.standing ≡ with_rule plan rule at self.old.standing }
         ensures spare { self.old.spare ≤ self.new.spare + 1 }
-        ensures holds { (ts : List Triple) → Holds ts self.old.standing → Plans ts self.old.standing rule plan → Holds ts self.new.standing }
+        ensures holds { (ts : List Triple) → Holds ts self.old.standing →
+            Plans ts self.old.standing rule plan → Holds ts self.new.standing }
         ensures follows { Follows rule at self.old.standing self.new.standing }
-        ensures below { (count : ℕ) → AreBelow count self.old.standing → reach_of_rule rule ≤ count → AreBelow count self.new.standing }
+        ensures below { (count : ℕ) → AreBelow count self.old.standing →
+            reach_of_rule rule ≤ count → AreBelow count self.new.standing }
     {
         match rule {
             Rule::Constraint(expr) => self.install_constraint(plan, expr, at),
@@ -222,29 +232,27 @@ impl Rules {
         requires few { length self.old.standing.constraints < LIMITS.rules }
         requires room { 0 < self.old.spare }
         ensures number { result ≡ length self.old.standing.constraints + 1 }
-        ensures with_rule { self.new.standing ≡ with_rule plan (a_constraint expr) at self.old.standing }
+        ensures with_rule { self.new.standing ≡
+            with_rule plan (a_constraint expr) at self.old.standing }
         ensures spare { self.old.spare ≤ self.new.spare + 1 }
     {
         let node = plan.node;
         self.conjunction = plan.conjunction;
-        match self.constraints.push(Installed { expr, node, at }) {
-            Ok(()) => self.constraints.len() as u32,
-            Err(_) => unreachable!(),
-        }
+        self.constraints.push_reserved(Installed { expr, node, at });
+        self.constraints.len() as u32
     }
 
     fn install_preference(&mut self, plan: RulePlan, expr: Expr, at: Position) -> u32
         requires few { length self.old.standing.preferences < LIMITS.rules }
         requires room { 0 < self.old.spare }
         ensures number { result ≡ length self.old.standing.preferences + 1 }
-        ensures with_rule { self.new.standing ≡ with_rule plan (a_preference expr) at self.old.standing }
+        ensures with_rule { self.new.standing ≡
+            with_rule plan (a_preference expr) at self.old.standing }
         ensures spare { self.old.spare ≤ self.new.spare + 1 }
     {
         let node = plan.node;
-        match self.preferences.push(Installed { expr, node, at }) {
-            Ok(()) => self.preferences.len() as u32,
-            Err(_) => unreachable!(),
-        }
+        self.preferences.push_reserved(Installed { expr, node, at });
+        self.preferences.len() as u32
     }
 
     fn install_default(&mut self, option: OptionId, on: bool) -> u32
@@ -254,10 +262,8 @@ impl Rules {
         ensures with_default { self.new.standing ≡ with_default option on self.old.standing }
         ensures spare { self.old.spare ≤ self.new.spare + 1 }
     {
-        match self.defaults.push(Fallback { option, on }) {
-            Ok(()) => self.defaults.len() as u32,
-            Err(_) => unreachable!(),
-        }
+        self.defaults.push_reserved(Fallback { option, on });
+        self.defaults.len() as u32
     }
 
     /// Completes a partial choice of `count` options: of the valid choices that agree with it each preference in order
@@ -273,8 +279,10 @@ impl Rules {
         requires below { AreBelow count self.now.standing }
         requires bound { list_all (λ b. nat_lt b.0 count) partial.now ≡ true }
         ensures extends { Extends table.old table.new }
-        ensures complete { IfOk result (λ choice. completed count self.now.standing partial.now ≡ Complete choice) }
-        ensures refused { IfErr result (IsRefusalBy (completed count self.now.standing partial.now)) }
+        ensures complete { IfOk result (λ choice.
+            completed count self.now.standing partial.now ≡ Complete choice) }
+        ensures refused { IfErr result (IsRefusalBy
+            (completed count self.now.standing partial.now)) }
     {
         let agreeing = match Left::agreeing(table, partial.bindings(), count) {
             Ok(left) => left,
@@ -344,8 +352,11 @@ impl Rules {
     /// Names the least of the constraints among the first `at` commands that is false on a choice. It takes no memory.
     pub fn valid(&self, choice: Choice, at: Position) -> Result<(), Invalid>
         requires { reach_of (expressions_at at self.now.standing.constraints) ≤ length choice }
-        ensures ok { OnOk result (is_valid (expressions_at at self.now.standing.constraints) choice ≡ true) }
-        ensures err { IfErr result (λ invalid. first_false (expressions_at at self.now.standing.constraints) choice ≡ Some invalid.rule) }
+        ensures ok { OnOk result (is_valid (expressions_at at self.now.standing.constraints)
+            choice ≡ true) }
+        ensures err { IfErr result (λ invalid.
+            first_false (expressions_at at self.now.standing.constraints) choice ≡
+            Some invalid.rule) }
     {
         match first_broken(self.constraints.as_slice(), choice, at) {
             None => Ok(()),
@@ -359,7 +370,10 @@ fn conjoined(table: &mut Table, all: Node, expr: &Expr) -> Result<RulePlan, Memo
     requires { all < diagram_size table.old }
     ensures extends { Extends table.old table.new }
     ensures node { IfOk result (λ plan. IsNodeOf table.new plan.node expr.now) }
-    ensures conjunction { IfOk result (λ plan. Stands table.new plan.conjunction 0 (max (span table.old all) (reach expr.now)) (λ c. value_in table.old all c && value expr.now c)) }
+    ensures conjunction { IfOk result (λ plan.
+        Stands table.new plan.conjunction 0
+        (max (span table.old all) (reach expr.now))
+        (λ c. value_in table.old all c && value expr.now c)) }
 {
     let node = compile(table, expr)?;
     let conjunction = table.and(all, node, &mut Steps::<Uncounted>::new())?;
@@ -370,8 +384,12 @@ fn conjoined(table: &mut Table, all: Node, expr: &Expr) -> Result<RulePlan, Memo
 fn judged(table: &Table, plan: RulePlan) -> Result<RulePlan, RuleFault>
     requires { plan.conjunction < diagram_size table.now }
     ensures ok { IfOk result (λ same. same ≡ plan) }
-    ensures met { OnOk result (((c : List Bool) → length c ≡ CHOICE_WIDTH → value_in table.now plan.conjunction c ≡ false) → ⊥) }
-    ensures err { IfErr result (λ fault. (fault ≡ no_variant_left) × ((c : List Bool) → length c ≡ CHOICE_WIDTH → value_in table.now plan.conjunction c ≡ false)) }
+    ensures met { OnOk result (((c : List Bool) → length c ≡ CHOICE_WIDTH →
+        value_in table.now plan.conjunction c ≡ false) → ⊥) }
+    ensures err { IfErr result (λ fault.
+        (fault ≡ no_variant_left) ×
+        ((c : List Bool) → length c ≡ CHOICE_WIDTH →
+        value_in table.now plan.conjunction c ≡ false)) }
 {
     if table.is_false(plan.conjunction) {
         return Err(RuleFault::NoVariantLeft);

@@ -168,7 +168,7 @@ pub(crate) fn read_expression(alloc: Global, unread: Unread) -> Result<RawExpr, 
     }
 }
 
-/// Reads a text, to the line's end.
+/// Reads a text, to the line's end. Whoever keeps it shares its bytes.
 pub(crate) fn read_text(alloc: Global, unread: Unread) -> Result<Text, LineSyntax>
     ensures { IsOrMemory is_memory (text unread.entry) result }
 {
@@ -176,5 +176,5 @@ pub(crate) fn read_text(alloc: Global, unread: Unread) -> Result<Text, LineSynta
     if !is_line_text(bytes) {
         return Err(LineSyntax::Syntax { at });
     }
-    Ok(Text::from_slice(alloc, bytes)?)
+    Ok(Text::shared(alloc, bytes)?)
 }

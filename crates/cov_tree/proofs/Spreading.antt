@@ -8,7 +8,7 @@ use Rattle.std.proofs.lemmas.Bool.{or_parts, eqb-true}
 use Rattle.cov_base.specs.declared.number.Kind.{Kind}
 use Rattle.cov_base.specs.Rows.{Row, row_of, has_node, AreDistinct, AreOnce}
 use Rattle.cov_base.specs.Faults.{is_reached}
-use Rattle.cov_base.proofs.CallerLemmas.{all-map, all-append, up, down, in_time, reached_in_time, both_ways, own_rows}
+use Rattle.cov_base.proofs.CallerLemmas.{all-map, all-append, up, down, in_time, ways_are_short, both_ways, own_rows}
 use Rattle.cov_base.specs.Reaching.{Reaches, root, below}
 use Rattle.cov_dd.specs.declared.triple.Triple.{Triple}
 use Rattle.cov_dd.specs.Diagrams.{value_in}
@@ -124,13 +124,13 @@ step_more rows u v b k m h (suc x) is =
 -- after as many rounds as there are rows the set is right
 pub right_in_time : (rows : List Row) (n : ℕ) (v : ℕ → Bool) → length rows ≤ n → Holds rows n v → AreReached rows v → (x : ℕ) → v x ≡ is_reached rows (length rows) x
 right_in_time rows n v len h a x =
-    both_ways (v x) (is_reached rows (length rows) x) (λ e. (reached_in_time rows x).0 (a x e)) (λ e. h x (in_time n rows len (length rows) x e))
+    both_ways (v x) (is_reached rows (length rows) x) (λ e. (ways_are_short rows x).0 (a x e)) (λ e. h x (in_time n rows len (length rows) x e))
 
 -- and it is after a round that changes nothing
 pub right_at_rest : (rows : List Row) (u v : ℕ → Bool) (k : ℕ) → Holds rows k u → AreReached rows u → Rounds rows rows u v false → (x : ℕ) → v x ≡ is_reached rows (length rows) x
 right_at_rest rows u v k h a m x =
     m.same refl x
-    ∙ both_ways (u x) (is_reached rows (length rows) x) (λ e. (reached_in_time rows x).0 (a x e)) (λ e. closed_all rows u (h 0 refl) (m.closed refl) x ((reached_in_time rows x).1 e))
+    ∙ both_ways (u x) (is_reached rows (length rows) x) (λ e. (ways_are_short rows x).0 (a x e)) (λ e. closed_all rows u (h 0 refl) (m.closed refl) x ((ways_are_short rows x).1 e))
 
 -- the rows of one node among all
 option_or-none : {X : Type 0} (o : Option X) → option_or o None ≡ o

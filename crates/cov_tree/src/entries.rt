@@ -56,21 +56,30 @@ impl Model for Entries {
 
     ghost Value = { Dated };
 
-    ghost view = { λ e. record { from = e.from; entries = e.entries.items; room = min (vec_capacity e.entries - vec_len e.entries) (spare e.index); noted = e.noted.nodes.entries } };
+    ghost view = { λ e. record {
+      from = e.from;
+      entries = e.entries.items;
+      room = min (vec_capacity e.entries - vec_len e.entries) (spare e.index);
+      noted = e.noted.nodes.entries;
+    } };
 
-    ghost invariant = { λ e. AreDistinct (0 ∷ nodes_of (map newest_entry e.entries.items)) × AreUntil e.from e.entries.items × IsIndex e.index.entries e.entries.items × AreAllNoted e.noted.nodes.entries e.entries.items };
+    ghost invariant = { λ e. AreDistinct (0 ∷ nodes_of (map newest_entry e.entries.items)) ×
+        AreUntil e.from e.entries.items × IsIndex e.index.entries e.entries.items ×
+        AreAllNoted e.noted.nodes.entries e.entries.items };
 }
 
 impl Entries {
     /// The root alone, from the first position on.
     pub fn new(alloc: Global) -> Result<Entries, Memory>
         ensures from { IfOk result (λ entries. entries.from ≡ 0) }
-        ensures rows { IfOk result (λ entries. (table : List Triple) (c : List Bool) (p : ℕ) → rows_at table c p entries ≡ []) }
+        ensures rows { IfOk result (λ entries. (table : List Triple) (c : List Bool) (p : ℕ) →
+            rows_at table c p entries ≡ []) }
         ensures nodes { IfOk result (λ entries. nodes_in entries ≡ []) }
         ensures kinds { IfOk result (λ entries. kinds_in entries ≡ []) }
         ensures within { IfOk result (λ entries. (table : List Triple) → AreNodesAt table entries) }
         ensures once { IfOk result (λ entries. (table : List Triple) → AreOnceAt table entries) }
-        ensures options { IfOk result (λ entries. (table : List Triple) (count : ℕ) → AreUnreadAt table entries count) }
+        ensures options { IfOk result (λ entries. (table : List Triple) (count : ℕ) →
+            AreUnreadAt table entries count) }
     {
         Ok(Entries {
             from: Position::new(0),
@@ -87,8 +96,12 @@ impl Entries {
         table: &Table,
         choice: Choice,
     ) -> Result<NodeRows, Memory>
-        ensures planned { IfOk result (λ rows. rows ≡ rows_with table.now choice plan.now self.now) }
-        ensures rows { (changes : List (RowChange × ℕ)) (p : ℕ) → Makes table.now self.now plan.now changes → self.now.from ≤ p → IfOk result (λ rows. rows ≡ all_changed table.now choice changes (rows_at table.now choice p self.now)) }
+        ensures planned { IfOk result (λ rows.
+            rows ≡ rows_with table.now choice plan.now self.now) }
+        ensures rows { (changes : List (RowChange × ℕ)) (p : ℕ) →
+            Makes table.now self.now plan.now changes → self.now.from ≤ p →
+            IfOk result (λ rows.
+            rows ≡ all_changed table.now choice changes (rows_at table.now choice p self.now)) }
     {
         let alloc = *self.entries.allocator();
         let entries = self.standing(plan)?;
@@ -104,9 +117,21 @@ impl Entries {
         requires visible { AreNodesWith table.old plan.now self.now }
         requires once { AreOnceWith table.old plan.now self.now }
         ensures extends { Extends table.old table.new }
-        ensures planned { IfOk result (λ r. IsNode table.new r (λ c. value_in table.old within c && is_some (fault_of (rows_with table.old c plan.now self.now)))) }
-        ensures faults { (changes : List (RowChange × ℕ)) (p : ℕ) → Makes table.old self.now plan.now changes → self.now.from ≤ p → IfOk result (λ r. IsNode table.new r (λ c. value_in table.old within c && is_some (fault_of (all_changed table.old c changes (rows_at table.old c p self.now))))) }
-        ensures options { (count : ℕ) → span table.old within ≤ count → AreUnreadWith table.old plan.now self.now count → IfOk result (λ r. span table.new r ≤ count) }
+        ensures planned { IfOk result (λ r.
+            IsNode table.new
+            r
+            (λ c. value_in table.old within c && is_some
+            (fault_of (rows_with table.old c plan.now self.now)))) }
+        ensures faults { (changes : List (RowChange × ℕ)) (p : ℕ) →
+            Makes table.old self.now plan.now changes → self.now.from ≤ p →
+            IfOk result (λ r.
+            IsNode table.new
+            r
+            (λ c. value_in table.old within c && is_some
+            (fault_of (all_changed table.old c changes (rows_at table.old c p self.now))))) }
+        ensures options { (count : ℕ) → span table.old within ≤ count →
+            AreUnreadWith table.old plan.now self.now count →
+            IfOk result (λ r. span table.new r ≤ count) }
     {
         let alloc = *self.entries.allocator();
         let entries = self.standing(plan)?;
@@ -133,15 +158,22 @@ impl Entries {
     pub fn install(&mut self, plan: EntryPlan, at: Position)
         requires later { self.old.from ≤ at }
         requires room { HasRoom plan self.old }
-        ensures planned { (table : List Triple) (c : List Bool) (p : ℕ) → at ≤ p → rows_at table c p self.new ≡ rows_with table c plan self.old }
-        ensures rows { (table : List Triple) (changes : List (RowChange × ℕ)) → Makes table self.old plan changes → (c : List Bool) (p : ℕ) → at ≤ p → rows_at table c p self.new ≡ all_changed table c changes (rows_at table c p self.old) }
-        ensures before { (table : List Triple) (c : List Bool) (p : ℕ) → p < at → rows_at table c p self.new ≡ rows_at table c p self.old }
+        ensures planned { (table : List Triple) (c : List Bool) (p : ℕ) → at ≤ p →
+            rows_at table c p self.new ≡ rows_with table c plan self.old }
+        ensures rows { (table : List Triple) (changes : List (RowChange × ℕ)) →
+            Makes table self.old plan changes → (c : List Bool) (p : ℕ) → at ≤ p →
+            rows_at table c p self.new ≡ all_changed table c changes (rows_at table c p self.old) }
+        ensures before { (table : List Triple) (c : List Bool) (p : ℕ) → p < at →
+            rows_at table c p self.new ≡ rows_at table c p self.old }
         ensures from { self.new.from ≤ at }
         ensures nodes { nodes_in self.new ≡ nodes_with plan self.old }
         ensures kinds { kinds_in self.new ≡ kinds_with plan self.old }
-        ensures within { (table : List Triple) → AreNodesAt table self.old → AreNodesWith table plan self.old → AreNodesAt table self.new }
-        ensures once { (table : List Triple) → AreOnceAt table self.old → AreOnceWith table plan self.old → AreOnceAt table self.new }
-        ensures options { (table : List Triple) (count : ℕ) → AreUnreadAt table self.old count → AreUnreadWith table plan self.old count → AreUnreadAt table self.new count }
+        ensures within { (table : List Triple) → AreNodesAt table self.old →
+            AreNodesWith table plan self.old → AreNodesAt table self.new }
+        ensures once { (table : List Triple) → AreOnceAt table self.old →
+            AreOnceWith table plan self.old → AreOnceAt table self.new }
+        ensures options { (table : List Triple) (count : ℕ) → AreUnreadAt table self.old count →
+            AreUnreadWith table plan self.old count → AreUnreadAt table self.new count }
     {
         change_all(&mut self.entries, &mut self.index, plan.into_entries(), at);
         self.from = at;
@@ -187,7 +219,9 @@ impl Entries {
         dir: NodeNo,
         name: &Name,
     ) -> Option<NodeNo>
-        ensures { result ≡ option_map (λ r. r.node) (find (λ r. nat_eq r.parent dir && bytes_eq r.name name.now) (rows_at table.now choice at self.now)) }
+        ensures { result ≡ option_map (λ r. r.node)
+            (find (λ r. nat_eq r.parent dir && bytes_eq r.name name.now)
+            (rows_at table.now choice at self.now)) }
     {
         let noted = self.noted.at(dir, name);
         match first_child(
@@ -207,7 +241,8 @@ impl Entries {
 
     /// The kind of a node that is there on a choice at a position, None where it isn't. It looks at no other node.
     pub fn kind_at(&self, table: &Table, choice: Choice, at: Position, node: NodeNo) -> Option<Kind>
-        ensures { result ≡ option_map (λ r. r.kind) (row_of (rows_at table.now choice at self.now) node) }
+        ensures { result ≡ option_map (λ r. r.kind)
+            (row_of (rows_at table.now choice at self.now) node) }
     {
         match place_of(&self.entries, &self.index, node) {
             Some(index) => kind_seen(&self.entries[index], table, choice, at),
@@ -217,7 +252,8 @@ impl Entries {
 
     // The nodes as they would be with a plan installed. Their places are lent, so it takes memory for the nodes alone.
     fn standing<'a>(&'a self, plan: &'a EntryPlan) -> Result<Vec<Standing<'a>>, Memory>
-        ensures nodes { IfOk result (λ list. list.items ≡ planned plan.now (newest_nodes self.now)) }
+        ensures nodes { IfOk result (λ list.
+            list.items ≡ planned plan.now (newest_nodes self.now)) }
         ensures distinct { AreDistinct (0 ∷ nodes_of (planned plan.now (newest_nodes self.now))) }
     {
         let alloc = *self.entries.allocator();
@@ -276,7 +312,8 @@ fn reserve_change(entries: &mut Vec<DatedEntry>, index: &Index, node: NodeNo) ->
     requires indexed { IsIndex index.now.entries entries.old.items }
     ensures same { map with_no_room entries.new.items ≡ map with_no_room entries.old.items }
     ensures room { OnOk result (AllByRecursion (HasRoomFor node) entries.new.items) }
-    ensures kept { OnOk result ((other : ℕ) → AllByRecursion (HasRoomFor other) entries.old.items → AllByRecursion (HasRoomFor other) entries.new.items) }
+    ensures kept { OnOk result ((other : ℕ) → AllByRecursion (HasRoomFor other) entries.old.items →
+        AllByRecursion (HasRoomFor other) entries.new.items) }
 {
     match place_of(entries, index, node) {
         Some(at) => entries[at].reserve(),
@@ -312,8 +349,11 @@ fn change(entries: &mut Vec<DatedEntry>, index: &mut Index, entry: Entry, at: Po
     ensures changed { AreChanged at (entry ∷ []) entries.old.items entries.new.items }
     ensures indexed { IsIndex index.new.entries entries.new.items }
     ensures spare { spare index.old ≤ spare index.new + 1 }
-    ensures made { vec_capacity entries.old - vec_len entries.old ≤ vec_capacity entries.new - vec_len entries.new + 1 }
-    ensures kept { (other : ℕ) → nat_eq entry.node other ≡ false → AllByRecursion (HasRoomFor other) entries.old.items → AllByRecursion (HasRoomFor other) entries.new.items }
+    ensures made { vec_capacity entries.old - vec_len entries.old ≤
+        vec_capacity entries.new - vec_len entries.new + 1 }
+    ensures kept { (other : ℕ) → nat_eq entry.node other ≡ false →
+        AllByRecursion (HasRoomFor other) entries.old.items →
+        AllByRecursion (HasRoomFor other) entries.new.items }
 {
     match place_of(entries, index, entry.node) {
         Some(place) => entries[place].set(entry.places, at),
@@ -330,7 +370,8 @@ fn put(entries: &mut Vec<DatedEntry>, index: &mut Index, entry: Entry, at: Posit
     ensures put { IsPut at entry entries.old.items entries.new.items }
     ensures indexed { IsIndex index.new.entries entries.new.items }
     ensures spare { spare index.old ≤ spare index.new + 1 }
-    ensures made { vec_capacity entries.old - vec_len entries.old ≤ vec_capacity entries.new - vec_len entries.new + 1 }
+    ensures made { vec_capacity entries.old - vec_len entries.old ≤
+        vec_capacity entries.new - vec_len entries.new + 1 }
 {
     let alloc = *entries.allocator();
     note_place(index, entry.node, entries.len());
@@ -340,7 +381,8 @@ fn put(entries: &mut Vec<DatedEntry>, index: &mut Index, entry: Entry, at: Posit
 // Notes where a node stands that the index doesn't have.
 fn note_place(index: &mut Index, node: NodeNo, at: usize)
     requires spare { 0 < spare index.old }
-    ensures noted { (n : ℕ) → lookup (nat_eq n) index.new.entries ≡ (if nat_eq node n then Some at else lookup (nat_eq n) index.old.entries) }
+    ensures noted { (n : ℕ) → lookup (nat_eq n) index.new.entries ≡
+        (if nat_eq node n then Some at else lookup (nat_eq n) index.old.entries) }
     ensures spare { spare index.old ≤ spare index.new + 1 }
 {
     match index.insert(node, at) {
@@ -383,8 +425,10 @@ fn first_child(
 ) -> Option<usize>
     requires once { AreDistinct (nodes_of (map newest_entry entries.now)) }
     requires indexed { IsIndex index.now.entries entries.now }
-    requires noted { AllByRecursion (λ e. stands_in table.now choice dir name.now (entry_at at e).places ≡ true → has_node e.node nodes.now ≡ true) entries.now }
-    ensures place { result ≡ position (λ e. stands_in table.now choice dir name.now (entry_at at e).places) entries.now }
+    requires noted { AllByRecursion (λ e. stands_in table.now choice dir name.now
+        (entry_at at e).places ≡ true → has_node e.node nodes.now ≡ true) entries.now }
+    ensures place { result ≡ position (λ e. stands_in table.now choice dir name.now
+        (entry_at at e).places) entries.now }
 {
     let mut first = None;
     'nodes: for node in nodes {
@@ -407,7 +451,8 @@ fn child_of(
 ) -> Option<usize>
     requires once { AreDistinct (nodes_of (map newest_entry entries.now)) }
     requires indexed { IsIndex index.now.entries entries.now }
-    ensures { result ≡ position (λ e. nat_eq e.node node && stands_in table.now choice dir name.now (entry_at at e).places) entries.now }
+    ensures { result ≡ position (λ e. nat_eq e.node node && stands_in table.now choice dir name.now
+        (entry_at at e).places) entries.now }
 {
     let Some(place) = place_of(entries, index, node) else {
         return None;
@@ -440,7 +485,8 @@ fn stands_in(places: &[Place], table: &Table, choice: Choice, dir: NodeNo, name:
 
 // The kind of a node, if it is there on a choice at a position.
 fn kind_seen(entry: &DatedEntry, table: &Table, choice: Choice, at: Position) -> Option<Kind>
-    ensures { result ≡ (if is_seen table.now choice (entry_at at entry.now).places then Some entry.now.kind else None) }
+    ensures { result ≡ (if is_seen table.now choice (entry_at at entry.now).places
+        then Some entry.now.kind else None) }
 {
     if is_seen(entry.places_at(at), table, choice) {
         return Some(entry.kind);
@@ -463,7 +509,8 @@ fn rows_on(
     choice: Choice,
     at: Position,
 ) -> Result<NodeRows, Memory>
-    ensures { IfOk result (λ rows. rows ≡ rows_in table.now choice (map (entry_at at) entries.now)) }
+    ensures { IfOk result (λ rows. rows ≡
+        rows_in table.now choice (map (entry_at at) entries.now)) }
 {
     let mut rows = NodeRows::new(alloc);
     'entries: for entry in entries {
@@ -491,7 +538,8 @@ fn rows_of_all(
 ) -> Result<NodeRows, Memory>
     requires once { AreDistinct (nodes_of (map newest_entry entries.now)) }
     requires indexed { IsIndex index.now.entries entries.now }
-    ensures { IfOk result (λ rows. rows ≡ among nodes.now (rows_in table.now choice (map (entry_at at) entries.now))) }
+    ensures { IfOk result (λ rows. rows ≡
+        among nodes.now (rows_in table.now choice (map (entry_at at) entries.now))) }
 {
     let mut rows = NodeRows::new(alloc);
     'nodes: for node in nodes {
@@ -512,7 +560,9 @@ fn add_rows_of(
 ) -> Result<(), Memory>
     requires once { AreDistinct (nodes_of (map newest_entry entries.now)) }
     requires indexed { IsIndex index.now.entries entries.now }
-    ensures { OnOk result (rows.new ≡ rows.old ++ filter (λ r. nat_eq r.node node) (rows_in table.now choice (map (entry_at at) entries.now))) }
+    ensures { OnOk result (rows.new ≡ rows.old ++
+        filter (λ r. nat_eq r.node node)
+        (rows_in table.now choice (map (entry_at at) entries.now))) }
 {
     match place_of(entries, index, node) {
         Some(place) => {

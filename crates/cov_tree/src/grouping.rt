@@ -48,8 +48,12 @@ impl<'a> Groups<'a> {
 
     // Sets the choices on which a row is at a place.
     fn put(&mut self, place: &'a Place, node: Node) -> Result<(), Memory>
-        ensures ok { OnOk result ((parent : ℕ) (name : List ℕ) → joined_at self.new.nodes.entries parent name ≡ (if is_one_place parent name place.now.parent place.now.name then node else joined_at self.old.nodes.entries parent name)) }
-        ensures within { OnOk result ((table : _) → node < diagram_size table → GroupsWithin table self.old.nodes.entries → GroupsWithin table self.new.nodes.entries) }
+        ensures ok { OnOk result ((parent : ℕ) (name : List ℕ) →
+            joined_at self.new.nodes.entries parent name ≡
+            (if is_one_place parent name place.now.parent place.now.name then node
+            else joined_at self.old.nodes.entries parent name)) }
+        ensures within { OnOk result ((table : _) → node < diagram_size table →
+            GroupsWithin table self.old.nodes.entries → GroupsWithin table self.new.nodes.entries) }
     {
         self.nodes.reserve(1)?;
         match self.nodes.insert(key_of(place), node) {
@@ -77,7 +81,8 @@ pub(crate) fn clashes(
 ) -> Result<Node, Memory>
     requires within { AllAreWithin table.old entries.now }
     ensures extends { Extends table.old table.new }
-    ensures ok { IfOk result (λ r. IsNode table.new r (λ c. has_clash (rows_in table.old c entries.now))) }
+    ensures ok { IfOk result (λ r. IsNode table.new
+        r (λ c. has_clash (rows_in table.old c entries.now))) }
 {
     let mut groups = Groups::new(alloc);
     let mut clash = FALSE;
@@ -100,7 +105,11 @@ fn add_entry<'a>(
     ensures extends { Extends table.old table.new }
     ensures groups { IfOk result (λ r. GroupsWithin table.new groups.new.nodes.entries) }
     ensures clash { IfOk result (λ r. r < diagram_size table.new) }
-    ensures ok { (rows : List Bool → List Row) → IsClash table.old groups.old.nodes.entries clash rows → IfOk result (λ r. IsClash table.new groups.new.nodes.entries r (λ c. rows c ++ rows_of table.old c entry.now.node entry.now.kind entry.now.places)) }
+    ensures ok { (rows : List Bool → List Row) →
+        IsClash table.old groups.old.nodes.entries clash rows →
+        IfOk result (λ r.
+        IsClash table.new groups.new.nodes.entries
+        r (λ c. rows c ++ rows_of table.old c entry.now.node entry.now.kind entry.now.places)) }
 {
     let mut found = clash;
     'places: for place in entry.places() {
@@ -122,7 +131,11 @@ fn add_place<'a>(
     ensures extends { Extends table.old table.new }
     ensures groups { IfOk result (λ r. GroupsWithin table.new groups.new.nodes.entries) }
     ensures clash { IfOk result (λ r. r < diagram_size table.new) }
-    ensures ok { (rows : List Bool → List Row) (node : ℕ) (kind : _) → IsClash table.old groups.old.nodes.entries clash rows → IfOk result (λ r. IsClash table.new groups.new.nodes.entries r (λ c. rows c ++ rows_of table.old c node kind (place.now ∷ []))) }
+    ensures ok { (rows : List Bool → List Row) (node : ℕ) (kind : _) →
+        IsClash table.old groups.old.nodes.entries clash rows →
+        IfOk result (λ r.
+        IsClash table.new groups.new.nodes.entries
+        r (λ c. rows c ++ rows_of table.old c node kind (place.now ∷ []))) }
 {
     let joined = groups.joined(place);
     let found = or_both(table, clash, joined, place.vis)?;

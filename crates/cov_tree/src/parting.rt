@@ -27,9 +27,13 @@ pub(crate) fn parted(
 ) -> Result<Places, Memory>
     requires places { AreWithin table.old places.now }
     requires ambition { ambition < diagram_size table.old }
-    requires once { (c : List Bool) (node : ℕ) (kind : _) → length (rows_of table.old c node kind places.now) ≤ 1 }
+    requires once { (c : List Bool) (node : ℕ) (kind : _) →
+        length (rows_of table.old c node kind places.now) ≤ 1 }
     ensures extends { Extends table.old table.new }
-    ensures ok { IfOk result (λ made. Adds table.old table.new [] made (λ c. true) (λ c node kind. shifted table.old c node shift.now ambition (rows_of table.old c node kind places.now))) }
+    ensures ok { IfOk result (λ made. Adds table.old table.new []
+        made (λ c. true)
+        (λ c node kind. shifted table.old c node shift.now ambition
+        (rows_of table.old c node kind places.now))) }
 {
     let mut made = Places::new(alloc);
     'places: for place in places {
@@ -50,7 +54,10 @@ fn add_parts(
     requires place { place.now.vis < diagram_size table.old }
     requires ambition { ambition < diagram_size table.old }
     ensures extends { Extends table.old table.new }
-    ensures ok { OnOk result (Adds table.old table.new made.old made.new (λ c. value_in table.old place.now.vis c) (λ c node kind. shifted table.old c node shift.now ambition (rows_of table.old c node kind (place.now ∷ [])))) }
+    ensures ok { OnOk result (Adds table.old table.new made.old
+        made.new (λ c. value_in table.old place.now.vis c)
+        (λ c node kind. shifted table.old c node shift.now ambition
+        (rows_of table.old c node kind (place.now ∷ [])))) }
 {
     add_outside(table, made, place, ambition)?;
     add_shifted(table, made, place, ambition, shift)
@@ -68,7 +75,11 @@ fn add_shifted(
     requires place { place.now.vis < diagram_size table.old }
     requires ambition { ambition < diagram_size table.old }
     ensures extends { Extends table.old table.new }
-    ensures ok { OnOk result (Adds table.old table.new made.old made.new (λ c. value_in table.old place.now.vis c && value_in table.old ambition c) (λ c node kind. if value_in table.old ambition c then shifted table.old c node shift.now ambition (rows_of table.old c node kind (place.now ∷ [])) else [])) }
+    ensures ok { OnOk result (Adds table.old table.new made.old
+        made.new (λ c. value_in table.old place.now.vis c && value_in table.old ambition c)
+        (λ c node kind. if value_in table.old ambition c
+        then shifted table.old c node shift.now ambition
+        (rows_of table.old c node kind (place.now ∷ [])) else [])) }
 {
     match shift {
         Shift::Renamed(name) => { add_within(table, made, place.parent, name, place.vis, ambition) }
@@ -90,7 +101,10 @@ fn add_outside(
     requires place { place.now.vis < diagram_size table.old }
     requires ambition { ambition < diagram_size table.old }
     ensures extends { Extends table.old table.new }
-    ensures ok { OnOk result (Adds table.old table.new made.old made.new (λ c. value_in table.old place.now.vis c) (λ c node kind. if value_in table.old ambition c then [] else rows_of table.old c node kind (place.now ∷ []))) }
+    ensures ok { OnOk result (Adds table.old table.new made.old
+        made.new (λ c. value_in table.old place.now.vis c)
+        (λ c node kind. if value_in table.old ambition c then []
+        else rows_of table.old c node kind (place.now ∷ []))) }
 {
     let vis = table.without(place.vis, ambition)?;
     made.put(table, place.parent, &place.name, vis)
@@ -109,7 +123,10 @@ fn add_within(
     requires vis { vis < diagram_size table.old }
     requires ambition { ambition < diagram_size table.old }
     ensures extends { Extends table.old table.new }
-    ensures ok { OnOk result (Adds table.old table.new made.old made.new (λ c. value_in table.old vis c && value_in table.old ambition c) (λ c node kind. if value_in table.old ambition c then rows_of table.old c node kind (place_at parent name.now vis ∷ []) else [])) }
+    ensures ok { OnOk result (Adds table.old table.new made.old
+        made.new (λ c. value_in table.old vis c && value_in table.old ambition c)
+        (λ c node kind. if value_in table.old ambition c
+        then rows_of table.old c node kind (place_at parent name.now vis ∷ []) else [])) }
 {
     let vis = table.and(vis, ambition, &mut Steps::<Uncounted>::new())?;
     made.put(table, parent, name, vis)

@@ -41,19 +41,25 @@ impl Model for EntryPlan {
 
     ghost view = { λ p. p.entries.items };
 
-    ghost invariant = { λ p. AreDistinct (0 ∷ nodes_of p.entries.items) × (p.keys.keys ≡ nodes_of p.entries.items) };
+    ghost invariant = { λ p. AreDistinct (0 ∷ nodes_of p.entries.items) ×
+        (p.keys.keys ≡ nodes_of p.entries.items) };
 }
 
 impl EntryPlan {
     /// It makes no change.
     pub fn new(alloc: Global) -> EntryPlan
-        ensures rows { (table : List Triple) (entries : Dated) (c : List Bool) (p : ℕ) → entries.from ≤ p → rows_with table c result entries ≡ rows_at table c p entries }
-        ensures makes { (table : List Triple) (entries : Dated) → AreNodesAt table entries → Makes table entries result [] }
+        ensures rows { (table : List Triple) (entries : Dated) (c : List Bool) (p : ℕ) →
+            entries.from ≤ p → rows_with table c result entries ≡ rows_at table c p entries }
+        ensures makes { (table : List Triple) (entries : Dated) → AreNodesAt table entries →
+            Makes table entries result [] }
         ensures nodes { (entries : Dated) → nodes_with result entries ≡ nodes_in entries }
         ensures kinds { (entries : Dated) → kinds_with result entries ≡ kinds_in entries }
-        ensures within { (table : List Triple) (entries : Dated) → AreNodesAt table entries → AreNodesWith table result entries }
-        ensures once { (table : List Triple) (entries : Dated) → AreOnceAt table entries → AreOnceWith table result entries }
-        ensures options { (table : List Triple) (entries : Dated) (count : ℕ) → AreUnreadAt table entries count → AreUnreadWith table result entries count }
+        ensures within { (table : List Triple) (entries : Dated) → AreNodesAt table entries →
+            AreNodesWith table result entries }
+        ensures once { (table : List Triple) (entries : Dated) → AreOnceAt table entries →
+            AreOnceWith table result entries }
+        ensures options { (table : List Triple) (entries : Dated) (count : ℕ) →
+            AreUnreadAt table entries count → AreUnreadWith table result entries count }
     {
         EntryPlan {
             alloc,
@@ -76,7 +82,8 @@ impl EntryPlan {
         requires fresh { has_node node (0 ∷ nodes_with self.old entries.now) ≡ false }
         requires may { MayChange table.old entries.now self.old ambition }
         ensures stays { Stays table.old table.new entries.now self.old self.new ambition }
-        ensures ok { OnOk result (IsMade table.old table.new entries.now self.old self.new (Created node kind parent name.now) ambition) }
+        ensures ok { OnOk result (IsMade table.old table.new entries.now self.old self.new
+            (Created node kind parent name.now) ambition) }
         ensures err { OnErr result (IsAlike entries.now self.old self.new) }
     {
         // The row of a new node is seen on the ambition itself, so no node is made, and none has its number.
@@ -96,7 +103,8 @@ impl EntryPlan {
     ) -> Result<(), Memory>
         requires may { MayChange table.old entries.now self.old ambition }
         ensures stays { Stays table.old table.new entries.now self.old self.new ambition }
-        ensures ok { OnOk result (IsMade table.old table.new entries.now self.old self.new (Renamed node name.now) ambition) }
+        ensures ok { OnOk result (IsMade table.old table.new entries.now self.old self.new
+            (Renamed node name.now) ambition) }
         ensures err { OnErr result (IsAlike entries.now self.old self.new) }
     {
         let shift = Shift::Renamed(name.copy()?);
@@ -114,7 +122,8 @@ impl EntryPlan {
     ) -> Result<(), Memory>
         requires may { MayChange table.old entries.now self.old ambition }
         ensures stays { Stays table.old table.new entries.now self.old self.new ambition }
-        ensures ok { OnOk result (IsMade table.old table.new entries.now self.old self.new (Moved node parent) ambition) }
+        ensures ok { OnOk result (IsMade table.old table.new entries.now self.old self.new
+            (Moved node parent) ambition) }
         ensures err { OnErr result (IsAlike entries.now self.old self.new) }
     {
         self.shift(entries, table, node, &Shift::Moved(parent), ambition)
@@ -130,7 +139,8 @@ impl EntryPlan {
     ) -> Result<(), Memory>
         requires may { MayChange table.old entries.now self.old ambition }
         ensures stays { Stays table.old table.new entries.now self.old self.new ambition }
-        ensures ok { OnOk result (IsMade table.old table.new entries.now self.old self.new (Removed node) ambition) }
+        ensures ok { OnOk result (IsMade table.old table.new entries.now self.old self.new
+            (Removed node) ambition) }
         ensures err { OnErr result (IsAlike entries.now self.old self.new) }
     {
         self.shift(entries, table, node, &Shift::Removed, ambition)
@@ -147,7 +157,8 @@ impl EntryPlan {
     ) -> Result<(), Memory>
         requires may { MayChange table.old entries.now self.old ambition }
         ensures stays { Stays table.old table.new entries.now self.old self.new ambition }
-        ensures ok { OnOk result (IsMade table.old table.new entries.now self.old self.new (change_of node shift.now) ambition) }
+        ensures ok { OnOk result (IsMade table.old table.new entries.now self.old self.new
+            (change_of node shift.now) ambition) }
         ensures err { OnErr result (IsAlike entries.now self.old self.new) }
     {
         entries.stand_once();
@@ -159,8 +170,10 @@ impl EntryPlan {
 
     // Where a node stands in the plan, which takes it from the entries unless it has it. There is none where these have none.
     fn place_for(&mut self, entries: &Entries, node: NodeNo) -> Result<Option<usize>, Memory>
-        ensures same { planned self.new (newest_nodes entries.now) ≡ planned self.old (newest_nodes entries.now) }
-        ensures place { IfOk result (λ place. IsPlannedAt node place self.new (nodes_with self.old entries.now)) }
+        ensures same { planned self.new (newest_nodes entries.now) ≡
+            planned self.old (newest_nodes entries.now) }
+        ensures place { IfOk result (λ place.
+            IsPlannedAt node place self.new (nodes_with self.old entries.now)) }
     {
         if let Some(at) = self.place_of(node) {
             return Ok(Some(at));
@@ -189,7 +202,9 @@ impl EntryPlan {
         vis: Node,
     ) -> Result<(), Memory>
         requires fresh { has_node node (0 ∷ nodes_of self.old) ≡ false }
-        ensures ok { OnOk result (self.new ≡ self.old ++ record { node = node; kind = kind; places = place_at parent name.now vis ∷ [] } ∷ []) }
+        ensures ok { OnOk result (self.new ≡
+            self.old ++
+            record { node = node; kind = kind; places = place_at parent name.now vis ∷ [] } ∷ []) }
         ensures err { OnErr result (self.new ≡ self.old) }
     {
         let name = name.copy()?;
@@ -201,7 +216,8 @@ impl EntryPlan {
     // Adds a node that the plan doesn't have, and answers where it stands.
     fn add(&mut self, entry: Entry) -> Result<Option<usize>, Memory>
         requires fresh { has_node entry.node (0 ∷ nodes_of self.old) ≡ false }
-        ensures ok { IfOk result (λ at. (at ≡ Some (length self.old)) × (self.new ≡ self.old ++ entry ∷ [])) }
+        ensures ok { IfOk result (λ at. (at ≡ Some (length self.old)) ×
+            (self.new ≡ self.old ++ entry ∷ [])) }
         ensures err { OnErr result (self.new ≡ self.old) }
     {
         let at = self.entries.len();
@@ -249,7 +265,8 @@ fn shift_entry(
     requires entry { CanBeShifted table.old list.old.items at }
     requires ambition { ambition < diagram_size table.old }
     ensures extends { Extends table.old table.new }
-    ensures ok { OnOk result (IsShifted table.old table.new list.old.items list.new.items at shift.now ambition) }
+    ensures ok { OnOk result (IsShifted table.old table.new list.old.items list.new.items at
+        shift.now ambition) }
     ensures err { OnErr result (list.new.items ≡ list.old.items) }
 {
     let alloc = *list.allocator();

@@ -28,8 +28,13 @@ pub(crate) fn unsound(
     requires once { (c : List Bool) → AreOnce (rows_in table.old c entries.now) }
     requires distinct { AreDistinct (0 ∷ nodes_of entries.now) }
     ensures extends { Extends table.old table.new }
-    ensures ok { IfOk result (λ r. IsNode table.new r (λ c. value_in table.old within c && is_some (fault_of (rows_in table.old c entries.now)))) }
-    ensures options { (count : ℕ) → span table.old within ≤ count → AreUnread (λ c. rows_in table.old c entries.now) count → IfOk result (λ r. span table.new r ≤ count) }
+    ensures ok { IfOk result (λ r. IsNode table.new
+        r
+        (λ c. value_in table.old within c && is_some
+        (fault_of (rows_in table.old c entries.now)))) }
+    ensures options { (count : ℕ) → span table.old within ≤ count →
+        AreUnread (λ c. rows_in table.old c entries.now) count →
+        IfOk result (λ r. span table.new r ≤ count) }
 {
     let clash = clashes(table, alloc, entries)?;
     let lost = lost(table, alloc, entries)?;
@@ -45,7 +50,8 @@ fn lost(table: &mut Table, alloc: Global, entries: &[Standing<'_>]) -> Result<No
     requires once { (c : List Bool) → AreOnce (rows_in table.old c entries.now) }
     requires distinct { AreDistinct (0 ∷ nodes_of entries.now) }
     ensures extends { Extends table.old table.new }
-    ensures ok { IfOk result (λ r. IsNode table.new r (λ c. has_lost (rows_in table.old c entries.now))) }
+    ensures ok { IfOk result (λ r. IsNode table.new
+        r (λ c. has_lost (rows_in table.old c entries.now))) }
 {
     let reach = reached(table, alloc, entries)?;
     outside(table, entries, reach.as_slice())
@@ -56,7 +62,10 @@ fn outside(table: &mut Table, entries: &[Standing<'_>], reach: &[Node]) -> Resul
     requires within { AllAreWithin table.old entries.now }
     requires reach { AllByRecursion (λ n. n < diagram_size table.old) reach.now }
     ensures extends { Extends table.old table.new }
-    ensures ok { IfOk result (λ r. IsNode table.new r (λ c. list_any (λ row. not (reached_in table.old reach.now c row.node)) (rows_in table.old c entries.now))) }
+    ensures ok { IfOk result (λ r. IsNode table.new
+        r
+        (λ c. list_any (λ row. not (reached_in table.old reach.now c row.node))
+        (rows_in table.old c entries.now))) }
 {
     let mut lost = FALSE;
     'entries: for entry in entries {
@@ -76,7 +85,10 @@ fn or_outside(
     requires lost { lost < diagram_size table.old }
     requires reach { reach < diagram_size table.old }
     ensures extends { Extends table.old table.new }
-    ensures ok { IfOk result (λ r. IsNode table.new r (λ c. value_in table.old lost c || list_any (λ row. not (value_in table.old reach c)) (rows_of table.old c entry.now.node entry.now.kind entry.now.places))) }
+    ensures ok { IfOk result (λ r. IsNode table.new
+        r
+        (λ c. value_in table.old lost c || list_any (λ row. not (value_in table.old reach c))
+        (rows_of table.old c entry.now.node entry.now.kind entry.now.places))) }
 {
     let mut found = lost;
     'places: for place in entry.places() {
@@ -91,7 +103,10 @@ fn or_without(table: &mut Table, found: Node, a: Node, b: Node) -> Result<Node, 
     requires a { a < diagram_size table.old }
     requires b { b < diagram_size table.old }
     ensures extends { Extends table.old table.new }
-    ensures ok { IfOk result (λ r. IsNode table.new r (λ c. value_in table.old found c || (value_in table.old a c && not (value_in table.old b c)))) }
+    ensures ok { IfOk result (λ r. IsNode table.new
+        r
+        (λ c. value_in table.old found
+        c || (value_in table.old a c && not (value_in table.old b c)))) }
 {
     let rest = table.without(a, b)?;
     table.or(found, rest)
@@ -118,9 +133,11 @@ fn reached(table: &mut Table, alloc: Global, entries: &[Standing<'_>]) -> Result
 // The root, reached on each choice, and the other nodes, on none.
 fn root_alone(alloc: Global, entries: &[Standing<'_>]) -> Result<Vec<Node>, Memory>
     ensures root { IfOk result (λ reach. reach_node reach.items 0 ≡ 1) }
-    ensures others { IfOk result (λ reach. (x : ℕ) → nat_eq x 0 ≡ false → reach_node reach.items x ≡ 0) }
+    ensures others { IfOk result (λ reach. (x : ℕ) → nat_eq x 0 ≡ false →
+        reach_node reach.items x ≡ 0) }
     ensures within { IfOk result (λ reach. AllByRecursion (λ n. n < 2) reach.items) }
-    ensures room { IfOk result (λ reach. AllByRecursion (λ e. e.node < length reach.items) entries.now) }
+    ensures room { IfOk result (λ reach.
+        AllByRecursion (λ e. e.node < length reach.items) entries.now) }
 {
     let mut reach = vec![in alloc; FALSE; room_for(entries)]?;
     reach[0] = TRUE;
@@ -158,7 +175,8 @@ fn spread(
     requires once { (c : List Bool) → AreOnce (rows_in table.old c entries.now) }
     requires distinct { AreDistinct (0 ∷ nodes_of entries.now) }
     ensures extends { Extends table.old table.new }
-    ensures ok { IfOk result (λ changed. Spreads table.old table.new entries.now reach.old.items reach.new.items changed) }
+    ensures ok { IfOk result (λ changed.
+        Spreads table.old table.new entries.now reach.old.items reach.new.items changed) }
 {
     let mut changed = false;
     'entries: for entry in entries {
@@ -182,7 +200,8 @@ fn relax(table: &mut Table, entry: &Standing<'_>, reach: &mut Vec<Node>) -> Resu
     requires reach { AllByRecursion (λ n. n < diagram_size table.old) reach.old.items }
     requires room { entry.now.node < length reach.old.items }
     ensures extends { Extends table.old table.new }
-    ensures ok { IfOk result (λ changed. Relaxes table.old table.new entry.now reach.old.items reach.new.items changed) }
+    ensures ok { IfOk result (λ changed.
+        Relaxes table.old table.new entry.now reach.old.items reach.new.items changed) }
 {
     let node = arrival(table, entry, reach)?;
     let at = entry.node().number() as usize;
@@ -196,7 +215,10 @@ fn arrival(table: &mut Table, entry: &Standing<'_>, reach: &[Node]) -> Result<No
     requires within { AreWithin table.old entry.now.places }
     requires reach { AllByRecursion (λ n. n < diagram_size table.old) reach.now }
     ensures extends { Extends table.old table.new }
-    ensures ok { IfOk result (λ r. IsNode table.new r (λ c. list_any (λ row. reached_in table.old reach.now c row.parent) (rows_of table.old c entry.now.node entry.now.kind entry.now.places))) }
+    ensures ok { IfOk result (λ r. IsNode table.new
+        r
+        (λ c. list_any (λ row. reached_in table.old reach.now c row.parent)
+        (rows_of table.old c entry.now.node entry.now.kind entry.now.places))) }
 {
     let mut found = FALSE;
     'places: for place in entry.places() {
@@ -218,7 +240,8 @@ pub(crate) fn or_both(table: &mut Table, found: Node, a: Node, b: Node) -> Resul
     requires a { a < diagram_size table.old }
     requires b { b < diagram_size table.old }
     ensures extends { Extends table.old table.new }
-    ensures ok { IfOk result (λ r. IsNode table.new r (λ c. value_in table.old found c || (value_in table.old a c && value_in table.old b c))) }
+    ensures ok { IfOk result (λ r. IsNode table.new
+        r (λ c. value_in table.old found c || (value_in table.old a c && value_in table.old b c))) }
 {
     let both = table.and(a, b, &mut Steps::<Uncounted>::new())?;
     table.or(found, both)

@@ -59,7 +59,8 @@ pub(crate) fn as_planned<'a>(
     entries: &'a [DatedEntry],
     plan: &'a EntryPlan,
 ) -> Result<Vec<Standing<'a>>, Memory>
-    ensures { IfOk result (λ list. list.items ≡ map (entry_with plan.now) (map newest_entry entries.now)) }
+    ensures { IfOk result (λ list. list.items ≡
+        map (entry_with plan.now) (map newest_entry entries.now)) }
 {
     let mut list = Vec::with_capacity(alloc, entries.len())?;
     'entries: for entry in entries {
@@ -75,7 +76,8 @@ pub(crate) fn add_made<'a>(
     entries: &Entries,
     plan: &'a [Entry],
 ) -> Result<(), Memory>
-    ensures { OnOk result (list.new.items ≡ list.old.items ++ made_beside (nodes_in entries.now) plan.now) }
+    ensures { OnOk result (list.new.items ≡
+        list.old.items ++ made_beside (nodes_in entries.now) plan.now) }
 {
     'plan: for entry in plan {
         if !entries.has(entry.node) {

@@ -17,7 +17,8 @@ pub(crate) fn append_lines(
     lines: ViewLines,
 ) -> Result<(), Memory>
     requires { place ≡ position (λ r. same_node r.node file.now) rows.old }
-    ensures ok { OnOk result (rows.new ≡ at_row file.now (with_lines_by (λ ls. ls ++ lines)) rows.old) }
+    ensures ok { OnOk result (rows.new ≡
+        at_row file.now (with_lines_by (λ ls. ls ++ lines)) rows.old) }
     ensures err { OnErr result (rows.new ≡ rows.old) }
 {
     match place {
@@ -35,7 +36,8 @@ pub(crate) fn insert_line(
     line: ViewLine,
 ) -> Result<(), Memory>
     requires { place ≡ position (λ r. same_node r.node file.now) rows.old }
-    ensures ok { OnOk result (rows.new ≡ at_row file.now (with_lines_by (after_ref after.now line)) rows.old) }
+    ensures ok { OnOk result (rows.new ≡
+        at_row file.now (with_lines_by (after_ref after.now line)) rows.old) }
     ensures err { OnErr result (rows.new ≡ rows.old) }
 {
     match place {

@@ -79,7 +79,8 @@ impl Children {
     pub(crate) fn note(&mut self, rows: &[ViewRow], row: &ViewRow) -> Result<(), Memory>
         requires index { IsIndex self.old.is_kept rows.now self.old.nodes.entries }
         requires fresh { has_row rows.now row.now.node ≡ false }
-        ensures ok { OnOk result (IsIndex self.new.is_kept (rows.now ++ row.now ∷ []) self.new.nodes.entries) }
+        ensures ok { OnOk result (IsIndex self.new.is_kept (rows.now ++ row.now ∷ [])
+            self.new.nodes.entries) }
         ensures err { OnErr result (IsIndex self.new.is_kept rows.now self.new.nodes.entries) }
     {
         if !self.is_kept {
@@ -129,7 +130,8 @@ impl Children {
         requires index { IsIndex self.old.is_kept rows.now self.old.nodes.entries }
         requires once { StandOnce rows.now }
         requires place { place ≡ position (λ r. same_node r.node node.now) rows.now }
-        ensures { IsIndex self.new.is_kept (at_row node.now (with_parent_by parent.now) rows.now) self.new.nodes.entries }
+        ensures { IsIndex self.new.is_kept (at_row node.now (with_parent_by parent.now) rows.now)
+            self.new.nodes.entries }
     {
         let Some(at) = place else {
             return;
@@ -152,7 +154,8 @@ impl Children {
         requires index { IsIndex self.old.is_kept rows.now self.old.nodes.entries }
         requires once { StandOnce rows.now }
         requires place { place ≡ position (λ r. same_node r.node node.now) rows.now }
-        ensures { IsIndex self.new.is_kept (at_row node.now (with_name_by name.items) rows.now) self.new.nodes.entries }
+        ensures { IsIndex self.new.is_kept (at_row node.now (with_name_by name.items) rows.now)
+            self.new.nodes.entries }
     {
         let Some(at) = place else {
             return;
@@ -165,7 +168,8 @@ impl Children {
     // Takes the key of a row out, and gives its name.
     fn take(&mut self, row: &ViewRow) -> Option<Vec<u8>>
         ensures kept { self.new.is_kept ≡ self.old.is_kept }
-        ensures left { RemovesName row.now.parent row.now.name self.old.nodes.entries self.new.nodes.entries }
+        ensures left { RemovesName row.now.parent row.now.name self.old.nodes.entries
+            self.new.nodes.entries }
         ensures name { IfSome result (λ name. name.items ≡ row.now.name) }
     {
         let key = ChildKey {
@@ -180,7 +184,10 @@ impl Children {
 
     // Notes the node of a key, which takes no memory, or gives the index up.
     fn put(&mut self, key: ChildKey<NodeRef, Vec<u8>>, node: &NodeRef)
-        ensures { self.new.is_kept ≡ true → (self.old.is_kept ≡ true) × (indexed self.old.nodes.entries key.dir key.name.items ≡ None) × (self.new.nodes.entries ≡ self.old.nodes.entries ++ (key, node.now) ∷ []) }
+        ensures { self.new.is_kept ≡ true →
+            (self.old.is_kept ≡ true) ×
+            (indexed self.old.nodes.entries key.dir key.name.items ≡ None) ×
+            (self.new.nodes.entries ≡ self.old.nodes.entries ++ (key, node.now) ∷ []) }
     {
         if self.nodes.len() == self.nodes.capacity() {
             self.is_kept = false;

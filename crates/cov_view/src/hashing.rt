@@ -17,7 +17,8 @@ pub fn digest(rows: &TreeRows) -> [u8; 32]
 }
 
 fn feed_rows(hasher: &mut Sha256, rows: &[TreeRow])
-    ensures { (m : List ℕ) → Holds256 hasher.old m → Holds256 hasher.new (m ++ tree_bytes rows.now) }
+    ensures { (m : List ℕ) → Holds256 hasher.old m →
+        Holds256 hasher.new (m ++ tree_bytes rows.now) }
 {
     let mut ahead = rows;
     while let [first, rest @ ..] = ahead {

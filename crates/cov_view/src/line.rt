@@ -75,7 +75,8 @@ pub(crate) fn delete(lines: &mut ViewLines, line: &LineRef)
 
 // The index at which a line directly after an anchor stands.
 fn place(lines: &[ViewLine], after: &LineRef) -> usize
-    ensures place { (line : ViewLine) → insert lines.now result line ≡ after_ref after.now line lines.now }
+    ensures place { (line : ViewLine) → insert lines.now result line ≡
+        after_ref after.now line lines.now }
     ensures within { result ≤ length lines.now }
 {
     if is_head(after) {

@@ -52,7 +52,8 @@ fn rank(kind: Kind) -> u8
 }
 
 fn children_of(alloc: Global, rows: &[ViewRow], dir: &NodeRef) -> Result<Vec<DirRow>, Memory>
-    ensures { IfOk result (λ children. children.items ≡ map dir_row (filter (λ r. same_node r.parent dir.now) rows.now)) }
+    ensures { IfOk result (λ children. children.items ≡
+        map dir_row (filter (λ r. same_node r.parent dir.now) rows.now)) }
 {
     let mut children = Vec::new(alloc);
     'rows: for row in rows {
@@ -63,7 +64,9 @@ fn children_of(alloc: Global, rows: &[ViewRow], dir: &NodeRef) -> Result<Vec<Dir
 
 // Adds a row that stands in a directory.
 fn add_child(children: &mut Vec<DirRow>, row: &ViewRow, dir: &NodeRef) -> Result<(), Memory>
-    ensures { OnOk result (children.new.items ≡ children.old.items ++ map dir_row (filter (λ r. same_node r.parent dir.now) (row.now ∷ []))) }
+    ensures { OnOk result (children.new.items ≡
+        children.old.items ++
+        map dir_row (filter (λ r. same_node r.parent dir.now) (row.now ∷ []))) }
 {
     if !same_node(&row.parent, dir) {
         return Ok(());

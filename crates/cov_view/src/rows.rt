@@ -32,7 +32,8 @@ impl Model for Rows {
 
     ghost view = { λ r. r.rows.items };
 
-    ghost invariant = { λ r. (r.keys.keys ≡ map (λ row. row.node) r.rows.items) × StandOnce r.rows.items × IsIndex r.children.is_kept r.rows.items r.children.nodes.entries };
+    ghost invariant = { λ r. (r.keys.keys ≡ map (λ row. row.node) r.rows.items) ×
+        StandOnce r.rows.items × IsIndex r.children.is_kept r.rows.items r.children.nodes.entries };
 }
 
 impl Rows {
@@ -63,10 +64,8 @@ impl Rows {
             Ok(_) => {}
             Err(_) => unreachable!(),
         }
-        match self.rows.push(row) {
-            Ok(()) => Ok(()),
-            Err(_) => unreachable!(),
-        }
+        self.rows.push_reserved(row);
+        Ok(())
     }
 
     /// Where the row of a node stands.
@@ -187,7 +186,8 @@ impl Rows {
 
     /// Puts lines at the end of a file, all of them or none.
     pub(crate) fn append_lines(&mut self, file: &NodeRef, lines: ViewLines) -> Result<(), Memory>
-        ensures ok { OnOk result (self.new ≡ at_row file.now (with_lines_by (λ ls. ls ++ lines)) self.old) }
+        ensures ok { OnOk result (self.new ≡
+            at_row file.now (with_lines_by (λ ls. ls ++ lines)) self.old) }
         ensures err { OnErr result (self.new ≡ self.old) }
     {
         let place = self.place(file);
@@ -201,7 +201,8 @@ impl Rows {
         after: &LineRef,
         line: ViewLine,
     ) -> Result<(), Memory>
-        ensures ok { OnOk result (self.new ≡ at_row file.now (with_lines_by (after_ref after.now line)) self.old) }
+        ensures ok { OnOk result (self.new ≡
+            at_row file.now (with_lines_by (after_ref after.now line)) self.old) }
         ensures err { OnErr result (self.new ≡ self.old) }
     {
         let place = self.place(file);

@@ -108,7 +108,9 @@ fn put(
     rows: &Rows,
     node: u32,
 ) -> Result<Option<u32>, Memory>
-    ensures { IfOk result (λ found. (done : List ℕ) → ArePlaces rows.now done places.old.entries → (found ≡ find (share_place rows.now node) done) × ArePlaces rows.now (node ∷ done) places.new.entries) }
+    ensures { IfOk result (λ found. (done : List ℕ) → ArePlaces rows.now done places.old.entries →
+        (found ≡ find (share_place rows.now node) done) ×
+        ArePlaces rows.now (node ∷ done) places.new.entries) }
 {
     let Some(row) = rows.get(&NodeRef::Old(NodeNo::new(node))) else {
         return Ok(None);

@@ -69,7 +69,8 @@ fn path_of(rows: &Rows, node: &NodeRef) -> Result<Vec<u8>, Memory>
 
 // Climbs from a node to the root, with the path kept from its end to its front.
 fn climb(rows: &Rows, start: &NodeRef, back: &mut Vec<u8>) -> Result<(), Memory>
-    ensures { OnOk result (reverse back.new.items ≡ path_by rows.now (length rows.now) start.now (reverse back.old.items)) }
+    ensures { OnOk result (reverse back.new.items ≡
+        path_by rows.now (length rows.now) start.now (reverse back.old.items)) }
 {
     let mut node = *start;
     let mut steps = rows.len();
@@ -162,7 +163,8 @@ impl Found {
     }
 
     fn put(&mut self, path: Vec<u8>, kind: Kind, bytes: Text) -> Result<(), Memory>
-        ensures { OnOk result (self.new ≡ with_tree_row (record { path = path.items; kind = kind; bytes = bytes }) self.old) }
+        ensures { OnOk result (self.new ≡
+            with_tree_row (record { path = path.items; kind = kind; bytes = bytes }) self.old) }
     {
         self.rows.insert(path, Content { kind, bytes })?;
         Ok(())

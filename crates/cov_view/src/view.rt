@@ -46,7 +46,11 @@ impl Model for View {
 
     ghost Value = { Seen };
 
-    ghost view = { λ v. record { rows = v.rows; nodes_made = v.nodes_made; lines_made = v.lines_made } };
+    ghost view = { λ v. record {
+      rows = v.rows;
+      nodes_made = v.nodes_made;
+      lines_made = v.lines_made;
+    } };
 
     ghost invariant = { λ v. AreRows v.nodes_made v.rows };
 }
@@ -54,7 +58,8 @@ impl Model for View {
 impl View {
     /// The root alone, nothing made.
     pub fn new(alloc: Global) -> Result<View, Memory>
-        ensures { IfOk result (λ view. view ≡ record { rows = []; nodes_made = 0; lines_made = 0 }) }
+        ensures { IfOk result (λ view. view ≡
+            record { rows = []; nodes_made = 0; lines_made = 0 }) }
     {
         Ok(View {
             rows: Rows::new(alloc),
@@ -72,7 +77,15 @@ impl View {
         name: &Name,
     ) -> Result<(), Memory>
         requires { kind_in self.old.rows (NodeRef.Old node) ≡ None }
-        ensures rows { OnOk result (self.new.rows ≡ self.old.rows ++ record { node = NodeRef.Old node; kind = kind; parent = NodeRef.Old parent; name = name.now; lines = [] } ∷ []) }
+        ensures rows { OnOk result (self.new.rows ≡
+            self.old.rows ++
+            record {
+              node = NodeRef.Old node;
+              kind = kind;
+              parent = NodeRef.Old parent;
+              name = name.now;
+              lines = [];
+            } ∷ []) }
         ensures nodes { self.new.nodes_made ≡ self.old.nodes_made }
         ensures lines { self.new.lines_made ≡ self.old.lines_made }
         ensures err { OnErr result (self.new ≡ self.old) }
@@ -90,7 +103,10 @@ impl View {
     /// Appends a line that a history has to its file, which was added before.
     pub fn add_line(&mut self, file: NodeNo, line: LineNo, text: &Text) -> Result<(), Memory>
         requires { kind_in self.old.rows (NodeRef.Old file) ≡ Some File }
-        ensures rows { OnOk result (self.new.rows ≡ at_row (NodeRef.Old file) (with_lines_by (λ ls. ls ++ record { line = lines.Old line; text = text.now } ∷ [])) self.old.rows) }
+        ensures rows { OnOk result (self.new.rows ≡
+            at_row (NodeRef.Old file)
+            (with_lines_by (λ ls. ls ++ record { line = lines.Old line; text = text.now } ∷ []))
+            self.old.rows) }
         ensures nodes { self.new.nodes_made ≡ self.old.nodes_made }
         ensures lines { self.new.lines_made ≡ self.old.lines_made }
         ensures err { OnErr result (self.new ≡ self.old) }
@@ -107,7 +123,8 @@ impl View {
     /// the file up once, and the lines share their texts with those that are handed in.
     pub fn add_lines(&mut self, file: NodeNo, lines: &FileRows) -> Result<(), Memory>
         requires { kind_in self.old.rows (NodeRef.Old file) ≡ Some File }
-        ensures rows { OnOk result (self.new.rows ≡ fold (with_file_row file) self.old.rows lines.now) }
+        ensures rows { OnOk result (self.new.rows ≡
+            fold (with_file_row file) self.old.rows lines.now) }
         ensures nodes { self.new.nodes_made ≡ self.old.nodes_made }
         ensures lines { self.new.lines_made ≡ self.old.lines_made }
         ensures err { OnErr result (self.new ≡ self.old) }
@@ -133,7 +150,8 @@ impl View {
     /// The kind of a node, None exactly where it isn't there.
     pub fn kind(&self, node: NodeRef) -> Option<Kind>
         ensures kind { result ≡ kind_in self.now.rows node }
-        ensures shown { (ns : Numbers) (table : List (List ℕ)) (v : Variant) → Shows ns table self.now v → result ≡ shown_kind ns v node }
+        ensures shown { (ns : Numbers) (table : List (List ℕ)) (v : Variant) →
+            Shows ns table self.now v → result ≡ shown_kind ns v node }
     {
         self.rows.kind_of(&node)
     }
@@ -143,8 +161,11 @@ impl View {
     pub fn resolve(&self, path: &Path) -> Option<NodeRef>
         ensures node { result ≡ node_at self.now.rows (NodeRef.Old 0) path.now }
         ensures there { IfSome result (λ node. is_some (kind_in self.now.rows node) ≡ true) }
-        ensures shown { (ns : Numbers) (table : List (List ℕ)) (v : Variant) → Shows ns table self.now v → option_map (node_number ns.nodes) result ≡ path_node v.rows 0 path.now }
-        ensures made { IfSome result (λ node. (ns : Numbers) (table : List (List ℕ)) (v : Variant) → Shows ns table self.now v → is_made_node ns.nodes self.now.nodes_made node ≡ true) }
+        ensures shown { (ns : Numbers) (table : List (List ℕ)) (v : Variant) →
+            Shows ns table self.now v →
+            option_map (node_number ns.nodes) result ≡ path_node v.rows 0 path.now }
+        ensures made { IfSome result (λ node. (ns : Numbers) (table : List (List ℕ)) (v : Variant) →
+            Shows ns table self.now v → is_made_node ns.nodes self.now.nodes_made node ≡ true) }
     {
         self.follow(path.as_slice())
     }
@@ -153,8 +174,11 @@ impl View {
     pub fn follow(&self, names: &[Name]) -> Option<NodeRef>
         ensures node { result ≡ node_at self.now.rows (NodeRef.Old 0) names.now }
         ensures there { IfSome result (λ node. is_some (kind_in self.now.rows node) ≡ true) }
-        ensures shown { (ns : Numbers) (table : List (List ℕ)) (v : Variant) → Shows ns table self.now v → option_map (node_number ns.nodes) result ≡ path_node v.rows 0 names.now }
-        ensures made { IfSome result (λ node. (ns : Numbers) (table : List (List ℕ)) (v : Variant) → Shows ns table self.now v → is_made_node ns.nodes self.now.nodes_made node ≡ true) }
+        ensures shown { (ns : Numbers) (table : List (List ℕ)) (v : Variant) →
+            Shows ns table self.now v →
+            option_map (node_number ns.nodes) result ≡ path_node v.rows 0 names.now }
+        ensures made { IfSome result (λ node. (ns : Numbers) (table : List (List ℕ)) (v : Variant) →
+            Shows ns table self.now v → is_made_node ns.nodes self.now.nodes_made node ≡ true) }
     {
         self.node_at(names)
     }
@@ -176,11 +200,18 @@ impl View {
     /// is a directory.
     pub fn lines(&self, file: NodeRef) -> Result<ViewLines, ReadFaultOfView>
         ensures lines { IfOk result (λ lines. lines_in self.now.rows file ≡ Some lines) }
-        ensures absent { IsErrOf result ReadFaultOfView.NoSuchNode → kind_in self.now.rows file ≡ None }
-        ensures not_file { IsErrOf result ReadFaultOfView.NotFile → kind_in self.now.rows file ≡ Some Dir }
-        ensures shown { IfOk result (λ lines. (ns : Numbers) (table : List (List ℕ)) (v : Variant) → Shows ns table self.now v → AreLinesOf ns self.now.lines_made v file lines) }
-        ensures absent_shown { IsErrOf result ReadFaultOfView.NoSuchNode → (ns : Numbers) (table : List (List ℕ)) (v : Variant) → Shows ns table self.now v → shows_node ns v file ≡ false }
-        ensures not_file_shown { IsErrOf result ReadFaultOfView.NotFile → (ns : Numbers) (table : List (List ℕ)) (v : Variant) → Shows ns table self.now v → (shows_node ns v file && is_dir v.rows (node_number ns.nodes file)) ≡ true }
+        ensures absent { IsErrOf result ReadFaultOfView.NoSuchNode →
+            kind_in self.now.rows file ≡ None }
+        ensures not_file { IsErrOf result ReadFaultOfView.NotFile →
+            kind_in self.now.rows file ≡ Some Dir }
+        ensures shown { IfOk result (λ lines. (ns : Numbers) (table : List (List ℕ)) (v : Variant) →
+            Shows ns table self.now v → AreLinesOf ns self.now.lines_made v file lines) }
+        ensures absent_shown { IsErrOf result ReadFaultOfView.NoSuchNode →
+            (ns : Numbers) (table : List (List ℕ)) (v : Variant) → Shows ns table self.now v →
+            shows_node ns v file ≡ false }
+        ensures not_file_shown { IsErrOf result ReadFaultOfView.NotFile →
+            (ns : Numbers) (table : List (List ℕ)) (v : Variant) → Shows ns table self.now v →
+            (shows_node ns v file && is_dir v.rows (node_number ns.nodes file)) ≡ true }
     {
         self.lines_of(&file)
     }
@@ -188,8 +219,10 @@ impl View {
     fn lines_of(&self, file: &NodeRef) -> Result<ViewLines, ReadFaultOfView>
         ensures file { OnOk result (kind_in self.now.rows file.now ≡ Some File) }
         ensures lines { IfOk result (λ lines. lines_in self.now.rows file.now ≡ Some lines) }
-        ensures absent { IsErrOf result ReadFaultOfView.NoSuchNode → kind_in self.now.rows file.now ≡ None }
-        ensures not_file { IsErrOf result ReadFaultOfView.NotFile → kind_in self.now.rows file.now ≡ Some Dir }
+        ensures absent { IsErrOf result ReadFaultOfView.NoSuchNode →
+            kind_in self.now.rows file.now ≡ None }
+        ensures not_file { IsErrOf result ReadFaultOfView.NotFile →
+            kind_in self.now.rows file.now ≡ Some Dir }
     {
         if is_root(file) {
             return Err(ReadFaultOfView::NotFile);
@@ -212,10 +245,16 @@ impl View {
         ensures directory { OnOk result (kind_in self.now.rows dir ≡ Some Dir) }
         ensures rows { IfOk result (λ rows. rows ≡ listed_in self.now.rows dir) }
         ensures absent { IsErrOf result ListFault.NoSuchNode → kind_in self.now.rows dir ≡ None }
-        ensures not_directory { IsErrOf result ListFault.NotDirectory → kind_in self.now.rows dir ≡ Some File }
-        ensures shown { IfOk result (λ rows. (ns : Numbers) (table : List (List ℕ)) (v : Variant) → Shows ns table self.now v → IsListingOf ns v dir rows) }
-        ensures absent_shown { IsErrOf result ListFault.NoSuchNode → (ns : Numbers) (table : List (List ℕ)) (v : Variant) → Shows ns table self.now v → shows_node ns v dir ≡ false }
-        ensures not_directory_shown { IsErrOf result ListFault.NotDirectory → (ns : Numbers) (table : List (List ℕ)) (v : Variant) → Shows ns table self.now v → (shows_node ns v dir && not (is_dir v.rows (node_number ns.nodes dir))) ≡ true }
+        ensures not_directory { IsErrOf result ListFault.NotDirectory →
+            kind_in self.now.rows dir ≡ Some File }
+        ensures shown { IfOk result (λ rows. (ns : Numbers) (table : List (List ℕ)) (v : Variant) →
+            Shows ns table self.now v → IsListingOf ns v dir rows) }
+        ensures absent_shown { IsErrOf result ListFault.NoSuchNode →
+            (ns : Numbers) (table : List (List ℕ)) (v : Variant) → Shows ns table self.now v →
+            shows_node ns v dir ≡ false }
+        ensures not_directory_shown { IsErrOf result ListFault.NotDirectory →
+            (ns : Numbers) (table : List (List ℕ)) (v : Variant) → Shows ns table self.now v →
+            (shows_node ns v dir && not (is_dir v.rows (node_number ns.nodes dir))) ≡ true }
     {
         self.list_of(&dir)
     }
@@ -223,8 +262,10 @@ impl View {
     fn list_of(&self, dir: &NodeRef) -> Result<DirRows, ListFault>
         ensures directory { OnOk result (kind_in self.now.rows dir.now ≡ Some Dir) }
         ensures rows { IfOk result (λ rows. rows ≡ listed_in self.now.rows dir.now) }
-        ensures absent { IsErrOf result ListFault.NoSuchNode → kind_in self.now.rows dir.now ≡ None }
-        ensures not_directory { IsErrOf result ListFault.NotDirectory → kind_in self.now.rows dir.now ≡ Some File }
+        ensures absent { IsErrOf result ListFault.NoSuchNode →
+            kind_in self.now.rows dir.now ≡ None }
+        ensures not_directory { IsErrOf result ListFault.NotDirectory →
+            kind_in self.now.rows dir.now ≡ Some File }
     {
         match self.rows.kind_of(dir) {
             None => Err(ListFault::NoSuchNode),
@@ -240,8 +281,10 @@ impl View {
     /// every one followed by byte 10. It takes time in the tree, but for the path of each node, which it climbs to the root.
     pub fn tree(&self) -> Result<TreeRows, Memory>
         ensures tree { IfOk result (λ tree. tree ≡ tree_in self.now.rows) }
-        ensures shown { IfOk result (λ tree. (ns : Numbers) (table : List (List ℕ)) (v : Variant) → Shows ns table self.now v → tree ≡ tree_of v) }
-        ensures whole { IfOk result (λ tree. (ns : Numbers) (table : List (List ℕ)) (v : Variant) → Shows ns table self.now v → fault_of v.rows ≡ None → IsTreeOf v tree) }
+        ensures shown { IfOk result (λ tree. (ns : Numbers) (table : List (List ℕ)) (v : Variant) →
+            Shows ns table self.now v → tree ≡ tree_of v) }
+        ensures whole { IfOk result (λ tree. (ns : Numbers) (table : List (List ℕ)) (v : Variant) →
+            Shows ns table self.now v → fault_of v.rows ≡ None → IsTreeOf v tree) }
     {
         tree(&self.rows)
     }
@@ -251,7 +294,8 @@ impl View {
     pub fn first_fault(&self) -> Result<Option<Fault>, Memory>
         requires { AreOld self.now.rows }
         ensures fault { IfOk result (λ fault. fault ≡ fault_in (map old_row self.now.rows)) }
-        ensures shown { IfOk result (λ fault. (ns : Numbers) (table : List (List ℕ)) (v : Variant) → Shows ns table self.now v → fault ≡ fault_in v.rows) }
+        ensures shown { IfOk result (λ fault. (ns : Numbers) (table : List (List ℕ)) (v : Variant) →
+            Shows ns table self.now v → fault ≡ fault_in v.rows) }
     {
         first_fault(self.rows.allocator(), &self.rows)
     }
@@ -263,14 +307,20 @@ impl View {
     pub fn apply(&mut self, edit: &Edit) -> Result<(), EditFault>
         requires nodes { self.old.nodes_made < 2 ^ 32 - 1 }
         requires lines { self.old.lines_made < 2 ^ 32 - 1 }
-        ensures accepted { OnOk result ((ns : Numbers) (table : List (List ℕ)) (v : Variant) → Shows ns table self.old v → refusal ns v edit.now ≡ None) }
-        ensures applied { OnOk result ((ns : Numbers) (table : List (List ℕ)) (v : Variant) → IsTable table → Shows ns table self.old v →
-            Shows ns (table_after ns table edit.now) self.new (fold edited v (next_by_number ns table self.old edit.now))) }
+        ensures accepted { OnOk result ((ns : Numbers) (table : List (List ℕ)) (v : Variant) →
+            Shows ns table self.old v → refusal ns v edit.now ≡ None) }
+        ensures applied { OnOk result ((ns : Numbers) (table : List (List ℕ)) (v : Variant) →
+            IsTable table → Shows ns table self.old v →
+            Shows ns (table_after ns table edit.now) self.new
+            (fold edited v (next_by_number ns table self.old edit.now))) }
         ensures accepted_seen { OnOk result (seen_fault self.old.rows edit.now ≡ None) }
         ensures made { OnOk result (self.new ≡ seen_after self.old edit.now) }
-        ensures nodes { OnOk result (self.new.nodes_made ≡ self.old.nodes_made + nodes_made (edit.now ∷ [])) }
-        ensures lines { OnOk result (self.new.lines_made ≡ self.old.lines_made + length (anchors_of 0 (edit.now ∷ []))) }
-        ensures refused { IfErr result (λ f. (ns : Numbers) (table : List (List ℕ)) (v : Variant) → Shows ns table self.old v → FaultBy f (refusal ns v edit.now)) }
+        ensures nodes { OnOk result (self.new.nodes_made ≡
+            self.old.nodes_made + nodes_made (edit.now ∷ [])) }
+        ensures lines { OnOk result (self.new.lines_made ≡
+            self.old.lines_made + length (anchors_of 0 (edit.now ∷ []))) }
+        ensures refused { IfErr result (λ f. (ns : Numbers) (table : List (List ℕ)) (v : Variant) →
+            Shows ns table self.old v → FaultBy f (refusal ns v edit.now)) }
         ensures refused_seen { IfErr result (λ f. FaultBy f (seen_fault self.old.rows edit.now)) }
         ensures memory { IsErrOf result EditFault.Memory → takes_memory edit.now ≡ true }
         ensures same { OnErr result (self.new ≡ self.old) }
@@ -303,7 +353,8 @@ impl View {
     }
 
     fn new_fault(&self, parent: &NodeRef, name: &[u8]) -> Option<EditFault>
-        ensures { result ≡ new_fault (kind_in self.now.rows parent.now) (has_child self.now.rows parent.now name.now) }
+        ensures { result ≡ new_fault (kind_in self.now.rows parent.now)
+            (has_child self.now.rows parent.now name.now) }
     {
         match self.rows.kind_of(parent) {
             None => Some(EditFault::NoSuchNode),
@@ -391,7 +442,15 @@ impl View {
     // Makes a node.
     fn make(&mut self, kind: Kind, parent: &NodeRef, name: &Name) -> Result<(), Memory>
         requires { self.old.nodes_made < 2 ^ 32 - 1 }
-        ensures rows { OnOk result (self.new.rows ≡ self.old.rows ++ record { node = NodeRef.New self.old.nodes_made; kind = kind; parent = parent.now; name = name.now; lines = [] } ∷ []) }
+        ensures rows { OnOk result (self.new.rows ≡
+            self.old.rows ++
+            record {
+              node = NodeRef.New self.old.nodes_made;
+              kind = kind;
+              parent = parent.now;
+              name = name.now;
+              lines = [];
+            } ∷ []) }
         ensures nodes { OnOk result (self.new.nodes_made ≡ self.old.nodes_made + 1) }
         ensures lines { OnOk result (self.new.lines_made ≡ self.old.lines_made) }
         ensures err { OnErr result (self.new ≡ self.old) }
@@ -411,7 +470,11 @@ impl View {
     // Makes a line.
     fn insert(&mut self, file: &NodeRef, after: &LineRef, text: &Text) -> Result<(), Memory>
         requires { self.old.lines_made < 2 ^ 32 - 1 }
-        ensures rows { OnOk result (self.new.rows ≡ at_row file.now (with_lines_by (after_ref after.now (record { line = LineRef.New self.old.lines_made; text = text.now }))) self.old.rows) }
+        ensures rows { OnOk result (self.new.rows ≡
+            at_row file.now
+            (with_lines_by
+            (after_ref after.now
+            (record { line = LineRef.New self.old.lines_made; text = text.now }))) self.old.rows) }
         ensures nodes { OnOk result (self.new.nodes_made ≡ self.old.nodes_made) }
         ensures lines { OnOk result (self.new.lines_made ≡ self.old.lines_made + 1) }
         ensures err { OnErr result (self.new ≡ self.old) }
@@ -427,7 +490,8 @@ impl View {
 
     // Takes a line out.
     fn delete(&mut self, file: &NodeRef, line: &LineRef)
-        ensures rows { self.new.rows ≡ at_row file.now (with_lines_by (without_ref line.now)) self.old.rows }
+        ensures rows { self.new.rows ≡ at_row file.now (with_lines_by (without_ref line.now))
+            self.old.rows }
         ensures nodes { self.new.nodes_made ≡ self.old.nodes_made }
         ensures lines { self.new.lines_made ≡ self.old.lines_made }
     {
@@ -436,7 +500,8 @@ impl View {
 
     // Gives a node another name.
     fn rename(&mut self, node: &NodeRef, name: &Name) -> Result<(), Memory>
-        ensures rows { OnOk result (self.new.rows ≡ at_row node.now (with_name_by name.now) self.old.rows) }
+        ensures rows { OnOk result (self.new.rows ≡
+            at_row node.now (with_name_by name.now) self.old.rows) }
         ensures nodes { self.new.nodes_made ≡ self.old.nodes_made }
         ensures lines { self.new.lines_made ≡ self.old.lines_made }
         ensures err { OnErr result (self.new ≡ self.old) }
@@ -468,8 +533,10 @@ impl View {
         requires nodes { self.old.nodes_made < 2 ^ 32 - 1 }
         requires lines { self.old.lines_made < 2 ^ 32 - 1 }
         ensures rows { OnOk result (self.new.rows ≡ (seen_after self.old edit.now).rows) }
-        ensures nodes_made { OnOk result (self.new.nodes_made ≡ (seen_after self.old edit.now).nodes_made) }
-        ensures lines_made { OnOk result (self.new.lines_made ≡ (seen_after self.old edit.now).lines_made) }
+        ensures nodes_made { OnOk result
+            (self.new.nodes_made ≡ (seen_after self.old edit.now).nodes_made) }
+        ensures lines_made { OnOk result
+            (self.new.lines_made ≡ (seen_after self.old edit.now).lines_made) }
         ensures memory { OnErr result (takes_memory edit.now ≡ true) }
         ensures err { OnErr result (self.new ≡ self.old) }
     {

@@ -15,8 +15,10 @@ pub fn list(table: &Table, node: Node) -> Result<Listing, Memory>
     requires within { node < diagram_size table.now }
     ensures reduced { IfOk result (λ l. is_reduced l ≡ true) }
     ensures reads { IfOk result (λ l. (c : List Bool) → reads l c ≡ value_in table.now node c) }
-    ensures options { (most : ℕ) → span table.now node ≤ most → IfOk result (λ l. has_options_below most l ≡ true) }
-    ensures one { (most : ℕ) → span table.now node ≤ most → IfOk result (λ l. l ≡ listing_of most (value_in table.now node)) }
+    ensures options { (most : ℕ) → span table.now node ≤ most →
+        IfOk result (λ l. has_options_below most l ≡ true) }
+    ensures one { (most : ℕ) → span table.now node ≤ most →
+        IfOk result (λ l. l ≡ listing_of most (value_in table.now node)) }
 {
     table.is_diagram();
     let mut met = Nodes::new(table.allocator());
@@ -38,7 +40,8 @@ fn list_nodes(table: &Table, nodes: &Nodes, root: Node) -> Result<Listing, Memor
 
 fn push_node(table: &Table, nodes: &Nodes, node: Node, listing: &mut Listing) -> Result<(), Memory>
     ensures root { listing.new.root ≡ listing.old.root }
-    ensures entries { OnOk result (listing.new.entries ≡ listing.old.entries ++ listed nodes.now (entry_in table.now node)) }
+    ensures entries { OnOk result (listing.new.entries ≡
+        listing.old.entries ++ listed nodes.now (entry_in table.now node)) }
 {
     match table.entry(node) {
         Some(triple) => listing.push(ListingEntry {

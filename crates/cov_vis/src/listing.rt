@@ -45,7 +45,8 @@ impl Model for Listing {
 
     ghost view = { λ l. record { root = l.root; entries = l.entries } };
 
-    ghost invariant = { λ l. has_options_below CHOICE_WIDTH (record { root = l.root; entries = l.entries }) ≡ true };
+    ghost invariant = { λ l. has_options_below CHOICE_WIDTH
+        (record { root = l.root; entries = l.entries }) ≡ true };
 }
 
 impl Listing {

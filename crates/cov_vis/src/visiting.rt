@@ -36,7 +36,8 @@ impl Nodes {
     /// Puts a node behind the others; false where it is among them.
     pub(crate) fn put(&mut self, node: Node) -> Result<bool, Memory>
         ensures new { IfOk result (λ new. new ≡ not (list_any (nat_eq node) self.old)) }
-        ensures nodes { IfOk result (λ new. self.new ≡ (if new then self.old ++ node ∷ [] else self.old)) }
+        ensures nodes { IfOk result (λ new.
+            self.new ≡ (if new then self.old ++ node ∷ [] else self.old)) }
     {
         let (_, new) = self.met.insert_full(node)?;
         Ok(new)

@@ -7,16 +7,8 @@ use std::alloc::Global;
 use std::process::Abort;
 use std::test::Fail;
 
-// Texts, each with that of its full choice, the empty text where it is none.
-const FULL: [(&str, &str); 7] = [
-    ("a=on,b=off", "a=on,b=off"),
-    ("a=off,b=on", "a=off,b=on"),
-    ("b=off,a=on", ""),
-    ("a=on", ""),
-    ("a=on,b=off,a=on", ""),
-    ("a=on,c=off", ""),
-    ("-", ""),
-];
+// The values of two options as bits, of which the lowest is the first option's, each with the text of that choice.
+const PRINTED: [(u128, &str); 3] = [(0, "a=off,b=off"), (1, "a=on,b=off"), (2, "a=off,b=on")];
 
 // Texts, each with the name that is unknown or that of the option that is repeated, the empty text where there is none.
 const FAULTY: [(&str, &str); 4] = [
@@ -40,16 +32,28 @@ const NO_CHOICES: [&str; 11] = [
     "--",
 ];
 
-fn printed(alloc: Global, options: &Options, text: &str) -> Result<Text, Fail> {
-    let raw = RawChoice::parse(alloc, text.as_bytes())?;
-    let choice = raw.bind_full(options);
-    drop(raw);
-    match choice {
-        Some(choice) if choice.count() <= options.count() => {
-            Ok(print_choice(alloc, options, choice)?)
-        }
-        _ => Ok(Text::new(alloc)),
+fn printed(alloc: Global, options: &Options, bits: u128) -> Result<Text, Fail> {
+    if bits >= 4 || options.count() != 2 {
+        return Err(Fail::from("no choice of two options"));
     }
+    Ok(print_choice(alloc, options, Choice::new(bits, 2))?)
+}
+
+fn check_printed(rt: &impl Abort, alloc: Global, options: &mut Options) -> Result<(), Fail> {
+    declare_two(alloc, options)?;
+    for (bits, wanted) in &PRINTED {
+        let text = printed(alloc, options, *bits)?;
+        assert!(rt; text.as_slice() == wanted.as_bytes(), "for {wanted}");
+    }
+    Ok(())
+}
+
+#[test]
+fn texts_of_choices(rt: HostRuntime) -> Result<(), Fail> {
+    with_options(
+        rt.alloc(),
+        |options| check_printed(&rt, rt.alloc(), options),
+    )
 }
 
 // The name that a fault tells.
@@ -78,7 +82,6 @@ fn faulty_name(alloc: Global, options: &Options, text: &str) -> Result<Text, Fai
 
 fn check_texts(rt: &impl Abort, alloc: Global, options: &mut Options) -> Result<(), Fail> {
     declare_two(alloc, options)?;
-    come_to(rt, &FULL, |text| printed(alloc, options, text))?;
     come_to(rt, &FAULTY, |text| faulty_name(alloc, options, text))
 }
 

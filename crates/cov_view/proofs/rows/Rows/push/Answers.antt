@@ -12,7 +12,7 @@ pub invariant_of-self-2 : goal.invariant_of-self-2
 invariant_of-self-2 c =
     let rows = c.self.inside.rows.items in
     let row : ViewRow = c.args.row in
-    let joined = c.in-Ok-push.ensures.items ∙ ap (λ (rs : List ViewRow). rs ++ row ∷ []) c.reserve.ensures.items in
+    let joined = c.push_reserved.ensures.items ∙ ap (λ (rs : List ViewRow). rs ++ row ∷ []) c.reserve.ensures.items in
     let fresh = ap (λ (rs : List ViewRow). has_row rs row.node) c.self.view_is ∙ c.requires in (
       c.in-Ok.ensures.keys
           ∙ ap (λ ks. insert_key same_key ks row.node) (c.reserve-2.ensures.keys ∙ c.self.invariant.0)
@@ -20,5 +20,5 @@ invariant_of-self-2 c =
           ∙ sym (map-append (λ (r : ViewRow). r.node) rows (row ∷ []))
           ∙ ap keys_of (sym joined),
       subst StandOnce (sym joined) (once-append rows row c.self.invariant.1 fresh),
-      subst (λ (rs : List ViewRow). IsIndex c.note.new.self.is_kept rs c.note.new.self.nodes.entries) (ap (λ (rs : List ViewRow). rs ++ row ∷ []) c.as_slice.ensures.value ∙ sym c.in-Ok-push.ensures.items) c.in_ok-note.ensures.ok,
+      subst (λ (rs : List ViewRow). IsIndex c.note.new.self.is_kept rs c.note.new.self.nodes.entries) (ap (λ (rs : List ViewRow). rs ++ row ∷ []) c.as_slice.ensures.value ∙ sym c.push_reserved.ensures.items) c.in_ok-note.ensures.ok,
     )
