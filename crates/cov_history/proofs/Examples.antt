@@ -17,11 +17,16 @@ use Rattle.cov_history.specs.Verdict.{verdict}
 use Rattle.cov_history.specs.declared.refusal.Refusal.TheVariants as refusals
 use Rattle.cov_history.specs.FileNodes.{files_made, files_of}
 use Rattle.cov_history.specs.FileOfLine.{file_of_line_in}
+use Rattle.cov_history.specs.InsertedTexts.{texts_in}
 use Rattle.cov_history.specs.Kept.{kept_number, kept_of, entries_of, kept_after, entries_after, lines_seen, rows_seen}
 
 -- the file of each line by its number
 file_of_line : file_of_line_in history ≡ 1 ∷ 1 ∷ 1 ∷ 1 ∷ []
 file_of_line = refl
+
+-- the text of each line by its number
+texts : texts_in history ≡ codes "A" ∷ codes "B" ∷ codes "C" ∷ codes "X" ∷ []
+texts = refl
 
 -- the numbers of the lines in order
 all_kept : map kept_number (kept_of history) ≡ 1 ∷ 4 ∷ 2 ∷ 3 ∷ []

@@ -8,6 +8,7 @@ pub mod Examples
 pub mod FileNodes
 pub mod Files
 pub mod Inserts
+pub mod KeptTexts
 pub mod LineFiles
 pub mod Meanwhile
 pub mod Naming

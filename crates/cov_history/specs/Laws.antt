@@ -36,6 +36,7 @@ use Rattle.cov_history.specs.Deletions.{Deletion, all_with, delete_file, delete_
 use Rattle.cov_history.specs.Insertions.{Insertion, all_edits, lines_begun, file_of, anchor_of, line_with, held_before, held_behind}
 use Rattle.cov_history.specs.Insertions.{held_amid}
 use Rattle.cov_history.specs.FileOfLine.{IsWhole}
+use Rattle.cov_history.specs.InsertedTexts.{texts_in, HasText}
 
 -- at each position, the lines seen on a choice are those of the replay of the history up to there
 abbrev pub LinesFollowReplay : Type 0
@@ -57,6 +58,10 @@ HoldingStands = (history : List Command)
 -- what a history holds has each line that the history inserts, once, and in its file, and a row of each node that it makes
 abbrev pub HoldingIsWhole : Type 0
 HoldingIsWhole = (history : List Command) → IsWhole history
+
+-- each kept line has the text with which the history inserts it, also where no choice shows it
+abbrev pub LinesKeepTheirTexts : Type 0
+LinesKeepTheirTexts = (history : List Command) → AllByRecursion (HasText (texts_in history)) (kept_of history)
 
 -- what a longer history holds comes after what the shorter holds
 abbrev pub HoldingGoesOn : Type 0

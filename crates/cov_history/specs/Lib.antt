@@ -4,6 +4,7 @@ pub mod Deletions
 pub mod FileNodes
 pub mod FileOfLine
 pub mod Files
+pub mod InsertedTexts
 pub mod Insertions
 pub mod Kept
 pub mod Laws

@@ -1,5 +1,5 @@
 //! Laws of what a history holds and accepts. Each function does nothing; what it ensures is the law.
-ghost use Rattle.cov_history.specs.Laws.{LinesFollowReplay, RowsFollowReplay, HoldingFollowsReplay, HoldingStands, HoldingIsWhole, HoldingGoesOn, CommitKeepsLines, CommitKeepsRows, FileFollowsReplay, ShownIsKept, InsertAfterAnchor, InsertInOneFile, InsertIsNumbered, AnchorsStay, GoodSessionsStay, GoodCommitsPass, CommitShowsSeen, AcceptedIsAnchored, DeclarationsHoldNothing, FileShowsReplay, InsertIsDated, OrderTakesInsert, LegalIsInReach, ReplayStands, LegalIsMade, DeleteIsDated, DeleteInOneFile, AcceptedIsThere, DeleteKeepsOrder, LinesAreDistinct, CommitShowsFiles, SeenStays, OpenOptionsAreDeclared, RowsAreInOrder, RowsAreOnce, CommitChangesRows, LinesKeepRows, LegalIsUnread, CommitIsUnread, NoneBadIsSound, BadHasFault, LegalIsSound, LinesStaySound, FilesRise, FilesGoOn, RowsTellFiles, LinesAreInFiles, AcceptedNamesFiles, TurnNamesFile, AmidIsInFiles, RowsAreFew, LegalTreeIsWhole};
+ghost use Rattle.cov_history.specs.Laws.{LinesFollowReplay, RowsFollowReplay, HoldingFollowsReplay, HoldingStands, HoldingIsWhole, LinesKeepTheirTexts, HoldingGoesOn, CommitKeepsLines, CommitKeepsRows, FileFollowsReplay, ShownIsKept, InsertAfterAnchor, InsertInOneFile, InsertIsNumbered, AnchorsStay, GoodSessionsStay, GoodCommitsPass, CommitShowsSeen, AcceptedIsAnchored, DeclarationsHoldNothing, FileShowsReplay, InsertIsDated, OrderTakesInsert, LegalIsInReach, ReplayStands, LegalIsMade, DeleteIsDated, DeleteInOneFile, AcceptedIsThere, DeleteKeepsOrder, LinesAreDistinct, CommitShowsFiles, SeenStays, OpenOptionsAreDeclared, RowsAreInOrder, RowsAreOnce, CommitChangesRows, LinesKeepRows, LegalIsUnread, CommitIsUnread, NoneBadIsSound, BadHasFault, LegalIsSound, LinesStaySound, FilesRise, FilesGoOn, RowsTellFiles, LinesAreInFiles, AcceptedNamesFiles, TurnNamesFile, AmidIsInFiles, RowsAreFew, LegalTreeIsWhole};
 
 use cov_view::laws::tree_is_whole;
 
@@ -26,6 +26,11 @@ pub fn holding_stands()
 /// What a history holds has each line that the history inserts, once, and in its file, and a row of each node that it makes.
 pub fn holding_is_whole()
     ensures { HoldingIsWhole }
+{}
+
+/// Each kept line has the text with which the history inserts it, also where no choice shows it.
+pub fn lines_keep_their_texts()
+    ensures { LinesKeepTheirTexts }
 {}
 
 /// What a longer history holds comes after what the shorter holds.
@@ -153,7 +158,8 @@ pub fn lines_are_distinct()
     ensures { LinesAreDistinct }
 {}
 
-/// Where a commit isn't overtaken, it shows of its files what its session saw.
+/// Where the commit of a good session is accepted, each file that it touches is as the session saw it, in each valid variant that
+/// begins with the session's choice.
 pub fn commit_shows_files()
     ensures { CommitShowsFiles }
 {}
