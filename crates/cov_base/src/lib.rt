@@ -29,4 +29,4 @@ pub use name::{Name, Path};
 pub use number::{Kind, LineNo, LineRef, NodeNo, NodeRef, OptionId, Position};
 pub use older::OlderLists;
 pub use option_name::{OptionName, is_first_byte, is_word_byte, spells_word};
-pub use steps::{Counted, Ledger, Steps, Uncounted};
+pub use steps::{Counted, Ledger, Steps, Tally, Uncounted};
