@@ -5,7 +5,7 @@ use Rattle.cov_dd.specs.declared.operation.Operation.{Operation}
 use Rattle.cov_dd.specs.declared.operation.Operation.TheVariants.{And, Or, Without}
 use Rattle.cov_dd.specs.declared.triple.Triple.{Triple}
 use Rattle.cov_dd.specs.declared.memo.Pair.{Pair}
-use Rattle.cov_dd.specs.Diagrams.{diagram_size, top, span, value_in, Extends, Stands}
+use Rattle.cov_dd.specs.Diagrams.{diagram_size, top, span, value_in, IsDiagram, Extends, Stands}
 use Rattle.cov_dd.specs.Memos.{IsKey}
 use Rattle.cov_dd.specs.Reached.{reaches}
 
@@ -32,16 +32,25 @@ first_option ts a b = min (top ts a) (top ts b)
 abbrev pub joint_span : List Triple → ℕ → ℕ → ℕ
 joint_span ts a b = max (span ts a) (span ts b)
 
+-- the node r is that of an operation on a pair
+abbrev pub IsResult : Operation → List Triple → Pair → ℕ → Type 0
+IsResult w ts p r = Stands ts r (first_option ts p.left p.right) (joint_span ts p.left p.right) (both_in w ts p.left p.right)
+
 -- a node that was made for a pair is right
 pub record IsRight (w : Operation) (ts : List Triple) (e : Pair × ℕ) : Type 0 where
   pub left : e.0.left < diagram_size ts
   pub right : e.0.right < diagram_size ts
-  pub stands : Stands ts e.1 (first_option ts e.0.left e.0.right) (joint_span ts e.0.left e.0.right) (both_in w ts e.0.left e.0.right)
+  pub stands : IsResult w ts e.0 e.1
 
 -- each node that was made for a pair is right
 abbrev pub AreRight : Operation → List Triple → List (Pair × ℕ) → Type 0
 AreRight w ts [] = Unit {0}
 AreRight w ts (e ∷ es) = IsRight w ts e × AreRight w ts es
+
+-- the entries are those of a diagram, and each node that is remembered is that of its pair's conjunction
+pub record IsTable (ts : List Triple) (results : List (Pair × ℕ)) : Type 0 where
+  pub diagram : IsDiagram ts
+  pub right : AreRight And ts results
 
 -- the node a, taken apart at an option that is not after its own
 pub record IsSides (ts : List Triple) (a o off on : ℕ) : Type 0 where

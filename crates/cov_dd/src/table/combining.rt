@@ -5,7 +5,7 @@ ghost use Rattle.cov_dd.specs.declared.operation.Operation.{Operation};
 ghost use Rattle.cov_dd.specs.Diagrams.{diagram_size, top, span, value_in, Extends, Stands};
 ghost use Rattle.cov_dd.specs.Memos.{IsKey};
 ghost use Rattle.cov_dd.specs.Reached.{size};
-ghost use Rattle.cov_dd.specs.Combinations.{first_option, joint_span, both_in, AreRight, IsSides, Runs, Joins, Rests};
+ghost use Rattle.cov_dd.specs.Combinations.{first_option, joint_span, both_in, AreRight, IsResult, IsRight, IsSides, Runs, Joins, Rests};
 
 use super::Table;
 use crate::memo::{Memo, Pair};
@@ -31,7 +31,19 @@ impl Table {
         ensures bound { steps.new - steps.old ≤ size self.old a * size self.old b }
         ensures entries { diagram_size self.new ≤ diagram_size self.old + (steps.new - steps.old) }
     {
-        self.combine(Operation::And, a, b, steps)
+        if let Some(node) = self.settled(Operation::And, a, b) {
+            return Ok(node);
+        }
+        let pair = Pair { left: a, right: b };
+        if let Some(node) = self.recall(pair) {
+            return Ok(node);
+        }
+        let node = match self.combine(Operation::And, a, b, steps) {
+            Ok(node) => node,
+            Err(error) => return Err(error),
+        };
+        self.remember(pair, node);
+        Ok(node)
     }
 
     /// The node that is true where one of both is.
@@ -63,6 +75,22 @@ impl Table {
         // Reading a field brings the table's invariant into the proof.
         let _ = &self.entries;
         self.without(TRUE, a)
+    }
+
+    // The node of a conjunction, if it is remembered from an earlier call.
+    fn recall(&mut self, pair: Pair) -> Option<Node>
+        ensures same { self.new ≡ self.old }
+        ensures some { IfSome result (IsResult Operation.And self.old pair) }
+    {
+        self.conjunctions.find(pair)
+    }
+
+    // Remembers the node of a conjunction for later calls, unless there is no memory for it.
+    fn remember(&mut self, pair: Pair, node: Node)
+        requires { IsRight Operation.And self.old (pair, node) }
+        ensures { self.new ≡ self.old }
+    {
+        self.conjunctions.put(pair, node);
     }
 
     fn combine<L: Ledger>(
