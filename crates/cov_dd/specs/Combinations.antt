@@ -80,11 +80,17 @@ pub record Runs (w : Operation) (ts us : List Triple) (a b : ℕ) (m n : List (P
   pub reached : (p : Pair) → IsKey more p → (reaches ts a p.left ≡ true) × (reaches ts b p.right ≡ true)
   pub before : (p : Pair) → IsKey more p → (p.left ≤ a) × (p.right ≤ b)
 
+-- the node r of the new diagram is that of a triple over the old one
+abbrev pub IsNodeOf : List Triple → List Triple → Triple → ℕ → Type 0
+IsNodeOf ts us t r =
+    Stands us r t.option (max (t.option + 1) (max (span ts t.off) (span ts t.on)))
+    (λ c. cond (is_on c t.option) (value_in ts t.on c) (value_in ts t.off c))
+
 -- the node of a triple was made for a pair
 pub record Joins (ts us : List Triple) (pair : Pair) (t : Triple) (m n : List (Pair × ℕ)) (k l r : ℕ) : Type 0 where
   pub extends : Extends ts us
   pub one : diagram_size us ≤ diagram_size ts + 1
-  pub stands : Stands us r t.option (max (t.option + 1) (max (span ts t.off) (span ts t.on))) (λ c. cond (is_on c t.option) (value_in ts t.on c) (value_in ts t.off c))
+  pub stands : IsNodeOf ts us t r
   pub memo : n ≡ (pair, r) ∷ m
   pub steps : l ≡ k + 1
 
