@@ -8,4 +8,5 @@ pub mod Ordered
 pub mod Paths
 pub mod Placing
 pub mod Reaching
+pub mod Replacing
 pub mod Tables

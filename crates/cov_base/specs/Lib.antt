@@ -8,6 +8,7 @@ pub mod Faults
 pub mod Lines
 pub mod Older
 pub mod Reaching
+pub mod Replacing
 pub mod Rows
 pub mod Spelling
 pub mod Texts

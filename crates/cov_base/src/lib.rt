@@ -27,6 +27,6 @@ pub use line_text::is_line_text;
 pub use list::{ByReference, ByValue, LineNos, List, NodeNos, Numbers, Texts};
 pub use name::{Name, Path};
 pub use number::{Kind, LineNo, LineRef, NodeNo, NodeRef, OptionId, Position};
-pub use older::OlderLists;
+pub use older::{OlderList, OlderLists};
 pub use option_name::{OptionName, is_first_byte, is_word_byte, spells_word};
-pub use steps::{Counted, Ledger, Steps, Uncounted};
+pub use steps::{Counted, Ledger, Steps, Tally, Uncounted};

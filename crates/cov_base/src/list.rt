@@ -1,5 +1,5 @@
 // Lists of the product's own. Each keeps its allocator, and contracts see it as a list.
-ghost use Rattle.std.specs.Prelude.{◌≡◌, ◌≤◌, [], ◌∷◌, ◌++◌, ◌==◌, length, insert, nat_eq, slice_get, OnOk, OnErr};
+ghost use Rattle.std.specs.Prelude.{◌≡◌, ◌<◌, ◌≤◌, [], ◌∷◌, ◌++◌, ◌==◌, length, take, insert, nat_eq, slice_get, slice_set, OnOk, OnErr};
 ghost use Rattle.std.specs.Fn.{CalledAt};
 ghost use Rattle.std.specs.List.{list_any};
 ghost use Rattle.std.specs.List.Retain.{IsFiltered};
@@ -80,6 +80,21 @@ impl<T: Drop, Way> List<T, Way> {
     {
         self.items.insert(index, item)?;
         Ok(())
+    }
+
+    /// Puts an item in the place of another, without memory.
+    pub fn set(&mut self, index: usize, item: T)
+        requires { index < length self.old }
+        ensures { self.new ≡ slice_set self.old index item }
+    {
+        self.items[index] = item;
+    }
+
+    /// Keeps the first items, `length` of them where there are as many, without memory.
+    pub fn cut(&mut self, length: usize)
+        ensures { self.new ≡ take length self.old }
+    {
+        self.items.truncate(length);
     }
 
     /// Takes out the items that aren't kept, without memory and in one pass.

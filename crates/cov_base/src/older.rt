@@ -1,16 +1,17 @@
 // Whole lists that later ones have replaced, by position.
-ghost use Rattle.std.specs.Prelude.{◌≡◌, ◌<◌, [], ◌∷◌, reverse, nat_le, OnOk};
+ghost use Rattle.std.specs.Prelude.{◌≡◌, ◌<◌, [], ◌∷◌, length, reverse, nat_le, OnOk};
 ghost use Rattle.std.specs.List.{find};
 ghost use Rattle.std.specs.Option.{option_copied};
-ghost use Rattle.cov_base.specs.Older.{value_at};
+ghost use Rattle.cov_base.specs.Older.{value_at, IsReplaced};
 
 use crate::{Memory, Position};
 use std::alloc::Global;
 use std::marker::Model;
+use std::mem;
 
 /// A whole list from a position on.
 #[derive(Drop)]
-struct OlderList<T> {
+pub struct OlderList<T> {
     from: Position,
     items: Vec<T>,
 }
@@ -21,6 +22,14 @@ impl<T> Model for OlderList<T> {
     ghost Value = { ℕ × List T };
 
     ghost view = { λ l. (l.from, l.items.items) };
+}
+
+impl<T: Drop> OlderList<T> {
+    pub fn as_slice(&self) -> &[T]
+        ensures { result.now ≡ self.now.1 }
+    {
+        self.items.as_slice()
+    }
 }
 
 /// Whole lists by position, each from its own on. Their positions rise.
@@ -67,6 +76,22 @@ impl<T: Drop> OlderLists<T> {
         ensures { self.new.lists ≡ (from, items.items) ∷ self.old.lists }
     {
         self.lists.push_reserved(OlderList { from, items });
+    }
+
+    /// The lists, the oldest first.
+    pub fn as_slice(&self) -> &[OlderList<T>]
+        ensures { reverse result.now ≡ self.now.lists }
+    {
+        self.lists.as_slice()
+    }
+
+    /// Puts other items into the list at an index, from 0 for the oldest, and answers those that it had. It takes no memory.
+    pub fn replace(&mut self, index: usize, items: Vec<T>) -> Vec<T>
+        requires { index < length self.old.lists }
+        ensures lists { IsReplaced self.old.lists self.new.lists index items.items result.items }
+        ensures room { self.new.room ≡ self.old.room }
+    {
+        mem::replace(&mut self.lists[index].items, items)
     }
 
     /// The newest list not beyond a position, an empty one where all are.

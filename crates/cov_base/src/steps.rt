@@ -4,9 +4,9 @@ ghost use Rattle.std.specs.Borrow.{ftrue};
 
 use std::marker::Model;
 
-// How many ticks there were. It takes no bytes, and only proofs read it.
+/// A count for proofs alone, which takes no bytes.
 #[derive(Drop)]
-struct Tally {
+pub struct Tally {
     pub ghost number: { ℕ },
 }
 
@@ -15,13 +15,14 @@ impl Model for Tally {
 }
 
 impl Tally {
-    fn new() -> Tally
+    pub fn new() -> Tally
         ensures { result.number ≡ 0 }
     {
         Tally {}
     }
 
-    fn after(_before: &Tally) -> Tally
+    /// The count with one more.
+    pub fn after(_before: &Tally) -> Tally
         ensures { result.number ≡ _before.now.number + 1 }
     {
         Tally {}

@@ -9,7 +9,7 @@ use Rattle.cov_dd.specs.declared.memo.Pair.{Pair}
 use Rattle.cov_dd.specs.Diagrams.{diagram_size, top, span, value_in, IsDiagram, Extends, Stands}
 use Rattle.cov_dd.specs.Memos.{IsKey, IsMade, IsDistinct}
 use Rattle.cov_dd.specs.Reached.{reaches, size}
-use Rattle.cov_dd.specs.Combinations.{applied, both_in, IsShortcut, first_option, joint_span, AreRight, IsSides, Runs, Joins, Rests}
+use Rattle.cov_dd.specs.Combinations.{applied, both_in, IsShortcut, first_option, joint_span, AreRight, IsRight, IsSides, Runs, Joins, Rests}
 use Rattle.cov_dd.proofs.Nodes.{extends_trans, below, level, above, ordered, some_nodes, value-constant, top-constant, span-constant, top-most, extends_none}
 use Rattle.cov_dd.proofs.Reaching.{reaches-append, reaches-itself}
 use Rattle.cov_dd.proofs.Pairs.{IsKey-split}
@@ -66,7 +66,7 @@ module _ (w : Operation) (ts us : List Triple) (x : Extends ts us) (a b : ℕ) (
     value = λ c. x.value r s.within c ∙ s.value c ∙ sym (both_in-later c);
   }
 
-right_later : (w : Operation) (ts us : List Triple) → Extends ts us → (m : List (Pair × ℕ)) → AreRight w ts m → AreRight w us m
+pub right_later : (w : Operation) (ts us : List Triple) → Extends ts us → (m : List (Pair × ℕ)) → AreRight w ts m → AreRight w us m
 right_later w ts us x [] right = tt
 right_later w ts us x (e ∷ es) right = (
   record {
@@ -76,6 +76,20 @@ right_later w ts us x (e ∷ es) right = (
   },
   right_later w ts us x es right.1,
 )
+
+-- the node that was made for two nodes of a table that has grown since
+pub right_after : (w : Operation) (ts us : List Triple) → Extends ts us → (a b r : ℕ) → a < diagram_size ts → b < diagram_size ts → Stands us r (first_option ts a b) (joint_span ts a b) (both_in w ts a b)
+    → IsRight w us (record { left = a; right = b }, r)
+right_after w ts us x a b r ha hb s = record {
+  left = omega (arith, ha, x.count);
+  right = omega (arith, hb, x.count);
+  stands = record {
+    within = s.within;
+    above = omega (arith, s.above, first_option-later w ts us x a b ha hb);
+    below = omega (arith, s.below, joint_span-later w ts us x a b ha hb);
+    value = λ c. s.value c ∙ sym (both_in-later w ts us x a b ha hb c);
+  };
+}
 
 reaches-later : (ts us : List Triple) → Extends ts us → (a n : ℕ) → a < diagram_size ts → reaches us a n ≡ reaches ts a n
 reaches-later ts us x a n h = ap (λ vs. reaches vs a n) x.is ∙ reaches-append x.more ts a n h

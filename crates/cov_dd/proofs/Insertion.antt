@@ -36,9 +36,12 @@ slice_get-end : {X : Type 0} (xs : List X) (y : X) → slice_get (xs ++ y ∷ []
 slice_get-end [] y = refl
 slice_get-end (x ∷ xs) y = slice_get-end xs y
 
-diagram_size-length : (ts : List Triple) → diagram_size ts ≡ length ts + 2
+pub diagram_size-length : (ts : List Triple) → diagram_size ts ≡ length ts + 2
 diagram_size-length [] = refl
 diagram_size-length (t ∷ ts) = omega (arith, diagram_size-length ts)
+
+pub diagram_size-keys : (keys : List Triple) → diagram_size (reverse keys) ≡ length keys + 2
+diagram_size-keys keys = diagram_size-length (reverse keys) ∙ ap (λ n. n + 2) (length-reverse keys)
 
 -- node 2 + i has entry i
 pub entry-reverse : (ts : List Triple) (i : ℕ) → entry_in ts (i + 2) ≡ slice_get (reverse ts) i

@@ -12,7 +12,7 @@ use Rattle.cov_dd.specs.Memos.{IsKey, IsMade}
 abbrev pub same_pair : Pair → Pair → Bool
 same_pair p q = nat_eq p.left q.left && nat_eq p.right q.right
 
-same_pair-true : (p q : Pair) → same_pair p q ≡ true → p ≡ q
+pub same_pair-true : (p q : Pair) → same_pair p q ≡ true → p ≡ q
 same_pair-true p q h = by (nat_eq p.left q.left) refl h
   where
     by : (b : Bool) → nat_eq p.left q.left ≡ b → (b && nat_eq p.right q.right) ≡ true → p ≡ q
@@ -63,7 +63,7 @@ reverse-made [] p r h = h
 reverse-made (e ∷ es) p r (inl h) = subst (λ l. IsMade l p r) (sym (reverse_onto es e [])) (IsMade-append (reverse es) (e ∷ []) p r (inr (inl h)))
 reverse-made (e ∷ es) p r (inr h) = subst (λ l. IsMade l p r) (sym (reverse_onto es e [])) (IsMade-append (reverse es) (e ∷ []) p r (inl (reverse-made es p r h)))
 
-lookup-made : (es : List (Pair × ℕ)) (p : Pair) (r : ℕ) → lookup (same_pair p) es ≡ Some r → IsMade es p r
+pub lookup-made : (es : List (Pair × ℕ)) (p : Pair) (r : ℕ) → lookup (same_pair p) es ≡ Some r → IsMade es p r
 lookup-made [] p r h = absurd (cc)
 lookup-made (e ∷ es) p r h = by (same_pair p e.0) refl h (lookup-made es p r)
   where

@@ -5,7 +5,7 @@ use Rattle.cov_dd.specs.declared.operation.Operation.{Operation}
 use Rattle.cov_dd.specs.declared.operation.Operation.TheVariants.{And, Or, Without}
 use Rattle.cov_dd.specs.declared.triple.Triple.{Triple}
 use Rattle.cov_dd.specs.declared.memo.Pair.{Pair}
-use Rattle.cov_dd.specs.Diagrams.{diagram_size, top, span, value_in, Extends, Stands}
+use Rattle.cov_dd.specs.Diagrams.{diagram_size, top, span, value_in, IsDiagram, Extends, Stands}
 use Rattle.cov_dd.specs.Memos.{IsKey}
 use Rattle.cov_dd.specs.Reached.{reaches}
 
@@ -32,16 +32,25 @@ first_option ts a b = min (top ts a) (top ts b)
 abbrev pub joint_span : List Triple → ℕ → ℕ → ℕ
 joint_span ts a b = max (span ts a) (span ts b)
 
+-- the node r is that of an operation on a pair
+abbrev pub IsResult : Operation → List Triple → Pair → ℕ → Type 0
+IsResult w ts p r = Stands ts r (first_option ts p.left p.right) (joint_span ts p.left p.right) (both_in w ts p.left p.right)
+
 -- a node that was made for a pair is right
 pub record IsRight (w : Operation) (ts : List Triple) (e : Pair × ℕ) : Type 0 where
   pub left : e.0.left < diagram_size ts
   pub right : e.0.right < diagram_size ts
-  pub stands : Stands ts e.1 (first_option ts e.0.left e.0.right) (joint_span ts e.0.left e.0.right) (both_in w ts e.0.left e.0.right)
+  pub stands : IsResult w ts e.0 e.1
 
 -- each node that was made for a pair is right
 abbrev pub AreRight : Operation → List Triple → List (Pair × ℕ) → Type 0
 AreRight w ts [] = Unit {0}
 AreRight w ts (e ∷ es) = IsRight w ts e × AreRight w ts es
+
+-- the entries are those of a diagram, and each node that is remembered is that of its pair's conjunction
+pub record IsTable (ts : List Triple) (results : List (Pair × ℕ)) : Type 0 where
+  pub diagram : IsDiagram ts
+  pub right : AreRight And ts results
 
 -- the node a, taken apart at an option that is not after its own
 pub record IsSides (ts : List Triple) (a o off on : ℕ) : Type 0 where
@@ -71,11 +80,17 @@ pub record Runs (w : Operation) (ts us : List Triple) (a b : ℕ) (m n : List (P
   pub reached : (p : Pair) → IsKey more p → (reaches ts a p.left ≡ true) × (reaches ts b p.right ≡ true)
   pub before : (p : Pair) → IsKey more p → (p.left ≤ a) × (p.right ≤ b)
 
+-- the node r of the new diagram is that of a triple over the old one
+abbrev pub IsNodeOf : List Triple → List Triple → Triple → ℕ → Type 0
+IsNodeOf ts us t r =
+    Stands us r t.option (max (t.option + 1) (max (span ts t.off) (span ts t.on)))
+    (λ c. cond (is_on c t.option) (value_in ts t.on c) (value_in ts t.off c))
+
 -- the node of a triple was made for a pair
 pub record Joins (ts us : List Triple) (pair : Pair) (t : Triple) (m n : List (Pair × ℕ)) (k l r : ℕ) : Type 0 where
   pub extends : Extends ts us
   pub one : diagram_size us ≤ diagram_size ts + 1
-  pub stands : Stands us r t.option (max (t.option + 1) (max (span ts t.off) (span ts t.on))) (λ c. cond (is_on c t.option) (value_in ts t.on c) (value_in ts t.off c))
+  pub stands : IsNodeOf ts us t r
   pub memo : n ≡ (pair, r) ∷ m
   pub steps : l ≡ k + 1
 

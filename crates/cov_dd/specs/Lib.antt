@@ -1,5 +1,7 @@
 pub mod Cofactors
 pub mod Combinations
 pub mod Diagrams
+pub mod Marks
 pub mod Memos
 pub mod Reached
+pub mod Sweeps

@@ -20,3 +20,7 @@ IsMade (e ∷ es) p r = (e ≡ (p, r)) ⊎ IsMade es p r
 abbrev pub IsDistinct : List (Pair × ℕ) → Type 0
 IsDistinct [] = Unit {0}
 IsDistinct (e ∷ es) = IsDistinct es × (IsKey es e.0 → ⊥)
+
+-- each of the first pairs has its node in the second memo too
+abbrev pub AreAmong : List (Pair × ℕ) → List (Pair × ℕ) → Type 0
+AreAmong es fs = (p : Pair) (r : ℕ) → IsMade es p r → IsMade fs p r

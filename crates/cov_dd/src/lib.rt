@@ -4,8 +4,9 @@
 mod choices;
 mod memo;
 mod operation;
+mod results;
 mod table;
 mod triple;
 
 pub use table::Table;
-pub use triple::{FALSE, Node, TRUE, Triple, constant};
+pub use triple::{FALSE, Node, Nodes, TRUE, Triple, constant};

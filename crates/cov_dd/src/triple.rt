@@ -9,6 +9,9 @@ use cov_base::OptionId;
 /// The number of a node within its table.
 pub type Node = u64;
 
+/// A list of nodes.
+pub type Nodes = cov_base::List<Node, cov_base::ByValue>;
+
 /// The node that is false on every choice.
 pub const FALSE: Node = 0;
 

@@ -1,6 +1,7 @@
--- What a caller cites of lines that are alike: they show the same.
+-- What a caller cites of lines that are alike, and of those whose nodes are renumbered: they show the same.
 pub use Rattle.cov_file.proofs.Changing.{has_after}
 pub use Rattle.cov_file.proofs.Later.{alike_shown}
+pub use Rattle.cov_file.proofs.Sweeping.{each_renumbered, rows_renumbered}
 use Rattle.std.proofs.Common.{List, [], ◌∷◌, refl, ◌∙◌}
 use Rattle.cov_file.specs.Dated.{DatedLine, AreAlike}
 

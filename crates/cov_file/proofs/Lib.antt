@@ -3,5 +3,8 @@ pub mod Chains
 pub mod Changing
 pub mod Finding
 pub mod Later
+pub mod Redating
+pub mod Renumbering
 pub mod Rooms
 pub mod Shown
+pub mod Sweeping

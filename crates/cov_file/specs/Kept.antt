@@ -8,13 +8,14 @@ use Rattle.cov_file.specs.declared.changes.Change.{Change}
 use Rattle.cov_file.specs.Dated.{DatedLine}
 
 -- of each line its changes, the newest first; the position of the newest change; for how many lines more and for how many
--- changes there is room, and whether for those of any position, and not just of the newest
+-- changes there is room, and whether for those of any position, and not just of the newest; every node, in one order
 pub record LineChanges : Type 0 where
   pub lists : List (List (ℕ × ℕ))
   pub newest : ℕ
   pub inserts : ℕ
   pub room : ℕ
   pub is_open : Bool
+  pub nodes : List ℕ
 
 -- the changes of a line before one of its changes, the newest first: where that one names a number, the one before it is the
 -- last of so many earlier ones of all lines, which stand here in reverse

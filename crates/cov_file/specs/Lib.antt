@@ -1,4 +1,5 @@
 pub mod Dated
 pub mod Kept
 pub mod Laws
+pub mod Renumbered
 pub mod Rooms

@@ -15,12 +15,14 @@ pub record Coming : Type 0 where
   pub inserts : ℕ
   pub deletes : List ℕ
 
--- the lines in order, the position of the newest change, the room that there is, and the changes that are expected
+-- the lines in order, the position of the newest change, the room that there is, the changes that are expected, and every node
+-- that is kept, in one order
 pub record DatedFile : Type 0 where
   pub lines : List DatedLine
   pub newest : ℕ
   pub room : Room
   pub coming : Coming
+  pub nodes : List ℕ
 
 -- whether there is room at a position
 abbrev pub is_room_at : ℕ → Room → Bool

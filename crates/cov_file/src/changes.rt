@@ -1,11 +1,12 @@
 // The changes of the visibilities of lines.
-ghost use Rattle.std.specs.Prelude.{◌≡◌, ◌<◌, ◌≤◌, ◌+◌, ◌-◌, ◌^◌, ℕ, [], ◌∷◌, ◌++◌, true, false, length, reverse, set, slice_get, vec_len, vec_capacity, OnOk, OnErr, IfSome, if◌then◌else◌};
+ghost use Rattle.std.specs.Prelude.{◌≡◌, ◌<◌, ◌≤◌, ◌+◌, ◌-◌, ◌^◌, ℕ, [], ◌∷◌, ◌++◌, true, false, length, map, reverse, set, slice_get, take, drop, vec_len, vec_capacity, OnOk, OnErr, IfSome, if◌then◌else◌};
 ghost use Rattle.std.specs.Option.{option_map, option_map_or};
 ghost use Rattle.cov_file.specs.Dated.{vis_at, newest_vis};
 ghost use Rattle.cov_file.specs.Kept.{changes_before, changes_of, AreLinked, changes_at, is_at, with_node};
+ghost use Rattle.cov_file.specs.Renumbered.{dates_of, having_nodes, node_of, AreAllListed, AreRenumberedLists};
 
 use cov_base::{Memory, Position};
-use cov_dd::{FALSE, Node};
+use cov_dd::{FALSE, Node, Nodes};
 use std::alloc::Global;
 use std::marker::Model;
 
@@ -34,6 +35,7 @@ pub(crate) struct Changes {
 impl Model for Changes {
     ghost use Rattle.std.specs.Prelude.{◌-◌, ◌^◌, min, vec_len, vec_capacity};
     ghost use Rattle.cov_file.specs.Kept.{LineChanges, lists_of, AreChanges};
+    ghost use Rattle.cov_file.specs.Renumbered.{nodes_of};
 
     ghost Value = { LineChanges };
 
@@ -127,6 +129,51 @@ impl Changes {
         };
     }
 
+    /// Appends every node, or none where there is no memory.
+    pub(crate) fn nodes(&self, into: &mut Nodes) -> Result<(), Memory>
+        ensures all { AreAllListed self.now.nodes self.now.lists }
+        ensures ok { OnOk result (into.new ≡ into.old ++ self.now.nodes) }
+        ensures err { OnErr result (into.new ≡ into.old) }
+    {
+        // Reading a field brings what contracts see of it into the proof.
+        let _ = &self.newest;
+        let before = into.len();
+        match self.append_nodes(into) {
+            Ok(()) => Ok(()),
+            Err(error) => {
+                into.cut(before);
+                Err(error)
+            }
+        }
+    }
+
+    fn append_nodes(&self, into: &mut Nodes) -> Result<(), Memory>
+        ensures ok { OnOk result (into.new ≡ into.old ++ self.now.nodes) }
+        ensures front { take (length into.old) into.new ≡ into.old }
+    {
+        append(self.newest.as_slice(), into)?;
+        append(self.earlier.as_slice(), into)
+    }
+
+    /// Puts the nodes of a list from a place on in the places of these, in the order of `nodes`. It answers the place after the
+    /// last, and takes no memory.
+    pub(crate) fn renumber(&mut self, from: &Nodes, first: u64) -> u64
+        requires { first + length self.old.nodes ≤ length from.now }
+        ensures next { result ≡ first + length self.old.nodes }
+        ensures nodes { self.new.nodes ≡ take (length self.old.nodes) (drop first from.now) }
+        ensures lists { AreRenumberedLists self.old.nodes self.new.nodes self.old.lists self.new.lists }
+        ensures all { AreAllListed self.old.nodes self.old.lists }
+        ensures dates { map dates_of self.new.lists ≡ map dates_of self.old.lists }
+        ensures newest { self.new.newest ≡ self.old.newest }
+        ensures inserts { self.new.inserts ≡ self.old.inserts }
+        ensures room { self.new.room ≡ self.old.room }
+        ensures open { self.new.is_open ≡ self.old.is_open }
+    {
+        let nodes = from.as_slice();
+        let middle = renumber_all(&mut self.newest, nodes, first);
+        renumber_all(&mut self.earlier, nodes, middle)
+    }
+
     // The changes that come are at a position, and only there is room for them.
     fn begin(&mut self, at: Position)
         requires later { self.old.newest ≤ at }
@@ -162,6 +209,35 @@ impl Changes {
             None => FALSE,
         }
     }
+}
+
+// Appends the nodes of changes.
+fn append(changes: &[Change], into: &mut Nodes) -> Result<(), Memory>
+    ensures ok { OnOk result (into.new ≡ into.old ++ map node_of changes.now) }
+    ensures front { take (length into.old) into.new ≡ into.old }
+{
+    let mut ahead = changes;
+    while let [change, rest @ ..] = ahead {
+        into.push(change.node)?;
+        ahead = rest;
+    }
+    Ok(())
+}
+
+// Gives changes the nodes of a list from a place on.
+fn renumber_all(changes: &mut Vec<Change>, from: &[Node], first: u64) -> u64
+    requires { first + length changes.old.items ≤ length from.now }
+    ensures next { result ≡ first + length changes.old.items }
+    ensures changes { changes.new.items ≡ having_nodes changes.old.items (drop first from.now) }
+    ensures capacity { vec_capacity changes.new ≡ vec_capacity changes.old }
+    ensures len { vec_len changes.new ≡ vec_len changes.old }
+{
+    let mut index = 0;
+    while index < changes.len() {
+        changes[index].node = from[first as usize + index];
+        index += 1;
+    }
+    first + changes.len() as u64
 }
 
 // Puts a change behind the earlier ones, and answers how many there are then.

@@ -1,5 +1,5 @@
 // The lines of a file.
-ghost use Rattle.std.specs.Prelude.{◌≡◌, ℕ, List, ◌<◌, ◌≤◌, ◌+◌, ◌-◌, ◌^◌, ◌++◌, ◌∷◌, [], true, false, nat_eq, position, IfOk, OnOk, if◌then◌else◌};
+ghost use Rattle.std.specs.Prelude.{◌≡◌, ℕ, List, ◌<◌, ◌≤◌, ◌+◌, ◌-◌, ◌^◌, ◌++◌, ◌∷◌, [], true, false, nat_eq, length, position, take, drop, IfOk, OnOk, OnErr, if◌then◌else◌};
 ghost use Rattle.std.specs.List.{list_any};
 ghost use Rattle.std.specs.Map.{keys_of};
 ghost use Rattle.std.specs.Option.{option_map};
@@ -8,13 +8,14 @@ ghost use Rattle.cov_base.specs.Addresses.{after_anchor};
 ghost use Rattle.cov_dd.specs.Diagrams.{value_in};
 ghost use Rattle.cov_order.specs.Orders.{has_line, is_anchor};
 ghost use Rattle.cov_file.specs.Dated.{line_numbers_of, new_line, with_line, with_change, rows_at, all_rows, newest_of, vis_of, AreAlike};
+ghost use Rattle.cov_file.specs.Renumbered.{AreAllNodes, AreRenumberedLines};
 ghost use Rattle.cov_file.specs.Rooms.{is_room_at, IsMade, IsLeft};
 ghost use Rattle.cov_file.specs.Kept.{row_in, dated_lines};
 
 use crate::changes::Changes;
 use crate::coming::Coming;
 use cov_base::{Choice, FileRow, FileRows, LineNo, LineNos, Memory, Position, Text};
-use cov_dd::{FALSE, Node, Table};
+use cov_dd::{FALSE, Node, Nodes, Table};
 use cov_order::Order;
 use indexmap::IndexMap;
 use std::alloc::Global;
@@ -219,6 +220,30 @@ impl FileLines {
             index += 1;
         }
         Ok(rows)
+    }
+
+    /// Appends every node that the lines have at some position, or none where there is no memory.
+    pub fn nodes(&self, into: &mut Nodes) -> Result<(), Memory>
+        ensures all { AreAllNodes self.now }
+        ensures ok { OnOk result (into.new ≡ into.old ++ self.now.nodes) }
+        ensures err { OnErr result (into.new ≡ into.old) }
+    {
+        self.changes.nodes(into)
+    }
+
+    /// Puts the nodes of a list from a place on in the places of those that the lines have, in the order of `nodes`. It answers the
+    /// place after the last, and takes no memory.
+    pub fn renumber(&mut self, from: &Nodes, first: u64) -> u64
+        requires { first + length self.old.nodes ≤ length from.now }
+        ensures next { result ≡ first + length self.old.nodes }
+        ensures nodes { self.new.nodes ≡ take (length self.old.nodes) (drop first from.now) }
+        ensures lines { AreRenumberedLines self.old self.new }
+        ensures all { AreAllNodes self.old }
+        ensures newest { self.new.newest ≡ self.old.newest }
+        ensures room { self.new.room ≡ self.old.room }
+        ensures coming { self.new.coming ≡ self.old.coming }
+    {
+        self.changes.renumber(from, first)
     }
 
     /// The newest visibility of a line, None exactly where it was never inserted into this file. It takes no memory.

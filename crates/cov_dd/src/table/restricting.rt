@@ -7,7 +7,7 @@ ghost use Rattle.cov_dd.specs.Cofactors.{cofactor, AreCofactors, Restricts};
 use super::Table;
 use crate::memo::{Memo, Pair};
 use crate::{FALSE, Node, Triple};
-use cov_base::{Memory, OptionId, Steps, Uncounted};
+use cov_base::{Memory, OptionId, Steps, Tally, Uncounted};
 
 impl Table {
     /// The node that has on each choice the node's value on that choice with the option set. It makes at most one
@@ -60,7 +60,8 @@ impl Table {
             off: off_side,
             on: on_side,
         };
-        self.join(pair, triple, memo, &mut Steps::<Uncounted>::new())
+        let steps = &mut Steps::<Uncounted>::new();
+        self.join(pair, triple, memo, &mut Tally::new(), steps)
     }
 
     // The cofactor where it needs no new entry. Else the node's own option comes before the one that is set.

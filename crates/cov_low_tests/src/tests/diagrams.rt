@@ -1,6 +1,6 @@
 //! Diagrams and the visibilities that expressions have as nodes of them.
 use cov_base::{Choice, Counted, OptionId, Steps, Uncounted};
-use cov_dd::{FALSE, Node, Table};
+use cov_dd::{FALSE, Node, Nodes, TRUE, Table};
 use cov_expr::{Expr, Part};
 use cov_vis::{add, compile, take};
 use std::alloc::Global;
@@ -97,6 +97,56 @@ fn check_nodes(rt: &impl Abort, table: &mut Table) -> Result<(), Fail> {
 #[test]
 fn equal_functions_are_equal_nodes(rt: HostRuntime) -> Result<(), Fail> {
     with_table(rt.alloc(), |table| check_nodes(&rt, table))
+}
+
+// The second of two conjunctions of the same nodes is kept from the first.
+fn check_kept(rt: &impl Abort, table: &mut Table) -> Result<(), Fail> {
+    let a = table.literal(OptionId::new(0))?;
+    let b = table.literal(OptionId::new(1))?;
+    let mut steps = Steps::<Counted>::new();
+    let first = table.and(a, b, &mut steps)?;
+    let ticks = steps.ticks();
+    let second = table.and(a, b, &mut steps)?;
+    assert!(rt; ticks > 0);
+    assert!(rt; second == first);
+    assert!(rt; steps.ticks() == ticks);
+    Ok(())
+}
+
+#[test]
+fn a_conjunction_is_kept(rt: HostRuntime) -> Result<(), Fail> {
+    with_table(rt.alloc(), |table| check_kept(&rt, table))
+}
+
+// A sweep with `a | b` and FALSE as the roots leaves `b` and `a | b`, and a conjunction from before it isn't taken for one of now.
+fn check_swept(rt: &impl Abort, alloc: Global, table: &mut Table) -> Result<(), Fail> {
+    let a = table.literal(OptionId::new(0))?;
+    let b = table.literal(OptionId::new(1))?;
+    let both = table.and(a, b, &mut Steps::<Uncounted>::new())?;
+    let either = table.or(a, b)?;
+    let mut roots = Nodes::new(alloc);
+    roots.push(either)?;
+    roots.push(FALSE)?;
+    table.sweep(&mut roots)?;
+    lists(rt, table, roots.get(0).unwrap_or(FALSE), 0b0011_1111);
+    assert!(rt; roots.get(1) == Some(FALSE));
+    assert!(rt; roots.len() == 2);
+    assert!(rt; table.entry(3).is_some());
+    assert!(rt; table.entry(4).is_none());
+    let b = table.literal(OptionId::new(1))?;
+    assert!(rt; b == 2);
+    let a = table.literal(OptionId::new(0))?;
+    let again = table.and(a, b, &mut Steps::<Uncounted>::new())?;
+    lists(rt, table, again, 0b0000_0011);
+    roots.cut(1);
+    assert!(rt; roots.len() == 1);
+    assert!(rt; both > TRUE);
+    Ok(())
+}
+
+#[test]
+fn a_sweep_keeps_the_roots(rt: HostRuntime) -> Result<(), Fail> {
+    with_table(rt.alloc(), |table| check_swept(&rt, rt.alloc(), table))
 }
 
 // !a & b

@@ -14,7 +14,7 @@ pub returns-clause-entry : goal.returns-clause-entry
 returns-clause-entry c = found c
 
 pub returns-clause-known : goal.returns-clause-known
-returns-clause-known c = known_entry c.args.self.now c.args.a c.copied.result (subst IsDiagram c.self.view_is c.self.invariant) (found c)
+returns-clause-known c = known_entry c.args.self.now c.args.a c.copied.result (subst IsDiagram c.self.view_is c.self.invariant.diagram) (found c)
 
 pub returns-clause-none : goal.returns-clause-none
 returns-clause-none c = λ within. no_entry c.args.self.now c.args.a c.copied.result within (found c)

@@ -14,7 +14,7 @@ loop-triple-init c = record {
 pub loop-triple-preserved : goal.loop-triple-preserved
 loop-triple-preserved c =
     let t = c.in-Some.triple in
-    let d = subst IsDiagram c.self.view_is c.self.invariant in
+    let d = subst IsDiagram c.self.view_is c.self.invariant.diagram in
     record {
       walk = ap (λ n. walked c.args.self.now n c.switched-choice.result) c.child-node.ensures
           ∙ ap (walked c.args.self.now (cond (nat_eq t.off 0) t.on t.off)) c.switched-choice.ensures
@@ -26,5 +26,5 @@ loop-triple-preserved c =
 
 pub returns : goal.returns
 returns c =
-    first_choice c.args.self.now (subst IsDiagram c.self.view_is c.self.invariant) c.args.a c.args.count c.requires.within c.requires.other c.requires.options c.requires.count
+    first_choice c.args.self.now (subst IsDiagram c.self.view_is c.self.invariant.diagram) c.args.a c.args.count c.requires.within c.requires.other c.requires.options c.requires.count
     ∙ ap Some (sym c.loop-triple.invariant.walk ∙ walked-none c.args.self.now c.loop-triple.node c.loop-triple.choice (sym c.in_default.ensures.entry))

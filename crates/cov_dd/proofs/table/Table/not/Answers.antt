@@ -9,4 +9,4 @@ pub without-requires-clause-a : goal.without-requires-clause-a
 without-requires-clause-a c = some_nodes c.args.self.now
 
 pub returns-clause-stands : goal.returns-clause-stands
-returns-clause-stands c = IfOk-weaker c.without.result _ _ (λ r. complement_stands c.args.self.now (subst IsDiagram c.self.view_is c.self.invariant) c.without.new.self c.args.a r) c.without.ensures.stands
+returns-clause-stands c = IfOk-weaker c.without.result _ _ (λ r. complement_stands c.args.self.now (subst IsDiagram c.self.view_is c.self.invariant.diagram) c.without.new.self c.args.a r) c.without.ensures.stands

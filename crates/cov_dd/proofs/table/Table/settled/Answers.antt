@@ -5,5 +5,5 @@ use Rattle.cov_dd.proofs.table.Table.settled.Goals as goal
 
 pub returns-clause-some : goal.returns-clause-some
 returns-clause-some c =
-    settled_stands c.args.operation c.args.self.now (subst IsDiagram c.self.view_is c.self.invariant) c.args.a c.args.b c.requires.a c.requires.b
+    settled_stands c.args.operation c.args.self.now (subst IsDiagram c.self.view_is c.self.invariant.diagram) c.args.a c.args.b c.requires.a c.requires.b
     c.shortcut.result c.shortcut.ensures.some

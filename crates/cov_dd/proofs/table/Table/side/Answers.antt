@@ -8,10 +8,10 @@ pub returns-then-on : goal.returns-then-on
 returns-then-on c =
     let ts = c.args.self.now in
     subst (λ (b : Bool). Stands ts c.sides-sides.result.on (top ts c.args.a) (span ts c.args.a) (cofactor ts c.args.a c.args.option b)) (sym c.if-on.true)
-    (on_stands ts (subst IsDiagram c.self.view_is c.self.invariant) c.args.a c.args.option c.sides-sides.result.off c.sides-sides.result.on c.sides-sides.ensures c.requires.own)
+    (on_stands ts (subst IsDiagram c.self.view_is c.self.invariant.diagram) c.args.a c.args.option c.sides-sides.result.off c.sides-sides.result.on c.sides-sides.ensures c.requires.own)
 
 pub returns : goal.returns
 returns c =
     let ts = c.args.self.now in
     subst (λ (b : Bool). Stands ts c.sides-sides.result.off (top ts c.args.a) (span ts c.args.a) (cofactor ts c.args.a c.args.option b)) (sym c.if-on.false)
-    (off_stands ts (subst IsDiagram c.self.view_is c.self.invariant) c.args.a c.args.option c.sides-sides.result.off c.sides-sides.result.on c.sides-sides.ensures c.requires.own)
+    (off_stands ts (subst IsDiagram c.self.view_is c.self.invariant.diagram) c.args.a c.args.option c.sides-sides.result.off c.sides-sides.result.on c.sides-sides.ensures c.requires.own)

@@ -7,7 +7,7 @@ use Rattle.cov_dd.proofs.table.Table.sides.Goals as goal
 
 pub returns-in-Some : goal.returns-in-Some
 returns-in-Some c =
-    sides_of_entry c.args.self.now (subst IsDiagram c.self.view_is c.self.invariant) c.args.a c.args.option c.in-Some.triple
+    sides_of_entry c.args.self.now (subst IsDiagram c.self.view_is c.self.invariant.diagram) c.args.a c.args.option c.in-Some.triple
     (sym c.in-Some.ensures.entry) (eqb-true c.in-Some.triple.option c.args.option (sym c.if-eq.ensures))
 
 pub returns-in_default-2 : goal.returns-in_default-2
