@@ -6,6 +6,7 @@ pub mod FileOfLine
 pub mod Files
 pub mod Insertions
 pub mod Kept
+pub mod KeptLaws
 pub mod Laws
 pub mod Naming
 pub mod Overtaking
