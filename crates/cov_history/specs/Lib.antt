@@ -7,6 +7,7 @@ pub mod Files
 pub mod InsertedTexts
 pub mod Insertions
 pub mod Kept
+pub mod KeptLaws
 pub mod Laws
 pub mod Naming
 pub mod Overtaking

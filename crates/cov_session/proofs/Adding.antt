@@ -21,7 +21,8 @@ use Rattle.cov_view.specs.Seen.{Seen}
 use Rattle.cov_view.specs.Views.{Shows, table_after, next_by_number, FaultBy}
 use Rattle.cov_view.specs.declared.fault.EditFault.{EditFault}
 use Rattle.cov_view.specs.declared.fault.EditFault.TheVariants as edit_faults
-use Rattle.cov_history.specs.Laws.{HoldingStands, ReplayStands}
+use Rattle.cov_history.specs.KeptLaws.{HoldingStands}
+use Rattle.cov_history.specs.Laws.{ReplayStands}
 use Rattle.cov_history.specs.Sessions.{Session, seen}
 use Rattle.cov_history.proofs.CallerLemmas.{edit-accepted, rest-accepted}
 use Rattle.cov_session.specs.Adding.{with_edits, as_fault, addition_fault, IsAdditionFault}

@@ -15,7 +15,8 @@ use Rattle.cov_edit.specs.Replay.{replay}
 use Rattle.cov_view.specs.References.{is_known_line}
 use Rattle.cov_view.specs.Refusals.{refusal, refused_from}
 use Rattle.cov_view.proofs.CallerLemmas.{delete-accepted}
-use Rattle.cov_history.specs.Laws.{HoldingStands, ReplayStands}
+use Rattle.cov_history.specs.KeptLaws.{HoldingStands}
+use Rattle.cov_history.specs.Laws.{ReplayStands}
 use Rattle.cov_history.proofs.CallerLemmas.{rest-accepted, edit-accepted}
 
 -- the line that an edit deletes, n lines having been made before, is among the first so many

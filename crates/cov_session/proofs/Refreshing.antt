@@ -24,7 +24,8 @@ use Rattle.cov_view.specs.Views.{FaultBy}
 use Rattle.cov_view.specs.declared.fault.EditFault.{EditFault}
 use Rattle.cov_view.specs.declared.fault.EditFault.TheVariants as edit_faults
 use Rattle.cov_history.specs.Completing.{completed_in}
-use Rattle.cov_history.specs.Laws.{HoldingStands, ReplayStands}
+use Rattle.cov_history.specs.KeptLaws.{HoldingStands}
+use Rattle.cov_history.specs.Laws.{ReplayStands}
 use Rattle.cov_history.specs.Sessions.{Session, IsGood, seen}
 use Rattle.cov_session.specs.Adding.{IsAdditionFault}
 use Rattle.cov_session.specs.Calls.{IsSessionFaultOf}

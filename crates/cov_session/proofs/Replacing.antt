@@ -20,7 +20,8 @@ use Rattle.cov_view.specs.Seen.{Seen}
 use Rattle.cov_view.specs.Views.{table_after, next_by_number, FaultBy}
 use Rattle.cov_view.specs.declared.fault.EditFault.{EditFault}
 use Rattle.cov_view.specs.declared.fault.EditFault.TheVariants as edit_faults
-use Rattle.cov_history.specs.Laws.{HoldingStands, ReplayStands}
+use Rattle.cov_history.specs.KeptLaws.{HoldingStands}
+use Rattle.cov_history.specs.Laws.{ReplayStands}
 use Rattle.cov_history.specs.Sessions.{seen}
 use Rattle.cov_session.specs.Adding.{with_edits, as_fault, addition_fault, IsAdditionFault}
 use Rattle.cov_session.specs.Faults.{by_edit}

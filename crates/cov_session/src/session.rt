@@ -32,7 +32,8 @@ use cov_base::{Choice, Kind, LIMITS, LineRef, Memory, Name, NodeRef, Position, T
 use cov_edit::{Command, Edit, Edits};
 use cov_engine::Engine;
 use cov_expr::{Expr, Partial};
-use cov_history::laws::{holding_stands, open_options_are_declared, replay_stands};
+use cov_history::kept_laws::holding_stands;
+use cov_history::laws::{open_options_are_declared, replay_stands};
 use cov_view::{EditFault, View, is_head};
 use std::alloc::Global;
 use std::marker::Model;

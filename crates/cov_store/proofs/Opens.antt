@@ -161,3 +161,11 @@ stands_on (Some image) (Some now) held history = λ s. record { legal = s.legal;
 pub stands_later : (old mid new : Option (List ℕ)) → ((ps : List (List ℕ)) → IfSome old (λ image. Holds image ps → IfSome mid (λ now. Holds now ps))) → new ≡ mid → (history : List Command)
     → IfSome old (λ image. StandsFor image history → IfSome new (λ now. StandsFor now history))
 stands_later old mid new held same = stands_on old new (λ ps. subst (λ o. IfSome old (λ image. Holds image ps → IfSome o (λ now. Holds now ps))) (sym same) (held ps))
+
+-- a count that rose since a moment rose since each one before
+pub reason_since : (first old new : ℕ) (result : Result EngineValue StoreFault) → first ≤ old → IfErr result (HasReason old new) → IfErr result (HasReason first new)
+reason_since first old new (Ok store) later reason = tt
+reason_since first old new (Err faults.NotAStore) later reason = tt
+reason_since first old new (Err (faults.Damaged number cause options)) later reason = reason
+reason_since first old new (Err faults.DiskFault) later reason = omega (arith, later, reason)
+reason_since first old new (Err faults.Memory) later reason = tt

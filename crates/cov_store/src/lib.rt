@@ -4,7 +4,6 @@
 mod appending;
 mod damage;
 pub mod laws;
-mod opening;
 mod replaying;
 mod store;
 

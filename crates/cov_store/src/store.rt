@@ -16,13 +16,12 @@ ghost use Rattle.cov_store.specs.Stands.{StandsFor, IsStored, IsJournalOf, gate_
 ghost use Rattle.cov_store.specs.declared.damage.StoreDamage.{StoreDamage};
 
 use crate::appending::append;
-use crate::opening::open;
-use crate::replaying::close;
+use crate::replaying::{close, replay_all};
 use crate::{AppendFault, StoreFault};
 use cov_disk::Disk;
 use cov_edit::Command;
 use cov_engine::{Engine, Receipt, Refusal};
-use cov_journal::Journal;
+use cov_journal::{Journal, OpenFault, Reader};
 use std::alloc::Global;
 use std::marker::Model;
 
@@ -82,7 +81,12 @@ impl Store {
             LeavesOnly D.moment D.images_since disk.old disk.new (λ image. StandsFor image history) }
         ensures later { D.faults disk.old ≤ D.faults disk.new }
     {
-        open(alloc, disk)
+        match Reader::open(alloc, disk) {
+            Ok(reader) => replay_all(alloc, disk, reader),
+            Err(OpenFault::NotAStore) => Err(StoreFault::NotAStore),
+            Err(OpenFault::DiskFault) => Err(StoreFault::DiskFault),
+            Err(OpenFault::Memory) => Err(StoreFault::Memory),
+        }
     }
 
     /// Applies a command, as `append` does to a history and a journal that are lent: makes its record and the room for that, makes it part

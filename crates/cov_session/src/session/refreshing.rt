@@ -22,7 +22,8 @@ use cov_base::Choice;
 use cov_edit::Edit;
 use cov_engine::Engine;
 use cov_expr::Partial;
-use cov_history::laws::{holding_stands, open_options_are_declared, replay_stands};
+use cov_history::kept_laws::holding_stands;
+use cov_history::laws::{open_options_are_declared, replay_stands};
 use cov_view::{EditFault, View};
 use std::alloc::Global;
 

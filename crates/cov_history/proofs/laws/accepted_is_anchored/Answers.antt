@@ -1,5 +1,0 @@
-use Rattle.cov_history.proofs.Older.{accepted-anchored}
-use Rattle.cov_history.proofs.laws.accepted_is_anchored.Goals as goal
-
-pub returns : goal.returns
-returns c = λ history s i legal good. accepted-anchored history s legal good i

@@ -1,5 +1,0 @@
-use Rattle.cov_history.proofs.LineFiles.{amid-in_files}
-use Rattle.cov_history.proofs.laws.amid_is_in_files.Goals as goal
-
-pub returns : goal.returns
-returns c = amid-in_files

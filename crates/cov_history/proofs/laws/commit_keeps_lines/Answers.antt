@@ -1,5 +1,0 @@
-use Rattle.cov_history.proofs.Appends.{commit-lines}
-use Rattle.cov_history.proofs.laws.commit_keeps_lines.Goals as goal
-
-pub returns : goal.returns
-returns c = commit-lines

@@ -1,5 +1,0 @@
-use Rattle.cov_history.proofs.Appends.{commit-rows}
-use Rattle.cov_history.proofs.laws.commit_keeps_rows.Goals as goal
-
-pub returns : goal.returns
-returns c = commit-rows

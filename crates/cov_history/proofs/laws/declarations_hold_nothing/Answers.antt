@@ -1,5 +1,0 @@
-use Rattle.cov_history.proofs.Orders.{no_commit-holds}
-use Rattle.cov_history.proofs.laws.declarations_hold_nothing.Goals as goal
-
-pub returns : goal.returns
-returns c = no_commit-holds

@@ -1,5 +1,0 @@
-use Rattle.cov_history.proofs.Deletes.{delete-elsewhere}
-use Rattle.cov_history.proofs.laws.delete_in_one_file.Goals as goal
-
-pub returns : goal.returns
-returns c = delete-elsewhere

@@ -1,5 +1,0 @@
-use Rattle.cov_history.proofs.Deletes.{delete-order}
-use Rattle.cov_history.proofs.laws.delete_keeps_order.Goals as goal
-
-pub returns : goal.returns
-returns c = delete-order

@@ -1,5 +1,0 @@
-use Rattle.cov_history.proofs.Files.{file-replay}
-use Rattle.cov_history.proofs.laws.file_follows_replay.Goals as goal
-
-pub returns : goal.returns
-returns c = file-replay

@@ -1,5 +1,0 @@
-use Rattle.cov_history.proofs.Orders.{file-shows}
-use Rattle.cov_history.proofs.laws.file_shows_replay.Goals as goal
-
-pub returns : goal.returns
-returns c = file-shows

@@ -1,5 +1,0 @@
-use Rattle.cov_history.proofs.FileNodes.{files-go_on}
-use Rattle.cov_history.proofs.laws.files_go_on.Goals as goal
-
-pub returns : goal.returns
-returns c = files-go_on

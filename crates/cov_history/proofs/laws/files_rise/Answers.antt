@@ -1,5 +1,0 @@
-use Rattle.cov_history.proofs.FileNodes.{files-rise}
-use Rattle.cov_history.proofs.laws.files_rise.Goals as goal
-
-pub returns : goal.returns
-returns c = files-rise

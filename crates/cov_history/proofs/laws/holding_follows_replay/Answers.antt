@@ -1,5 +1,0 @@
-use Rattle.cov_history.proofs.Replays.{replay-seen}
-use Rattle.cov_history.proofs.laws.holding_follows_replay.Goals as goal
-
-pub returns : goal.returns
-returns c = replay-seen

@@ -1,5 +1,0 @@
-use Rattle.cov_history.proofs.Reaching.{legal-reached}
-use Rattle.cov_history.proofs.laws.legal_is_in_reach.Goals as goal
-
-pub returns : goal.returns
-returns c = legal-reached

@@ -1,5 +1,0 @@
-use Rattle.cov_history.proofs.Deletes.{lines-amid}
-use Rattle.cov_history.proofs.laws.lines_are_distinct.Goals as goal
-
-pub returns : goal.returns
-returns c = lines-amid

@@ -1,5 +1,0 @@
-use Rattle.cov_history.proofs.Orders.{order-takes}
-use Rattle.cov_history.proofs.laws.order_takes_insert.Goals as goal
-
-pub returns : goal.returns
-returns c = order-takes

@@ -1,5 +1,0 @@
-use Rattle.cov_history.proofs.FileNodes.{rows-tell}
-use Rattle.cov_history.proofs.laws.rows_tell_files.Goals as goal
-
-pub returns : goal.returns
-returns c = rows-tell

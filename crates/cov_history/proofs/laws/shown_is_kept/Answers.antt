@@ -1,5 +1,0 @@
-use Rattle.cov_history.proofs.Files.{shown-kept}
-use Rattle.cov_history.proofs.laws.shown_is_kept.Goals as goal
-
-pub returns : goal.returns
-returns c = shown-kept

@@ -1,5 +1,0 @@
-use Rattle.cov_history.proofs.LineFiles.{turn-names}
-use Rattle.cov_history.proofs.laws.turn_names_file.Goals as goal
-
-pub returns : goal.returns
-returns c = turn-names
