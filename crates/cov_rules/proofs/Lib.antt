@@ -12,4 +12,5 @@ pub mod Holding
 pub mod Leaving
 pub mod Narrowing
 pub mod Planning
+pub mod Renumbering
 pub mod Unmet

@@ -3,3 +3,4 @@ pub mod Growth
 pub mod Installing
 pub mod Lefts
 pub mod Refusals
+pub mod Renumbered

@@ -14,6 +14,8 @@ ghost use Rattle.cov_rules.specs.Growth.{Follows};
 ghost use Rattle.cov_rules.specs.declared.rules.RuleFault.TheVariants.{NoVariantLeft as no_variant_left, Memory as want_of_memory};
 ghost use Rattle.cov_rules.specs.declared.rules.Rule.TheVariants.{Constraint as a_constraint, Prefer as a_preference, Default as a_default};
 
+mod renumbering;
+
 use crate::completing::CompleteFault;
 use crate::lefts::Left;
 use cov_base::{Choice, LIMITS, Memory, OptionId, Position, Steps, Uncounted};
