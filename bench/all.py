@@ -40,7 +40,7 @@ def words():
     parser.add_argument('before', nargs='?', help='the built covstore of before')
     parser.add_argument('--crates', help='the folder of crates with the other built programs; that of the checkout of PROGRAM if not given')
     parser.add_argument('--crates-before', help='the same for BEFORE')
-    parser.add_argument('--only', nargs='+', metavar='BENCH', help='these benches alone')
+    parser.add_argument('--only', metavar='BENCH,..', help='these benches alone')
     return parser.parse_args()
 
 
@@ -78,7 +78,8 @@ def main():
     before = programs(given.before, given.crates_before) if given.before else {}
     print(row('Bench', 'Figure', 'Now', 'Before', 'Limit', 'Met'))
     print('|---' * 6 + '|')
-    met = [tell_bench(bench, now[crate], before.get(crate)) for bench, crate in BENCHES if not given.only or bench.__name__ in given.only]
+    only = given.only.split(',') if given.only else [bench.__name__ for bench, _ in BENCHES]
+    met = [tell_bench(bench, now[crate], before.get(crate)) for bench, crate in BENCHES if bench.__name__ in only]
     print('\nLoad average %.1f at the start, %d processors; %.0f minutes.' % (load, os.cpu_count(), (time.monotonic() - start) / 60))
     return 0 if all(met) else 1
 

@@ -40,13 +40,13 @@ def at_least(name, value, limit, unit='', parts=''):
 
 def ratio(name, value, other, unit, limit=None):
     """The ratio of a value to another in the same unit."""
-    parts = '%s to %s' % (in_unit(value, unit), in_unit(other, unit))
+    parts = '%s to %s' % (in_unit(value), in_unit(other, unit))
     if limit is None:
         return no_limit(name, value / other)._replace(parts=parts)
     return at_most(name, value / other, limit, parts=parts)
 
 
-def in_unit(value, unit):
+def in_unit(value, unit=''):
     return '{:{}} {}'.format(value, ',.0f' if abs(value) >= 100 else '.3g', unit).strip()
 
 
