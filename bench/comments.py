@@ -2,11 +2,10 @@
 """Times `covstore run` on 100 MB of comment lines beside sed, which drops them, in one run."""
 import os
 import subprocess
-import sys
 import tempfile
 import time
 
-from timing import build, elsewhere
+from timing import build, elsewhere, ratio, tell
 
 LINE = b'#' + b'x' * 78 + b'\n'
 REPETITIONS = 5
@@ -20,8 +19,8 @@ def seconds(command, path):
         return time.perf_counter() - start
 
 
-def main():
-    store = [build(), 'run']
+def figures(program):
+    store = [program, 'run']
     sed = ['sed', '-n', '/^#/!p']
     with elsewhere(), tempfile.NamedTemporaryFile() as script:
         for _ in range(100):
@@ -29,9 +28,8 @@ def main():
         script.flush()
         rounds = [(seconds(store, script.name), seconds(sed, script.name)) for _ in range(REPETITIONS)]
     ours, theirs = (sorted(times)[REPETITIONS // 2] for times in zip(*rounds))
-    print('100 MB of comment lines, median of %d: covstore %.3f s, sed %.3f s, ratio %.2f'
-          % (REPETITIONS, ours, theirs, ours / theirs))
+    return [ratio('100 MB of comments, to sed', ours, theirs, 's', 1)]
 
 
 if __name__ == '__main__':
-    sys.exit(main())
+    tell(figures(build()))

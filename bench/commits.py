@@ -1,9 +1,8 @@
 #!/usr/bin/env python3
 """Counts and times the line `commit` of a session that inserted one line, in a store of 100 files and in one of 10,000."""
 import statistics
-import sys
 
-from timing import ask, build, counted, started
+from timing import ask, build, counted, no_limit, ratio, started, tell
 
 SIZES, SESSIONS = (100, 10000), 1000
 
@@ -39,16 +38,24 @@ def instructions(program, files):
     return counts
 
 
-def main():
-    program = build()
-    counts = []
-    for files in SIZES:
-        commit, drop = seconds(program, files)
-        counts.append(instructions(program, files))
-        print('%d files: %d instructions more than drop for the first commit, %d for the next; commit %.1f us, drop %.1f us'
-              % (files, *counts[-1], 1e6 * commit, 1e6 * drop))
-    print('ratio of the instructions %.2f for the first commit, %.2f for the next' % tuple(more / few for few, more in zip(*counts)))
+def of_each_line(program):
+    """The instructions of a line `insert`, and of a line `commit` more than those of `drop`: the means over sessions in the small store."""
+    kinds = (lambda file: [session(file, 'drop')[0], 'drop s']), (lambda file: session(file, 'drop')), (lambda file: session(file, 'commit'))
+    empty, dropped, committed = (
+        counted(store(SIZES[0]) + [line for file in range(SIZES[0]) for line in kind(file)], program)[0] for kind in kinds)
+    return (dropped - empty) / SIZES[0], (committed - dropped) / SIZES[0]
+
+
+def figures(program):
+    insert, commit = of_each_line(program)
+    told = [no_limit('a line `insert`', insert, 'instructions'), no_limit('a line `commit` above `drop`', commit, 'instructions')]
+    less, more = (instructions(program, files) for files in SIZES)
+    told += [ratio('%s `commit` above `drop`, 10,000 files to 100' % which, many, few, 'instructions', 1.5)
+             for which, many, few in zip(('first', 'next'), more, less)]
+    less, more = (seconds(program, files) for files in SIZES)
+    return told + [ratio('`%s`, 10,000 files to 100' % last, 1e6 * many, 1e6 * few, 'us')
+                   for last, many, few in zip(('commit', 'drop'), more, less)]
 
 
 if __name__ == '__main__':
-    sys.exit(main())
+    tell(figures(build()))

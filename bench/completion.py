@@ -1,9 +1,8 @@
 #!/usr/bin/env python3
 """Times `complete -` of `covstore run` over 64 options with a default each, after 256 random clauses as constraints."""
-import sys
 
 from generated import Random
-from timing import build, served
+from timing import at_most, build, no_limit, served, tell
 
 OPTIONS, CLAUSES, ASKED, REPETITIONS = 64, 256, 100, 5
 
@@ -25,14 +24,17 @@ def script(window, asked):
     return lines + ['complete -'] * asked
 
 
-def main():
-    program = build()
-    for window in (16, 24):
-        rounds = [(served(script(window, 0), program), served(script(window, ASKED), program)) for _ in range(REPETITIONS)]
-        assert all(asked[1].splitlines()[-1].startswith(b'ok o0=') for _, asked in rounds)
-        without, asked = (min(run[0] for run in runs) for runs in zip(*rounds))
-        print('window %d: the rules %.3f s, each completion %.2f ms' % (window, without, 1000 * (asked - without) / ASKED))
+def of_window(program, window):
+    rounds = [(served(script(window, 0), program), served(script(window, ASKED), program)) for _ in range(REPETITIONS)]
+    assert all(asked[1].splitlines()[-1].startswith(b'ok o0=') for _, asked in rounds), 'each choice is completed'
+    without, asked = (min(run[0] for run in runs) for runs in zip(*rounds))
+    return [no_limit('the rules, window %d' % window, without, 's'),
+            at_most('`complete -`, window %d' % window, 1000 * (asked - without) / ASKED, 0.2, 'ms')]
+
+
+def figures(program):
+    return of_window(program, 16) + of_window(program, 24)
 
 
 if __name__ == '__main__':
-    sys.exit(main())
+    tell(figures(build()))

@@ -1,35 +1,25 @@
 #!/usr/bin/env python3
 """Times the conjunction of 256 random clauses by cov_dd beside BuDDy (Debian's libbdd-dev), in turns in one run."""
-import os
-import subprocess
-import sys
-import tempfile
-
-from timing import TOP, built, peak_of, told
+from timing import beside, build_crate, compiled, peak_of, ratio, tell
 
 REPETITIONS = 15
+TIMES = {'16': 2, '24': 3}  # the most that a window may take, in times of BuDDy's
+STARTS = ('20', '16')  # the logarithm of how many nodes BuDDy begins with room for
 
 
-def compare(ours, peer, window, first):
-    commands = [ours, window], [peer, window, first]
-    rounds = [[told(command) for command in commands] for _ in range(REPETITIONS)]
-    assert len({printed for pair in rounds for _, printed in pair}) == 1
-    time, peer_time = (min(taken for taken, _ in runs) for runs in zip(*rounds))
-    peak, peer_peak = (peak_of(command) / 1024 for command in commands)
-    print('| %s | 2^%s | %.3f s | %.3f s | %.2f | %.1f MB | %.1f MB | %.2f |'
-          % (window, first, time, peer_time, time / peer_time, peak, peer_peak, peak / peer_peak))
+def compare(ours, peer, window, start):
+    commands = [ours, window], [peer, window, start]
+    time, peer_time = beside(REPETITIONS, *commands)
+    peak, peer_peak = (peak_of(command) for command in commands)
+    of = 'window %s, start 2^%s' % (window, start)
+    return [ratio('to BuDDy, ' + of, 1000 * time, 1000 * peer_time, 'ms', TIMES[window]),
+            ratio("peak to BuDDy's, " + of, peak, peer_peak, 'MB', 2)]
 
 
-def main():
-    ours = built('cov_bench')
-    with tempfile.TemporaryDirectory() as folder:
-        peer = os.path.join(folder, 'conjunction')
-        subprocess.run(['gcc', '-O2', '-o', peer, os.path.join(TOP, 'bench', 'conjunction.c'), '-lbdd'], check=True)
-        print('load average %.1f' % os.getloadavg()[0])
-        for first in ('20', '16'):
-            for window in ('16', '24'):
-                compare(ours, peer, window, first)
+def figures(program):
+    with compiled('conjunction', '-lbdd') as peer:
+        return [figure for start in STARTS for window in TIMES for figure in compare(program, peer, window, start)]
 
 
 if __name__ == '__main__':
-    sys.exit(main())
+    tell(figures(build_crate('cov_bench')))

@@ -1,8 +1,7 @@
 #!/usr/bin/env python3
 """Times two commits: one that makes 10,000 files in 100 directories, and one that renames a directory of them for some variants."""
-import sys
 
-from timing import build, counted, served
+from timing import at_most, build, no_limit, served, tell
 
 DIRECTORIES, FILES, REPETITIONS = 100, 100, 5
 
@@ -24,17 +23,15 @@ def is_renamed(program):
     return served(renamed('commit') + shown, program)[1].endswith(b'\nok commit 3\n' + b'ok 0\n' * len(shown))
 
 
-def main():
-    program = build()
-    assert is_renamed(program)
-    before = 0
-    for name, lines in (('the files', made), ('the renamed directory', renamed)):
-        commit, drop = (min(served(lines(last), program)[0] for _ in range(REPETITIONS)) for last in ('commit', 'drop'))
-        (counts, tested), (others, _) = (counted(lines(last), program, 'fault_left') for last in ('commit', 'drop'))
-        share = 100 * (tested - before) / (counts - others)
-        print('%s: the run %.3f s, the commit in it %.3f s, of which the test is %.0f %%' % (name, commit, commit - drop, share))
-        before = tested
+def of_commit(program, name, lines):
+    commit, drop = (min(served(lines(last), program)[0] for _ in range(REPETITIONS)) for last in ('commit', 'drop'))
+    return [no_limit('a run, ' + name, commit, 's'), at_most('its `commit`, ' + name, commit - drop, 2, 's')]
+
+
+def figures(program):
+    assert is_renamed(program), 'the directory is renamed where the option is on'
+    return of_commit(program, '10,000 files in 100 directories', made) + of_commit(program, 'a directory of them renamed', renamed)
 
 
 if __name__ == '__main__':
-    sys.exit(main())
+    tell(figures(build()))

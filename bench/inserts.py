@@ -1,9 +1,8 @@
 #!/usr/bin/env python3
 """Times the line `commit` of a session that inserted 16 lines into one file, and of one that inserted 16,384."""
 import statistics
-import sys
 
-from timing import ask, build, started
+from timing import ask, at_most, build, in_unit, started, tell
 
 COUNTS, SESSIONS = (16, 16384), 5
 
@@ -24,12 +23,11 @@ def seconds(program, count):
     return statistics.median(taken)
 
 
-def main():
-    program = build()
+def figures(program):
     few, many = (seconds(program, count) for count in COUNTS)
-    print('a commit of %d inserts %.1f us, of %d %.1f us' % (COUNTS[0], 1e6 * few, COUNTS[1], 1e6 * many))
-    print('each insert more %.2f us' % (1e6 * (many - few) / (COUNTS[1] - COUNTS[0])))
+    parts = '%s of 16, %s of 16,384' % (in_unit(1e6 * few, 'us'), in_unit(1e3 * many, 'ms'))
+    return [at_most('`commit`, each insert more', 1e6 * (many - few) / (COUNTS[1] - COUNTS[0]), 2, 'us', parts)]
 
 
 if __name__ == '__main__':
-    sys.exit(main())
+    tell(figures(build()))

@@ -2,9 +2,9 @@
 """Times `cat` of `covstore run` over a file of 16,384 lines that 64 commits made and 64 others took a quarter of."""
 import random
 
-from timing import build, peak_served, served
+from timing import build, counted, no_limit, peak_served, served, tell
 
-OPTIONS, COMMITS, LINES, REPETITIONS, ASKED = 20, 64, 16384, 5, 10
+OPTIONS, COMMITS, LINES, REPETITIONS, ASKED, COUNTED = 20, 64, 16384, 5, 10, 3
 ALL_ON = ','.join('o%d=on' % i for i in range(OPTIONS))
 
 
@@ -49,9 +49,8 @@ def history():
     return script, order, shown
 
 
-def main():
-    program = build()
-    script, order, shown = history()
+def cats(order, shown):
+    """A `cat` on each of four choices, and the replies."""
     draw = random.Random(8)
     sides = [set(range(OPTIONS)), set()] + [{i for i in range(OPTIONS) if draw.random() < 0.5} for _ in range(2)]
     asked, expected = [], b''
@@ -59,13 +58,32 @@ def main():
         asked.append('cat %s /list' % ','.join('o%d=%s' % (i, 'on' if i in on else 'off') for i in range(OPTIONS)))
         lines = [n for n in order if shown[n][0](on) and not (shown[n][1] and shown[n][1](on))]
         expected += b'ok %d\n' % len(lines) + b''.join(b'%d line %d\n' % (n, n) for n in lines)
+    return asked, expected
+
+
+def seconds(program, script, asked, expected):
+    """The least seconds of a run with the history, and of each of the lines that are asked."""
     rounds = [(served(script, program), served(script + asked * ASKED, program)) for _ in range(REPETITIONS)]
-    assert all(told[1] == made[1] + expected * ASKED for made, told in rounds)
-    made = min(made[0] for made, _ in rounds)
-    told = min(told[0] for _, told in rounds)
-    each = (told - made) / (len(sides) * ASKED)
-    print('the history %.3f s and %.0f MB, each cat %.2f ms' % (made, peak_served(script, program) / 1000, 1000 * each))
+    assert all(told[1] == made[1] + expected * ASKED for made, told in rounds), 'the lines are those of the list'
+    made, told = (min(taken for taken, _ in runs) for runs in zip(*rounds))
+    return made, (told - made) / (len(asked) * ASKED)
+
+
+def instructions(program, script, asked):
+    """The instructions of each of the lines that are asked."""
+    more, less = (counted(script + lines, program)[0] for lines in (asked * COUNTED, []))
+    return (more - less) / (len(asked) * COUNTED)
+
+
+def figures(program):
+    script, order, shown = history()
+    asked, expected = cats(order, shown)
+    made, each = seconds(program, script, asked, expected)
+    return [no_limit('the history', made, 's'),
+            no_limit('its peak', peak_served(script, program), 'MB'),
+            no_limit('a `cat`', 1000 * each, 'ms'),
+            no_limit('a `cat`, by instructions', instructions(program, script, asked), 'instructions')]
 
 
 if __name__ == '__main__':
-    main()
+    tell(figures(build()))

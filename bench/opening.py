@@ -3,13 +3,10 @@
 is put first into its file, and once where it is put behind one that is drawn from those of its file. The store's bytes are made here,
 since the program takes far longer to make it: each session copies all lines of its variant."""
 import hashlib
-import os
 import random
 import struct
-import sys
-import tempfile
 
-from timing import Clock, build, elsewhere, least, peak_of
+from timing import at_least, at_most, build, elsewhere, in_unit, least, peak_of, tell, told
 
 COMMITS, FILES, TEXT, REPETITIONS = 100000, 100, 40, 3
 
@@ -56,24 +53,28 @@ def store(path, anchor):
         return file.tell()
 
 
-def main():
-    program = build()
-    for anchor in (first, drawn):
-        rounds = []
-        with elsewhere():
-            size = store('store.cov', anchor)
-            for _ in range(REPETITIONS):
-                with tempfile.TemporaryFile() as out:
-                    clock = Clock()
-                    clock.run(program, 'check', out=out)
-                    out.seek(0)
-                    assert out.read() == b'ok %d records\n' % (COMMITS + 1)
-                rounds.append((clock,))
-            peak = peak_of([program, 'check'])
-        print('%s: %d bytes of journal, %d of text; load average %.1f' % (anchor.__name__, size, COMMITS * TEXT, os.getloadavg()[0]))
-        for kind, (taken,) in least(rounds):
-            print('| %s | %s | %.2f s | %.2f MB/s | %.0f MB |' % (anchor.__name__, kind, taken, size / taken / 1e6, peak / 1024))
+def opened(program):
+    """The clock of an opening."""
+    clock, reply = told(program, 'check')
+    assert reply == b'ok %d records\n' % (COMMITS + 1), 'all records are read'
+    return clock
+
+
+def of_store(program, name, anchor):
+    """The figures of a store of lines with such anchors. Three times its text and 100 MB is the most that an opening may take."""
+    with elsewhere():
+        size = store('store.cov', anchor)
+        rounds = [(opened(program),) for _ in range(REPETITIONS)]
+        peak = peak_of([program, 'check'])
+    times = {kind: taken for kind, (taken,) in least(rounds)}
+    parts = ', '.join('%s %s' % (in_unit(taken, 's'), kind) for kind, taken in times.items())
+    return [at_least('journal a second, %s (aim 50)' % name, size / times['elapsed'] / 1e6, 30, 'MB/s', parts),
+            at_most('peak, ' + name, peak, 3 * COMMITS * TEXT / 1e6 + 100, 'MB')]
+
+
+def figures(program):
+    return of_store(program, 'each line first', first) + of_store(program, 'each behind a drawn one', drawn)
 
 
 if __name__ == '__main__':
-    sys.exit(main())
+    tell(figures(build()))

@@ -1,9 +1,8 @@
 #!/usr/bin/env python3
 """Counts and times the line `commit` of a session with 5,000 commits of other files after its base, and with none."""
 import statistics
-import sys
 
-from timing import ask, build, counted, started
+from timing import ask, build, counted, ratio, started, tell
 
 OTHERS, COMMITS, SESSIONS = 100, 5000, 60
 
@@ -44,15 +43,12 @@ def instructions(program, is_before):
     return commit - drop
 
 
-def main():
-    program = build()
-    counts, times = [], []
-    for is_before, told in ((False, 'no commit'), (True, '%d commits' % COMMITS)):
-        counts.append(instructions(program, is_before))
-        times.append(seconds(program, is_before))
-        print('%s after the base: %d instructions more than drop; commit %.1f us' % (told, counts[-1], 1e6 * times[-1]))
-    print('ratio of the instructions %.2f, of the times %.2f' % (counts[1] / counts[0], times[1] / times[0]))
+def figures(program):
+    few, many = (instructions(program, is_before) for is_before in (False, True))
+    short, long = (1e6 * seconds(program, is_before) for is_before in (False, True))
+    return [ratio('`commit` above `drop`, 5,000 commits after the base to none', many, few, 'instructions', 1.5),
+            ratio('`commit`, 5,000 commits after the base to none', long, short, 'us')]
 
 
 if __name__ == '__main__':
-    sys.exit(main())
+    tell(figures(build()))

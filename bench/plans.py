@@ -1,10 +1,9 @@
 #!/usr/bin/env python3
 """Counts the instructions of a plan by cov_tree that renames one file, in directories of 100 and of 10,000 files, and those that its
 test for soundness adds."""
-import sys
+from timing import build_crate, instructions, ratio, tell
 
-from timing import built, instructions
-
+SIZES = (100, 10000)
 FEW, MANY = 1, 33
 
 
@@ -13,15 +12,12 @@ def each_rename(program, files, *tested):
     return (many - few) / (MANY - FEW)
 
 
-def main():
-    program = built('cov_tree_bench')
-    untested = []
-    for files in (100, 10_000):
-        untested.append(each_rename(program, files))
-        tested = each_rename(program, files, 'tested')
-        print('| {:,} | {:,.0f} | {:,.0f} |'.format(files, untested[-1], tested - untested[-1]))
-    print('ratio %.2f' % (untested[1] / untested[0]))
+def figures(program):
+    few, many = (each_rename(program, files) for files in SIZES)
+    tested_few, tested_many = (each_rename(program, files, 'tested') for files in SIZES)
+    return [ratio('a plan, 10,000 files to 100', many, few, 'instructions', 3),
+            ratio('its test, 10,000 files to 100', tested_many - many, tested_few - few, 'instructions')]
 
 
 if __name__ == '__main__':
-    sys.exit(main())
+    tell(figures(build_crate('cov_tree_bench')))

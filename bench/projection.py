@@ -1,14 +1,11 @@
 #!/usr/bin/env python3
 """Times `cat` of `covstore run` over a file of 100,000 lines beside Debian's unifdef on the same lines in blocks of `#if`."""
 import itertools
-import os
 import re
 import statistics
-import sys
-import tempfile
 
 from generated import Random, in_c
-from timing import Clock, as_script, ask, build, clocked, elsewhere, started
+from timing import as_script, ask, build, clocked, elsewhere, no_limit, ratio, started, tell, told
 
 OPTIONS, LINES, BLOCKS, DEEPEST, SESSION, ASKED = 20, 100000, 500, 3, 16000, 10
 ON = ['o%d' % option for option in range(0, OPTIONS, 2)]
@@ -98,33 +95,31 @@ def asked(program, lines, cat):
         return [ask(child, cat) for _ in range(ASKED)]
 
 
-def main():
-    program, file = build(), parts()
+def by_unifdef(file, names):
+    """The median of the processor seconds that unifdef takes for the file, and the lines that it leaves."""
+    with elsewhere():
+        with open('file.c', 'wb') as source:
+            as_script(conditional(file), source)
+        defined = ['-D%s=%d' % (name, name in ON) for name in names]
+        runs = [told('unifdef', '-t', '-x2', *defined, 'file.c') for _ in range(ASKED)]
+    return statistics.median(clock.processor for clock, _ in runs), runs[-1][1].splitlines()
+
+
+def figures(program):
+    file = parts()
     lines = history(file)
     names = ['o%d' % option for option in range(OPTIONS)]
     cat = 'cat %s /file' % as_choice({name: name in ON for name in names})
-    unifdef = ['unifdef', '-t', '-x2'] + ['-D%s=%d' % (name, name in ON) for name in names] + ['file.c']
+    other, expected = by_unifdef(file, names)
     with elsewhere():
-        once, told = clocked(lines + [cat], program)
-    with elsewhere():
-        each = statistics.median(asked(program, lines, cat))
-    others = []
-    with elsewhere(), tempfile.TemporaryFile() as out:
-        with open('file.c', 'wb') as source:
-            as_script(conditional(file), source)
-        for _ in range(ASKED):
-            out.truncate(0)
-            out.seek(0)
-            others.append(Clock())
-            others[-1].run(*unifdef, out=out)
-        out.seek(0)
-        expected = out.read().splitlines()
-    reply = told.splitlines()[-len(expected) - 1:]
-    assert reply[0] == b'ok %d' % len(expected) and [line.partition(b' ')[2] for line in reply[1:]] == expected
-    other = statistics.median(clock.processor for clock in others)
-    print('%d lines of %d are shown; load average %.1f' % (len(expected), LINES, os.getloadavg()[0]))
-    print('| %.3f s | %.2f ms | %.2f ms | %.2f |' % (once.processor, 1000 * each, 1000 * other, each / other))
+        once, replies = clocked(lines + [cat], program)
+    reply = replies.splitlines()[-len(expected) - 1:]
+    assert reply[0] == b'ok %d' % len(expected), 'as many lines are shown'
+    assert [line.partition(b' ')[2] for line in reply[1:]] == expected, 'the same lines are shown'
+    each = statistics.median(asked(program, lines, cat))
+    return [no_limit('a run with one `cat`', once.processor, 's'),
+            ratio('each further one to unifdef', 1000 * each, 1000 * other, 'ms', 0.4)]
 
 
 if __name__ == '__main__':
-    sys.exit(main())
+    tell(figures(build()))

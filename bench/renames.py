@@ -1,8 +1,7 @@
 #!/usr/bin/env python3
 """Times `covstore run` over one file that 32 and 64 commits rename, each under an ambition of its own."""
-import sys
 
-from timing import build, peak_served, served
+from timing import build, peak_served, ratio, served, tell
 
 OPTIONS, COUNTS, REPETITIONS = 64, (32, 64), 5
 
@@ -16,16 +15,17 @@ def script(renames):
     return lines + ['cat o0=on,o%d=on /n%d' % (renames - 1, renames - 1)]
 
 
-def main():
-    program = build()
-    least = []
-    for renames in COUNTS:
-        runs = [served(script(renames), program) for _ in range(REPETITIONS)]
-        assert all(out.endswith(b'\nok 0\n') for _, out in runs)
-        least.append(min(taken for taken, _ in runs))
-        print('%d renames %.3f s and %.0f MB' % (renames, least[-1], peak_served(script(renames), program) / 1000))
-    print('ratio %.1f' % (least[1] / least[0]))
+def seconds(program, renames):
+    runs = [served(script(renames), program) for _ in range(REPETITIONS)]
+    assert all(out.endswith(b'\nok 0\n') for _, out in runs), 'the file has its last name'
+    return min(taken for taken, _ in runs)
+
+
+def figures(program):
+    few, many = (1000 * seconds(program, renames) for renames in COUNTS)
+    less, more = (peak_served(script(renames), program) for renames in COUNTS)
+    return [ratio('64 commits to 32', many, few, 'ms', 8), ratio('peak, 64 commits to 32', more, less, 'MB')]
 
 
 if __name__ == '__main__':
-    sys.exit(main())
+    tell(figures(build()))

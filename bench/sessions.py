@@ -1,9 +1,8 @@
 #!/usr/bin/env python3
 """Counts and times lines of a session in a store of 20,000 lines, with 64 sessions open and with one."""
 import statistics
-import sys
 
-from timing import ask, build, counted, peak, started
+from timing import ask, build, counted, no_limit, peak, ratio, started, tell
 
 FILES, LINES, MOST, ROUNDS = 100, 200, 64, 200
 
@@ -39,7 +38,7 @@ def seconds(program, sessions, taking_turns):
         for turn in range(ROUNDS):
             for line in asked(turn % sessions if taking_turns else sessions - 1, turn):
                 taken.setdefault(line.split()[0], []).append(ask(child, line))
-        return {form: statistics.median(times) for form, times in taken.items()}, peak(child) / 1000
+        return {form: statistics.median(times) for form, times in taken.items()}, peak(child)
 
 
 def instructions(program, sessions):
@@ -49,21 +48,17 @@ def instructions(program, sessions):
     return counted(lines + more, program)[0] - counted(lines, program)[0]
 
 
-def main():
-    program = build()
-    counts, times = [], []
-    for sessions, taking_turns in ((1, False), (MOST, False), (MOST, True)):
-        by_form, memory = seconds(program, sessions, taking_turns)
-        times.append(by_form)
-        forms = ', '.join('%s %.1f us' % (form, 1e6 * taken) for form, taken in by_form.items())
-        print('%d open%s: %.0f MB; %s' % (sessions, ' that take turns' if taking_turns else '', memory, forms))
-    for sessions in (1, MOST):
-        counts.append(instructions(program, sessions) / (len(times[0]) * ROUNDS))
-        print('%d open: %.0f instructions a line' % (sessions, counts[-1]))
-    for told, by_form in (('', times[1]), (' where they take turns', times[2])):
-        print('ratio of the times%s: %s' % (told, ', '.join('%s %.2f' % (form, by_form[form] / times[0][form]) for form in times[0])))
-    print('ratio of the instructions: %.2f' % (counts[1] / counts[0]))
+def figures(program):
+    one, most = (instructions(program, sessions) / (len(asked(0, 0)) * ROUNDS) for sessions in (1, MOST))
+    told = [ratio('a line, 64 open to 1', most, one, 'instructions', 1.2)]
+    alone, memory = seconds(program, 1, False)
+    told.append(no_limit('peak, 1 open', memory, 'MB'))
+    for name, taking_turns in (('64 open', False), ('64 in turns', True)):
+        by_form, memory = seconds(program, MOST, taking_turns)
+        told += [ratio('`%s`, %s to 1' % (form, name), 1e6 * taken, 1e6 * alone[form], 'us', 1.2) for form, taken in by_form.items()]
+        told.append(no_limit('peak, ' + name, memory, 'MB'))
+    return told
 
 
 if __name__ == '__main__':
-    sys.exit(main())
+    tell(figures(build()))

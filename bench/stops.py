@@ -9,10 +9,9 @@ import random
 import re
 import signal
 import subprocess
-import sys
 import time
 
-from timing import build, elsewhere
+from timing import at_most, build, elsewhere, tell
 
 COMMITS, FAILING, KILLS = 1000, 5, 200
 CALLS = ('write', 'pwrite64', 'fdatasync', 'fsync')
@@ -30,13 +29,14 @@ def acknowledged(replies):
     return sum(line.startswith(b'ok commit ') for line in replies.split(b'\n')[:-1])
 
 
-def check(program, replies, most):
-    """The store opens, has each acknowledged commit and none that wasn't asked for; the next run goes on from there."""
+def kept_beyond(program, replies, most):
+    """How many commits more than were acknowledged the store has, less than none where it lost some. It opens and has none that wasn't
+    asked for, and the next run goes on from there."""
     told = subprocess.run([program, 'check'], stdin=subprocess.DEVNULL, capture_output=True)
     kept = re.fullmatch(rb'ok (\d+) records\n', told.stdout)
     assert told.returncode == 0 and kept, told
     kept = int(kept[1])
-    assert acknowledged(replies) <= kept <= most, (replies[-200:], kept)
+    assert kept <= most, (replies[-200:], kept)
     if kept > 0:
         cat = subprocess.run([program, 'run'], input=b'cat - /m\n', capture_output=True)
         lines = cat.stdout.split(b'\n')
@@ -55,8 +55,8 @@ def calls(program, text):
 
 
 def fail_each(program):
-    """The number of calls that failed, one in each run, and of the runs in which a commit was kept that wasn't acknowledged."""
-    text, runs, beyond = script(FAILING), 0, 0
+    """How many commits more than were acknowledged the store has after each run, in each of which one call fails."""
+    text, beyond = script(FAILING), []
     for call, count in calls(program, text).items():
         for number in range(1, count + 1):
             with elsewhere():
@@ -64,43 +64,44 @@ def fail_each(program):
                                         '-e', 'inject=%s:error=EIO:when=%d' % (call, number), program, 'run'],
                                        input=text, capture_output=True)
                 assert ended.returncode in (5, 6), ended
-                beyond += check(program, ended.stdout, FAILING + 1) > 0
-                runs += 1
-    return runs, beyond
+                beyond.append(kept_beyond(program, ended.stdout, FAILING + 1))
+    return beyond
 
 
 def kill_often(program):
-    """The number of runs that were killed, of those that had ended before, and of the commits that these kept unacknowledged."""
-    text, draw, killed, ended, beyond, most = script(COMMITS), random.Random(1), 0, 0, 0, 0
+    """How many commits more than were acknowledged the store has after each run that was killed, and how many runs had ended before."""
+    text, draw, beyond, ended = script(COMMITS), random.Random(1), [], 0
     with elsewhere():
         start = time.monotonic()
         subprocess.run([program, 'run'], input=text, stdout=subprocess.DEVNULL, check=True)
         whole = time.monotonic() - start
-    while killed < KILLS:
+    while len(beyond) < KILLS:
         with elsewhere(), open('script', 'w+b') as source, open('replies', 'w+b') as out:
             source.write(text)
             source.seek(0)
             child = subprocess.Popen([program, 'run'], stdin=source, stdout=out)
             time.sleep(draw.uniform(0, whole))
             child.send_signal(signal.SIGKILL)
-            if child.wait() == -signal.SIGKILL:
-                killed += 1
+            was_killed = child.wait() == -signal.SIGKILL
+            out.seek(0)
+            more = kept_beyond(program, out.read(), COMMITS + 1)
+            assert more <= 1, 'one commit at a time is made'
+            if was_killed:
+                beyond.append(more)
             else:
                 ended += 1
-            out.seek(0)
-            replies = out.read()
-            more = check(program, replies, COMMITS + 1)
-            assert more <= 1
-            beyond += more
-            most = max(most, acknowledged(replies))
-    return killed, ended, beyond, most
+    return beyond, ended
 
 
-def main():
-    program = build()
-    print('%d runs with a failing call, in %d of which a commit is kept whose reply is missing' % fail_each(program))
-    print('%d runs killed, %d ended before; %d kept a commit whose reply is missing; at most %d were acknowledged' % kill_often(program))
+def of_runs(name, beyond, parts=''):
+    parts = 'of %d; %d kept a commit whose reply is missing' % (len(beyond), sum(more > 0 for more in beyond)) + parts
+    return at_most('runs that lost an acknowledged commit, ' + name, sum(more < 0 for more in beyond), 0, parts=parts)
+
+
+def figures(program):
+    beyond, ended = kill_often(program)
+    return [of_runs('by a failing call', fail_each(program)), of_runs('by SIGKILL', beyond, '; %d others had ended before' % ended)]
 
 
 if __name__ == '__main__':
-    sys.exit(main())
+    tell(figures(build()))

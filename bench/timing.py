@@ -1,5 +1,5 @@
-"""Runs `covstore run` on a script, or another program, and tells its time or counts its instructions; or asks a run one line after
-another."""
+"""What benches share: they run `covstore run` on a script, or another program, and tell its time or count its instructions, or ask a
+run one line after another; and what they measured they give as figures with limits."""
 import contextlib
 import os
 import pathlib
@@ -8,9 +8,68 @@ import subprocess
 import sys
 import tempfile
 import time
+from typing import NamedTuple, Optional
 
 TOP = os.path.dirname(os.path.dirname(os.path.abspath(__file__)))
 COVSTORE = os.path.join(TOP, 'covstore')
+RAM_DISK = '/dev/shm'
+
+
+class Figure(NamedTuple):
+    """What was measured, in a unit, or of two things their ratio, which has none. The value is None where it couldn't be measured, the
+    limit is empty where there is none, and the parts say what the value comes from."""
+    name: str
+    value: Optional[float]
+    unit: str
+    limit: str
+    met: bool
+    parts: str = ''
+
+
+def no_limit(name, value, unit=''):
+    return Figure(name, value, unit, '', True)
+
+
+def at_most(name, value, limit, unit='', parts=''):
+    return Figure(name, value, unit, 'at most %g' % limit, value <= limit, parts)
+
+
+def at_least(name, value, limit, unit='', parts=''):
+    return Figure(name, value, unit, 'at least %g' % limit, value >= limit, parts)
+
+
+def ratio(name, value, other, unit, limit=None):
+    """The ratio of a value to another in the same unit."""
+    parts = '%s to %s' % (in_unit(value), in_unit(other, unit))
+    if limit is None:
+        return no_limit(name, value / other)._replace(parts=parts)
+    return at_most(name, value / other, limit, parts=parts)
+
+
+def in_unit(value, unit=''):
+    return '{:{}} {}'.format(value, ',.0f' if abs(value) >= 100 else '.3g', unit).strip()
+
+
+def spelt(figure):
+    """The value of a figure in its unit, and its parts."""
+    value = '' if figure.value is None else in_unit(figure.value, figure.unit)
+    return value + (' (%s)' % figure.parts if figure.parts else '')
+
+
+def row(*cells):
+    """A row of a table in Markdown."""
+    return '| %s |' % ' | '.join(cells)
+
+
+def whether_met(figure):
+    """The cell that says whether the limit of a figure is met."""
+    return '' if figure.limit == '' else 'yes' if figure.met else 'no'
+
+
+def tell(figures):
+    """Prints figures as rows of a table."""
+    for figure in figures:
+        print(row(figure.name, spelt(figure), figure.limit, whether_met(figure)))
 
 
 def build():
@@ -19,14 +78,31 @@ def build():
         return os.path.abspath(sys.argv[1])
     with elsewhere():
         subprocess.run([COVSTORE, 'run'], stdin=subprocess.DEVNULL, check=True)
-    return os.path.join(TOP, 'crates', 'cov_cli', 'out', 'cov_cli')
+    return built_in(os.path.join(TOP, 'crates'), 'cov_cli')
 
 
-def built(name):
-    """The program of a crate of that name, which is proved and built if that isn't done."""
-    crate = os.path.join(TOP, 'crates', name)
-    subprocess.run(['rt', 'run'], cwd=crate, stdout=subprocess.DEVNULL, stderr=subprocess.DEVNULL, check=True)
-    return os.path.join(crate, 'out', name)
+def build_crate(name):
+    """As `build`, the program of the crate of that name."""
+    if len(sys.argv) > 1:
+        return os.path.abspath(sys.argv[1])
+    crates = os.path.join(TOP, 'crates')
+    subprocess.run(['rt', 'run'], cwd=os.path.join(crates, name), stdout=subprocess.DEVNULL, stderr=subprocess.DEVNULL, check=True)
+    return built_in(crates, name)
+
+
+def built_in(crates, name):
+    """Where the program of a crate stands once it is built."""
+    return os.path.join(crates, name, 'out', name)
+
+
+@contextlib.contextmanager
+def compiled(name, *flags):
+    """The program of a source in C that stands here, which is removed at the end."""
+    with tempfile.TemporaryDirectory() as folder:
+        program = os.path.join(folder, name)
+        source = os.path.join(TOP, 'bench', name + '.c')
+        subprocess.run(['gcc', '-O2', '-o', program, source, *flags], check=True)
+        yield program
 
 
 def as_script(lines, source):
@@ -51,13 +127,20 @@ class Clock:
         self.processor += usage.ru_utime + usage.ru_stime
 
 
-def told(command):
-    """The processor seconds of a command that ends well, and what it printed."""
+def told(*command):
+    """The clock of a command that ends well, and what it printed."""
     clock = Clock()
     with tempfile.TemporaryFile() as out:
         clock.run(*command, out=out)
         out.seek(0)
-        return clock.processor, out.read()
+        return clock, out.read()
+
+
+def beside(repetitions, ours, peer):
+    """The least processor seconds of two commands that print the same, in turns."""
+    rounds = [(told(*ours), told(*peer)) for _ in range(repetitions)]
+    assert len({printed for pair in rounds for _, printed in pair}) == 1, 'they print the same'
+    return (min(clock.processor for clock, _ in runs) for runs in zip(*rounds))
 
 
 def clocked(lines, program):
@@ -77,17 +160,22 @@ def served(lines, program):
     return clock.processor, out
 
 
+def megabytes(kibibytes):
+    """Memory, which the system tells in units of 1,024 bytes, in millions of bytes."""
+    return kibibytes * 1024 / 1e6
+
+
 def peak_of(command, source=None):
-    """The peak of memory of a command in KB, as Debian's `time` tells it. What os.wait4 tells is never less than the memory that this
+    """The peak of memory of a command in MB, as Debian's `time` tells it. What os.wait4 tells is never less than the memory that this
     script had when it began the command."""
     with tempfile.NamedTemporaryFile() as told:
         command = ['/usr/bin/time', '--format=%M', '--output=' + told.name, *command]
         subprocess.run(command, stdin=source, stdout=subprocess.DEVNULL, check=True)
-        return int(told.read())
+        return megabytes(int(told.read()))
 
 
 def peak_served(lines, program):
-    """The peak of memory in KB of a run on these lines, all accepted."""
+    """The peak of memory in MB of a run on these lines, all accepted."""
     with elsewhere(), tempfile.TemporaryFile() as source:
         as_script(lines, source)
         return peak_of([program, 'run'], source)
@@ -99,18 +187,17 @@ def least(rounds):
         yield kind, [min(getattr(clock, kind) for clock in clocks) for clocks in zip(*rounds)]
 
 
-def tell_each(rounds, count):
-    """Prints a row of the table in README.md for each kind of time, from the clocks of a run, of one that does a thing `count` times
-    more, and of `count` runs of another program."""
+def each_beside(name, rounds, count, limits):
+    """The ratio of each kind of time to a peer's, with the limits by kind, from the clocks of a run, of one that does a thing `count`
+    times more, and of a peer that does it `count` times."""
     for kind, (once, often, others) in least(rounds):
-        each, other = (often - once) / count, others / count
-        print('| %s | %.3f s | %.2f ms | %.2f ms | %.2f |' % (kind, once, 1000 * each, 1000 * other, each / other))
+        yield ratio('%s, %s' % (name, kind), 1000 * (often - once) / count, 1000 * others / count, 'ms', limits.get(kind))
 
 
 @contextlib.contextmanager
-def elsewhere():
-    """Meanwhile the current folder is a new one, which is removed with all in it."""
-    with tempfile.TemporaryDirectory() as folder, contextlib.chdir(folder):
+def elsewhere(place=None):
+    """Meanwhile the current folder is a new one in a place, or where temporary files are, which is removed with all in it."""
+    with tempfile.TemporaryDirectory(dir=place) as folder, contextlib.chdir(folder):
         yield
 
 
@@ -144,9 +231,9 @@ def ask(child, line):
 
 
 def peak(child):
-    """The peak of a run's memory so far, in KB."""
+    """The peak of a run's memory so far, in MB."""
     with open('/proc/%d/status' % child.pid) as status:
-        return next(int(line.split()[1]) for line in status if line.startswith('VmHWM:'))
+        return megabytes(next(int(line.split()[1]) for line in status if line.startswith('VmHWM:')))
 
 
 def instructions(command, source=None, name=None):

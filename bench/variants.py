@@ -4,11 +4,9 @@ blocks of `#if`, and compares the trees that they write."""
 import copy
 import hashlib
 import os
-import sys
-import tempfile
 
 from generated import CHOICES, FILES, FOLDERS, OPTIONS, commits, conditional, history, path_of
-from timing import Clock, as_script, build, clocked, elsewhere, least, tree
+from timing import RAM_DISK, Clock, as_script, build, clocked, elsewhere, least, ratio, tell, tree
 
 COMMITS, REPETITIONS = 400, 5
 TREES = ['trees/t%d' % number for number in range(len(CHOICES))]
@@ -27,9 +25,9 @@ def digest(rows):
 def by_store(program, made):
     """The clocks of a run and of one without checkouts, and the trees, which are those that the replies tell."""
     lines = history(made)
-    with elsewhere():
+    with elsewhere(RAM_DISK):
         without, _ = clocked(lines, program)
-    with elsewhere():
+    with elsewhere(RAM_DISK):
         whole, out = clocked(lines + ['checkout t%d %s' % pair for pair in enumerate(CHOICES)], program)
         trees = [tree(name) for name in TREES]
     told = ['ok checkout t%d %d %d %s' % (number, FOLDERS, FILES, digest(rows)) for number, rows in enumerate(trees)]
@@ -46,7 +44,7 @@ def by_git(made):
     """The clocks of git and unifdef, with and without the checkouts, and the trees. What the files hold before each commit is
     written while no clock runs."""
     paths = [path_of(file) for file in range(FILES)]
-    with elsewhere():
+    with elsewhere(RAM_DISK):
         for name in TREES + ['store/d%d' % folder for folder in range(FOLDERS)]:
             os.makedirs(name)
         for path in paths:
@@ -68,21 +66,28 @@ def by_git(made):
         return clock, without, [tree(name) for name in TREES]
 
 
-def main():
-    program, made, rounds = build(), commits(COMMITS), []
+def clocks(program, made):
+    """The clocks of the store, with and without the checkouts, and those of git and unifdef."""
+    (*ours, trees), (*theirs, others) = by_store(program, made), by_git(made)
+    assert trees == others, 'the trees are the same'
+    return ours + theirs
+
+
+def of_kind(kind, whole, without, others, others_without):
+    """The figures of a kind of time, from the least of each clock."""
+    checkouts, others_checkouts = 1000 * (whole - without), 1000 * (others - others_without)
+    return [ratio('a run to git and unifdef, %s (aim 0.06)' % kind, whole, others, 's', 0.15),
+            ratio('its checkouts to theirs, ' + kind, checkouts, others_checkouts, 'ms')]
+
+
+def figures(program):
     os.environ.update(GIT_CONFIG_GLOBAL='/dev/null', GIT_CONFIG_NOSYSTEM='1')
     for person in 'AUTHOR', 'COMMITTER':
         os.environ.update({'GIT_%s_NAME' % person: 'bench', 'GIT_%s_EMAIL' % person: 'bench'})
-    for _ in range(REPETITIONS):
-        (*ours, trees), (*theirs, others) = by_store(program, made), by_git(made)
-        assert trees == others
-        rounds.append(ours + theirs)
-    print('load average %.1f' % os.getloadavg()[0])
-    for kind, (whole, without, others, others_without) in least(rounds):
-        checkouts, others_checkouts = whole - without, others - others_without
-        print('| %s | %.2f s | %.3f s | %.2f s | %.3f s | %.2f | %.2f |'
-              % (kind, whole, checkouts, others, others_checkouts, whole / others, checkouts / others_checkouts))
+    made = commits(COMMITS)
+    rounds = [clocks(program, made) for _ in range(REPETITIONS)]
+    return [figure for kind, taken in least(rounds) for figure in of_kind(kind, *taken)]
 
 
 if __name__ == '__main__':
-    sys.exit(main())
+    tell(figures(build()))

@@ -198,3 +198,25 @@ pub bounded_gives : (bs : List ℕ) (es : List (Formula ℕ)) (e : Formula ℕ) 
 bounded_gives bs es e r (Ok x) h k same many = behind_at (front_forest MOST_PARTS 1 bs) lone (Some (x, r)) es r h (lone_at es e r k ∙ ap (λ x. Some (x, r)) (sym same))
 bounded_gives bs es e r (Err Memory) h k same many = tt
 bounded_gives bs es e r (Err (Refused u)) h k same many = absurd (omega (arith, (fits_both e (lone_forth bs es e r h k).0).0, many refl))
+
+-- the same of an expression in front
+pub alone_gives : (bs : List ℕ) (e : Formula ℕ) (r : List ℕ) (result : Result (Formula ℕ) (MemoryOr NotARecord)) → front_expression bs ≡ Some (e, r)
+    → IfOk result (λ x. x ≡ e) → (IsErrOf result (Refused (record {})) → MOST_PARTS < part_count e)
+    → Gives (front_expression bs) result r
+alone_gives bs e r (Ok x) h same many = h ∙ ap (λ x. Some (x, r)) (sym same)
+alone_gives bs e r (Err Memory) h same many = tt
+alone_gives bs e r (Err (Refused u)) h same many = absurd (omega (arith, (fits_both e (expression_forth bs e r h).0).0, many refl))
+
+-- the rest of a part's expression
+abbrev behind_part : (left : ℕ) → Front Sign → Front (Formula ℕ)
+behind_part left f = behind (behind f (λ s r. behind (front_forest left (awaited s 0) r) (λ es r. Some (taken s es, r)))) lone
+
+-- a part that stands over none is an expression by itself
+pub never_alone : (bytes r : List ℕ) → front_sign bytes ≡ Some (Never, r) → front_expression bytes ≡ Some (False, r)
+never_alone bytes r f = ap (behind_part 255) f
+
+pub always_alone : (bytes r : List ℕ) → front_sign bytes ≡ Some (Always, r) → front_expression bytes ≡ Some (True, r)
+always_alone bytes r f = ap (behind_part 255) f
+
+pub named_alone : (o : ℕ) (bytes r : List ℕ) → front_sign bytes ≡ Some (Named o, r) → front_expression bytes ≡ Some (On o, r)
+named_alone o bytes r f = ap (behind_part 255) f

@@ -26,6 +26,13 @@ impl<'a> Ahead<'a> {
         Ahead { bytes }
     }
 
+    /// A reader of the same bytes.
+    pub(crate) fn copy(&self) -> Ahead<'a>
+        ensures { result ≡ self.now }
+    {
+        Ahead { bytes: self.bytes }
+    }
+
     pub(crate) fn is_empty(&self) -> bool
         ensures { result ≡ (length self.now == 0) }
     {

@@ -1,5 +1,5 @@
 // Expressions at the front of bytes, read without recursion: the parts in order, and then from the last.
-ghost use Rattle.std.specs.Prelude.{◌≡◌, ◌≤◌, ◌<◌, ◌+◌, [], OnOk, OnErr, IfOk, IsErrOf, reverse, Option, Some, None, List, ℕ};
+ghost use Rattle.std.specs.Prelude.{◌≡◌, ◌≤◌, ◌<◌, ◌+◌, [], OnOk, OnErr, IfOk, IfSome, IsErrOf, reverse, Option, Some, None, List, ℕ};
 ghost use Rattle.cov_base.specs.declared.limits.TheConstants.{MOST_PARTS};
 ghost use Rattle.cov_expr.specs.Formula.{Formula, Not, And, Or, part_count};
 ghost use Rattle.cov_record.specs.Reading.{Takes, Gives, EndsParts, front_named, front_sign, front_forest, front_expression, width, taken, pushed, onto, lone, first};
@@ -205,7 +205,43 @@ fn bounded(tree: Tree) -> Result<Expr, Fault>
     }
 }
 
+// The expression that a part is by itself, None where it stands over others.
+fn alone(sign: Sign) -> Option<Tree>
+    ensures { IfSome result (λ tree. (bytes rest : List ℕ) → front_sign bytes ≡ Some (sign, rest) → front_expression bytes ≡ Some (tree, rest)) }
+{
+    match sign {
+        Sign::Never => Some(Tree { part: Part::False }),
+        Sign::Always => Some(Tree { part: Part::True }),
+        Sign::Named(option) => Some(Tree {
+            part: Part::Option(option),
+        }),
+        Sign::Negates | Sign::Joins | Sign::Chooses => None,
+    }
+}
+
+// The expression at the front, if it is of one part, as most ambitions are: it takes no memory.
+fn take_alone(ahead: &mut Ahead<'_>) -> Option<Tree>
+    ensures tree { IfSome result (λ tree. front_expression ahead.old ≡ Some (tree, ahead.new)) }
+    ensures none { result ≡ None → ahead.new ≡ ahead.old }
+{
+    let mut front = ahead.copy();
+    let sign = take_sign(&mut front)?;
+    let tree = alone(sign)?;
+    *ahead = front;
+    Some(tree)
+}
+
 pub(crate) fn take_expression(alloc: Global, ahead: &mut Ahead<'_>) -> Result<Expr, Fault>
+    ensures { Gives (front_expression ahead.old) result ahead.new }
+{
+    match take_alone(ahead) {
+        Some(tree) => bounded(tree),
+        None => take_parts(alloc, ahead),
+    }
+}
+
+// The expression at the front, of any number of parts.
+fn take_parts(alloc: Global, ahead: &mut Ahead<'_>) -> Result<Expr, Fault>
     ensures { Gives (front_expression ahead.old) result ahead.new }
 {
     let mut signs = Vec::new(alloc);
