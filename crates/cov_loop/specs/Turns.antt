@@ -136,6 +136,12 @@ IsWhole endings.Done outcome before left written = EndsWith false outcome before
 IsWhole endings.SomeRefused outcome before left written = EndsWith true outcome before left written
 IsWhole _ outcome before left written = Unit {0}
 
+-- a run that comes to the end has read its script to the end, and its ending says whether a line was refused
+abbrev pub ReadsOut : {S : Type 0} → Ending → Outcome S → Option (List ℕ) → Type 0
+ReadsOut endings.Done outcome left = (outcome.is_refused ≡ false) × (left ≡ Some [])
+ReadsOut endings.SomeRefused outcome left = (outcome.is_refused ≡ true) × (left ≡ Some [])
+ReadsOut _ outcome left = Unit {0}
+
 -- a run that comes to the end has written all rows of its script
 abbrev pub HasRows : {S : Type 0} → Ending → Outcome S → List OutRow → Option (List OutRow) → Type 0
 HasRows endings.Done outcome before grown = grown ≡ Some (before ++ outcome.rows)

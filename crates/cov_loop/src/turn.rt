@@ -7,7 +7,7 @@ ghost use Rattle.cov_loop.specs.Answers.{is_refusal};
 ghost use Rattle.cov_loop.specs.Counts.{Counted, Later, counts};
 ghost use Rattle.cov_loop.specs.Keeping.{AreAll, KeepsAnswered, Reaches};
 ghost use Rattle.cov_loop.specs.Outcome.{answers};
-ghost use Rattle.cov_loop.specs.Turns.{Falls, HasRows, HasStored, IsWhole, RowsComeFirst, StopsScript, StopsTurn, Turns, WritesFront, ahead_of, ending_at_end, ending_of, output, turn_of};
+ghost use Rattle.cov_loop.specs.Turns.{Falls, HasRows, HasStored, ReadsOut, IsWhole, RowsComeFirst, StopsScript, StopsTurn, Turns, WritesFront, ahead_of, ending_at_end, ending_of, output, turn_of};
 ghost use Rattle.cov_out.specs.declared.row.OutRow.{OutRow};
 
 use crate::answer::Answer;
@@ -94,6 +94,10 @@ pub fn serve_all<V: LineServer, S: Source, K: Sink, D: Disk, T: Trees>(
     trees: &mut T,
 ) -> Ending
     requires gate { IfSome (D.contents disk.old) (V.gate server.old) }
+    // At the end of the script its text is read to the end, and the ending says whether a line was refused.
+    ensures ended { (text : List ℕ) →
+        ahead_of lines.old (S.left script.old) ≡ Some text →
+        ReadsOut result (answers V.step server.old (lines_of text)) (S.left script.new) }
     ensures prefix { (text before : List ℕ) →
         ahead_of lines.old (S.left script.old) ≡ Some text → K.written out.old ≡ Some before →
         WritesFront before (answers V.step server.old (lines_of text)).reply (K.written out.new) }

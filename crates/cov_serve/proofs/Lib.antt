@@ -12,6 +12,7 @@ pub mod Examples
 pub mod Growing
 pub mod Isolated
 pub mod IsolatedExamples
+pub mod Jobs
 pub mod Keeping
 pub mod Leaving
 pub mod NamedSessions
@@ -20,6 +21,7 @@ pub mod OthersLines
 pub mod OwnActs
 pub mod OwnLines
 pub mod References
+pub mod Turns
 pub mod RefusalCodes
 pub mod Runs
 pub mod SessionFaults

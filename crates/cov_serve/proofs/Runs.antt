@@ -1,21 +1,14 @@
 -- How a run over a disk comes to its end.
-use Rattle.std.proofs.Common.{◌≡◌, ◌∙◌, ◌⊎◌, inl, inr, ⊎_elim, refl, sym, ap, subst, arith, ℕ, ◌≤◌, List, [], ◌++◌, Option, Some, length, length-append}
+use Rattle.std.proofs.Common.{◌≡◌, inl, inr, ⊎_elim, sym, ap, subst, arith, ℕ, ◌≤◌, List, [], ◌++◌, Option, Some, length, length-append}
 use Rattle.std.proofs.lemmas.List.{nil_from_length}
-use Rattle.cov_base.specs.Causes.{Rose}
 use Rattle.cov_disk.specs.Images.{LeavesOnly}
-use Rattle.cov_edit.specs.declared.command.Command.{Command}
 use Rattle.std.specs.Option.{option_map}
 use Rattle.cov_io.specs.Progress.{Progress}
 use Rattle.cov_loop.specs.Counts.{Counts, counts}
 use Rattle.cov_loop.specs.Turns.{ahead_of}
-use Rattle.cov_serve.specs.Program.{EndsTold, StopsOpening, StopsRun, StopsServing, StopsUnopened, at_first}
-use Rattle.cov_serve.specs.States.{State, starting}
+use Rattle.cov_serve.specs.Program.{StopsServing, at_first}
 use Rattle.cov_serve.specs.declared.status.Status.{Status}
 use Rattle.cov_serve.specs.declared.status.Status.TheVariants as statuses
-
--- the state before the first line
-pub begun : (server : State) (history : List Command) → server ≡ starting server.history → server.history ≡ history → server ≡ starting history
-begun server history begins same = begins ∙ ap starting same
 
 -- the bytes that are ahead of a reader of lines that has taken nothing
 pub ahead_first : (lines : Progress) (left : Option (List ℕ)) (text : List ℕ) → lines ≡ at_first → left ≡ Some text → ahead_of lines left ≡ Some text
@@ -50,46 +43,3 @@ module _ (source sink disk trees given ends : ℕ) where
   serving_later disk1 new statuses.WriteFault le h = h
   serving_later disk1 new statuses.TreesFault le h = h
   serving_later disk1 new statuses.TooMuch le h = h
-
-  -- a store that isn't opened
-  pub unopened_run : (contents : Option (List ℕ)) (sink' disk' : ℕ) (status : Status) → StopsUnopened contents sink sink' disk disk' status
-      → StopsRun contents (counts source sink disk trees given ends) (counts source sink' disk' trees given ends) status
-  unopened_run contents sink' disk' statuses.NoMemory h = h
-  unopened_run contents sink' disk' statuses.WriteFault h = h
-  unopened_run contents sink' disk' statuses.DiskFault h = h
-  unopened_run contents sink' disk' statuses.NotAStore h = h
-  unopened_run contents sink' disk' (statuses.Damaged number cause) h = h
-  unopened_run contents sink' disk' statuses.Done h = absurd h
-  unopened_run contents sink' disk' statuses.SomeRefused h = absurd h
-  unopened_run contents sink' disk' statuses.Usage h = absurd h
-  unopened_run contents sink' disk' statuses.ReadFault h = absurd h
-  unopened_run contents sink' disk' statuses.TreesFault h = absurd h
-  unopened_run contents sink' disk' statuses.TooMuch h = absurd h
-
-  pub opening_run : (sink' disk' : ℕ) (status : Status) → StopsOpening disk disk' status → StopsServing (counts source sink disk trees given ends) (counts source sink' disk' trees given ends) status
-  opening_run sink' disk' statuses.NoMemory h = h
-  opening_run sink' disk' statuses.DiskFault h = h
-  opening_run sink' disk' statuses.WriteFault h = absurd h
-  opening_run sink' disk' statuses.NotAStore h = absurd h
-  opening_run sink' disk' (statuses.Damaged number cause) h = absurd h
-  opening_run sink' disk' statuses.Done h = absurd h
-  opening_run sink' disk' statuses.SomeRefused h = absurd h
-  opening_run sink' disk' statuses.Usage h = absurd h
-  opening_run sink' disk' statuses.ReadFault h = absurd h
-  opening_run sink' disk' statuses.TreesFault h = absurd h
-  opening_run sink' disk' statuses.TooMuch h = absurd h
-
--- where neither sink nor disk fails, the status is the one wanted, unless memory is wanting
-pub told_unless : (wanted : Status) (sink sink' disk disk' : ℕ) (status : Status) → EndsTold wanted sink sink' disk disk' status → (Rose sink sink' → ⊥) → (Rose disk disk' → ⊥)
-    → (status ≡ wanted) ⊎ (status ≡ statuses.NoMemory)
-told_unless wanted sink sink' disk disk' statuses.NoMemory e no_sink no_disk = inr refl
-told_unless wanted sink sink' disk disk' statuses.WriteFault e no_sink no_disk = absurd (no_sink e)
-told_unless wanted sink sink' disk disk' statuses.DiskFault e no_sink no_disk = absurd (no_disk e)
-told_unless wanted sink sink' disk disk' statuses.NotAStore e no_sink no_disk = inl e
-told_unless wanted sink sink' disk disk' (statuses.Damaged number cause) e no_sink no_disk = inl e
-told_unless wanted sink sink' disk disk' statuses.Done e no_sink no_disk = inl e
-told_unless wanted sink sink' disk disk' statuses.SomeRefused e no_sink no_disk = inl e
-told_unless wanted sink sink' disk disk' statuses.Usage e no_sink no_disk = inl e
-told_unless wanted sink sink' disk disk' statuses.ReadFault e no_sink no_disk = inl e
-told_unless wanted sink sink' disk disk' statuses.TreesFault e no_sink no_disk = inl e
-told_unless wanted sink sink' disk disk' statuses.TooMuch e no_sink no_disk = inl e

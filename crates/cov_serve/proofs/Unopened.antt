@@ -1,33 +1,42 @@
--- How it is told that a store isn't opened.
-use Rattle.std.proofs.Common.{◌≡◌, ◌≢◌, ◌∙◌, refl, sym, ap, subst, ℕ, List, [], ◌++◌, append-nil, length, Option, Some, None, IfSome, Err}
+-- How it is told that a store isn't opened, and other lines that end a run.
+use Rattle.std.proofs.Common.{◌≡◌, ◌≢◌, ◌∙◌, ◌⊎◌, inl, inr, refl, sym, ap, subst, ℕ, arith, List, [], ◌++◌, append-nil, length, Option, Some, None, IfSome, Err, true}
+use Rattle.cov_base.specs.Causes.{Rose}
 use Rattle.cov_edit.specs.History.{options_of}
 use Rattle.cov_edit.specs.declared.command.Command.{Command}
 use Rattle.cov_io.specs.Devices.{AppendsAll, AppendsSome}
+use Rattle.cov_journal.specs.Reading.{IsNoStore}
+use Rattle.cov_journal.proofs.CallerLemmas.{some_to}
+use Rattle.cov_loop.specs.Counts.{Counts}
 use Rattle.cov_loop.specs.Turns.{WritesFront}
+use Rattle.cov_out.specs.declared.row.OutRow.{OutRow}
 use Rattle.cov_script.specs.Replies.{IsCodeOf}
 use Rattle.cov_serve.specs.Codes.{refusal_code}
-use Rattle.cov_serve.specs.Program.{DamageCanBeTold, OnUnopened, EndsTold, EndsWithLine, ReadsAs, StopsCheck, StopsOpening, TellsFault, damaged_line, not_a_store_line}
+use Rattle.cov_serve.specs.Jobs.{EndsAs, IsCaused, JobOutcome, OnEnd, RowsPrecede, TellsUnopened, replies, rows_of, told_line}
+use Rattle.cov_serve.specs.Program.{DamageCanBeTold, EndsTold, EndsWithLine, OnUnopened, PutsLast, ReadsAs, StopsOpening, TellsFault, damaged_line, not_a_store_line}
 use Rattle.cov_serve.specs.States.{State}
+use Rattle.cov_serve.specs.declared.job.Job.{Job}
+use Rattle.cov_serve.specs.declared.job.Job.TheVariants.{OnStore}
+use Rattle.cov_serve.specs.declared.job.StoreJob.{StoreJob}
 use Rattle.cov_serve.specs.declared.status.Status.{Status}
 use Rattle.cov_serve.specs.declared.status.Status.TheVariants as statuses
 use Rattle.cov_store.specs.Damages.{HasDamage}
-use Rattle.cov_store.specs.Opening.{IsOfVerdict, MayStop, TellsDamage, TellsNoStore}
+use Rattle.cov_store.specs.Opening.{HasReason, IsImageFaultOf, IsOfVerdict, MayStop, OnImageRefused, TellsDamage, TellsNoStore}
 use Rattle.cov_store.specs.Stands.{StandsFor}
 use Rattle.cov_store.specs.declared.damage.StoreDamage.{StoreDamage}
 use Rattle.cov_store.specs.declared.damage.StoreDamage.TheVariants as damages
 use Rattle.cov_store.specs.declared.damage.StoreFault.{StoreFault}
 use Rattle.cov_store.specs.declared.damage.StoreFault.TheVariants as faults
 use Rattle.cov_serve.proofs.RefusalCodes.{refusal-code}
+use Rattle.cov_serve.proofs.Turns.{front_told, rows_precede_told}
 
 -- what holds of a disk that stands for a history, if it tells its bytes
 pub reads_gives : (o : Option (List ℕ)) (history : List Command) (P : Type 0) → ReadsAs o history → IfSome o (λ image. StandsFor image history → P) → P
 reads_gives None history P reads all = absurd reads
 reads_gives (Some image) history P reads all = all reads
 
--- what holds of the bytes that are told
-pub told_gives : (o : Option (List ℕ)) (image : List ℕ) (P : List ℕ → Type 0) → o ≡ Some image → IfSome o P → P image
-told_gives None image P e all = absurd (cc)
-told_gives (Some bytes) image P e all = let same : bytes ≡ image = cc in subst P same all
+pub reads_as : (o : Option (List ℕ)) (history : List Command) → ReadsAs o history → IfSome o (λ image. StandsFor image history)
+reads_as None history reads = absurd reads
+reads_as (Some image) history reads = reads
 
 -- a fault can be told where its refusal is one of the verdict
 pub can_be_told : (fault : StoreFault) → IsOfVerdict fault → DamageCanBeTold fault
@@ -56,137 +65,291 @@ pub writes_all : (before line : List ℕ) (old new : Option (List ℕ)) → Appe
 writes_all before line None new h is = absurd (cc)
 writes_all before line (Some old) new h is = let same : old ≡ before = cc in h ∙ ap (λ b. Some (b ++ line)) same
 
-module _ (sink sink' : ℕ) where
-  -- what holds with the status of the line
-  on_whole : (wanted status : Status) (P : Type 0) → EndsWithLine wanted sink sink' status → (status ≡ wanted → P) → OnUnopened status P
-  on_whole wanted statuses.NotAStore P e h = h e
-  on_whole wanted (statuses.Damaged number cause) P e h = h e
-  on_whole wanted statuses.Done P e h = tt
-  on_whole wanted statuses.SomeRefused P e h = tt
-  on_whole wanted statuses.Usage P e h = tt
-  on_whole wanted statuses.NoMemory P e h = tt
-  on_whole wanted statuses.ReadFault P e h = tt
-  on_whole wanted statuses.WriteFault P e h = tt
-  on_whole wanted statuses.DiskFault P e h = tt
-  on_whole wanted statuses.TreesFault P e h = tt
-  on_whole wanted statuses.TooMuch P e h = tt
+-- what holds of each status, and of those of a run that came to its end
+pub on_any_end : (status : Status) (P : Type 0) → P → OnEnd status P
+on_any_end statuses.Done P h = h
+on_any_end statuses.SomeRefused P h = h
+on_any_end statuses.Usage P h = h
+on_any_end statuses.NotAStore P h = h
+on_any_end (statuses.Damaged number cause) P h = h
+on_any_end statuses.NoMemory P h = tt
+on_any_end statuses.ReadFault P h = tt
+on_any_end statuses.WriteFault P h = tt
+on_any_end statuses.DiskFault P h = tt
+on_any_end statuses.TreesFault P h = tt
+on_any_end statuses.TooMuch P h = tt
 
-  -- the disk hasn't failed where the line is to be told
-  pub ends_told : (wanted status : Status) (disk disk' : ℕ) → wanted ≢ statuses.DiskFault → EndsWithLine wanted sink sink' status → EndsTold wanted sink sink' disk disk' status
-  ends_told wanted statuses.NoMemory disk disk' other e = tt
-  ends_told wanted statuses.WriteFault disk disk' other e = e
-  ends_told wanted statuses.DiskFault disk disk' other e = absurd (other (sym e))
-  ends_told wanted statuses.NotAStore disk disk' other e = e
-  ends_told wanted (statuses.Damaged number cause) disk disk' other e = e
-  ends_told wanted statuses.Done disk disk' other e = e
-  ends_told wanted statuses.SomeRefused disk disk' other e = e
-  ends_told wanted statuses.Usage disk disk' other e = e
-  ends_told wanted statuses.ReadFault disk disk' other e = e
-  ends_told wanted statuses.TreesFault disk disk' other e = e
-  ends_told wanted statuses.TooMuch disk disk' other e = e
+pub on_end : (status : Status) (P Q : Type 0) → (P → Q) → OnEnd status P → OnEnd status Q
+on_end statuses.Done P Q to h = to h
+on_end statuses.SomeRefused P Q to h = to h
+on_end statuses.Usage P Q to h = to h
+on_end statuses.NotAStore P Q to h = to h
+on_end (statuses.Damaged number cause) P Q to h = to h
+on_end statuses.NoMemory P Q to h = tt
+on_end statuses.ReadFault P Q to h = tt
+on_end statuses.WriteFault P Q to h = tt
+on_end statuses.DiskFault P Q to h = tt
+on_end statuses.TreesFault P Q to h = tt
+on_end statuses.TooMuch P Q to h = tt
 
-  module _ (disk disk' : ℕ) (status : Status) (old new : Option (List ℕ)) where
+pub on_unopened : (status : Status) (P : Type 0) → P → OnUnopened status P
+on_unopened statuses.Done P h = tt
+on_unopened statuses.SomeRefused P h = tt
+on_unopened statuses.Usage P h = tt
+on_unopened statuses.NotAStore P h = h
+on_unopened (statuses.Damaged number cause) P h = h
+on_unopened statuses.NoMemory P h = tt
+on_unopened statuses.ReadFault P h = tt
+on_unopened statuses.WriteFault P h = tt
+on_unopened statuses.DiskFault P h = tt
+on_unopened statuses.TreesFault P h = tt
+on_unopened statuses.TooMuch P h = tt
+
+-- a disk that stands for a history isn't opened
+pub opening_end : (disk disk' : ℕ) (status : Status) (P : Type 0) → StopsOpening disk disk' status → OnEnd status P
+opening_end disk disk' statuses.Done P h = absurd h
+opening_end disk disk' statuses.SomeRefused P h = absurd h
+opening_end disk disk' statuses.Usage P h = absurd h
+opening_end disk disk' statuses.NotAStore P h = absurd h
+opening_end disk disk' (statuses.Damaged number cause) P h = absurd h
+opening_end disk disk' statuses.NoMemory P h = tt
+opening_end disk disk' statuses.ReadFault P h = absurd h
+opening_end disk disk' statuses.WriteFault P h = absurd h
+opening_end disk disk' statuses.DiskFault P h = tt
+opening_end disk disk' statuses.TreesFault P h = absurd h
+opening_end disk disk' statuses.TooMuch P h = absurd h
+
+-- one line is told, and ends a run
+pub record Tells (all : JobOutcome) (sink sink' disk disk' : ℕ) (old new : Option (List ℕ)) (status : Status) : Type 0 where
+  pub wanted : Status
+  pub line : List ℕ
+  pub history : List Command
+  pub is : all ≡ told_line wanted line history
+  pub ends : EndsTold wanted sink sink' disk disk' status
+  pub front : AppendsSome line old new
+  pub whole : status ≡ wanted → AppendsAll line old new
+
+-- with the status of the line, or by a fault
+told_end : (wanted : Status) (sink sink' disk disk' : ℕ) (status : Status) → EndsTold wanted sink sink' disk disk' status → OnEnd status (status ≡ wanted)
+told_end wanted sink sink' disk disk' statuses.Done e = e
+told_end wanted sink sink' disk disk' statuses.SomeRefused e = e
+told_end wanted sink sink' disk disk' statuses.Usage e = e
+told_end wanted sink sink' disk disk' statuses.NotAStore e = e
+told_end wanted sink sink' disk disk' (statuses.Damaged number cause) e = e
+told_end wanted sink sink' disk disk' statuses.NoMemory e = tt
+told_end wanted sink sink' disk disk' statuses.ReadFault e = tt
+told_end wanted sink sink' disk disk' statuses.WriteFault e = tt
+told_end wanted sink sink' disk disk' statuses.DiskFault e = tt
+told_end wanted sink sink' disk disk' statuses.TreesFault e = tt
+told_end wanted sink sink' disk disk' statuses.TooMuch e = tt
+
+pub ends_told : (wanted : Status) (sink sink' : ℕ) (status : Status) (disk disk' : ℕ) → wanted ≢ statuses.DiskFault → EndsWithLine wanted sink sink' status → EndsTold wanted sink sink' disk disk' status
+ends_told wanted sink sink' statuses.Done disk disk' other e = e
+ends_told wanted sink sink' statuses.SomeRefused disk disk' other e = e
+ends_told wanted sink sink' statuses.Usage disk disk' other e = e
+ends_told wanted sink sink' statuses.NotAStore disk disk' other e = e
+ends_told wanted sink sink' (statuses.Damaged number cause) disk disk' other e = e
+ends_told wanted sink sink' statuses.NoMemory disk disk' other e = tt
+ends_told wanted sink sink' statuses.ReadFault disk disk' other e = e
+ends_told wanted sink sink' statuses.WriteFault disk disk' other e = e
+ends_told wanted sink sink' statuses.DiskFault disk disk' other e = absurd (other (sym e))
+ends_told wanted sink sink' statuses.TreesFault disk disk' other e = e
+ends_told wanted sink sink' statuses.TooMuch disk disk' other e = e
+
+-- where neither sink nor disk fails, the status is the one wanted, unless memory is wanting
+told_unless : (wanted : Status) (sink sink' disk disk' : ℕ) (status : Status) → EndsTold wanted sink sink' disk disk' status → (Rose sink sink' → ⊥) → (Rose disk disk' → ⊥)
+    → (status ≡ wanted) ⊎ (status ≡ statuses.NoMemory)
+told_unless wanted sink sink' disk disk' statuses.Done e no_sink no_disk = inl e
+told_unless wanted sink sink' disk disk' statuses.SomeRefused e no_sink no_disk = inl e
+told_unless wanted sink sink' disk disk' statuses.Usage e no_sink no_disk = inl e
+told_unless wanted sink sink' disk disk' statuses.NotAStore e no_sink no_disk = inl e
+told_unless wanted sink sink' disk disk' (statuses.Damaged number cause) e no_sink no_disk = inl e
+told_unless wanted sink sink' disk disk' statuses.NoMemory e no_sink no_disk = inr refl
+told_unless wanted sink sink' disk disk' statuses.ReadFault e no_sink no_disk = inl e
+told_unless wanted sink sink' disk disk' statuses.WriteFault e no_sink no_disk = absurd (no_sink e)
+told_unless wanted sink sink' disk disk' statuses.DiskFault e no_sink no_disk = absurd (no_disk e)
+told_unless wanted sink sink' disk disk' statuses.TreesFault e no_sink no_disk = inl e
+told_unless wanted sink sink' disk disk' statuses.TooMuch e no_sink no_disk = inl e
+
+pub line_unless : (wanted : Status) (sink sink' : ℕ) (status : Status) → EndsWithLine wanted sink sink' status → (Rose sink sink' → ⊥) → (status ≡ wanted) ⊎ (status ≡ statuses.NoMemory)
+line_unless wanted sink sink' statuses.Done e no_sink = inl e
+line_unless wanted sink sink' statuses.SomeRefused e no_sink = inl e
+line_unless wanted sink sink' statuses.Usage e no_sink = inl e
+line_unless wanted sink sink' statuses.NotAStore e no_sink = inl e
+line_unless wanted sink sink' (statuses.Damaged number cause) e no_sink = inl e
+line_unless wanted sink sink' statuses.NoMemory e no_sink = inr refl
+line_unless wanted sink sink' statuses.ReadFault e no_sink = inl e
+line_unless wanted sink sink' statuses.WriteFault e no_sink = absurd (no_sink e)
+line_unless wanted sink sink' statuses.DiskFault e no_sink = inl e
+line_unless wanted sink sink' statuses.TreesFault e no_sink = inl e
+line_unless wanted sink sink' statuses.TooMuch e no_sink = inl e
+
+-- the cause of a line's status is that of the line
+pub line_caused : (job : Job) (contents : Option (List ℕ)) (old new : Counts) (wanted status : Status) → IsCaused job contents old new wanted
+    → EndsWithLine wanted old.sink new.sink status → IsCaused job contents old new status
+line_caused job contents old new wanted statuses.Done h e = subst (IsCaused job contents old new) (sym e) h
+line_caused job contents old new wanted statuses.SomeRefused h e = subst (IsCaused job contents old new) (sym e) h
+line_caused job contents old new wanted statuses.Usage h e = subst (IsCaused job contents old new) (sym e) h
+line_caused job contents old new wanted statuses.NotAStore h e = subst (IsCaused job contents old new) (sym e) h
+line_caused job contents old new wanted (statuses.Damaged number cause) h e = subst (IsCaused job contents old new) (sym e) h
+line_caused job contents old new wanted statuses.NoMemory h e = tt
+line_caused job contents old new wanted statuses.ReadFault h e = subst (IsCaused job contents old new) (sym e) h
+line_caused job contents old new wanted statuses.WriteFault h e = e
+line_caused job contents old new wanted statuses.DiskFault h e = subst (IsCaused job contents old new) (sym e) h
+line_caused job contents old new wanted statuses.TreesFault h e = subst (IsCaused job contents old new) (sym e) h
+line_caused job contents old new wanted statuses.TooMuch h e = subst (IsCaused job contents old new) (sym e) h
+
+-- no line but that of a disk that isn't opened ends a run with its status
+pub line_kept : (wanted status : Status) (sink sink' : ℕ) (P : Type 0) → OnUnopened wanted P → EndsWithLine wanted sink sink' status → OnUnopened status P
+line_kept wanted statuses.Done sink sink' P h e = tt
+line_kept wanted statuses.SomeRefused sink sink' P h e = tt
+line_kept wanted statuses.Usage sink sink' P h e = tt
+line_kept wanted statuses.NotAStore sink sink' P h e = subst (λ s. OnUnopened s P) (sym e) h
+line_kept wanted (statuses.Damaged number cause) sink sink' P h e = subst (λ s. OnUnopened s P) (sym e) h
+line_kept wanted statuses.NoMemory sink sink' P h e = tt
+line_kept wanted statuses.ReadFault sink sink' P h e = tt
+line_kept wanted statuses.WriteFault sink sink' P h e = tt
+line_kept wanted statuses.DiskFault sink sink' P h e = tt
+line_kept wanted statuses.TreesFault sink sink' P h e = tt
+line_kept wanted statuses.TooMuch sink sink' P h e = tt
+
+-- no byte more is written, and no row
+pub none_written : {X : Type 0} (before all : List X) (written : Option (List X)) → written ≡ Some before → WritesFront before all written
+none_written before all written e = record { first = []; rest = all; front = refl; is = e ∙ ap Some (sym (append-nil before)) }
+
+module _ {all : JobOutcome} {sink sink' disk disk' : ℕ} {old new : Option (List ℕ)} {status : Status} (t : Tells all sink sink' disk disk' old new status) where
+  pub tells_ends : (left : Option (List ℕ)) → OnEnd status (EndsAs all status left)
+  tells_ends left =
+      on_end status (status ≡ t.wanted) (EndsAs all status left)
+      (λ e. subst (λ o. EndsAs o status left) (sym t.is) (record { status_is = e; read = tt })) (told_end t.wanted sink sink' disk disk' status t.ends)
+
+  pub tells_front : (before : List ℕ) → old ≡ Some before → WritesFront before (replies all.turns) new
+  tells_front before wrote =
+      subst (λ o. WritesFront before (replies o.turns) new) (sym t.is) (front_told t.wanted t.line t.history before new (writes_some before t.line old new t.front wrote))
+
+  pub tells_whole : (before : List ℕ) → old ≡ Some before → OnEnd status (new ≡ Some (before ++ replies all.turns))
+  tells_whole before wrote =
+      on_end status (status ≡ t.wanted) (new ≡ Some (before ++ replies all.turns))
+      (λ e. subst (λ o. new ≡ Some (before ++ replies o.turns)) (sym t.is) (writes_all before t.line old new (t.whole e) wrote ∙ ap (λ r. Some (before ++ r)) (sym (append-nil t.line))))
+      (told_end t.wanted sink sink' disk disk' status t.ends)
+
+  pub tells_rows : (before : List OutRow) (grown : Option (List OutRow)) → grown ≡ Some before → OnEnd status (grown ≡ Some (before ++ rows_of all.turns))
+  tells_rows before grown grew =
+      on_any_end status (grown ≡ Some (before ++ rows_of all.turns)) (subst (λ o. grown ≡ Some (before ++ rows_of o.turns)) (sym t.is) (grew ∙ ap Some (sym (append-nil before))))
+
+  pub tells_rows_first : (before : List ℕ) (rows : List OutRow) (grown : Option (List OutRow)) → old ≡ Some before → grown ≡ Some rows → RowsPrecede all.turns before rows new grown
+  tells_rows_first before rows grown wrote grew =
+      subst (λ o. RowsPrecede o.turns before rows new grown) (sym t.is)
+      (rows_precede_told t.wanted t.line t.history before rows new grown (writes_some before t.line old new t.front wrote) grew)
+
+  pub tells_unless : (Rose sink sink' → ⊥) → (Rose disk disk' → ⊥) → (status ≡ all.status) ⊎ (status ≡ statuses.NoMemory)
+  tells_unless no_sink no_disk =
+      subst (λ o. (status ≡ o.status) ⊎ (status ≡ statuses.NoMemory)) (sym t.is) (told_unless t.wanted sink sink' disk disk' status t.ends no_sink no_disk)
+
+-- what is put last is told
+pub put_tells : {all : JobOutcome} {sink sink' : ℕ} {old new : Option (List ℕ)} {status : Status} (disk disk' : ℕ) (wanted : Status) (line : List ℕ) (history : List Command)
+    → all ≡ told_line wanted line history → wanted ≢ statuses.DiskFault → PutsLast wanted line old new sink sink' status → Tells all sink sink' disk disk' old new status
+put_tells {all} {sink} {sink'} {old} {new} {status} disk disk' wanted line history is other puts = record {
+  wanted = wanted;
+  line = line;
+  history = history;
+  is = is;
+  ends = ends_told wanted sink sink' status disk disk' other puts.ends;
+  front = puts.front;
+  whole = puts.whole;
+}
+
+-- why a store isn't opened, by what a read of the disk gives
+pub record Fails (contents : Option (List ℕ)) (disk disk' : ℕ) (fault : StoreFault) : Type 0 where
+  pub stands : (history : List Command) → IfSome contents (λ image. StandsFor image history → MayStop disk disk' fault)
+  pub damage : (number : ℕ) (cause : StoreDamage) → IfSome contents (λ image. (damage : HasDamage image number cause) → TellsDamage {S = State} damage.history number cause disk disk' (Err fault))
+  pub no_store : IfSome contents (λ image. IsNoStore image → TellsNoStore {S = State} disk disk' (Err fault))
+
+-- a store that is opened is none of these
+pub not_unopened : (contents : Option (List ℕ)) (all : JobOutcome) → IfSome contents (λ image. IsNoStore image → ⊥)
+    → ((number : ℕ) (cause : StoreDamage) → IfSome contents (λ image. HasDamage image number cause → ⊥)) → TellsUnopened contents all → ⊥
+not_unopened None all no_store damage tells = tells
+not_unopened (Some image) all no_store damage (inl (none, is)) = no_store none
+not_unopened (Some image) all no_store damage (inr (number, cause, of, is)) = damage number cause of
+
+module _ (all : JobOutcome) (sink sink' disk disk' : ℕ) (old new : Option (List ℕ)) (status : Status) where
+  -- the opening stopped before a line was told
+  stopped_tells : (wanted : Status) (line : List ℕ) → all ≡ told_line wanted line [] → EndsTold wanted sink sink' disk disk' status → new ≡ old → (status ≡ wanted → ⊥)
+      → Tells all sink sink' disk disk' old new status
+  stopped_tells wanted line is ends same other = record {
+    wanted = wanted;
+    line = line;
+    history = [];
+    is = is;
+    ends = ends;
+    front = appends_none line old new same;
+    whole = λ e. absurd (other e);
+  }
+
+  no_store_tells : (fault : StoreFault) → TellsNoStore {S = State} disk disk' (Err fault) → TellsFault fault old new sink sink' status
+      → all ≡ told_line statuses.NotAStore not_a_store_line [] → Tells all sink sink' disk disk' old new status
+  no_store_tells faults.NotAStore h t is = put_tells disk disk' statuses.NotAStore not_a_store_line [] is (λ e. absurd (cc)) t
+  no_store_tells (faults.Damaged number cause options) h t is = absurd h
+  no_store_tells faults.DiskFault h t is =
+      stopped_tells statuses.NotAStore not_a_store_line is (subst (EndsTold statuses.NotAStore sink sink' disk disk') (sym t.is) h) t.same
+      (λ e. let other : statuses.DiskFault ≡ statuses.NotAStore = sym t.is ∙ e in absurd (cc))
+  no_store_tells faults.Memory h t is =
+      stopped_tells statuses.NotAStore not_a_store_line is (subst (EndsTold statuses.NotAStore sink sink' disk disk') (sym t.is) tt) t.same
+      (λ e. let other : statuses.NoMemory ≡ statuses.NotAStore = sym t.is ∙ e in absurd (cc))
+
+  module _ (history : List Command) (number : ℕ) (cause : StoreDamage) where
+    abbrev told : List (List ℕ) → ℕ → StoreDamage → JobOutcome
+    told names k what = told_line (statuses.Damaged k what) (damaged_line names k what) []
+
+    damage_tells : (fault : StoreFault) → TellsDamage {S = State} history number cause disk disk' (Err fault) → TellsFault fault old new sink sink' status
+        → all ≡ told (options_of history) number cause → Tells all sink sink' disk disk' old new status
+    damage_tells faults.NotAStore h t is = absurd h
+    damage_tells (faults.Damaged k what options) (k_is, what_is, names_are) t is =
+        let same : told options.names k what ≡ told (options_of history) number cause =
+        ap (λ names. told names k what) names_are ∙ ap (λ n. told (options_of history) n what) k_is ∙ ap (told (options_of history) number) what_is in
+        put_tells disk disk' (statuses.Damaged k what) (damaged_line options.names k what) [] (is ∙ sym same) (λ e. absurd (cc)) t
+    damage_tells faults.DiskFault h t is =
+        stopped_tells (statuses.Damaged number cause) (damaged_line (options_of history) number cause) is (subst (EndsTold (statuses.Damaged number cause) sink sink' disk disk') (sym t.is) h) t.same
+        (λ e. let other : statuses.DiskFault ≡ statuses.Damaged number cause = sym t.is ∙ e in absurd (cc))
+    damage_tells faults.Memory h t is =
+        stopped_tells (statuses.Damaged number cause) (damaged_line (options_of history) number cause) is (subst (EndsTold (statuses.Damaged number cause) sink sink' disk disk') (sym t.is) tt) t.same
+        (λ e. let other : statuses.NoMemory ≡ statuses.Damaged number cause = sym t.is ∙ e in absurd (cc))
+
+  module _ (fault : StoreFault) (t : TellsFault fault old new sink sink' status) where
+    -- a disk that is no store, or damaged
+    pub unopened_tells : (contents : Option (List ℕ)) → Fails contents disk disk' fault → TellsUnopened contents all → Tells all sink sink' disk disk' old new status
+    unopened_tells None fails tells = absurd tells
+    unopened_tells (Some image) fails (inl (none, is)) = no_store_tells fault (fails.no_store none) t is
+    unopened_tells (Some image) fails (inr (number, cause, damage, is)) = damage_tells damage.history number cause fault (fails.damage number cause damage) t is
+
     -- a disk that stands for a history
-    pub stops : (fault : StoreFault) → MayStop disk disk' fault → TellsFault fault old new sink sink' status → StopsOpening disk disk' status
-    stops faults.NotAStore h t = absurd h
-    stops (faults.Damaged number cause options) h t = absurd h
-    stops faults.DiskFault h t = subst (StopsOpening disk disk') (sym t.is) h
-    stops faults.Memory h t = subst (StopsOpening disk disk') (sym t.is) tt
-
-    pub nothing_put : (fault : StoreFault) → MayStop disk disk' fault → TellsFault fault old new sink sink' status → new ≡ old
-    nothing_put faults.NotAStore h t = absurd h
-    nothing_put (faults.Damaged number cause options) h t = absurd h
-    nothing_put faults.DiskFault h t = t.same
-    nothing_put faults.Memory h t = t.same
-
-    -- a disk that is no store
-    module _ (fault : StoreFault) (no_store : TellsNoStore {S = State} disk disk' (Err fault)) (t : TellsFault fault old new sink sink' status) where
-      pub no_store_front : AppendsSome not_a_store_line old new
-      no_store_front = at fault no_store t
-        where
-          at : (fault : StoreFault) → TellsNoStore {S = State} disk disk' (Err fault) → TellsFault fault old new sink sink' status → AppendsSome not_a_store_line old new
-          at faults.NotAStore h t = t.front
-          at (faults.Damaged number cause options) h t = absurd h
-          at faults.DiskFault h t = appends_none not_a_store_line old new t.same
-          at faults.Memory h t = appends_none not_a_store_line old new t.same
-
-      pub no_store_whole : (P : Type 0) → (AppendsAll not_a_store_line old new → P) → OnUnopened status P
-      no_store_whole P to = at fault no_store t
-        where
-          at : (fault : StoreFault) → TellsNoStore {S = State} disk disk' (Err fault) → TellsFault fault old new sink sink' status → OnUnopened status P
-          at faults.NotAStore h t = on_whole statuses.NotAStore status P t.ends (λ e. to (t.whole e))
-          at (faults.Damaged number cause options) h t = absurd h
-          at faults.DiskFault h t = subst (λ s. OnUnopened s P) (sym t.is) tt
-          at faults.Memory h t = subst (λ s. OnUnopened s P) (sym t.is) tt
-
-    -- a disk that has damage
-    module _ (image : List ℕ) (number : ℕ) (cause : StoreDamage) (damage : HasDamage image number cause) (fault : StoreFault)
-        (tells : TellsDamage {S = State} damage.history number cause disk disk' (Err fault)) (t : TellsFault fault old new sink sink' status) where
-      abbrev line : List ℕ
-      line = damaged_line (options_of damage.history) number cause
-
-      pub damage_front : AppendsSome line old new
-      damage_front = at fault tells t
-        where
-          at : (fault : StoreFault) → TellsDamage {S = State} damage.history number cause disk disk' (Err fault) → TellsFault fault old new sink sink' status → AppendsSome line old new
-          at faults.NotAStore h t = absurd h
-          at (faults.Damaged k what options) (k_is, what_is, names_are) t =
-              let same : damaged_line options.names k what ≡ line = ap (λ names. damaged_line names k what) names_are ∙ ap (λ n. damaged_line (options_of damage.history) n what) k_is ∙ ap (damaged_line (options_of damage.history) number) what_is in
-              subst (λ l. AppendsSome l old new) same t.front
-          at faults.DiskFault h t = appends_none line old new t.same
-          at faults.Memory h t = appends_none line old new t.same
-
-      pub damage_whole : (P : Type 0) → (AppendsAll line old new → P) → OnUnopened status P
-      damage_whole P to = at fault tells t
-        where
-          at : (fault : StoreFault) → TellsDamage {S = State} damage.history number cause disk disk' (Err fault) → TellsFault fault old new sink sink' status → OnUnopened status P
-          at faults.NotAStore h t = absurd h
-          at (faults.Damaged k what options) (k_is, what_is, names_are) t =
-              let same : damaged_line options.names k what ≡ line = ap (λ names. damaged_line names k what) names_are ∙ ap (λ n. damaged_line (options_of damage.history) n what) k_is ∙ ap (damaged_line (options_of damage.history) number) what_is in
-              on_whole (statuses.Damaged k what) status P t.ends (λ e. to (subst (λ l. AppendsAll l old new) same (t.whole e)))
-          at faults.DiskFault h t = subst (λ s. OnUnopened s P) (sym t.is) tt
-          at faults.Memory h t = subst (λ s. OnUnopened s P) (sym t.is) tt
-
-      pub damage_told : EndsTold (statuses.Damaged number cause) sink sink' disk disk' status
-      damage_told = at fault tells t
-        where
-          at : (fault : StoreFault) → TellsDamage {S = State} damage.history number cause disk disk' (Err fault) → TellsFault fault old new sink sink' status → EndsTold (statuses.Damaged number cause) sink sink' disk disk' status
-          at faults.NotAStore h t = absurd h
-          at (faults.Damaged k what options) (k_is, what_is, names_are) t =
-              let same : statuses.Damaged k what ≡ statuses.Damaged number cause = ap (λ n. statuses.Damaged n what) k_is ∙ ap (statuses.Damaged number) what_is in
-              subst (λ w. EndsTold w sink sink' disk disk' status) same (ends_told (statuses.Damaged k what) status disk disk' (λ e. absurd (cc)) t.ends)
-          at faults.DiskFault h t = subst (EndsTold (statuses.Damaged number cause) sink sink' disk disk') (sym t.is) h
-          at faults.Memory h t = subst (EndsTold (statuses.Damaged number cause) sink sink' disk disk') (sym t.is) tt
-
-    -- a store that was checked
-    pub checked_kept : (P : Type 0) → EndsTold statuses.Done sink sink' disk disk' status → OnUnopened status P
-    checked_kept P e = at status e
+    pub fails_stops : (contents : Option (List ℕ)) (history : List Command) → Fails contents disk disk' fault → ReadsAs contents history → StopsOpening disk disk' status × (new ≡ old)
+    fails_stops contents history fails reads = at fault (reads_gives contents history (MayStop disk disk' fault) reads (fails.stands history)) t
       where
-        at : (status : Status) → EndsTold statuses.Done sink sink' disk disk' status → OnUnopened status P
-        at statuses.NotAStore e = absurd (cc)
-        at (statuses.Damaged number cause) e = absurd (cc)
-        at statuses.Done e = tt
-        at statuses.SomeRefused e = tt
-        at statuses.Usage e = tt
-        at statuses.NoMemory e = tt
-        at statuses.ReadFault e = tt
-        at statuses.WriteFault e = tt
-        at statuses.DiskFault e = tt
-        at statuses.TreesFault e = tt
-        at statuses.TooMuch e = tt
+        at : (fault : StoreFault) → MayStop disk disk' fault → TellsFault fault old new sink sink' status → StopsOpening disk disk' status × (new ≡ old)
+        at faults.NotAStore h t = absurd h
+        at (faults.Damaged number cause options) h t = absurd h
+        at faults.DiskFault h t = (subst (StopsOpening disk disk') (sym t.is) h, t.same)
+        at faults.Memory h t = (subst (StopsOpening disk disk') (sym t.is) tt, t.same)
 
-    pub checked_stops : (contents : Option (List ℕ)) → EndsTold statuses.Done sink sink' disk disk' status → StopsCheck contents sink sink' disk disk' status
-    checked_stops contents e = at status e
+    -- the disk is as before where it is refused for what it holds
+    pub fault_kept : (contents contents' : Option (List ℕ)) → IfSome contents (λ image. OnImageRefused fault (contents' ≡ contents)) → OnUnopened status (IfSome contents (λ image. contents' ≡ Some image))
+    fault_kept None contents' h = on_unopened status (Unit {0}) tt
+    fault_kept (Some image) contents' h = at fault h t
       where
-        at : (status : Status) → EndsTold statuses.Done sink sink' disk disk' status → StopsCheck contents sink sink' disk disk' status
-        at statuses.NotAStore e = absurd (cc)
-        at (statuses.Damaged number cause) e = absurd (cc)
-        at statuses.Done e = tt
-        at statuses.SomeRefused e = absurd (cc)
-        at statuses.Usage e = absurd (cc)
-        at statuses.NoMemory e = tt
-        at statuses.ReadFault e = absurd (cc)
-        at statuses.WriteFault e = e
-        at statuses.DiskFault e = e
-        at statuses.TreesFault e = absurd (cc)
-        at statuses.TooMuch e = absurd (cc)
+        at : (fault : StoreFault) → OnImageRefused fault (contents' ≡ Some image) → TellsFault fault old new sink sink' status → OnUnopened status (contents' ≡ Some image)
+        at faults.NotAStore h t = on_unopened status (contents' ≡ Some image) h
+        at (faults.Damaged number cause options) h t = on_unopened status (contents' ≡ Some image) h
+        at faults.DiskFault h t = subst (λ s. OnUnopened s (contents' ≡ Some image)) (sym t.is) tt
+        at faults.Memory h t = subst (λ s. OnUnopened s (contents' ≡ Some image)) (sym t.is) tt
+
+-- the cause of the status
+pub fault_caused : (job : StoreJob) (contents : Option (List ℕ)) (old new : Counts) (before now : Option (List ℕ)) (status : Status) (fault : StoreFault)
+    → IfSome contents (λ image. IsImageFaultOf image fault) → HasReason old.disk new.disk fault → TellsFault fault before now old.sink new.sink status
+    → IsCaused (OnStore job) contents old new status
+fault_caused job contents old new before now status faults.NotAStore of reason t = line_caused (OnStore job) contents old new statuses.NotAStore status (refl, of) t.ends
+fault_caused job contents old new before now status (faults.Damaged number cause options) of reason t =
+    line_caused (OnStore job) contents old new (statuses.Damaged number cause) status
+    (refl, some_to (λ image. (damage : HasDamage image number cause) × (options.names ≡ options_of damage.history)) (λ image. HasDamage image number cause) (λ image d. d.0) contents of) t.ends
+fault_caused job contents old new before now status faults.DiskFault of reason t = subst (IsCaused (OnStore job) contents old new) (sym t.is) (refl, reason)
+fault_caused job contents old new before now status faults.Memory of reason t = subst (IsCaused (OnStore job) contents old new) (sym t.is) tt

@@ -6,6 +6,7 @@ pub mod Editing
 pub mod Finding
 pub mod Growth
 pub mod Isolation
+pub mod Jobs
 pub mod Laws
 pub mod Listing
 pub mod Opening

@@ -1,42 +1,27 @@
 -- What a run of the program promises.
-use Rattle.std.specs.Prelude.{◌≡◌, ◌⊎◌, ℕ, Bool, true, false, List, [], ◌∷◌, ◌++◌, length, Option, Some, None, IfSome, codes}
+use Rattle.std.specs.Prelude.{◌≡◌, ℕ, Bool, true, false, List, [], ◌∷◌, ◌++◌, length, Option, Some, None, codes}
 use Rattle.std.specs.Fmt.{decimal}
 use Rattle.std.specs.Str.{bytes_eq}
 use Rattle.cov_base.specs.Causes.{Rose}
-use Rattle.cov_edit.specs.History.{options_of}
 use Rattle.cov_edit.specs.declared.command.Command.{Command}
 use Rattle.cov_io.specs.Devices.{AppendsAll, AppendsSome}
 use Rattle.cov_io.specs.Progress.{Progress}
-use Rattle.cov_journal.specs.Reading.{IsNoStore}
 use Rattle.cov_loop.specs.Counts.{Counts}
 use Rattle.cov_loop.specs.Turns.{TooMuchSince}
 use Rattle.cov_script.specs.Replies.{code_text, IsCodeOf}
 use Rattle.cov_serve.specs.Codes.{refusal_code}
 use Rattle.cov_serve.specs.declared.status.Status.{Status}
 use Rattle.cov_serve.specs.declared.status.Status.TheVariants as statuses
-use Rattle.cov_store.specs.Damages.{HasDamage}
 use Rattle.cov_store.specs.Stands.{StandsFor}
 use Rattle.cov_store.specs.declared.damage.StoreDamage.{StoreDamage}
 use Rattle.cov_store.specs.declared.damage.StoreDamage.TheVariants as damages
 use Rattle.cov_store.specs.declared.damage.StoreFault.{StoreFault}
 use Rattle.cov_store.specs.declared.damage.StoreFault.TheVariants as faults
 
--- the words with which a script is served
-abbrev pub run_words : List (List ℕ)
-run_words = codes "run" ∷ []
-
--- the words with which a store is checked
-abbrev pub check_words : List (List ℕ)
-check_words = codes "check" ∷ []
-
 -- whether words are one alone, and which
 abbrev pub is_lone : List ℕ → List (List ℕ) → Bool
 is_lone wanted (word ∷ []) = bytes_eq word wanted
 is_lone wanted words = false
-
--- words that open the disk
-abbrev pub OpensDisk : List (List ℕ) → Type 0
-OpensDisk words = (words ≡ run_words) ⊎ (words ≡ check_words)
 
 -- what is written where the words are of no form
 abbrev pub usage_line : List ℕ
@@ -65,12 +50,6 @@ damaged_line names number cause = codes "damaged " ++ (decimal number ++ (codes 
 abbrev pub ReadsAs : Option (List ℕ) → List Command → Type 0
 ReadsAs None history = ⊥
 ReadsAs (Some image) history = StandsFor image history
-
--- the line that is written for an image that is no store, or has damage
-abbrev pub OpeningLine : List ℕ → List ℕ → Type 0
-OpeningLine image line =
-    (IsNoStore image × (line ≡ not_a_store_line))
-    ⊎ ((number : ℕ) × (cause : StoreDamage) × (damage : HasDamage image number cause) × (line ≡ damaged_line (options_of damage.history) number cause))
 
 -- a reader of lines that has taken nothing
 abbrev pub at_first : Progress
@@ -142,15 +121,6 @@ StopsOpening disk disk' statuses.NoMemory = Unit {0}
 StopsOpening disk disk' statuses.DiskFault = Rose disk disk'
 StopsOpening disk disk' status = ⊥
 
--- why a disk isn't opened, whatever it holds
-abbrev pub StopsUnopened : Option (List ℕ) → ℕ → ℕ → ℕ → ℕ → Status → Type 0
-StopsUnopened contents sink sink' disk disk' statuses.NoMemory = Unit {0}
-StopsUnopened contents sink sink' disk disk' statuses.WriteFault = Rose sink sink'
-StopsUnopened contents sink sink' disk disk' statuses.DiskFault = Rose disk disk'
-StopsUnopened contents sink sink' disk disk' statuses.NotAStore = IfSome contents IsNoStore
-StopsUnopened contents sink sink' disk disk' (statuses.Damaged number cause) = IfSome contents (λ image. HasDamage image number cause)
-StopsUnopened contents sink sink' disk disk' status = ⊥
-
 -- why the run of a script over a disk that stands for a history ends as it does
 abbrev pub StopsServing : Counts → Counts → Status → Type 0
 StopsServing old new statuses.Done = Unit {0}
@@ -162,14 +132,3 @@ StopsServing old new statuses.DiskFault = Rose old.disk new.disk
 StopsServing old new statuses.TreesFault = Rose old.trees new.trees
 StopsServing old new statuses.TooMuch = TooMuchSince at_first old new
 StopsServing old new status = ⊥
-
--- why the run of a script ends as it does, whatever the disk holds
-abbrev pub StopsRun : Option (List ℕ) → Counts → Counts → Status → Type 0
-StopsRun contents old new statuses.NotAStore = IfSome contents IsNoStore
-StopsRun contents old new (statuses.Damaged number cause) = IfSome contents (λ image. HasDamage image number cause)
-StopsRun contents old new status = StopsServing old new status
-
--- why the check of a disk ends as it does, whatever it holds
-abbrev pub StopsCheck : Option (List ℕ) → ℕ → ℕ → ℕ → ℕ → Status → Type 0
-StopsCheck contents sink sink' disk disk' statuses.Done = Unit {0}
-StopsCheck contents sink sink' disk disk' status = StopsUnopened contents sink sink' disk disk' status

@@ -6,7 +6,7 @@ use Rattle.cov_loop.specs.Turns.{ahead_of, output}
 use Rattle.cov_loop.proofs.Appending.{front_of, told_all}
 use Rattle.cov_loop.proofs.Counting.{counted_then, given_then}
 use Rattle.cov_loop.proofs.Kept.{keeps_all, reaches_none}
-use Rattle.cov_loop.proofs.LoopInvariant.{all_amid, begins, ended, ends_whole, goes_on, has_rows, has_stored, keeps_on, left_is_empty, moments_on, stopped}
+use Rattle.cov_loop.proofs.LoopInvariant.{all_amid, begins, ended, ends_whole, goes_on, has_rows, has_stored, keeps_on, left_is_empty, moments_on, reads_out, stopped}
 use Rattle.cov_loop.proofs.Moments.{uncalled}
 use Rattle.cov_loop.proofs.turn.serve_all.Goals as goal
 
@@ -42,6 +42,14 @@ turns-preserved g c = record {
       (g.S.Source.given c.args.script.now) (g.S.Source.given c.turns.script) (g.S.Source.given c.serve_next.new.script)
       c.turns.invariant.left c.serve_next.ensures.left;
 }
+
+pub returns-in-Ended-clause-ended : goal.returns-in-Ended-clause-ended
+returns-in-Ended-clause-ended g c text ahead =
+    let e = ended c.serve_next.new.server (ahead_of c.serve_next.new.lines (g.S.Source.left c.serve_next.new.script)) (output (g.K.Sink.written c.serve_next.new.out) (g.T.Trees.rows c.serve_next.new.trees))
+    (c.turns.invariant.told text ahead) (λ t a. rw c.in-Ended.is at (c.in-Ok.ensures.told t a)) in
+    rw c.ending_at_end.ensures
+    (reads_out c.turns.refused (answers g.V.LineServer.step c.args.server.now (lines_of text)) (g.S.Source.left c.serve_next.new.script)
+    (e.refused_is, left_is_empty c.serve_next.new.lines (g.S.Source.left c.serve_next.new.script) e.ahead_is))
 
 pub returns-in-Ended-clause-prefix : goal.returns-in-Ended-clause-prefix
 returns-in-Ended-clause-prefix g c text before ahead told =

@@ -1,10 +1,10 @@
-use Rattle.std.proofs.Common.{◌≡◌, ◌++◌, refl, sym, subst, Some, IfSome}
+use Rattle.std.proofs.Common.{◌≡◌, ◌++◌, refl, sym, subst, List, [], Some, IfSome}
 use Rattle.cov_base.specs.Lines.{lines_of}
 use Rattle.cov_disk.specs.Images.{LeavesOnly}
 use Rattle.cov_journal.proofs.CallerLemmas.{some_to, started}
 use Rattle.cov_loop.specs.Keeping.{KeepsAnswered, Reaches}
 use Rattle.cov_loop.specs.Outcome.{answers}
-use Rattle.cov_loop.specs.Turns.{EndsWith, HasRows, HasStored, IsWhole, output}
+use Rattle.cov_loop.specs.Turns.{HasRows, HasStored, IsWhole, ReadsOut, output}
 use Rattle.cov_loop.proofs.CallerLemmas.{fault_turn}
 use Rattle.cov_serve.specs.Crashing.{StandsBetween, StandsForAnswered}
 use Rattle.cov_serve.specs.Laws.{rows_told}
@@ -14,9 +14,18 @@ use Rattle.cov_serve.specs.Step.{model, step}
 use Rattle.cov_serve.specs.Storing.{count, stored}
 use Rattle.cov_store.specs.Stands.{IsStored, StandsFor}
 use Rattle.cov_serve.proofs.Crashing.{answered, answered_none, between, between_start, stands_for}
-use Rattle.cov_serve.proofs.Endings.{rows_status, stored_status, whole_status}
+use Rattle.cov_serve.proofs.Endings.{ended_status, rows_status, stored_status, whole_status}
 use Rattle.cov_serve.proofs.Runs.{ahead_first, leaves_weaker, none_more}
 use Rattle.cov_serve.proofs.program.serve_opened.Goals as goal
+
+pub returns-in-Ok-clause-ended : goal.returns-in-Ok-clause-ended
+returns-in-Ok-clause-ended g c history text begins left =
+    let ending = c.serve_all-ending.result in
+    let ahead = ahead_first c.in-Ok.lines (g.S.Source.left c.args.script.now) text c.in-Ok.ensures left in
+    let unread = g.S.Source.left c.serve_all-ending.new.script in
+    subst (λ status. OnServed status (λ refused. ((model history text).is_refused ≡ refused) × (unread ≡ Some []))) (sym c.from.ensures)
+    (ended_status ending (model history text) unread
+    (subst (λ s. ReadsOut ending (answers step s (lines_of text)) unread) begins (c.serve_all-ending.ensures.ended text ahead)))
 
 pub returns-in-Ok-clause-whole : goal.returns-in-Ok-clause-whole
 returns-in-Ok-clause-whole g c history text before begins left wrote =
@@ -24,7 +33,7 @@ returns-in-Ok-clause-whole g c history text before begins left wrote =
     let ahead = ahead_first c.in-Ok.lines (g.S.Source.left c.args.script.now) text c.in-Ok.ensures left in
     let unread = g.S.Source.left c.serve_all-ending.new.script in
     let written = g.K.Sink.written c.serve_all-ending.new.out in
-    subst (λ status. OnServed status (λ refused. EndsWith refused (model history text) before unread written)) (sym c.from.ensures)
+    subst (λ status. OnServed status (λ refused. written ≡ Some (before ++ (model history text).reply))) (sym c.from.ensures)
     (whole_status ending (model history text) before unread written
     (subst (λ s. IsWhole ending (answers step s (lines_of text)) before unread written) begins (c.serve_all-ending.ensures.whole text before ahead wrote)))
 

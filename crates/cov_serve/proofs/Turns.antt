@@ -1,0 +1,167 @@
+-- The turns of a run, and the lines that they come from.
+use Rattle.std.proofs.Common.{◌≡◌, ◌∙◌, refl, sym, ap, subst, ℕ, ◌≤◌, arith, List, [], ◌∷◌, ◌++◌, length, take, Option, Some, append-nil}
+use Rattle.std.proofs.Math.Seq.{take-append_seam}
+use Rattle.cov_base.specs.Lines.{lines_of}
+use Rattle.cov_edit.specs.declared.command.Command.{Command}
+use Rattle.cov_loop.specs.Outcome.{answers}
+use Rattle.cov_loop.specs.Turns.{RowsComeFirst, WritesFront}
+use Rattle.cov_out.specs.declared.row.OutRow.{OutRow}
+use Rattle.cov_serve.specs.Crashing.{StandsBetween, StandsForAnswered}
+use Rattle.cov_serve.specs.Jobs.{Turn, RowsPrecede, StandsForFront, StandsForTold, history_after, line_turn, line_turns, replies, rows_of, told_line}
+use Rattle.cov_serve.specs.States.{State, starting}
+use Rattle.cov_serve.specs.Step.{model, step}
+use Rattle.cov_serve.specs.declared.status.Status.{Status}
+use Rattle.cov_store.specs.Stands.{StandsFor}
+
+-- what turns give is what their lines give
+pub replies_as : (st : State) (ls : List (List ℕ)) → replies (line_turns st ls) ≡ (answers step st ls).reply
+replies_as st [] = refl
+replies_as st (l ∷ ls) = ap (λ r. (step st l).reply ++ r) (replies_as (step st l).state ls)
+
+pub rows_as : (st : State) (ls : List (List ℕ)) → rows_of (line_turns st ls) ≡ (answers step st ls).rows
+rows_as st [] = refl
+rows_as st (l ∷ ls) = ap (λ r. (step st l).rows ++ r) (rows_as (step st l).state ls)
+
+pub history_as : (st : State) (ls : List (List ℕ)) → history_after st.history (line_turns st ls) ≡ (answers step st ls).state.history
+history_as st [] = refl
+history_as st (l ∷ ls) = history_as (step st l).state ls
+
+-- the first few turns come from the first few lines
+pub record ComeFrom (st : State) (lines : List (List ℕ)) (ts : List Turn) : Type 0 where
+  pub first : List (List ℕ)
+  pub rest : List (List ℕ)
+  pub front : lines ≡ first ++ rest
+  pub are : ts ≡ line_turns st first
+
+pub come_from : (st : State) (lines : List (List ℕ)) (ts us : List Turn) → line_turns st lines ≡ ts ++ us → ComeFrom st lines ts
+come_from st lines [] us e = record { first = []; rest = lines; front = refl; are = refl }
+come_from st [] (t ∷ ts) us e = absurd (cc)
+come_from st (l ∷ lines) (t ∷ ts) us e =
+    let head : line_turn (step st l) ≡ t = cc in
+    let tail : line_turns (step st l).state lines ≡ ts ++ us = cc in
+    let on : ComeFrom (step st l).state lines ts = come_from (step st l).state lines ts us tail in
+    record {
+      first = l ∷ on.first;
+      rest = on.rest;
+      front = ap (λ ls. l ∷ ls) on.front;
+      are = ap (λ x. x ∷ ts) (sym head) ∙ ap (λ xs. line_turn (step st l) ∷ xs) on.are;
+    }
+
+module _ (history : List Command) (text : List ℕ) where
+  abbrev turns : List Turn
+  turns = line_turns (starting history) (lines_of text)
+
+  abbrev last : List Command
+  last = (model history text).state.history
+
+  pub last_is : history_after history turns ≡ last
+  last_is = history_as (starting history) (lines_of text)
+
+  -- a number that is kept by the replies of turns is kept by those of lines
+  module _ (of : List Turn → ℕ) (of_lines : List (List ℕ) → ℕ) (same : (ls : List (List ℕ)) → of (line_turns (starting history) ls) ≡ of_lines ls) (size most : ℕ) where
+    pub to_turns : ((ls ms : List (List ℕ)) → lines_of text ≡ ls ++ ms → length (answers step (starting history) ls).reply ≤ size → of_lines ls ≤ most)
+        → (ts us : List Turn) → turns ≡ ts ++ us → length (replies ts) ≤ size → of ts ≤ most
+    to_turns all ts us e short =
+        let on : ComeFrom (starting history) (lines_of text) ts = come_from (starting history) (lines_of text) ts us e in
+        let few : length (answers step (starting history) on.first).reply ≤ size =
+        subst (λ r. length r ≤ size) (replies_as (starting history) on.first) (subst (λ xs. length (replies xs) ≤ size) on.are short) in
+        subst (λ xs. of xs ≤ most) (sym on.are) (subst (λ n. n ≤ most) (sym (same on.first)) (all on.first on.rest on.front few))
+
+  -- rows come first
+  pub rows_precede : (before : List ℕ) (rows : List OutRow) (written : Option (List ℕ)) (grown : Option (List OutRow))
+      → RowsComeFirst step (starting history) (lines_of text) before rows written grown → RowsPrecede turns before rows written grown
+  rows_precede before rows written grown on = record {
+    bytes = on.bytes;
+    rows = on.rows;
+    bytes_are = on.bytes_are;
+    rows_are = on.rows_are;
+    first = to_turns (λ ts. length (rows_of ts)) (λ ls. length (answers step (starting history) ls).rows) (λ ls. ap length (rows_as (starting history) ls))
+        (length on.bytes) (length on.rows) on.first;
+  }
+
+  -- what an image stands for
+  pub front_stands : (image : List ℕ) → StandsBetween history text image → StandsForFront history turns image
+  front_stands image on = record {
+    count = on.count;
+    least = on.least;
+    most = subst (λ h. on.count ≤ length h) (sym last_is) on.most;
+    stands = subst (λ h. StandsFor image (take on.count h)) (sym last_is) on.stands;
+  }
+
+  abbrev stored_by : List Turn → ℕ
+  stored_by ts = length (history_after history ts)
+
+  abbrev stored_after : List (List ℕ) → ℕ
+  stored_after ls = length (answers step (starting history) ls).state.history
+
+  pub told_stands : (bytes image : List ℕ) → StandsForAnswered history text bytes image → StandsForTold history turns bytes image
+  told_stands bytes image on = record {
+    count = on.count;
+    least = on.least;
+    most = subst (λ h. on.count ≤ length h) (sym last_is) on.most;
+    stands = subst (λ h. StandsFor image (take on.count h)) (sym last_is) on.stands;
+    told = to_turns stored_by stored_after (λ ls. ap length (history_as (starting history) ls)) (length bytes) on.count on.answered;
+  }
+
+  -- what is written
+  pub front_served : (before : List ℕ) (written : Option (List ℕ)) → WritesFront before (model history text).reply written → WritesFront before (replies turns) written
+  front_served before written h = subst (λ r. WritesFront before r written) (sym (replies_as (starting history) (lines_of text))) h
+
+  pub rows_served : (before : List OutRow) (grown : Option (List OutRow)) → WritesFront before (model history text).rows grown → WritesFront before (rows_of turns) grown
+  rows_served before grown h = subst (λ r. WritesFront before r grown) (sym (rows_as (starting history) (lines_of text))) h
+
+-- one line that is told
+module _ (status : Status) (line : List ℕ) (history : List Command) where
+  abbrev turns_told : List Turn
+  turns_told = (told_line status line history).turns
+
+  pub front_told : (before : List ℕ) (written : Option (List ℕ)) → WritesFront before line written → WritesFront before (replies turns_told) written
+  front_told before written h = subst (λ r. WritesFront before r written) (sym (append-nil line)) h
+
+  -- no turn of it adds a command, and none has rows
+  stays : (ts us : List Turn) → turns_told ≡ ts ++ us → history_after history ts ≡ history
+  stays [] us e = refl
+  stays (t ∷ []) us e =
+      let same : record { reply = line; rows = []; history = history } ≡ t = cc in
+      sym (ap (λ (x : Turn). x.history) same)
+  stays (t ∷ n ∷ ts) us e = absurd (cc)
+
+  no_rows : (ts us : List Turn) → turns_told ≡ ts ++ us → rows_of ts ≡ []
+  no_rows [] us e = refl
+  no_rows (t ∷ []) us e =
+      let same : record { reply = line; rows = []; history = history } ≡ t = cc in
+      append-nil t.rows ∙ sym (ap (λ (x : Turn). x.rows) same)
+  no_rows (t ∷ n ∷ ts) us e = absurd (cc)
+
+  pub rows_none : (before : List OutRow) (grown : Option (List OutRow)) → grown ≡ Some before → WritesFront before (rows_of turns_told) grown
+  rows_none before grown e = record { first = []; rest = []; front = refl; is = e ∙ ap Some (sym (append-nil before)) }
+
+  pub rows_precede_told : (before : List ℕ) (rows : List OutRow) (written : Option (List ℕ)) (grown : Option (List OutRow))
+      → WritesFront before line written → grown ≡ Some rows → RowsPrecede turns_told before rows written grown
+  rows_precede_told before rows written grown h e = record {
+    bytes = h.first;
+    rows = [];
+    bytes_are = h.is;
+    rows_are = e ∙ ap Some (sym (append-nil rows));
+    first = λ ts us same short. subst (λ (rs : List OutRow). length rs ≤ 0) (sym (no_rows ts us same)) (omega arith);
+  }
+
+  whole_history : take (length history) history ≡ history
+  whole_history = ap (take (length history)) (sym (append-nil history)) ∙ take-append_seam history []
+
+  pub front_stands_told : (image : List ℕ) → StandsFor image history → StandsForFront history turns_told image
+  front_stands_told image h = record {
+    count = length history;
+    least = omega arith;
+    most = omega arith;
+    stands = subst (StandsFor image) (sym whole_history) h;
+  }
+
+  pub told_stands_told : (bytes image : List ℕ) → StandsFor image history → StandsForTold history turns_told bytes image
+  told_stands_told bytes image h = record {
+    count = length history;
+    least = omega arith;
+    most = omega arith;
+    stands = subst (StandsFor image) (sym whole_history) h;
+    told = λ ts us e short. subst (λ (hs : List Command). length hs ≤ length history) (sym (stays ts us e)) (omega arith);
+  }

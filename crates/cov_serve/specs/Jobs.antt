@@ -1,0 +1,226 @@
+-- What the words of the program come to.
+use Rattle.std.specs.Prelude.{◌≡◌, ◌⊎◌, ℕ, ◌+◌, ◌<◌, ◌≤◌, Bool, true, false, List, [], ◌∷◌, ◌++◌, length, take, Option, Some, None, IfSome, codes, if◌then◌else◌}
+use Rattle.cov_base.specs.Causes.{Rose}
+use Rattle.cov_base.specs.Lines.{lines_of}
+use Rattle.cov_base.specs.declared.limits.TheConstants.{TOO_MANY_SCRIPT_BYTES}
+use Rattle.cov_edit.specs.History.{options_of}
+use Rattle.cov_edit.specs.declared.command.Command.{Command}
+use Rattle.cov_journal.specs.Reading.{IsNoStore}
+use Rattle.cov_loop.specs.Counts.{Counts}
+use Rattle.cov_loop.specs.Outcome.{Outcome}
+use Rattle.cov_out.specs.declared.row.OutRow.{OutRow}
+use Rattle.cov_serve.specs.Program.{EndsServed, ReadsAs, check_line, damaged_line, is_lone, not_a_store_line, usage_line}
+use Rattle.cov_serve.specs.States.{State, starting}
+use Rattle.cov_serve.specs.Step.{model, step}
+use Rattle.cov_serve.specs.declared.job.Job.{Job}
+use Rattle.cov_serve.specs.declared.job.Job.TheVariants.{OnStore, Unknown}
+use Rattle.cov_serve.specs.declared.job.StoreJob.TheVariants.{Run, Check}
+use Rattle.cov_serve.specs.declared.status.Status.{Status}
+use Rattle.cov_serve.specs.declared.status.Status.TheVariants as statuses
+use Rattle.cov_store.specs.Damages.{HasDamage}
+use Rattle.cov_store.specs.Stands.{StandsFor}
+use Rattle.cov_store.specs.declared.damage.StoreDamage.{StoreDamage}
+
+-- the job that words are of
+abbrev pub job_of : List (List ℕ) → Job
+job_of words =
+    if is_lone (codes "run") words then OnStore Run
+    else (if is_lone (codes "check") words then OnStore Check else Unknown)
+
+-- whether a job opens the disk
+abbrev pub opens_disk : Job → Bool
+opens_disk (OnStore job) = true
+opens_disk Unknown = false
+
+-- whether it reads the source
+abbrev pub reads_source : Job → Bool
+reads_source (OnStore Run) = true
+reads_source (OnStore Check) = false
+reads_source Unknown = false
+
+-- whether it writes rows of trees
+abbrev pub writes_trees : Job → Bool
+writes_trees (OnStore Run) = true
+writes_trees (OnStore Check) = false
+writes_trees Unknown = false
+
+-- whether a part of its work can be refused
+abbrev pub can_refuse : Job → Bool
+can_refuse (OnStore Run) = true
+can_refuse (OnStore Check) = false
+can_refuse Unknown = false
+
+-- one reply of a run, the rows of trees that are written before it, and the history that is stored by then
+pub record Turn : Type 0 where
+  pub reply : List ℕ
+  pub rows : List OutRow
+  pub history : List Command
+
+-- all replies in order
+abbrev pub replies : List Turn → List ℕ
+replies [] = []
+replies (t ∷ ts) = t.reply ++ replies ts
+
+-- all rows in order
+abbrev pub rows_of : List Turn → List OutRow
+rows_of [] = []
+rows_of (t ∷ ts) = t.rows ++ rows_of ts
+
+-- the history after some turns
+abbrev pub history_after : List Command → List Turn → List Command
+history_after history [] = history
+history_after history (t ∷ ts) = history_after t.history ts
+
+-- all that a run does where nothing fails: its turns, the status that ends it, whether it reads the source to its end, and whether
+-- it writes to the trees
+pub record JobOutcome : Type 0 where
+  pub turns : List Turn
+  pub status : Status
+  pub reads : Bool
+  pub writes : Bool
+
+-- a line of a script as a turn
+abbrev pub line_turn : Outcome State → Turn
+line_turn line = record { reply = line.reply; rows = line.rows; history = line.state.history }
+
+-- the lines of a script, one after another
+abbrev pub line_turns : State → List (List ℕ) → List Turn
+line_turns st [] = []
+line_turns st (line ∷ lines) = line_turn (step st line) ∷ line_turns (step st line).state lines
+
+-- the status that ends a script, by whether a line was refused
+abbrev pub served_status : Bool → Status
+served_status true = statuses.SomeRefused
+served_status false = statuses.Done
+
+-- a script is served
+abbrev pub served_script : List Command → List ℕ → JobOutcome
+served_script history text = record {
+  turns = line_turns (starting history) (lines_of text);
+  status = served_status (model history text).is_refused;
+  reads = true;
+  writes = true;
+}
+
+-- one line is told, over a history that stays
+abbrev pub told_line : Status → List ℕ → List Command → JobOutcome
+told_line status line history = record {
+  turns = record { reply = line; rows = []; history = history } ∷ [];
+  status = status;
+  reads = false;
+  writes = false;
+}
+
+-- what a job comes to over a history and the text of the source
+abbrev pub outcome : Job → List Command → List ℕ → JobOutcome
+outcome (OnStore Run) history text = served_script history text
+outcome (OnStore Check) history text = told_line statuses.Done (check_line history) history
+outcome Unknown history text = told_line statuses.Usage usage_line history
+
+-- what a job asks of its devices gives this history and this text
+abbrev pub StartsFrom : Job → Option (List ℕ) → Option (List ℕ) → List Command → List ℕ → Type 0
+StartsFrom (OnStore Run) contents left history text = ReadsAs contents history × (left ≡ Some text)
+StartsFrom (OnStore Check) contents left history text = ReadsAs contents history
+StartsFrom Unknown contents left history text = Unit {0}
+
+-- an image is no store, or damaged, and this is told
+abbrev pub TellsImage : List ℕ → JobOutcome → Type 0
+TellsImage image all =
+    (IsNoStore image × (all ≡ told_line statuses.NotAStore not_a_store_line []))
+    ⊎ ((number : ℕ) × (cause : StoreDamage) × (damage : HasDamage image number cause)
+    × (all ≡ told_line (statuses.Damaged number cause) (damaged_line (options_of damage.history) number cause) []))
+
+-- the same of what a read of the disk gives
+abbrev pub TellsUnopened : Option (List ℕ) → JobOutcome → Type 0
+TellsUnopened None all = ⊥
+TellsUnopened (Some image) all = TellsImage image all
+
+-- what a job comes to over its devices
+abbrev pub ComesTo : Job → Option (List ℕ) → Option (List ℕ) → JobOutcome → Type 0
+ComesTo job contents left all =
+    ((history : List Command) × (text : List ℕ) × StartsFrom job contents left history text × (all ≡ outcome job history text))
+    ⊎ ((opens_disk job ≡ true) × TellsUnopened contents all)
+
+-- what holds of a run that came to its end
+abbrev pub OnEnd : Status → Type 0 → Type 0
+OnEnd statuses.Done P = P
+OnEnd statuses.SomeRefused P = P
+OnEnd statuses.Usage P = P
+OnEnd statuses.NotAStore P = P
+OnEnd (statuses.Damaged number cause) P = P
+OnEnd statuses.NoMemory P = Unit {0}
+OnEnd statuses.ReadFault P = Unit {0}
+OnEnd statuses.WriteFault P = Unit {0}
+OnEnd statuses.DiskFault P = Unit {0}
+OnEnd statuses.TreesFault P = Unit {0}
+OnEnd statuses.TooMuch P = Unit {0}
+
+-- the source is read to its end, if it is to be
+abbrev pub IsReadOut : Bool → Option (List ℕ) → Type 0
+IsReadOut true left = left ≡ Some []
+IsReadOut false left = Unit {0}
+
+-- a run ended with the status of its outcome, the source being read as that says
+pub record EndsAs (all : JobOutcome) (status : Status) (left : Option (List ℕ)) : Type 0 where
+  pub status_is : status ≡ all.status
+  pub read : IsReadOut all.reads left
+
+-- wherever the replies of the first few turns are among the bytes written, their rows are among the rows written
+pub record RowsPrecede (turns : List Turn) (bytes_before : List ℕ) (rows_before : List OutRow)
+    (written : Option (List ℕ)) (grown : Option (List OutRow)) : Type 0 where
+  pub bytes : List ℕ
+  pub rows : List OutRow
+  pub bytes_are : written ≡ Some (bytes_before ++ bytes)
+  pub rows_are : grown ≡ Some (rows_before ++ rows)
+  pub first : (ts us : List Turn) → turns ≡ ts ++ us
+      → length (replies ts) ≤ length bytes → length (rows_of ts) ≤ length rows
+
+-- a read of the disk gives the outcome's history: at the end of a script, and at every return of a job that adds nothing
+abbrev pub IsSettled : Job → Status → Type 0
+IsSettled (OnStore Run) status = EndsServed status
+IsSettled (OnStore Check) status = Unit {0}
+IsSettled Unknown status = Unit {0}
+
+-- an image stands for the history with the first few of the commands that the turns add
+pub record StandsForFront (history : List Command) (turns : List Turn) (image : List ℕ) : Type 0 where
+  pub count : ℕ
+  pub least : length history ≤ count
+  pub most : count ≤ length (history_after history turns)
+  pub stands : StandsFor image (take count (history_after history turns))
+
+-- and these are all of the turns whose whole replies are among so many bytes
+pub record StandsForTold (history : List Command) (turns : List Turn) (bytes image : List ℕ) : Type 0 where
+  pub count : ℕ
+  pub least : length history ≤ count
+  pub most : count ≤ length (history_after history turns)
+  pub stands : StandsFor image (take count (history_after history turns))
+  pub told : (ts us : List Turn) → turns ≡ ts ++ us
+      → length (replies ts) ≤ length bytes → length (history_after history ts) ≤ count
+
+-- the cause of each status, whatever the disk holds
+abbrev pub IsCaused : Job → Option (List ℕ) → Counts → Counts → Status → Type 0
+IsCaused job contents old new statuses.Done = opens_disk job ≡ true
+IsCaused job contents old new statuses.SomeRefused = can_refuse job ≡ true
+IsCaused job contents old new statuses.Usage = job ≡ Unknown
+IsCaused job contents old new statuses.NoMemory = Unit {0}
+IsCaused job contents old new statuses.ReadFault = (reads_source job ≡ true) × Rose old.source new.source
+IsCaused job contents old new statuses.WriteFault = Rose old.sink new.sink
+IsCaused job contents old new statuses.DiskFault = (opens_disk job ≡ true) × Rose old.disk new.disk
+IsCaused job contents old new statuses.TreesFault = (writes_trees job ≡ true) × Rose old.trees new.trees
+IsCaused job contents old new statuses.NotAStore = (opens_disk job ≡ true) × IfSome contents IsNoStore
+IsCaused job contents old new (statuses.Damaged number cause) =
+    (opens_disk job ≡ true) × IfSome contents (λ image. HasDamage image number cause)
+IsCaused job contents old new statuses.TooMuch =
+    (reads_source job ≡ true) × (old.given + TOO_MANY_SCRIPT_BYTES ≤ new.given) × (new.ends ≡ old.ends)
+
+-- no count of faults rose, of the devices that the outcome has to do with
+pub record NoneRose (job : Job) (all : JobOutcome) (old new : Counts) : Type 0 where
+  pub source : all.reads ≡ true → Rose old.source new.source → ⊥
+  pub sink : Rose old.sink new.sink → ⊥
+  pub disk : opens_disk job ≡ true → Rose old.disk new.disk → ⊥
+  pub trees : all.writes ≡ true → Rose old.trees new.trees → ⊥
+
+-- the source isn't too long, if it is to be read
+abbrev pub IsShort : Bool → Option (List ℕ) → Type 0
+IsShort true left = IfSome left (λ text. length text < TOO_MANY_SCRIPT_BYTES)
+IsShort false left = Unit {0}
