@@ -9,10 +9,10 @@ pub mod Ended
 pub mod Endings
 pub mod Entries
 pub mod Examples
+pub mod Grouping
 pub mod Growing
 pub mod Isolated
 pub mod IsolatedExamples
-pub mod Keeping
 pub mod Leaving
 pub mod NamedSessions
 pub mod Opened

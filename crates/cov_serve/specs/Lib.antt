@@ -7,7 +7,6 @@ pub mod Finding
 pub mod Growth
 pub mod Isolation
 pub mod Laws
-pub mod Listing
 pub mod Opening
 pub mod Program
 pub mod Replies
