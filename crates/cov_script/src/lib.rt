@@ -4,6 +4,7 @@
 mod code;
 mod field;
 mod form;
+mod grouped;
 mod keyword;
 mod laws;
 mod line;
@@ -15,6 +16,7 @@ mod unread;
 mod word;
 
 pub use code::{Code, code_text};
+pub use grouped::{Declaration, EditLine, GroupedLine, Question, SessionLine};
 pub use laws::{lines_read_as_spelt, mistakes_are_placed};
 pub use line::{Line, LineField, LineSyntax};
 pub use read::read_line;

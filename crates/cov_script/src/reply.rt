@@ -12,38 +12,38 @@ use itoa::Buffer;
 use std::alloc::Global;
 
 /// The text of a reply; want of memory is its only refusal.
-type Reply = Result<Text, Memory>;
+type ReplyText = Result<Text, Memory>;
 
 /// The reply to an option that is declared.
-pub fn reply_option(alloc: Global, id: OptionId) -> Reply
+pub fn reply_option(alloc: Global, id: OptionId) -> ReplyText
     ensures { IfOk result (λ text. text ≡ option_reply id) }
 {
     numbered(alloc, "ok option ", id.number() as u64)
 }
 
 /// The reply to a constraint that is added, with its number from 1.
-pub fn reply_constraint(alloc: Global, number: u32) -> Reply
+pub fn reply_constraint(alloc: Global, number: u32) -> ReplyText
     ensures { IfOk result (λ text. text ≡ constraint_reply number) }
 {
     numbered(alloc, "ok constraint ", number as u64)
 }
 
 /// The reply to a preference that is added, with its number from 1.
-pub fn reply_prefer(alloc: Global, number: u32) -> Reply
+pub fn reply_prefer(alloc: Global, number: u32) -> ReplyText
     ensures { IfOk result (λ text. text ≡ prefer_reply number) }
 {
     numbered(alloc, "ok prefer ", number as u64)
 }
 
 /// The reply to a default that is added, with its number from 1.
-pub fn reply_default(alloc: Global, number: u32) -> Reply
+pub fn reply_default(alloc: Global, number: u32) -> ReplyText
     ensures { IfOk result (λ text. text ≡ default_reply number) }
 {
     numbered(alloc, "ok default ", number as u64)
 }
 
 /// The reply that tells a completion.
-pub fn reply_complete(alloc: Global, options: &Options, choice: Choice) -> Reply
+pub fn reply_complete(alloc: Global, options: &Options, choice: Choice) -> ReplyText
     requires { length choice ≤ length options.now.names }
     ensures { IfOk result (λ text. text ≡ complete_reply options.now.names choice) }
 {
@@ -52,7 +52,7 @@ pub fn reply_complete(alloc: Global, options: &Options, choice: Choice) -> Reply
 }
 
 /// The reply to a session that is opened, with its base and its choice.
-pub fn reply_open(alloc: Global, base: Position, options: &Options, choice: Choice) -> Reply
+pub fn reply_open(alloc: Global, base: Position, options: &Options, choice: Choice) -> ReplyText
     requires { length choice ≤ length options.now.names }
     ensures { IfOk result (λ text. text ≡ open_reply base options.now.names choice) }
 {
@@ -60,7 +60,7 @@ pub fn reply_open(alloc: Global, base: Position, options: &Options, choice: Choi
 }
 
 /// The reply to a session that is refreshed, with its new base and the choice that it has there.
-pub fn reply_refresh(alloc: Global, base: Position, options: &Options, choice: Choice) -> Reply
+pub fn reply_refresh(alloc: Global, base: Position, options: &Options, choice: Choice) -> ReplyText
     requires { length choice ≤ length options.now.names }
     ensures { IfOk result (λ text. text ≡ refresh_reply base options.now.names choice) }
 {
@@ -68,35 +68,35 @@ pub fn reply_refresh(alloc: Global, base: Position, options: &Options, choice: C
 }
 
 /// The reply that says no more than that a line is accepted.
-pub fn reply_plain(alloc: Global) -> Reply
+pub fn reply_plain(alloc: Global) -> ReplyText
     ensures { IfOk result (λ text. text ≡ plain_reply) }
 {
     Text::from_slice(alloc, b"ok\n")
 }
 
 /// The reply to a line that a session inserts, with its number, from 0, among those of the session.
-pub fn reply_new_line(alloc: Global, index: u32) -> Reply
+pub fn reply_new_line(alloc: Global, index: u32) -> ReplyText
     ensures { IfOk result (λ text. text ≡ new_line_reply index) }
 {
     numbered(alloc, "ok +", index as u64)
 }
 
 /// The first line of a reply that has so many lines more.
-pub fn reply_count(alloc: Global, count: u64) -> Reply
+pub fn reply_count(alloc: Global, count: u64) -> ReplyText
     ensures { IfOk result (λ text. text ≡ count_reply count) }
 {
     numbered(alloc, "ok ", count)
 }
 
 /// The reply to a commit, with its number in the history.
-pub fn reply_commit(alloc: Global, at: Position) -> Reply
+pub fn reply_commit(alloc: Global, at: Position) -> ReplyText
     ensures { IfOk result (λ text. text ≡ commit_reply at) }
 {
     numbered(alloc, "ok commit ", at.number() as u64)
 }
 
 /// A line of a file as a session sees it.
-pub fn show_line(alloc: Global, line: LineRef, text: &Text) -> Reply
+pub fn show_line(alloc: Global, line: LineRef, text: &Text) -> ReplyText
     ensures { IfOk result (λ shown. shown ≡ shown_line line text.now) }
 {
     let head = match line {
@@ -110,7 +110,7 @@ pub fn show_line(alloc: Global, line: LineRef, text: &Text) -> Reply
 }
 
 /// A line of a file under a choice.
-pub fn cat_line(alloc: Global, line: LineNo, text: &Text) -> Reply
+pub fn cat_line(alloc: Global, line: LineNo, text: &Text) -> ReplyText
     ensures { IfOk result (λ shown. shown ≡ cat_line line text.now) }
 {
     let mut shown = Text::new(alloc);
@@ -130,7 +130,7 @@ pub fn append_cat_line(reply: &mut Text, line: LineNo, text: &Text) -> Result<()
 }
 
 /// A node of a directory.
-pub fn list_line(alloc: Global, kind: Kind, name: &Name) -> Reply
+pub fn list_line(alloc: Global, kind: Kind, name: &Name) -> ReplyText
     ensures { IfOk result (λ shown. shown ≡ list_line kind name.now) }
 {
     spaced(alloc, letter_of(kind), name.as_slice())
@@ -147,7 +147,13 @@ fn letter_of(kind: Kind) -> &'static [u8]
 }
 
 /// The reply to a tree that is written: how many directories it has without its own, how many files, and its digest.
-pub fn reply_checkout(alloc: Global, tree: &Name, dirs: u32, files: u32, digest: &[u8; 32]) -> Reply
+pub fn reply_checkout(
+    alloc: Global,
+    tree: &Name,
+    dirs: u32,
+    files: u32,
+    digest: &[u8; 32],
+) -> ReplyText
     ensures { IfOk result (λ text. text ≡ checkout_reply tree.now dirs files digest.now) }
 {
     let digest = hex::encode(alloc, digest.as_slice())?;
@@ -160,7 +166,7 @@ pub fn reply_checkout(alloc: Global, tree: &Name, dirs: u32, files: u32, digest:
 
 /// A line of a file with both sides of an option, behind the byte of `=` where both have it, of `+` where on alone has it,
 /// or of `-` where off alone has it.
-pub fn alt_line(alloc: Global, mark: u8, line: LineNo, text: &Text) -> Reply
+pub fn alt_line(alloc: Global, mark: u8, line: LineNo, text: &Text) -> ReplyText
     ensures { IfOk result (λ shown. shown ≡ alt_line mark line text.now) }
 {
     let mut head = Text::from_slice(alloc, &[mark])?;
@@ -169,7 +175,7 @@ pub fn alt_line(alloc: Global, mark: u8, line: LineNo, text: &Text) -> Reply
 }
 
 /// The first line of the reply that tells a listing, with the number of its entries.
-pub fn reply_where(alloc: Global, count: u64, root: Target) -> Reply
+pub fn reply_where(alloc: Global, count: u64, root: Target) -> ReplyText
     ensures { IfOk result (λ text. text ≡ where_reply count root) }
 {
     let mut text = Text::from_slice(alloc, b"ok")?;
@@ -187,7 +193,7 @@ pub fn where_line(
     option: OptionId,
     off: Target,
     on: Target,
-) -> Reply
+) -> ReplyText
     requires { option < length options.now.names }
     ensures { IfOk result (λ text. text ≡ where_line index options.now.names option off on) }
 {
@@ -200,7 +206,7 @@ pub fn where_line(
 }
 
 /// The reply to a line that is refused.
-pub fn reply_refused(alloc: Global, options: &Options, code: &Code) -> Reply
+pub fn reply_refused(alloc: Global, options: &Options, code: &Code) -> ReplyText
     requires { IsCodeOf (length options.now.names) code.now }
     ensures { IfOk result (λ text. text ≡ refused_reply options.now.names code.now) }
 {
@@ -209,7 +215,7 @@ pub fn reply_refused(alloc: Global, options: &Options, code: &Code) -> Reply
 }
 
 /// A reply of several lines: the first line and the others in order, in work that is linear in them all.
-pub fn whole(first: &Text, lines: &Texts) -> Reply
+pub fn whole(first: &Text, lines: &Texts) -> ReplyText
     ensures { IfOk result (λ text. text ≡ first.now ++ concat lines.now) }
 {
     let mut text = first.copy()?;
@@ -231,14 +237,14 @@ fn append_line(text: &mut Text, lines: &Texts, index: usize) -> Result<(), Memor
 }
 
 // A line of words and a number behind them.
-fn numbered(alloc: Global, words: &str, number: u64) -> Reply
+fn numbered(alloc: Global, words: &str, number: u64) -> ReplyText
     ensures { IfOk result (λ text. text ≡ numbered words.now number) }
 {
     Ok(Text::from(format!(in alloc; "{words}{number}\n")?))
 }
 
 // A line of words, and a base and a choice behind them.
-fn based(alloc: Global, words: &str, base: Position, options: &Options, choice: Choice) -> Reply
+fn based(alloc: Global, words: &str, base: Position, options: &Options, choice: Choice) -> ReplyText
     requires { length choice ≤ length options.now.names }
     ensures { IfOk result (λ text. text ≡ based words.now base options.now.names choice) }
 {
@@ -249,7 +255,7 @@ fn based(alloc: Global, words: &str, base: Position, options: &Options, choice: 
 }
 
 // A line of two words with a space between them.
-fn spaced(alloc: Global, first: &[u8], second: &[u8]) -> Reply
+fn spaced(alloc: Global, first: &[u8], second: &[u8]) -> ReplyText
     ensures { IfOk result (λ line. line ≡ first.now ++ (codes " " ++ (second.now ++ codes "\n"))) }
 {
     let mut line = Text::from_slice(alloc, first)?;

@@ -15,7 +15,7 @@ use Rattle.cov_script.specs.Replies.{IsCodeOf}
 use Rattle.cov_script.specs.declared.code.Code.{Code}
 use Rattle.cov_session.specs.Named.{named}
 use Rattle.cov_serve.specs.Acting.{CanBeTold, IsDone, IsPlain, Refuses, Stops}
-use Rattle.cov_serve.specs.Adding.{HasReceipt, command_added, ended_by, told_by}
+use Rattle.cov_serve.specs.Adding.{HasReceipt, command_added, ended_by, confirmed}
 use Rattle.cov_serve.specs.Codes.{refusal_code}
 use Rattle.cov_serve.specs.Finding.{Found, ◌>>=◌}
 use Rattle.cov_session.specs.Faults.{unless}
@@ -57,7 +57,7 @@ ended-history st (Some name) = refl
 module _ (st : State) (a : Addition) where
   -- the session that ends has ended, and the reply is told
   abbrev ends_told : State → Act
-  ends_told next = Ok (ended_by next a.ends, told_by a.telling (receipt_number st.history a.command) (length st.history + 1))
+  ends_told next = Ok (ended_by next a.ends, confirmed a.confirmation (receipt_number st.history a.command) (length st.history + 1))
 
   added-grown : (as_outcome st (plainly (command_added st a))).state.history ≡ grown st.history a.command
   added-grown = at (verdict st.history a.command)
@@ -73,7 +73,7 @@ module _ (st : State) (a : Addition) where
 
   -- the command was appended, and the reply is told by its receipt
   pub added-gives : (server next : State) (receipt : Receipt) (reply : Reply) → appended st a.command ≡ Ok server → next ≡ ended_by server a.ends
-      → HasReceipt st.history a.command receipt → IsPlain (told_by a.telling receipt.number receipt.position) reply
+      → HasReceipt st.history a.command receipt → IsPlain (confirmed a.confirmation receipt.number receipt.position) reply
       → Gives (as_outcome st (plainly (command_added st a))) next reply
   added-gives server next receipt reply h is numbers plain =
       subst (λ o. Gives o next reply) (sym outcome) (record {
@@ -84,10 +84,10 @@ module _ (st : State) (a : Addition) where
       })
     where
       text : List ℕ
-      text = told_by a.telling (receipt_number st.history a.command) (length st.history + 1)
+      text = confirmed a.confirmation (receipt_number st.history a.command) (length st.history + 1)
 
-      told : told_by a.telling receipt.number receipt.position ≡ text
-      told = ap (λ n. told_by a.telling n receipt.position) numbers.number ∙ ap (told_by a.telling (receipt_number st.history a.command)) numbers.position
+      told : confirmed a.confirmation receipt.number receipt.position ≡ text
+      told = ap (λ n. confirmed a.confirmation n receipt.position) numbers.number ∙ ap (confirmed a.confirmation (receipt_number st.history a.command)) numbers.position
 
       outcome : as_outcome st (plainly (command_added st a)) ≡ (let o : Outcome State = record { state = ended_by server a.ends; reply = text; rows = []; is_refused = false } in o)
       outcome = ap (λ (found : Found State). as_outcome st (plainly (found >>= ends_told))) h
@@ -124,7 +124,7 @@ module _ (st server : State) where
 -- what comes of a command that was appended
 module _ (st server next : State) (a : Addition) (receipt : Receipt) where
   pub finish-gives : (result : Result Reply Ending) → appended st a.command ≡ Ok server → next ≡ ended_by server a.ends → HasReceipt st.history a.command receipt
-      → IfOk result (IsPlain (told_by a.telling receipt.number receipt.position)) → IfOk result (Gives (as_outcome st (plainly (command_added st a))) next)
+      → IfOk result (IsPlain (confirmed a.confirmation receipt.number receipt.position)) → IfOk result (Gives (as_outcome st (plainly (command_added st a))) next)
   finish-gives (Ok reply) h ends numbers plain = added-gives st a server next receipt reply h ends numbers plain
   finish-gives (Err ending) h ends numbers plain = tt
 

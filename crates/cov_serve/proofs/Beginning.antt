@@ -12,8 +12,12 @@ use Rattle.cov_rules.specs.Completion.{Completion, Complete, Invalid, Incomplete
 use Rattle.cov_script.specs.Lines.{form_of}
 use Rattle.cov_script.specs.Replies.{open_reply, refresh_reply}
 use Rattle.cov_script.specs.declared.code.Code.TheVariants.{Long}
+use Rattle.cov_script.specs.Grouping.{grouped}
+use Rattle.cov_script.specs.declared.grouped.GroupedLine.{GroupedLine}
+use Rattle.cov_script.specs.declared.grouped.GroupedLine.TheVariants as groups
+use Rattle.cov_script.specs.declared.grouped.SessionLine.{SessionLine}
+use Rattle.cov_script.specs.declared.grouped.SessionLine.TheVariants as session_lines
 use Rattle.cov_script.specs.declared.line.Line.{Line}
-use Rattle.cov_script.specs.declared.line.Line.TheVariants as lines
 use Rattle.cov_script.specs.declared.line.LineSyntax.{LineSyntax}
 use Rattle.cov_edit.specs.History.{options_of}
 use Rattle.cov_edit.specs.Numbering.{numbers_of}
@@ -32,9 +36,9 @@ use Rattle.cov_session.specs.declared.fault.SessionFault.TheVariants as faults
 use Rattle.cov_session.specs.declared.sessions.TheConstants.{MOST_SESSIONS}
 use Rattle.cov_serve.specs.Codes.{session_code, syntax_code}
 use Rattle.cov_serve.specs.Finding.{Found, ◌>>=◌, by_code, found_expression, found_partial}
-use Rattle.cov_serve.specs.Isolation.{HasSession, SessionsBeginNow, begins, has_form}
+use Rattle.cov_serve.specs.Isolation.{HasSession, SessionsBeginNow, begins, has_form, is_start}
 use Rattle.cov_serve.specs.States.{State, with_sessions}
-use Rattle.cov_serve.specs.Step.{Act, Done, acted, done, plainly, as_outcome, begun, rebegun, served, served_session, step}
+use Rattle.cov_serve.specs.Step.{Act, Done, acted, as_outcome, opened, plainly, refreshed, served, served_session, step}
 use Rattle.cov_serve.proofs.NamedSessions.{itself, named-changed, same-name}
 
 module _ (name : List ℕ) (st : State) where
@@ -68,9 +72,9 @@ module _ (name : List ℕ) (st : State) where
       ∙ ap (λ o. option_or o (named (AsOfNow session ∷ []) name)) none
       ∙ ap (λ b. if b then Some (AsOfNow session) else None) (itself name)
 
-  begun-now : (bindings : List (List ℕ × Bool)) (ambition : Formula (List ℕ)) → Begins (begun st name bindings ambition)
-  unfolding begun
-  begun-now bindings ambition =
+  opened-now : (bindings : List (List ℕ × Bool)) (ambition : Formula (List ℕ)) → Begins (opened st name bindings ambition)
+  unfolding opened
+  opened-now bindings ambition =
       on-found (found_partial st.history bindings) _ (λ partial. on-found (found_expression st.history ambition) _ (λ within.
       at (named st.sessions name) refl (nat_le MOST_SESSIONS (length st.sessions)) within (completed_in st.history partial)))
     where
@@ -90,9 +94,9 @@ module _ (name : List ℕ) (st : State) where
       at None e false within (Invalid rule) = tt
       at None e false within (Incomplete option) = tt
 
-  rebegun-now : Begins (rebegun st name)
-  unfolding rebegun
-  rebegun-now = at (named st.sessions name) refl
+  refreshed-now : Begins (refreshed st name)
+  unfolding refreshed
+  refreshed-now = at (named st.sessions name) refl
     where
       told : Session → Act
       told session = Ok (with_sessions st (with_session st.sessions (AsOfNow session)), refresh_reply session.base (options_of st.history) session.choice)
@@ -111,30 +115,30 @@ module _ (name : List ℕ) (st : State) where
       at None e = tt
       at (Some t) e = by t e (completed_in st.history (enumerate_from 0 t.session.choice))
 
-  form-now : (form : Line) → begins name form ≡ true → Begins (served st form)
-  unfolding served served_session
-  form-now (lines.OpenSession n bindings ambition) own = subst (λ m. Begins (begun st m bindings ambition)) (sym (same-name n name own)) (begun-now bindings ambition)
-  form-now (lines.Refresh n) own = subst (λ m. Begins (rebegun st m)) (sym (same-name n name own)) rebegun-now
-  form-now _ own = absurd (cc)
+  session-now : (line : SessionLine) → is_start name line ≡ true → Begins (served_session st line)
+  unfolding served_session
+  session-now (session_lines.Open n bindings ambition) own = subst (λ m. Begins (opened st m bindings ambition)) (sym (same-name n name own)) (opened-now bindings ambition)
+  session-now (session_lines.Refresh n) own = subst (λ m. Begins (refreshed st m)) (sym (same-name n name own)) refreshed-now
+  session-now _ own = absurd (cc)
 
   plainly-now : (act : Act) → Begins act → BeginsDone (plainly act)
   plainly-now (Ok act) h = h
   plainly-now (Err code) h = tt
 
-  done-now : (form : Line) → begins name form ≡ true → BeginsDone (done st form)
-  unfolding done
-  done-now (lines.Checkout tree bindings) own = absurd (cc)
-  done-now form own = plainly-now (served st form) (form-now form own)
+  served-now : (line : GroupedLine) → begins name line ≡ true → BeginsDone (served st line)
+  unfolding served
+  served-now (groups.Session line) own = plainly-now (served_session st line) (session-now line own)
+  served-now _ own = absurd (cc)
 
   acted-now : (line : List ℕ) → has_form (begins name) (form_of line) ≡ true → BeginsDone (acted st line)
   unfolding acted
   acted-now line own = at (nat_lt MOST_SCRIPT_LINE_BYTES (length line))
     where
-      of : (form : Result Line LineSyntax) → has_form (begins name) form ≡ true → BeginsDone (by_code syntax_code form >>= done st)
-      of (Ok form) h = done-now form h
+      of : (form : Result Line LineSyntax) → has_form (begins name) form ≡ true → BeginsDone (by_code syntax_code form >>= (λ f. served st (grouped f)))
+      of (Ok form) h = served-now (grouped form) h
       of (Err fault) h = tt
 
-      at : (long : Bool) → BeginsDone ((if long then Err Long else Ok line) >>= (λ short. by_code syntax_code (form_of short) >>= (λ form. done st form)))
+      at : (long : Bool) → BeginsDone ((if long then Err Long else Ok line) >>= (λ short. by_code syntax_code (form_of short) >>= (λ form. served st (grouped form))))
       at true = tt
       at false = of (form_of line) own
 

@@ -13,11 +13,11 @@ use Rattle.cov_serve.specs.Finding.{◌>>=◌}
 use Rattle.cov_serve.specs.States.{State}
 use Rattle.cov_serve.specs.Step.{appended, committed, ended, plainly}
 use Rattle.cov_serve.specs.declared.handled.Addition.{Addition}
-use Rattle.cov_serve.specs.declared.handled.Telling.TheVariants.{Commit}
+use Rattle.cov_serve.specs.declared.handled.Confirmation.TheVariants.{Commit}
 
 module _ (st : State) (name : List ℕ) (command : Command) (own : option_map (λ (s : NamedSession). commit_of s.session) (named st.sessions name) ≡ Some command) where
   abbrev commit : Addition
-  commit = record { command = command; ends = Some name; telling = Commit }
+  commit = record { command = command; ends = Some name; confirmation = Commit }
 
   committed-as : committed st name ≡ command_added st commit
   unfolding committed

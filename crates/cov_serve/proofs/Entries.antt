@@ -12,7 +12,7 @@ use Rattle.cov_script.specs.declared.code.Code.TheVariants.{NoSuchLine}
 use Rattle.cov_serve.specs.Finding.{◌>>=◌}
 use Rattle.cov_serve.specs.Replies.{entry_line, entry_lines, presence_reply}
 use Rattle.cov_serve.specs.States.{State}
-use Rattle.cov_serve.specs.Step.{located}
+use Rattle.cov_serve.specs.Step.{presence_told}
 
 module _ (names : List (List ℕ)) where
   -- an entry more was told
@@ -31,9 +31,9 @@ module _ (names : List (List ℕ)) where
       (grind (arith, nat_tests, own), parts.1)
 
 -- a line that is there is told by its listing
-pub located-is : (st : State) (line : ℕ) (names : List (List ℕ)) (l : ListingValue) (text : List ℕ) → is_no_line st.history line ≡ false → l ≡ presence_of st.history line
-    → names ≡ options_of st.history → text ≡ presence_reply names l → located st line ≡ Ok (st, text)
-unfolding located
-located-is st line names l text there listing named is =
+pub presence-is : (st : State) (line : ℕ) (names : List (List ℕ)) (l : ListingValue) (text : List ℕ) → is_no_line st.history line ≡ false → l ≡ presence_of st.history line
+    → names ≡ options_of st.history → text ≡ presence_reply names l → presence_told st line ≡ Ok (st, text)
+unfolding presence_told
+presence-is st line names l text there listing named is =
     ap (λ b. (if b then Err NoSuchLine else Ok line) >>= (λ x. Ok (st, presence_reply (options_of st.history) (presence_of st.history x)))) there
     ∙ ap (λ t. Ok (st, t)) (sym (is ∙ ap (λ ns. presence_reply ns l) named ∙ ap (presence_reply (options_of st.history)) listing))

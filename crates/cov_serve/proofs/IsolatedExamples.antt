@@ -6,7 +6,7 @@ use Rattle.std.specs.Fmt.{digits}
 use lib.Utf8.{encode}
 use Rattle.cov_serve.specs.Isolation.{after, own_replies, own_script}
 use Rattle.cov_serve.specs.States.{starting}
-use Rattle.cov_serve.specs.Step.{step, acted, done, served, served_session, served_edit, served_text, begun, made_in, inserted, shown, listed_at, committed, node_at, told, file_told}
+use Rattle.cov_serve.specs.Step.{step, acted, served, served_declaration, served_session, served_edit, served_question, opened, made_in, inserted, shown, listed_at, committed, node_at, told, file_told}
 
 -- two sessions on one base, of which one commits while the other edits
 abbrev script : List (List ℕ)
@@ -18,5 +18,5 @@ own_lines_alone = refl
 
 pub replies_among_others : own_replies (codes "s") (after (starting []) (codes "open s - for true" ∷ codes "open t - for true" ∷ [])) script
     ≡ codes "ok\n" ∷ codes "ok +0\n" ∷ codes "refused no-such-path\n" ∷ codes "ok 1\nf m\n" ∷ []
-unfolding is_utf8 chars encode digits step acted done served served_session served_edit served_text begun made_in inserted shown listed_at committed node_at told file_told
+unfolding is_utf8 chars encode digits step acted served served_declaration served_session served_edit served_question opened made_in inserted shown listed_at committed node_at told file_told
 replies_among_others = refl

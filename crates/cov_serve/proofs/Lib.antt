@@ -9,11 +9,11 @@ pub mod Ended
 pub mod Endings
 pub mod Entries
 pub mod Examples
+pub mod Grouping
 pub mod Growing
 pub mod Isolated
 pub mod IsolatedExamples
 pub mod Jobs
-pub mod Keeping
 pub mod Leaving
 pub mod NamedSessions
 pub mod Opened

@@ -22,7 +22,7 @@ use Rattle.cov_session.specs.declared.sessions.TheConstants.{MOST_SESSIONS}
 use Rattle.cov_serve.specs.Codes.{session_code}
 use Rattle.cov_serve.specs.Finding.{by_code, ◌>>=◌, found_partial, found_expression}
 use Rattle.cov_serve.specs.States.{State, with_sessions}
-use Rattle.cov_serve.specs.Step.{Act, begun}
+use Rattle.cov_serve.specs.Step.{Act, opened as opened_by_line}
 
 module _ (st : State) (name : List ℕ) (bindings : List (List ℕ × Bool)) (ambition : Formula (List ℕ)) (partial : List (ℕ × Bool)) (within : Formula ℕ)
     (bound : found_partial st.history bindings ≡ Ok partial) (expr : found_expression st.history ambition ≡ Ok within) where
@@ -30,9 +30,9 @@ module _ (st : State) (name : List ℕ) (bindings : List (List ℕ × Bool)) (am
   with_opened s = Ok (with_sessions st (st.sessions ++ record { name = name; session = s } ∷ []), open_reply s.base (options_of st.history) s.choice)
 
   -- a session is opened among those that are open, once what the line names is found
-  pub begun-as : begun st name bindings ambition ≡ (by_code session_code (opened_among st.history st.sessions name partial within) >>= with_opened)
-  unfolding begun
-  begun-as =
+  pub opened-as : opened_by_line st name bindings ambition ≡ (by_code session_code (opened_among st.history st.sessions name partial within) >>= with_opened)
+  unfolding opened_by_line
+  opened-as =
       ap (λ r. r >>= (λ p. found_expression st.history ambition >>= (λ w. by_code session_code (opened_among st.history st.sessions name p w) >>= with_opened))) bound
       ∙ ap (λ r. r >>= (λ w. by_code session_code (opened_among st.history st.sessions name partial w) >>= with_opened)) expr
 

@@ -8,8 +8,18 @@ use Rattle.cov_base.specs.declared.limits.TheConstants.{MOST_SCRIPT_LINE_BYTES}
 use Rattle.cov_script.specs.Lines.{form_of}
 use Rattle.cov_script.specs.declared.code.Code.{Code}
 use Rattle.cov_script.specs.declared.code.Code.TheVariants.{BadName, Long, NoSession, NoSuchLine, NoSuchPath, TreeTaken}
+use Rattle.cov_script.specs.Grouping.{grouped}
+use Rattle.cov_script.specs.declared.grouped.Declaration.{Declaration}
+use Rattle.cov_script.specs.declared.grouped.Declaration.TheVariants as declarations
+use Rattle.cov_script.specs.declared.grouped.EditLine.{EditLine}
+use Rattle.cov_script.specs.declared.grouped.EditLine.TheVariants as edit_lines
+use Rattle.cov_script.specs.declared.grouped.GroupedLine.{GroupedLine}
+use Rattle.cov_script.specs.declared.grouped.GroupedLine.TheVariants as groups
+use Rattle.cov_script.specs.declared.grouped.Question.{Question}
+use Rattle.cov_script.specs.declared.grouped.Question.TheVariants as questions
+use Rattle.cov_script.specs.declared.grouped.SessionLine.{SessionLine}
+use Rattle.cov_script.specs.declared.grouped.SessionLine.TheVariants as session_lines
 use Rattle.cov_script.specs.declared.line.Line.{Line}
-use Rattle.cov_script.specs.declared.line.Line.TheVariants as lines
 use Rattle.cov_script.specs.declared.line.LineSyntax.{LineSyntax}
 use Rattle.cov_edit.specs.declared.command.Command.{Command}
 use Rattle.cov_edit.specs.declared.command.Command.TheVariants as commands
@@ -30,9 +40,9 @@ use Rattle.cov_alt.specs.Sides.{sides_at}
 use Rattle.cov_serve.specs.Codes.{alt_code, refusal_code, session_code, syntax_code}
 use Rattle.cov_serve.specs.Editing.{directory_of}
 use Rattle.cov_serve.specs.Finding.{Found, ◌>>=◌, by_code, completed_choice, found_choice, found_expression, found_option, found_partial}
-use Rattle.cov_serve.specs.Isolation.{HasSession, begins_or_ends, has_form, is_boundary, is_own, works_in}
+use Rattle.cov_serve.specs.Isolation.{HasSession, begins_or_ends, has_form, is_boundary, is_own, is_turn, works_in}
 use Rattle.cov_serve.specs.States.{State, with_command, with_sessions, with_tree}
-use Rattle.cov_serve.specs.Step.{Act, Done, acted, checked_out, compared, done, is_taken, located, plainly, added, appended, as_outcome, begun, committed, completed, constrained, declared, defaulted, deleted, dropped, ended, file_told, inserted, listed_at, made_in, moved, node_at, preferred, rebegun, removed, renamed, replaced, served, served_edit, served_session, served_text, shown, step, told}
+use Rattle.cov_serve.specs.Step.{Act, Done, acted, added, appended, as_outcome, checked_out, committed, compared, completed, constrained, declared, defaulted, deleted, dropped, ended, file_told, inserted, is_taken, listed_at, made_in, moved, node_at, opened, plainly, preferred, presence_told, refreshed, removed, renamed, replaced, served, served_declaration, served_edit, served_question, served_session, shown, step, told}
 use Rattle.cov_serve.proofs.NamedSessions.{named-before, named-has, named-kept, named-left}
 
 module _ (name : List ℕ) (s : NamedSession) (before : List Command) where
@@ -117,73 +127,73 @@ module _ (name : List ℕ) (s : NamedSession) (before : List Command) where
     has-tree tree = record { there = has.there; within = has.within; same = has.same }
 
     -- lines that edit in the session of another name
-    text-leaves : (form : Line) → works_in name form ≡ false → Leaves (served_text st form)
-    unfolding served_text inserted deleted replaced
-    text-leaves (lines.Insert n path line text) other = on-found (node_at st n path) _ (λ file. on-added st has n _ _ other)
-    text-leaves (lines.Delete n path line) other = on-found (node_at st n path) _ (λ file. on-added st has n _ _ other)
-    text-leaves (lines.Replace n path line text) other = on-found (node_at st n path) _ (λ file. on-added st has n _ _ other)
-    text-leaves _ other = has
+    edit-leaves : (n : List ℕ) (edit : EditLine) → bytes_eq n name ≡ false → Leaves (served_edit st n edit)
+    unfolding served_edit made_in renamed moved removed inserted deleted replaced
+    edit-leaves n (edit_lines.MakeDir path) other = on-found (node_at st n (directory_of path)) _ (λ dir. on-added st has n _ _ other)
+    edit-leaves n (edit_lines.MakeFile path) other = on-found (node_at st n (directory_of path)) _ (λ dir. on-added st has n _ _ other)
+    edit-leaves n (edit_lines.Rename path to) other = on-found (node_at st n path) _ (λ node. on-added st has n _ _ other)
+    edit-leaves n (edit_lines.Move path target) other = on-found (node_at st n path) _ (λ node. on-found (node_at st n target) _ (λ dir. on-added st has n _ _ other))
+    edit-leaves n (edit_lines.Remove path) other = on-found (node_at st n path) _ (λ node. on-added st has n _ _ other)
+    edit-leaves n (edit_lines.Insert path line text) other = on-found (node_at st n path) _ (λ file. on-added st has n _ _ other)
+    edit-leaves n (edit_lines.Delete path line) other = on-found (node_at st n path) _ (λ file. on-added st has n _ _ other)
+    edit-leaves n (edit_lines.Replace path line text) other = on-found (node_at st n path) _ (λ file. on-added st has n _ _ other)
 
-    edit-leaves : (form : Line) → works_in name form ≡ false → Leaves (served_edit st form)
-    unfolding served_edit made_in renamed moved removed
-    edit-leaves (lines.MakeDir n path) other = on-found (node_at st n (directory_of path)) _ (λ dir. on-added st has n _ _ other)
-    edit-leaves (lines.MakeFile n path) other = on-found (node_at st n (directory_of path)) _ (λ dir. on-added st has n _ _ other)
-    edit-leaves (lines.Rename n path to) other = on-found (node_at st n path) _ (λ node. on-added st has n _ _ other)
-    edit-leaves (lines.Move n path target) other = on-found (node_at st n path) _ (λ node. on-found (node_at st n target) _ (λ dir. on-added st has n _ _ other))
-    edit-leaves (lines.Remove n path) other = on-found (node_at st n path) _ (λ node. on-added st has n _ _ other)
-    edit-leaves form other = text-leaves form other
-
-    -- lines that open, tell or end a session, or edit in one
-    session-leaves : (form : Line) → works_in name form ≡ false → begins_or_ends name form ≡ false → Leaves (served_session st form)
-    unfolding served_session begun rebegun shown listed_at committed dropped
-    session-leaves (lines.OpenSession n bindings ambition) other turned =
+    -- lines with which a session of another name begins or ends, and the first one of this name
+    session-leaves : (line : SessionLine) → is_turn name line ≡ false → Leaves (served_session st line)
+    unfolding served_session opened refreshed committed dropped
+    session-leaves (session_lines.Open n bindings ambition) turned =
         on-found (found_partial st.history bindings) _ (λ partial. on-found (found_expression st.history ambition) _ (λ within.
         on-found (by_code session_code (opened_among st.history st.sessions n partial within)) _ (λ new. opened-leaves st has (record { name = n; session = new }))))
-    session-leaves (lines.Refresh n) other turned =
+    session-leaves (session_lines.Refresh n) turned =
         on-found (by_code session_code (refreshed_among st.history st.sessions n)) _ (λ new. refreshed-leaves st has (record { name = n; session = new }) turned)
-    session-leaves (lines.Show n path) other turned = on-found (node_at st n path) _ (λ file. told_in-leaves _ _ _)
-    session-leaves (lines.List n path) other turned = on-found (node_at st n path) _ (λ dir. listed_in-leaves _ _ _)
-    session-leaves (lines.Commit n) other turned =
+    session-leaves (session_lines.Commit n) turned =
         on-found (ok_or (named st.sessions n) NoSession) _ (λ t. on-appended st has (commit_of t.session) _ (ended-leaves (with_command st (commit_of t.session)) n (has-command st has (commit_of t.session)) turned))
-    session-leaves (lines.Discard n) other turned = on-found (ok_or (named st.sessions n) NoSession) _ (λ t. ended-leaves st n has turned)
-    session-leaves form other turned = edit-leaves form other
+    session-leaves (session_lines.Discard n) turned = on-found (ok_or (named st.sessions n) NoSession) _ (λ t. ended-leaves st n has turned)
 
-    -- lines of others of every form
-    form-leaves : (form : Line) → works_in name form ≡ false → begins_or_ends name form ≡ false → Leaves (served st form)
-    unfolding served declared constrained preferred defaulted completed told file_told compared located
-    form-leaves (lines.Option token) other turned = on-found (if is_option_name token then Ok token else Err BadName) _ (λ n. on-command st has (commands.Option n) _)
-    form-leaves (lines.Constraint expr) other turned = on-found (found_expression st.history expr) _ (λ bound. on-command st has (commands.Constraint bound) _)
-    form-leaves (lines.Prefer expr) other turned = on-found (found_expression st.history expr) _ (λ bound. on-command st has (commands.Prefer bound) _)
-    form-leaves (lines.Default token on) other turned = on-found (found_option st.history token) _ (λ option. on-command st has (commands.Default option on) _)
-    form-leaves (lines.Complete bindings) other turned = on-found (found_choice st.history bindings) _ (λ c. has)
-    form-leaves (lines.Cat bindings path) other turned =
+    declaration-leaves : (declaration : Declaration) → Leaves (served_declaration st declaration)
+    unfolding served_declaration declared constrained preferred defaulted
+    declaration-leaves (declarations.Option token) = on-found (if is_option_name token then Ok token else Err BadName) _ (λ n. on-command st has (commands.Option n) _)
+    declaration-leaves (declarations.Constraint expr) = on-found (found_expression st.history expr) _ (λ bound. on-command st has (commands.Constraint bound) _)
+    declaration-leaves (declarations.Prefer expr) = on-found (found_expression st.history expr) _ (λ bound. on-command st has (commands.Prefer bound) _)
+    declaration-leaves (declarations.Default token on) = on-found (found_option st.history token) _ (λ option. on-command st has (commands.Default option on) _)
+
+    question-leaves : (question : Question) → Leaves (served_question st question)
+    unfolding served_question completed shown listed_at told file_told compared presence_told
+    question-leaves (questions.Complete bindings) = on-found (found_choice st.history bindings) _ (λ c. has)
+    question-leaves (questions.Show n path) = on-found (node_at st n path) _ (λ file. told_in-leaves _ _ _)
+    question-leaves (questions.List n path) = on-found (node_at st n path) _ (λ dir. listed_in-leaves _ _ _)
+    question-leaves (questions.Cat bindings path) =
         on-found (found_choice st.history bindings) _ (λ c. on-found (ok_or (path_node (replay c st.history).rows 0 path) NoSuchPath) _ (λ node. told_in-leaves _ _ _))
-    form-leaves (lines.Alt bindings token path) other turned =
+    question-leaves (questions.Alt bindings token path) =
         on-found (found_partial st.history bindings) _ (λ partial. on-found (found_option st.history token) _ (λ option. on-found (completed_choice st.history partial) _ (λ c.
         on-found (by_code alt_code (sides_at st.history c option path)) _ (λ ls. has))))
-    form-leaves (lines.Presence line) other turned = on-found (if is_no_line st.history line then Err NoSuchLine else Ok line) _ (λ there. has)
-    form-leaves form other turned = session-leaves form other turned
+    question-leaves (questions.Presence line) = on-found (if is_no_line st.history line then Err NoSuchLine else Ok line) _ (λ there. has)
 
     plainly-leaves : (act : Act) → Leaves act → LeavesDone (plainly act)
     plainly-leaves (Ok done) h = h
     plainly-leaves (Err code) h = tt
 
-    done-form-leaves : (form : Line) → works_in name form ≡ false → begins_or_ends name form ≡ false → LeavesDone (done st form)
-    unfolding done checked_out
-    done-form-leaves (lines.Checkout tree bindings) other turned =
+    -- lines of others of every group
+    served-leaves : (line : GroupedLine) → works_in name line ≡ false → begins_or_ends name line ≡ false → LeavesDone (served st line)
+    unfolding served checked_out
+    served-leaves groups.Silent other turned = has
+    served-leaves (groups.Declaration declaration) other turned = plainly-leaves (served_declaration st declaration) (declaration-leaves declaration)
+    served-leaves (groups.Session line) other turned = plainly-leaves (served_session st line) (session-leaves line turned)
+    served-leaves (groups.Edit n edit) other turned = plainly-leaves (served_edit st n edit) (edit-leaves n edit other)
+    served-leaves (groups.Question question) other turned = plainly-leaves (served_question st question) (question-leaves question)
+    served-leaves (groups.Checkout tree bindings) other turned =
         on-found-done (found_partial st.history bindings) _ (λ partial. on-found-done (if is_taken st tree then Err TreeTaken else Ok tree) _ (λ new.
         on-found-done (completed_choice st.history partial) _ (λ c. has-tree new)))
-    done-form-leaves form other turned = plainly-leaves (served st form) (form-leaves form other turned)
 
     acted-leaves : (line : List ℕ) → is_own name line ≡ false → is_boundary name line ≡ false → LeavesDone (acted st line)
     unfolding acted
     acted-leaves line other turned = at (nat_lt MOST_SCRIPT_LINE_BYTES (length line))
       where
-        of : (form : Result Line LineSyntax) → has_form (works_in name) form ≡ false → has_form (begins_or_ends name) form ≡ false → LeavesDone (by_code syntax_code form >>= done st)
-        of (Ok form) h k = done-form-leaves form h k
+        of : (form : Result Line LineSyntax) → has_form (works_in name) form ≡ false → has_form (begins_or_ends name) form ≡ false → LeavesDone (by_code syntax_code form >>= (λ f. served st (grouped f)))
+        of (Ok form) h k = served-leaves (grouped form) h k
         of (Err fault) h k = tt
 
-        at : (long : Bool) → LeavesDone ((if long then Err Long else Ok line) >>= (λ short. by_code syntax_code (form_of short) >>= (λ form. done st form)))
+        at : (long : Bool) → LeavesDone ((if long then Err Long else Ok line) >>= (λ short. by_code syntax_code (form_of short) >>= (λ form. served st (grouped form))))
         at true = tt
         at false = of (form_of line) other turned
 

@@ -7,8 +7,14 @@ use Rattle.cov_base.specs.declared.number.Kind.{Kind}
 use Rattle.cov_base.specs.declared.number.Kind.TheVariants as kinds
 use Rattle.cov_script.specs.Lines.{form_of}
 use Rattle.cov_script.specs.declared.code.Code.TheVariants.{Long, NoSuchPath, NotFile, NotDirectory}
+use Rattle.cov_script.specs.Grouping.{grouped}
+use Rattle.cov_script.specs.declared.grouped.EditLine.{EditLine}
+use Rattle.cov_script.specs.declared.grouped.EditLine.TheVariants as edit_lines
+use Rattle.cov_script.specs.declared.grouped.GroupedLine.{GroupedLine}
+use Rattle.cov_script.specs.declared.grouped.GroupedLine.TheVariants as groups
+use Rattle.cov_script.specs.declared.grouped.Question.{Question}
+use Rattle.cov_script.specs.declared.grouped.Question.TheVariants as questions
 use Rattle.cov_script.specs.declared.line.Line.{Line}
-use Rattle.cov_script.specs.declared.line.Line.TheVariants as lines
 use Rattle.cov_script.specs.declared.line.LineField.{LineField}
 use Rattle.cov_script.specs.declared.line.LineSyntax.{LineSyntax}
 use Rattle.cov_script.specs.Replies.{refused_reply}
@@ -29,10 +35,10 @@ use Rattle.cov_session.specs.declared.fault.SessionFault.{SessionFault}
 use Rattle.cov_serve.specs.Codes.{session_code, syntax_code}
 use Rattle.cov_serve.specs.Editing.{directory_of, last_name, line_ref, node_ref}
 use Rattle.cov_serve.specs.Finding.{Found, ◌>>=◌, by_code}
-use Rattle.cov_serve.specs.Isolation.{HasSession, SeeAlike, has_form, is_own, works_in}
+use Rattle.cov_serve.specs.Isolation.{HasSession, SeeAlike, asks_in, has_form, is_own, works_in}
 use Rattle.cov_serve.specs.Replies.{directory_reply, seen_reply}
 use Rattle.cov_serve.specs.States.{State, with_sessions}
-use Rattle.cov_serve.specs.Step.{Act, Done, acted, done, plainly, added, as_outcome, deleted, inserted, listed_at, made, made_in, moved, node_at, ref_at, removed, renamed, replaced, served, served_edit, served_session, served_text, shown, step}
+use Rattle.cov_serve.specs.Step.{Act, Done, acted, added, as_outcome, deleted, inserted, listed_at, made, made_in, moved, node_at, plainly, ref_at, removed, renamed, replaced, served, served_edit, served_question, shown, step}
 use Rattle.cov_serve.proofs.NamedSessions.{same-name}
 use Rattle.cov_serve.proofs.OwnActs.{IsQuiet, IsQuietFault, added-is, fault-quiet, fault_on, grown, has-grown, node-is, node_on, view_on}
 
@@ -144,19 +150,22 @@ module _ (name : List ℕ) (s : NamedSession) (before : List Command) (one other
   by-name : (n : List ℕ) (f g : List ℕ → Act) → bytes_eq n name ≡ true → AreAlike name (f name) (g name) → AreAlike name (f n) (g n)
   by-name n f g own same = subst (λ m. AreAlike name (f m) (g m)) (sym (same-name n name own)) same
 
-  form-alike : (form : Line) → works_in name form ≡ true → AreAlike name (served one form) (served other form)
-  unfolding served served_session served_edit served_text
-  form-alike (lines.MakeDir n path) own = by-name n (λ m. made one kinds.Dir m path) (λ m. made other kinds.Dir m path) own (made-alike kinds.Dir (directory_of path) (last_name path))
-  form-alike (lines.MakeFile n path) own = by-name n (λ m. made one kinds.File m path) (λ m. made other kinds.File m path) own (made-alike kinds.File (directory_of path) (last_name path))
-  form-alike (lines.Rename n path to) own = by-name n (λ m. renamed one m path to) (λ m. renamed other m path to) own (renamed-alike path to)
-  form-alike (lines.Move n path target) own = by-name n (λ m. moved one m path target) (λ m. moved other m path target) own (moved-alike path target)
-  form-alike (lines.Remove n path) own = by-name n (λ m. removed one m path) (λ m. removed other m path) own (removed-alike path)
-  form-alike (lines.Insert n path line text) own = by-name n (λ m. inserted one m path line text) (λ m. inserted other m path line text) own (inserted-alike path line text)
-  form-alike (lines.Delete n path line) own = by-name n (λ m. deleted one m path line) (λ m. deleted other m path line) own (deleted-alike path line)
-  form-alike (lines.Replace n path line text) own = by-name n (λ m. replaced one m path line text) (λ m. replaced other m path line text) own (replaced-alike path line text)
-  form-alike (lines.Show n path) own = by-name n (λ m. shown one m path) (λ m. shown other m path) own (shown-alike path)
-  form-alike (lines.List n path) own = by-name n (λ m. listed_at one m path) (λ m. listed_at other m path) own (listed-alike path)
-  form-alike _ own = absurd (cc)
+  edit-alike : (edit : EditLine) → AreAlike name (served_edit one name edit) (served_edit other name edit)
+  unfolding served_edit
+  edit-alike (edit_lines.MakeDir path) = made-alike kinds.Dir (directory_of path) (last_name path)
+  edit-alike (edit_lines.MakeFile path) = made-alike kinds.File (directory_of path) (last_name path)
+  edit-alike (edit_lines.Rename path to) = renamed-alike path to
+  edit-alike (edit_lines.Move path target) = moved-alike path target
+  edit-alike (edit_lines.Remove path) = removed-alike path
+  edit-alike (edit_lines.Insert path line text) = inserted-alike path line text
+  edit-alike (edit_lines.Delete path line) = deleted-alike path line
+  edit-alike (edit_lines.Replace path line text) = replaced-alike path line text
+
+  question-alike : (question : Question) → asks_in name question ≡ true → AreAlike name (served_question one question) (served_question other question)
+  unfolding served_question
+  question-alike (questions.Show n path) own = by-name n (λ m. shown one m path) (λ m. shown other m path) own (shown-alike path)
+  question-alike (questions.List n path) own = by-name n (λ m. listed_at one m path) (λ m. listed_at other m path) own (listed-alike path)
+  question-alike _ own = absurd (cc)
 
   plainly-alike : (x y : Act) → AreAlike name x y → AreDoneAlike name (plainly x) (plainly y)
   plainly-alike (Ok x) (Ok y) h = h
@@ -164,21 +173,23 @@ module _ (name : List ℕ) (s : NamedSession) (before : List Command) (one other
   plainly-alike (Ok x) (Err d) h = absurd h
   plainly-alike (Err c) (Ok y) h = absurd h
 
-  done-alike : (form : Line) → works_in name form ≡ true → AreDoneAlike name (done one form) (done other form)
-  unfolding done
-  done-alike (lines.Checkout tree bindings) own = absurd (cc)
-  done-alike form own = plainly-alike (served one form) (served other form) (form-alike form own)
+  served-alike : (line : GroupedLine) → works_in name line ≡ true → AreDoneAlike name (served one line) (served other line)
+  unfolding served
+  served-alike (groups.Edit n edit) own =
+      plainly-alike (served_edit one n edit) (served_edit other n edit) (by-name n (λ m. served_edit one m edit) (λ m. served_edit other m edit) own (edit-alike edit))
+  served-alike (groups.Question question) own = plainly-alike (served_question one question) (served_question other question) (question-alike question own)
+  served-alike _ own = absurd (cc)
 
   acted-alike : (line : List ℕ) → is_own name line ≡ true → AreDoneAlike name (acted one line) (acted other line)
   unfolding acted
   acted-alike line own = at (nat_lt MOST_SCRIPT_LINE_BYTES (length line))
     where
-      of : (form : Result Line LineSyntax) → has_form (works_in name) form ≡ true → AreDoneAlike name (by_code syntax_code form >>= done one) (by_code syntax_code form >>= done other)
-      of (Ok form) h = done-alike form h
+      of : (form : Result Line LineSyntax) → has_form (works_in name) form ≡ true → AreDoneAlike name (by_code syntax_code form >>= (λ f. served one (grouped f))) (by_code syntax_code form >>= (λ f. served other (grouped f)))
+      of (Ok form) h = served-alike (grouped form) h
       of (Err fault) h = absurd (cc)
 
-      at : (long : Bool) → AreDoneAlike name ((if long then Err Long else Ok line) >>= (λ short. by_code syntax_code (form_of short) >>= (λ form. done one form)))
-          ((if long then Err Long else Ok line) >>= (λ short. by_code syntax_code (form_of short) >>= (λ form. done other form)))
+      at : (long : Bool) → AreDoneAlike name ((if long then Err Long else Ok line) >>= (λ short. by_code syntax_code (form_of short) >>= (λ form. served one (grouped form))))
+          ((if long then Err Long else Ok line) >>= (λ short. by_code syntax_code (form_of short) >>= (λ form. served other (grouped form))))
       at true = (refl, λ names others. refl)
       at false = of (form_of line) own
 

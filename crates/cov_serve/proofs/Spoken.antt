@@ -15,6 +15,7 @@ use Rattle.cov_view.specs.Paths.{from_number, path_node}
 use Rattle.cov_base.specs.Spelling.{path_of}
 use Rattle.cov_script.specs.Fields.{below_root, new_path_of}
 use Rattle.cov_script.specs.Forms.{ReadsAsSpelt}
+use Rattle.cov_script.specs.Grouping.{grouped}
 use Rattle.cov_script.specs.Lines.{form_of}
 use Rattle.cov_script.specs.declared.line.Line.{Line}
 use Rattle.cov_script.specs.declared.line.Line.TheVariants as lines
@@ -43,7 +44,7 @@ has-name : (bytes : List ℕ) (path : List (List ℕ)) → new_path_of bytes ≡
 has-name bytes path h = below-root (path_of bytes) path h
 
 -- a line that is read has its parts as they are served
-pub has-parts : ReadsAsSpelt → (bytes : List ℕ) (line : Line) → form_of bytes ≡ Ok line → HasParts line
+pub has-parts : ReadsAsSpelt → (bytes : List ℕ) (line : Line) → form_of bytes ≡ Ok line → HasParts (grouped line)
 has-parts law bytes lines.Nothing h = tt
 has-parts law bytes (lines.Option t) h = tt
 has-parts law bytes (lines.Constraint e) h = tt

@@ -1,13 +1,11 @@
 -- What a command that a line adds comes to.
-use Rattle.std.specs.Prelude.{◌≡◌, ℕ, ◌+◌, Bool, true, false, List, length, Option, Some, None, Result, Ok, Err}
+use Rattle.std.specs.Prelude.{◌≡◌, ℕ, ◌+◌, List, length, Option, Some, None, Result, Ok, Err}
 use Rattle.cov_edit.specs.declared.command.Command.{Command}
 use Rattle.cov_engine.specs.States.{receipt_number}
 use Rattle.cov_engine.specs.declared.prepared.Receipt.{Receipt}
 use Rattle.cov_loop.specs.declared.ending.Ending.{Ending}
 use Rattle.cov_loop.specs.declared.ending.Ending.TheVariants as endings
 use Rattle.cov_script.specs.Replies.{constraint_reply, prefer_reply, default_reply, commit_reply}
-use Rattle.cov_script.specs.declared.line.Line.{Line}
-use Rattle.cov_script.specs.declared.line.Line.TheVariants as lines
 use Rattle.cov_store.specs.declared.appending.AppendFault.{AppendFault}
 use Rattle.cov_store.specs.declared.appending.AppendFault.TheVariants as faults
 use Rattle.cov_serve.specs.Finding.{◌>>=◌}
@@ -16,25 +14,16 @@ use Rattle.cov_serve.specs.Step.{Act, appended, ended}
 use Rattle.cov_serve.specs.Stops.{refusal_stop}
 use Rattle.cov_serve.specs.declared.stop.Stop.{Stop}
 use Rattle.cov_serve.specs.declared.handled.Addition.{Addition}
-use Rattle.cov_serve.specs.declared.handled.Telling.{Telling}
-use Rattle.cov_serve.specs.declared.handled.Telling.TheVariants as tellings
-
--- whether a line of a form adds a command, unless it is refused
-abbrev pub adds : Line → Bool
-adds (lines.Option token) = true
-adds (lines.Constraint expr) = true
-adds (lines.Prefer expr) = true
-adds (lines.Default token on) = true
-adds (lines.Commit name) = true
-adds line = false
+use Rattle.cov_serve.specs.declared.handled.Confirmation.{Confirmation}
+use Rattle.cov_serve.specs.declared.handled.Confirmation.TheVariants as confirmations
 
 -- the reply to a command that was added, by its number among those of its kind and by the position that the history then has
-abbrev pub told_by : Telling → ℕ → ℕ → List ℕ
-told_by (tellings.Known text) number position = text
-told_by tellings.Constraint number position = constraint_reply number
-told_by tellings.Prefer number position = prefer_reply number
-told_by tellings.Default number position = default_reply number
-told_by tellings.Commit number position = commit_reply position
+abbrev pub confirmed : Confirmation → ℕ → ℕ → List ℕ
+confirmed (confirmations.Known text) number position = text
+confirmed confirmations.Constraint number position = constraint_reply number
+confirmed confirmations.Prefer number position = prefer_reply number
+confirmed confirmations.Default number position = default_reply number
+confirmed confirmations.Commit number position = commit_reply position
 
 -- the session of a name has ended, if there is a name
 abbrev pub ended_by : State → Option (List ℕ) → State
@@ -43,7 +32,7 @@ ended_by st (Some name) = ended st name
 
 -- a command is added: it is appended, the session that ends with it has ended, and the reply is told with its numbers
 abbrev pub command_added : State → Addition → Act
-command_added st a = appended st a.command >>= (λ next. Ok (ended_by next a.ends, told_by a.telling (receipt_number st.history a.command) (length st.history + 1)))
+command_added st a = appended st a.command >>= (λ next. Ok (ended_by next a.ends, confirmed a.confirmation (receipt_number st.history a.command) (length st.history + 1)))
 
 -- a receipt is that of a command
 pub record HasReceipt (history : List Command) (command : Command) (receipt : Receipt) : Type 0 where

@@ -3,9 +3,15 @@ use Rattle.std.specs.Prelude.{◌≡◌, ℕ, ◌≤◌, Bool, true, false, List
 use Rattle.std.specs.List.{filter}
 use Rattle.std.specs.Str.{bytes_eq}
 use Rattle.cov_edit.specs.declared.command.Command.{Command}
+use Rattle.cov_script.specs.Grouping.{grouped}
 use Rattle.cov_script.specs.Lines.{form_of}
+use Rattle.cov_script.specs.declared.grouped.GroupedLine.{GroupedLine}
+use Rattle.cov_script.specs.declared.grouped.GroupedLine.TheVariants as groups
+use Rattle.cov_script.specs.declared.grouped.Question.{Question}
+use Rattle.cov_script.specs.declared.grouped.Question.TheVariants as questions
+use Rattle.cov_script.specs.declared.grouped.SessionLine.{SessionLine}
+use Rattle.cov_script.specs.declared.grouped.SessionLine.TheVariants as session_lines
 use Rattle.cov_script.specs.declared.line.Line.{Line}
-use Rattle.cov_script.specs.declared.line.Line.TheVariants as lines
 use Rattle.cov_script.specs.declared.line.LineSyntax.{LineSyntax}
 use Rattle.cov_session.specs.Named.{named}
 use Rattle.cov_session.specs.Open.{NamedSession}
@@ -13,35 +19,58 @@ use Rattle.cov_loop.specs.Outcome.{answers}
 use Rattle.cov_serve.specs.States.{State}
 use Rattle.cov_serve.specs.Step.{step}
 
--- whether a form edits, shows or lists in the session of a name
-abbrev pub works_in : List ℕ → Line → Bool
-works_in name (lines.MakeDir n path) = bytes_eq n name
-works_in name (lines.MakeFile n path) = bytes_eq n name
-works_in name (lines.Rename n path to) = bytes_eq n name
-works_in name (lines.Move n path target) = bytes_eq n name
-works_in name (lines.Remove n path) = bytes_eq n name
-works_in name (lines.Insert n path line text) = bytes_eq n name
-works_in name (lines.Delete n path line) = bytes_eq n name
-works_in name (lines.Replace n path line text) = bytes_eq n name
-works_in name (lines.Show n path) = bytes_eq n name
-works_in name (lines.List n path) = bytes_eq n name
-works_in name form = false
+-- whether a question asks what the session of a name sees
+abbrev pub asks_in : List ℕ → Question → Bool
+asks_in name (questions.Complete bindings) = false
+asks_in name (questions.Show n path) = bytes_eq n name
+asks_in name (questions.List n path) = bytes_eq n name
+asks_in name (questions.Cat bindings path) = false
+asks_in name (questions.Alt bindings token path) = false
+asks_in name (questions.Presence line) = false
 
--- whether a form opens or refreshes the session of a name
-abbrev pub begins : List ℕ → Line → Bool
-begins name (lines.OpenSession n bindings ambition) = bytes_eq n name
-begins name (lines.Refresh n) = bytes_eq n name
-begins name form = false
+-- whether a line edits, shows or lists in the session of a name
+abbrev pub works_in : List ℕ → GroupedLine → Bool
+works_in name groups.Silent = false
+works_in name (groups.Declaration declaration) = false
+works_in name (groups.Session line) = false
+works_in name (groups.Edit n edit) = bytes_eq n name
+works_in name (groups.Question question) = asks_in name question
+works_in name (groups.Checkout tree bindings) = false
 
--- whether a form opens, refreshes, commits or drops the session of a name
-abbrev pub begins_or_ends : List ℕ → Line → Bool
-begins_or_ends name (lines.Commit n) = bytes_eq n name
-begins_or_ends name (lines.Discard n) = bytes_eq n name
-begins_or_ends name form = begins name form
+-- whether the session of a name is opened or refreshed
+abbrev pub is_start : List ℕ → SessionLine → Bool
+is_start name (session_lines.Open n bindings ambition) = bytes_eq n name
+is_start name (session_lines.Refresh n) = bytes_eq n name
+is_start name (session_lines.Commit n) = false
+is_start name (session_lines.Discard n) = false
 
--- whether there is a form that passes a test
-abbrev pub has_form : (Line → Bool) → Result Line LineSyntax → Bool
-has_form test (Ok form) = test form
+-- whether the session of a name is opened, refreshed, committed or dropped
+abbrev pub is_turn : List ℕ → SessionLine → Bool
+is_turn name (session_lines.Open n bindings ambition) = bytes_eq n name
+is_turn name (session_lines.Refresh n) = bytes_eq n name
+is_turn name (session_lines.Commit n) = bytes_eq n name
+is_turn name (session_lines.Discard n) = bytes_eq n name
+
+-- whether a line is one of a session that passes a test
+abbrev pub of_session : (SessionLine → Bool) → GroupedLine → Bool
+of_session test groups.Silent = false
+of_session test (groups.Declaration declaration) = false
+of_session test (groups.Session line) = test line
+of_session test (groups.Edit n edit) = false
+of_session test (groups.Question question) = false
+of_session test (groups.Checkout tree bindings) = false
+
+-- whether a line opens or refreshes the session of a name
+abbrev pub begins : List ℕ → GroupedLine → Bool
+begins name line = of_session (is_start name) line
+
+-- whether a line opens, refreshes, commits or drops the session of a name
+abbrev pub begins_or_ends : List ℕ → GroupedLine → Bool
+begins_or_ends name line = of_session (is_turn name) line
+
+-- whether there is a form, and what it says passes a test
+abbrev pub has_form : (GroupedLine → Bool) → Result Line LineSyntax → Bool
+has_form test (Ok form) = test (grouped form)
 has_form test (Err fault) = false
 
 -- whether a line is an edit line, `show` or `list` of the session of a name

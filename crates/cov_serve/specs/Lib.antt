@@ -8,7 +8,6 @@ pub mod Growth
 pub mod Isolation
 pub mod Jobs
 pub mod Laws
-pub mod Listing
 pub mod Opening
 pub mod Program
 pub mod Replies

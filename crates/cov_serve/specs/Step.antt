@@ -10,9 +10,18 @@ use Rattle.cov_base.specs.declared.number.LineRef.{LineRef}
 use Rattle.cov_base.specs.declared.number.NodeRef.{NodeRef}
 use Rattle.cov_base.specs.declared.limits.TheConstants.{MOST_SCRIPT_LINE_BYTES}
 use Rattle.cov_expr.specs.Formula.{Formula}
+use Rattle.cov_script.specs.Grouping.{grouped}
 use Rattle.cov_script.specs.Lines.{form_of}
-use Rattle.cov_script.specs.declared.line.Line.{Line}
-use Rattle.cov_script.specs.declared.line.Line.TheVariants as lines
+use Rattle.cov_script.specs.declared.grouped.Declaration.{Declaration}
+use Rattle.cov_script.specs.declared.grouped.Declaration.TheVariants as declarations
+use Rattle.cov_script.specs.declared.grouped.EditLine.{EditLine}
+use Rattle.cov_script.specs.declared.grouped.EditLine.TheVariants as edit_lines
+use Rattle.cov_script.specs.declared.grouped.GroupedLine.{GroupedLine}
+use Rattle.cov_script.specs.declared.grouped.GroupedLine.TheVariants as groups
+use Rattle.cov_script.specs.declared.grouped.Question.{Question}
+use Rattle.cov_script.specs.declared.grouped.Question.TheVariants as questions
+use Rattle.cov_script.specs.declared.grouped.SessionLine.{SessionLine}
+use Rattle.cov_script.specs.declared.grouped.SessionLine.TheVariants as session_lines
 use Rattle.cov_script.specs.declared.line.LineField.{LineField}
 use Rattle.cov_script.specs.Replies.{refused_reply, option_reply, constraint_reply, prefer_reply, default_reply, complete_reply, open_reply, refresh_reply, plain_reply, new_line_reply, commit_reply}
 use Rattle.cov_script.specs.declared.code.Code.{Code}
@@ -126,16 +135,16 @@ completed st bindings = do
   Ok (st, complete_reply (options_of st.history) choice)
 
 -- a session is opened
-unfoldable pub begun : State → List ℕ → List (List ℕ × Bool) → Formula (List ℕ) → Act
-begun st name bindings ambition = do
+unfoldable pub opened : State → List ℕ → List (List ℕ × Bool) → Formula (List ℕ) → Act
+opened st name bindings ambition = do
   partial ← found_partial st.history bindings
   within ← found_expression st.history ambition
   session ← by_code session_code (opened_among st.history st.sessions name partial within)
   Ok (with_sessions st (st.sessions ++ record { name = name; session = session } ∷ []), open_reply session.base (options_of st.history) session.choice)
 
 -- a session is refreshed
-unfoldable pub rebegun : State → List ℕ → Act
-rebegun st name = do
+unfoldable pub refreshed : State → List ℕ → Act
+refreshed st name = do
   session ← by_code session_code (refreshed_among st.history st.sessions name)
   Ok (with_sessions st (with_session st.sessions (record { name = name; session = session })), refresh_reply session.base (options_of st.history) session.choice)
 
@@ -221,10 +230,6 @@ listed_at st name path = do
 abbrev pub ended : State → List ℕ → State
 ended st name = with_sessions st (without st.sessions name)
 
--- a command is appended, and the session of a name has ended
-abbrev pub closed : State → List ℕ → Command → Found State
-closed st name command = appended st command >>= (λ next. Ok (ended next name))
-
 -- a session is committed, which ends it
 unfoldable pub committed : State → List ℕ → Act
 committed st name = do
@@ -255,8 +260,8 @@ told st bindings path = do
   file_told st (replay c st.history) path
 
 -- on which choices a line is, its file there or not, is told by the one reduced listing
-unfoldable pub located : State → ℕ → Act
-located st line = do
+unfoldable pub presence_told : State → ℕ → Act
+presence_told st line = do
   there ← (if is_no_line st.history line then Err NoSuchLine else Ok line)
   Ok (st, presence_reply (options_of st.history) (presence_of st.history there))
 
@@ -285,55 +290,55 @@ checked_out st tree bindings = do
   choice ← completed_choice st.history partial
   Ok (written st new (tree_of (replay choice st.history)))
 
--- what a line does that edits lines in a session; one of no other form has no reply
-unfoldable pub served_text : State → Line → Act
-served_text st (lines.Insert name path line text) = inserted st name path line text
-served_text st (lines.Delete name path line) = deleted st name path line
-served_text st (lines.Replace name path line text) = replaced st name path line text
-served_text st _ = Ok (st, [])
+-- what a declaration does
+unfoldable pub served_declaration : State → Declaration → Act
+served_declaration st (declarations.Option token) = declared st token
+served_declaration st (declarations.Constraint expr) = constrained st expr
+served_declaration st (declarations.Prefer expr) = preferred st expr
+served_declaration st (declarations.Default token on) = defaulted st token on
 
--- what a line does that edits nodes or lines in a session
-unfoldable pub served_edit : State → Line → Act
-served_edit st (lines.MakeDir name path) = made st kinds.Dir name path
-served_edit st (lines.MakeFile name path) = made st kinds.File name path
-served_edit st (lines.Rename name path to) = renamed st name path to
-served_edit st (lines.Move name path target) = moved st name path target
-served_edit st (lines.Remove name path) = removed st name path
-served_edit st line = served_text st line
+-- what a line does with which a session begins, begins anew or ends
+unfoldable pub served_session : State → SessionLine → Act
+served_session st (session_lines.Open name bindings ambition) = opened st name bindings ambition
+served_session st (session_lines.Refresh name) = refreshed st name
+served_session st (session_lines.Commit name) = committed st name
+served_session st (session_lines.Discard name) = dropped st name
 
--- what a line does that opens, tells or ends a session, or edits it
-unfoldable pub served_session : State → Line → Act
-served_session st (lines.OpenSession name bindings ambition) = begun st name bindings ambition
-served_session st (lines.Refresh name) = rebegun st name
-served_session st (lines.Show name path) = shown st name path
-served_session st (lines.List name path) = listed_at st name path
-served_session st (lines.Commit name) = committed st name
-served_session st (lines.Discard name) = dropped st name
-served_session st line = served_edit st line
+-- what a line does that edits in the session of a name
+unfoldable pub served_edit : State → List ℕ → EditLine → Act
+served_edit st name (edit_lines.MakeDir path) = made st kinds.Dir name path
+served_edit st name (edit_lines.MakeFile path) = made st kinds.File name path
+served_edit st name (edit_lines.Rename path to) = renamed st name path to
+served_edit st name (edit_lines.Move path target) = moved st name path target
+served_edit st name (edit_lines.Remove path) = removed st name path
+served_edit st name (edit_lines.Insert path line text) = inserted st name path line text
+served_edit st name (edit_lines.Delete path line) = deleted st name path line
+served_edit st name (edit_lines.Replace path line text) = replaced st name path line text
 
--- what a line of a form does that writes no rows
-unfoldable pub served : State → Line → Act
-served st (lines.Option token) = declared st token
-served st (lines.Constraint expr) = constrained st expr
-served st (lines.Prefer expr) = preferred st expr
-served st (lines.Default token on) = defaulted st token on
-served st (lines.Complete bindings) = completed st bindings
-served st (lines.Cat bindings path) = told st bindings path
-served st (lines.Alt bindings token path) = compared st bindings token path
-served st (lines.Presence line) = located st line
-served st line = served_session st line
+-- what a question is answered
+unfoldable pub served_question : State → Question → Act
+served_question st (questions.Complete bindings) = completed st bindings
+served_question st (questions.Show name path) = shown st name path
+served_question st (questions.List name path) = listed_at st name path
+served_question st (questions.Cat bindings path) = told st bindings path
+served_question st (questions.Alt bindings token path) = compared st bindings token path
+served_question st (questions.Presence line) = presence_told st line
 
--- what a line of a form does
-unfoldable pub done : State → Line → Found Done
-done st (lines.Checkout tree bindings) = checked_out st tree bindings
-done st line = plainly (served st line)
+-- what a line of each group does
+unfoldable pub served : State → GroupedLine → Found Done
+served st groups.Silent = plainly (Ok (st, []))
+served st (groups.Declaration declaration) = plainly (served_declaration st declaration)
+served st (groups.Session line) = plainly (served_session st line)
+served st (groups.Edit name edit) = plainly (served_edit st name edit)
+served st (groups.Question question) = plainly (served_question st question)
+served st (groups.Checkout tree bindings) = checked_out st tree bindings
 
 -- what a line does
 unfoldable pub acted : State → List ℕ → Found Done
 acted st line = do
   short ← (if nat_lt MOST_SCRIPT_LINE_BYTES (length line) then Err Long else Ok line)
   form ← by_code syntax_code (form_of short)
-  done st form
+  served st (grouped form)
 
 -- what every refusal is: the same state, and the reply that names it
 abbrev pub refused : State → Code → Outcome State

@@ -4,13 +4,13 @@ ghost use Rattle.cov_disk.specs.Images.{LeavesOnly};
 ghost use Rattle.cov_loop.specs.Answers.{StopsAnswer};
 ghost use Rattle.cov_loop.specs.Keeping.{AreAll, IsEither};
 ghost use Rattle.cov_serve.specs.Acting.{Changes};
-ghost use Rattle.cov_serve.specs.Adding.{HasReceipt, added_as, ended_by, told_by};
+ghost use Rattle.cov_serve.specs.Adding.{HasReceipt, added_as, ended_by, confirmed};
 ghost use Rattle.cov_serve.specs.Step.{appended};
 ghost use Rattle.cov_serve.specs.Storing.{gated, grown, stored};
 ghost use Rattle.cov_session.specs.Named.{named};
 ghost use Rattle.cov_store.specs.Stands.{IsStored};
 
-use crate::handled::Telling;
+use crate::handled::Confirmation;
 use crate::server::Server;
 use crate::state::ServerState;
 use crate::stop::Stop;
@@ -78,14 +78,18 @@ impl ServerState {
 }
 
 /// The reply to a command that was added.
-pub(crate) fn tell(alloc: Global, telling: Telling, receipt: &Receipt) -> Result<Text, Memory>
-    ensures { IfOk result (λ text. text ≡ told_by telling receipt.now.number receipt.now.position) }
+pub(crate) fn confirm(
+    alloc: Global,
+    confirmation: Confirmation,
+    receipt: &Receipt,
+) -> Result<Text, Memory>
+    ensures { IfOk result (λ text. text ≡ confirmed confirmation receipt.now.number receipt.now.position) }
 {
-    match telling {
-        Telling::Known(text) => Ok(text),
-        Telling::Constraint => reply_constraint(alloc, receipt.number),
-        Telling::Prefer => reply_prefer(alloc, receipt.number),
-        Telling::Default => reply_default(alloc, receipt.number),
-        Telling::Commit => reply_commit(alloc, receipt.position),
+    match confirmation {
+        Confirmation::Known(text) => Ok(text),
+        Confirmation::Constraint => reply_constraint(alloc, receipt.number),
+        Confirmation::Prefer => reply_prefer(alloc, receipt.number),
+        Confirmation::Default => reply_default(alloc, receipt.number),
+        Confirmation::Commit => reply_commit(alloc, receipt.position),
     }
 }

@@ -6,14 +6,14 @@ ghost use Rattle.cov_loop.specs.Answers.{Gives, StopsAnswer};
 ghost use Rattle.cov_loop.specs.Keeping.{AreAll, IsEither};
 ghost use Rattle.cov_script.specs.Replies.{IsCodeOf};
 ghost use Rattle.cov_serve.specs.Acting.{CanBeTold, Handles, IsPlain, Refuses};
-ghost use Rattle.cov_serve.specs.Adding.{command_added, ended_by, told_by};
+ghost use Rattle.cov_serve.specs.Adding.{command_added, ended_by, confirmed};
 ghost use Rattle.cov_serve.specs.Step.{acted, as_outcome, plainly, refused};
 ghost use Rattle.cov_serve.specs.Storing.{gated, grown, stored};
 ghost use Rattle.cov_session.specs.Named.{named};
 ghost use Rattle.cov_store.specs.Stands.{IsStored};
 
-use crate::adding::tell;
-use crate::handled::{Addition, Handled, Telling};
+use crate::adding::confirm;
+use crate::handled::{Addition, Confirmation, Handled};
 use crate::server::Server;
 use crate::stop::Stop;
 use cov_base::{Memory, Name};
@@ -23,8 +23,8 @@ use cov_loop::{Ending, LineServer, Reply};
 use cov_script::Code;
 
 impl LineServer for Server {
-    ghost use Rattle.cov_serve.specs.Growth.{commands_told, counts_rise, long_kept, stored_told};
-    ghost use Rattle.cov_serve.specs.Laws.{silent_kept, refusal_told, rows_told};
+    ghost use Rattle.cov_serve.specs.Growth.{commands_told, counts_rise, stored_told};
+    ghost use Rattle.cov_serve.specs.Laws.{long_kept, silent_kept, refusal_told, rows_told};
     ghost use Rattle.cov_serve.specs.Step.{step};
     ghost use Rattle.cov_serve.specs.Storing.{count, gated, stored};
 
@@ -88,11 +88,11 @@ impl Server {
         let Addition {
             command,
             ends,
-            telling,
+            confirmation,
         } = addition;
         match self.append(command, disk) {
             Ok(added) => match added {
-                Ok(receipt) => self.finish(&ends, telling, &receipt),
+                Ok(receipt) => self.finish(&ends, confirmation, &receipt),
                 Err(stop) => self.stop(&stop),
             },
             Err(ending) => Err(ending),
@@ -103,17 +103,17 @@ impl Server {
     fn finish(
         &mut self,
         ends: &Option<Name>,
-        telling: Telling,
+        confirmation: Confirmation,
         receipt: &Receipt,
     ) -> Result<Reply, Ending>
         requires { IfSome ends.now (λ name. is_some (named self.old.sessions name) ≡ true) }
         ensures ended { self.new ≡ ended_by self.old ends.now }
-        ensures gives { IfOk result (IsPlain (told_by telling receipt.now.number receipt.now.position)) }
+        ensures gives { IfOk result (IsPlain (confirmed confirmation receipt.now.number receipt.now.position)) }
         ensures stopped { (disk disk' : ℕ) → IfErr result (λ ending. StopsAnswer ending disk disk') }
     {
         let alloc = self.state.alloc;
         self.state.end(ends);
-        match tell(alloc, telling, receipt) {
+        match confirm(alloc, confirmation, receipt) {
             Ok(text) => Ok(Reply::to_done(alloc, text)),
             Err(Memory) => Err(Ending::NoMemory),
         }

@@ -2,7 +2,7 @@
 ghost use Rattle.cov_serve.specs.Acting.{Handles};
 ghost use Rattle.cov_serve.specs.Step.{plainly, declared, constrained, preferred, defaulted};
 
-use crate::handled::{Handled, Telling};
+use crate::handled::{Confirmation, Handled};
 use crate::state::ServerState;
 use crate::stop::Stop;
 use cov_base::{OptionId, OptionName, Text};
@@ -17,7 +17,7 @@ impl ServerState {
     {
         let name = OptionName::read(self.alloc, token.as_slice())?;
         let reply = reply_option(self.alloc, OptionId::new(self.engine.options().count()))?;
-        Ok(Handled::to_declare(Command::Option { name }, Telling::Known(reply)))
+        Ok(Handled::to_declare(Command::Option { name }, Confirmation::Known(reply)))
     }
 
     #[tactic(auto, unfolding(crate::specs::Step::constrained))]
@@ -25,7 +25,7 @@ impl ServerState {
         ensures { Handles (plainly (constrained self.now expr.now)) self.now self.now result }
     {
         let expr = self.find_expression(expr)?;
-        Ok(Handled::to_declare(Command::Constraint { expr }, Telling::Constraint))
+        Ok(Handled::to_declare(Command::Constraint { expr }, Confirmation::Constraint))
     }
 
     #[tactic(auto, unfolding(crate::specs::Step::preferred))]
@@ -33,7 +33,7 @@ impl ServerState {
         ensures { Handles (plainly (preferred self.now expr.now)) self.now self.now result }
     {
         let expr = self.find_expression(expr)?;
-        Ok(Handled::to_declare(Command::Prefer { expr }, Telling::Prefer))
+        Ok(Handled::to_declare(Command::Prefer { expr }, Confirmation::Prefer))
     }
 
     /// Sets the default of an option.
@@ -42,6 +42,6 @@ impl ServerState {
         ensures { Handles (plainly (defaulted self.now token on)) self.now self.now result }
     {
         let option = self.find_option(token)?;
-        Ok(Handled::to_declare(Command::Default { option, on }, Telling::Default))
+        Ok(Handled::to_declare(Command::Default { option, on }, Confirmation::Default))
     }
 }

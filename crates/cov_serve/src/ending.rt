@@ -2,7 +2,7 @@
 ghost use Rattle.cov_serve.specs.Acting.{Acts, Handles};
 ghost use Rattle.cov_serve.specs.Step.{plainly, committed, dropped};
 
-use crate::handled::{Addition, Handled, Telling};
+use crate::handled::{Addition, Confirmation, Handled};
 use crate::state::ServerState;
 use crate::stop::Stop;
 use cov_base::{Name, Text};
@@ -18,7 +18,7 @@ impl ServerState {
         Ok(Handled::Adds(Addition {
             command,
             ends: Some(name),
-            telling: Telling::Commit,
+            confirmation: Confirmation::Commit,
         }))
     }
 

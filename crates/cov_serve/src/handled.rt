@@ -21,12 +21,12 @@ pub(crate) struct Addition {
     pub(crate) command: Command,
     /// The session that ends with it, if one does.
     pub(crate) ends: Option<Name>,
-    pub(crate) telling: Telling,
+    pub(crate) confirmation: Confirmation,
 }
 
-/// The reply to a command that is added.
+/// How a command that is added is confirmed.
 #[derive(Drop)]
-pub(crate) enum Telling {
+pub(crate) enum Confirmation {
     /// It is known before.
     Known(Text),
     /// It gives the number of the constraint.
@@ -41,13 +41,13 @@ pub(crate) enum Telling {
 
 impl Handled {
     /// A command that declares something, with which no session ends, is added.
-    pub(crate) fn to_declare(command: Command, telling: Telling) -> Handled
-        ensures { result ≡ Adds (record { command = command; ends = None; telling = telling }) }
+    pub(crate) fn to_declare(command: Command, confirmation: Confirmation) -> Handled
+        ensures { result ≡ Adds (record { command = command; ends = None; confirmation = confirmation }) }
     {
         Handled::Adds(Addition {
             command,
             ends: None,
-            telling,
+            confirmation,
         })
     }
 }

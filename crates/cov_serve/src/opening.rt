@@ -1,7 +1,7 @@
 // How a session is opened, and refreshed.
 ghost use Rattle.std.specs.Prelude.{◌≡◌};
 ghost use Rattle.cov_serve.specs.Acting.{Acts};
-ghost use Rattle.cov_serve.specs.Step.{begun, rebegun};
+ghost use Rattle.cov_serve.specs.Step.{opened, refreshed};
 
 use crate::state::ServerState;
 use crate::stop::Stop;
@@ -11,14 +11,14 @@ use cov_script::{reply_open, reply_refresh};
 
 impl ServerState {
     /// Opens a session by a name that no open one has.
-    #[tactic(auto, unfolding(crate::specs::Step::begun))]
+    #[tactic(auto, unfolding(crate::specs::Step::opened))]
     pub(crate) fn open(
         &mut self,
         name: Name,
         choice: &RawChoice,
         ambition: &RawExpr,
     ) -> Result<Text, Stop>
-        ensures { Acts (begun self.old name choice.now ambition.now) self.old self.new result }
+        ensures { Acts (opened self.old name choice.now ambition.now) self.old self.new result }
     {
         let partial = self.find_partial(choice)?;
         let ambition = self.find_expression(ambition)?;
@@ -30,9 +30,9 @@ impl ServerState {
     }
 
     /// Moves the base of a session to now.
-    #[tactic(auto, unfolding(crate::specs::Step::rebegun))]
+    #[tactic(auto, unfolding(crate::specs::Step::refreshed))]
     pub(crate) fn refresh(&mut self, name: &Name) -> Result<Text, Stop>
-        ensures { Acts (rebegun self.old name.now) self.old self.new result }
+        ensures { Acts (refreshed self.old name.now) self.old self.new result }
     {
         let opened = self.sessions.refresh(&mut self.engine, name)?;
         let options = self.engine.options();

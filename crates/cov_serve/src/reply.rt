@@ -19,7 +19,7 @@ pub(crate) trait Told {
 }
 
 impl Told for FileRow {
-    ghost use Rattle.cov_serve.specs.Listing.{file_line};
+    ghost use Rattle.cov_serve.specs.Replies.{file_line};
 
     ghost line = { file_line };
 
@@ -29,7 +29,7 @@ impl Told for FileRow {
 }
 
 impl Told for ViewLine {
-    ghost use Rattle.cov_serve.specs.Listing.{view_line};
+    ghost use Rattle.cov_serve.specs.Replies.{view_line};
 
     ghost line = { view_line };
 

@@ -1,20 +1,25 @@
-// What a line does, by its form, and its reply.
-ghost use Rattle.std.specs.Prelude.{◌≡◌, ◌≤◌, false, IfOk};
+// What a line does, by its group, and its reply.
+ghost use Rattle.std.specs.Prelude.{IfOk};
 ghost use Rattle.cov_edit.specs.History.{option_count};
 ghost use Rattle.cov_loop.specs.Answers.{Gives};
 ghost use Rattle.cov_script.specs.Replies.{IsCodeOf};
 ghost use Rattle.cov_serve.specs.Acting.{Acts, Handles};
-ghost use Rattle.cov_serve.specs.Adding.{adds};
-ghost use Rattle.cov_serve.specs.Step.{acted, done, refused, served, served_edit, served_session, served_text};
-ghost use Rattle.cov_serve.specs.Texts.{HasParts};
+ghost use Rattle.cov_serve.specs.Growth.{Keeps};
+ghost use Rattle.cov_serve.specs.States.{State};
+ghost use Rattle.cov_serve.specs.Step.{Act, acted, plainly, refused, served, served_declaration, served_edit, served_question, served_session};
+ghost use Rattle.cov_serve.specs.Texts.{EditHasParts, HasParts};
 
 use crate::handled::Handled;
 use crate::state::ServerState;
 use crate::stop::Stop;
-use cov_base::{Kind, LineNo, MOST_SCRIPT_LINE_BYTES, Memory, Text};
+use cov_base::{Kind, LineNo, MOST_SCRIPT_LINE_BYTES, Memory, Name, Text};
 use cov_loop::{Answer, Reply};
 use cov_out::OutRows;
-use cov_script::{Code, Line, lines_read_as_spelt, read_line, reply_refused};
+use cov_script::{
+    Code, Declaration, EditLine, GroupedLine, Question, SessionLine, lines_read_as_spelt,
+    read_line, reply_refused,
+};
+use std::alloc::Global;
 
 impl ServerState {
     /// The reply that refuses a line.
@@ -39,121 +44,98 @@ impl ServerState {
         }
         lines_read_as_spelt();
         let form = read_line(self.alloc, line)?;
-        self.do_form(form)
+        self.serve(form.grouped())
     }
 
-    #[tactic(auto, unfolding(crate::specs::Step::done, crate::specs::Step::served, crate::specs::Step::served_session))]
-    fn do_form(&mut self, form: Line) -> Result<Handled, Stop>
-        requires { HasParts form }
-        ensures { Handles (done self.old form) self.old self.new result }
-    {
-        match form {
-            Line::Option { token } => self.declare(&token),
-            Line::Constraint { expr } => self.constrain(&expr),
-            Line::Prefer { expr } => self.prefer(&expr),
-            Line::Default { token, on } => self.set_default(token, on),
-            Line::Commit { name } => self.commit(name),
-            form => self.do_here(form),
-        }
-    }
-
-    // Does what a line says that adds no command.
-    #[tactic(auto, unfolding(crate::specs::Step::done))]
-    fn do_here(&mut self, form: Line) -> Result<Handled, Stop>
-        requires parts { HasParts form }
-        requires kind { adds form ≡ false }
-        ensures { Handles (done self.old form) self.old self.new result }
-    {
-        match form {
-            Line::Checkout { tree, choice } => match self.check_out(&tree, &choice) {
-                Ok(reply) => Ok(Handled::Done(reply)),
-                Err(stop) => Err(stop),
-            },
-            form => match self.serve(form) {
-                Ok(text) => Ok(Handled::Done(Reply::to_done(self.alloc, text))),
-                Err(stop) => Err(stop),
-            },
-        }
-    }
-
-    // Does what a line says that writes no rows and adds no command.
     #[tactic(auto, unfolding(crate::specs::Step::served))]
-    fn serve(&mut self, line: Line) -> Result<Text, Stop>
-        requires parts { HasParts line }
-        requires kind { adds line ≡ false }
-        ensures { Acts (served self.old line) self.old self.new result }
+    fn serve(&mut self, line: GroupedLine) -> Result<Handled, Stop>
+        requires { HasParts line }
+        ensures { Handles (served self.old line) self.old self.new result }
     {
         match line {
-            Line::Complete { choice } => self.complete(&choice),
-            Line::Cat { choice, path } => self.tell(&choice, &path),
-            Line::Alt {
+            GroupedLine::Silent => Ok(Handled::Done(Reply::to_done(
+                self.alloc,
+                Text::new(self.alloc),
+            ))),
+            GroupedLine::Declaration(declaration) => self.serve_declaration(declaration),
+            GroupedLine::Session(line) => self.serve_session(line),
+            GroupedLine::Edit { name, edit } => as_done(self.alloc, self.serve_edit(&name, edit)),
+            GroupedLine::Question(question) => as_done(self.alloc, self.serve_question(question)),
+            GroupedLine::Checkout { tree, choice } => self.check_out(&tree, &choice),
+        }
+    }
+
+    #[tactic(auto, unfolding(crate::specs::Step::served_declaration))]
+    fn serve_declaration(&self, declaration: Declaration) -> Result<Handled, Stop>
+        ensures { Handles (plainly (served_declaration self.now declaration)) self.now self.now result }
+    {
+        match declaration {
+            Declaration::Option { token } => self.declare(&token),
+            Declaration::Constraint { expr } => self.constrain(&expr),
+            Declaration::Prefer { expr } => self.prefer(&expr),
+            Declaration::Default { token, on } => self.set_default(token, on),
+        }
+    }
+
+    #[tactic(auto, unfolding(crate::specs::Step::served_session))]
+    fn serve_session(&mut self, line: SessionLine) -> Result<Handled, Stop>
+        ensures { Handles (plainly (served_session self.old line)) self.old self.new result }
+    {
+        match line {
+            SessionLine::Open {
+                name,
+                choice,
+                ambition,
+            } => as_done(self.alloc, self.open(name, &choice, &ambition)),
+            SessionLine::Refresh { name } => as_done(self.alloc, self.refresh(&name)),
+            SessionLine::Commit { name } => self.commit(name),
+            SessionLine::Discard { name } => as_done(self.alloc, self.discard(&name)),
+        }
+    }
+
+    #[tactic(auto, unfolding(crate::specs::Step::served_edit))]
+    fn serve_edit(&mut self, name: &Name, edit: EditLine) -> Result<Text, Stop>
+        requires { EditHasParts edit }
+        ensures { Acts (served_edit self.old name.now edit) self.old self.new result }
+    {
+        match edit {
+            EditLine::MakeDir { path } => self.make_node(Kind::Dir, name, &path),
+            EditLine::MakeFile { path } => self.make_node(Kind::File, name, &path),
+            EditLine::Rename { path, to } => self.rename(name, &path, to),
+            EditLine::Move { path, target } => self.move_node(name, &path, &target),
+            EditLine::Remove { path } => self.remove(name, &path),
+            EditLine::Insert { path, line, text } => self.insert(name, &path, line, text),
+            EditLine::Delete { path, line } => self.delete(name, &path, line),
+            EditLine::Replace { path, line, text } => self.replace(name, &path, line, text),
+        }
+    }
+
+    #[tactic(auto, unfolding(crate::specs::Step::served_question))]
+    fn serve_question(&mut self, question: Question) -> Result<Text, Stop>
+        ensures { Acts (served_question self.old question) self.old self.new result }
+    {
+        match question {
+            Question::Complete { choice } => self.complete(&choice),
+            Question::Show { name, path } => self.show(&name, &path),
+            Question::List { name, path } => self.list(&name, &path),
+            Question::Cat { choice, path } => self.tell(&choice, &path),
+            Question::Alt {
                 choice,
                 token,
                 path,
             } => self.compare(&choice, token, &path),
-            Line::Presence { line } => self.locate(LineNo::new(line)),
-            line => self.serve_session(line),
+            Question::Presence { line } => self.presence(LineNo::new(line)),
         }
     }
+}
 
-    // Does what a line says that opens, tells or gives up a session.
-    #[tactic(auto, unfolding(crate::specs::Step::served_session))]
-    fn serve_session(&mut self, line: Line) -> Result<Text, Stop>
-        requires parts { HasParts line }
-        requires kind { adds line ≡ false }
-        ensures { Acts (served_session self.old line) self.old self.new result }
-    {
-        match line {
-            Line::OpenSession {
-                name,
-                choice,
-                ambition,
-            } => self.open(name, &choice, &ambition),
-            Line::Refresh { name } => self.refresh(&name),
-            Line::Show { name, path } => self.show(&name, &path),
-            Line::List { name, path } => self.list(&name, &path),
-            Line::Discard { name } => self.discard(&name),
-            line => self.serve_edit(line),
-        }
-    }
-
-    // Does what a line says that edits nodes or lines in a session.
-    #[tactic(auto, unfolding(crate::specs::Step::served_edit))]
-    fn serve_edit(&mut self, line: Line) -> Result<Text, Stop>
-        requires { HasParts line }
-        ensures { Acts (served_edit self.old line) self.old self.new result }
-    {
-        match line {
-            Line::MakeDir { name, path } => self.make_node(Kind::Dir, &name, &path),
-            Line::MakeFile { name, path } => self.make_node(Kind::File, &name, &path),
-            Line::Rename { name, path, to } => self.rename(&name, &path, to),
-            Line::Move { name, path, target } => self.move_node(&name, &path, &target),
-            Line::Remove { name, path } => self.remove(&name, &path),
-            line => self.serve_text(line),
-        }
-    }
-
-    // Does what a line says that edits lines in a session; a line of no other form has no reply.
-    #[tactic(auto, unfolding(crate::specs::Step::served_text))]
-    fn serve_text(&mut self, line: Line) -> Result<Text, Stop>
-        requires { HasParts line }
-        ensures { Acts (served_text self.old line) self.old self.new result }
-    {
-        match line {
-            Line::Insert {
-                name,
-                path,
-                line,
-                text,
-            } => self.insert(&name, &path, line, text),
-            Line::Delete { name, path, line } => self.delete(&name, &path, line),
-            Line::Replace {
-                name,
-                path,
-                line,
-                text,
-            } => self.replace(&name, &path, line, text),
-            _ => Ok(Text::new(self.alloc)),
-        }
+// What a line comes to that adds no command.
+fn as_done(alloc: Global, told: Result<Text, Stop>) -> Result<Handled, Stop>
+    ensures { (wanted : Act) (old new : State) → Keeps old wanted → Acts wanted old new told →
+        Handles (plainly wanted) old new result }
+{
+    match told {
+        Ok(text) => Ok(Handled::Done(Reply::to_done(alloc, text))),
+        Err(stop) => Err(stop),
     }
 }

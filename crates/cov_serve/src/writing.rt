@@ -2,10 +2,11 @@
 ghost use Rattle.std.specs.Prelude.{◌≡◌, ◌<◌, ◌^◌, length, IfOk};
 ghost use Rattle.cov_edit.specs.Replay.{replay};
 ghost use Rattle.cov_view.specs.Tree.{tree_of};
-ghost use Rattle.cov_serve.specs.Acting.{Does};
+ghost use Rattle.cov_serve.specs.Acting.{Handles};
 ghost use Rattle.cov_serve.specs.Step.{checked_out};
 ghost use Rattle.cov_serve.specs.Written.{TellsTree, bytes_if_file, row_in, rows_in};
 
+use crate::handled::Handled;
 use crate::state::ServerState;
 use crate::stop::Stop;
 use cov_base::{Choice, Kind, Memory, Name, Text};
@@ -21,8 +22,8 @@ impl ServerState {
     /// Makes the tree of the variant of the choice to which the rules complete bindings, and uses its name. Nothing is written
     /// yet: the reply has the rows that are to come before it.
     #[tactic(auto, unfolding(crate::specs::Step::checked_out))]
-    pub(crate) fn check_out(&mut self, tree: &Name, choice: &RawChoice) -> Result<Reply, Stop>
-        ensures { Does (checked_out self.old tree.now choice.now) self.old self.new result }
+    pub(crate) fn check_out(&mut self, tree: &Name, choice: &RawChoice) -> Result<Handled, Stop>
+        ensures { Handles (checked_out self.old tree.now choice.now) self.old self.new result }
     {
         let partial = self.find_partial(choice)?;
         if self.trees.contains(tree.as_slice()) {
@@ -30,7 +31,7 @@ impl ServerState {
         }
         let choice = self.complete_partial(&partial)?;
         self.trees.add(tree.as_slice())?;
-        Ok(self.make_tree(tree, choice)?)
+        Ok(Handled::Done(self.make_tree(tree, choice)?))
     }
 
     // The rows and the reply of the tree of a choice.

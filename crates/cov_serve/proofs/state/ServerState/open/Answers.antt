@@ -7,10 +7,10 @@ use Rattle.cov_serve.specs.Acting.{Acts, Stops}
 use Rattle.cov_serve.specs.Codes.{session_code}
 use Rattle.cov_serve.specs.Finding.{by_code}
 use Rattle.cov_serve.specs.States.{State}
-use Rattle.cov_serve.specs.Step.{begun}
+use Rattle.cov_serve.specs.Step.{opened}
 use Rattle.cov_serve.specs.Stops.{session_stop}
 use Rattle.cov_serve.proofs.Acted.{stopped, stops-later}
-use Rattle.cov_serve.proofs.Opened.{among-whole, begun-as, with_opened}
+use Rattle.cov_serve.proofs.Opened.{among-whole, opened-as, with_opened}
 use Rattle.cov_serve.proofs.SessionFaults.{fault-stops}
 use Rattle.cov_serve.proofs.state.ServerState.open.Goals as goal
 
@@ -27,8 +27,8 @@ returns-in_err-opened c =
     let same =
     ap (λ h. record { history = h; sessions = map as_named c.open.new.self; trees = c.self.inside.trees }) c.in_err-opened.ensures.history
     ∙ ap (λ ss. record { history = c.self.inside.engine.history; sessions = map as_named ss; trees = c.self.inside.trees }) c.in_err-opened.ensures.same ∙ c.self.view_is in
-    stopped (Acts (begun st name c.args.choice.now c.args.ambition.now) st new) c.from_residual-in_err-opened.result _ c.from_residual-in_err-opened.ensures.1
-    (subst (λ wanted. Stops wanted st new (session_stop fault)) (sym (begun-as st name c.args.choice.now c.args.ambition.now partial within bound expr))
+    stopped (Acts (opened st name c.args.choice.now c.args.ambition.now) st new) c.from_residual-in_err-opened.result _ c.from_residual-in_err-opened.ensures.1
+    (subst (λ wanted. Stops wanted st new (session_stop fault)) (sym (opened-as st name c.args.choice.now c.args.ambition.now partial within bound expr))
     (stops-later (by_code session_code (opened_among st.history st.sessions name partial within)) (with_opened st name c.args.choice.now c.args.ambition.now partial within bound expr) st new (session_stop fault)
     (fault-stops (opened_among st.history st.sessions name partial within) st new fault same
     (subst (λ (t : State). IsSessionFaultOf (opened_among t.history t.sessions name partial within) fault) c.self.view_is c.in_err-opened.ensures.refused)

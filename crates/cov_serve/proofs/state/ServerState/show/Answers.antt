@@ -1,7 +1,6 @@
 use Rattle.std.proofs.Common.{◌∙◌, ap}
 use Rattle.cov_serve.specs.Acting.{Acts}
-use Rattle.cov_serve.specs.Listing.{view_line}
-use Rattle.cov_serve.specs.Replies.{lines_reply}
+use Rattle.cov_serve.specs.Replies.{lines_reply, view_line}
 use Rattle.cov_serve.proofs.Acted.{stopped}
 use Rattle.cov_serve.proofs.Spoken.{at-path}
 use Rattle.cov_serve.proofs.ToldFiles.{read-stops, shown-lines}

@@ -3,8 +3,7 @@ use Rattle.std.proofs.Math.Seq.{take-length}
 use Rattle.cov_edit.specs.Replay.{replay}
 use Rattle.cov_edit.specs.Variant.{lines_of}
 use Rattle.cov_engine.specs.Reading.{IsFileAt, line_row}
-use Rattle.cov_serve.specs.Listing.{file_line}
-use Rattle.cov_serve.specs.Replies.{lines_reply}
+use Rattle.cov_serve.specs.Replies.{file_line, lines_reply}
 use Rattle.cov_serve.specs.States.{State}
 use Rattle.cov_serve.proofs.ToldFiles.{told-lines}
 use Rattle.cov_serve.proofs.state.ServerState.tell_at.Goals as goal

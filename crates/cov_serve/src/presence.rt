@@ -3,7 +3,7 @@ ghost use Rattle.std.specs.Prelude.{◌≡◌, ◌<◌, true, length, IfOk};
 ghost use Rattle.cov_vis.specs.Listings.{has_options_below};
 ghost use Rattle.cov_serve.specs.Acting.{Acts};
 ghost use Rattle.cov_serve.specs.Replies.{entry_line, presence_reply, target_of};
-ghost use Rattle.cov_serve.specs.Step.{located};
+ghost use Rattle.cov_serve.specs.Step.{presence_told};
 
 use crate::state::ServerState;
 use crate::stop::Stop;
@@ -15,9 +15,9 @@ use std::alloc::Global;
 
 impl ServerState {
     /// Tells the one reduced listing of the choices on which a line is, its file there or not.
-    #[tactic(auto, unfolding(crate::specs::Step::located))]
-    pub(crate) fn locate(&self, line: LineNo) -> Result<Text, Stop>
-        ensures { Acts (located self.now line) self.now self.now result }
+    #[tactic(auto, unfolding(crate::specs::Step::presence_told))]
+    pub(crate) fn presence(&self, line: LineNo) -> Result<Text, Stop>
+        ensures { Acts (presence_told self.now line) self.now self.now result }
     {
         let listing = self.engine.presence(line)?;
         Ok(presence_reply(self.alloc, self.engine.options(), &listing)?)

@@ -1,7 +1,7 @@
 use Rattle.std.proofs.Common.{◌≡◌, ◌++◌, ◌+◌, ◌<◌, length, true, nat_lt}
 use Rattle.std.specs.List.{list_all}
 use Rattle.cov_serve.specs.Replies.{entry_lines}
-use Rattle.cov_serve.proofs.locating.presence_reply.Given as goal
+use Rattle.cov_serve.proofs.presence.presence_reply.Given as goal
 
 abbrev pub invariant-entries : goal.invariant-entries
 invariant-entries l = record {
