@@ -4,6 +4,7 @@ pub mod Committed
 pub mod Dating
 pub mod Deciding
 pub mod Judging
+pub mod Keeping
 pub mod FileLines
 pub mod FileOfLine
 pub mod Fresh

@@ -114,15 +114,11 @@ module _ (history : List Command) (k : Command) (base : ℕ) (choice : List Bool
 
   -- what is staged for a commit is what its command wants
   module _ (os : ℕ) (ts : List Triple) (rules : RulesValue) (spare : ℕ) (commits : List CommitMark) (file_of_line : List ℕ) (entries : Dated) (stored : List FilePart) where
-    as-staged : (r : Ready) → IsStagedReady history ts ambition es spare commits file_of_line entries stored r → IsReady history k os ts rules spare commits file_of_line entries stored r
+    pub as-staged : (r : Ready) → IsStagedReady history ts ambition es spare commits file_of_line entries stored r → IsReady history k os ts rules spare commits file_of_line entries stored r
     as-staged (ready.Option name) h = absurd h
     as-staged (ready.Rule rule plan) h = absurd h
     as-staged (ready.Commit mark counts plans rows) h =
         subst (λ c. IsCommitReady history ts c spare commits file_of_line entries stored mark counts plans.items rows) (sym is) (good, h.0, h.1, h.2)
-
-    pub all-staged : (r : Result Ready Refusal) → IfOk r (IsStagedReady history ts ambition es spare commits file_of_line entries stored) → IfOk r (IsReady history k os ts rules spare commits file_of_line entries stored)
-    all-staged (Ok r) h = as-staged r h
-    all-staged (Err e) h = tt
 
 -- what is the same but for rooms holds the same
 pub held-contents : (history : List Command) (ts : List Triple) (commits : List CommitMark) (file_of_line : List ℕ) (before after : Dated) (old now : List FilePart) → without_room after ≡ without_room before → map contents now ≡ map contents old

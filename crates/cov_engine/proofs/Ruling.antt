@@ -250,11 +250,7 @@ rule-of (commands.Commit base choice ambition es) not_option not_commit = absurd
 
 -- with what is held, a rule that is ready is what its command wants
 module _ (history : List Command) (k : Command) (os : ℕ) (ts : List Triple) (standing : RulesValue) (ks : ℕ) (commits : List CommitMark) (file_of_line : List ℕ) (entries : Dated) (stored : List FilePart) (held : IsHeldBy history ts commits file_of_line entries stored) where
-  as-ready : (r : Ready) → IsRuleReady k ts standing r → IsReady history k os ts standing ks commits file_of_line entries stored r
+  pub as-ready : (r : Ready) → IsRuleReady k ts standing r → IsReady history k os ts standing ks commits file_of_line entries stored r
   as-ready (ready.Option name) h = absurd h
   as-ready (ready.Rule rule plan) h = (h.0, h.1, held)
   as-ready (ready.Commit mark counts plans rows) h = absurd h
-
-  pub all-ready : (r : Result Ready Refusal) → IfOk r (IsRuleReady k ts standing) → IfOk r (IsReady history k os ts standing ks commits file_of_line entries stored)
-  all-ready (Ok r) h = as-ready r h
-  all-ready (Err e) h = tt

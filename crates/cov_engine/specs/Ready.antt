@@ -13,15 +13,17 @@ use Rattle.cov_tree.specs.declared.entry.Entry.{Entry}
 use Rattle.cov_tree.specs.Dated.{Dated}
 use Rattle.cov_rules.specs.Installing.{RulesValue, IsPlan}
 use Rattle.cov_engine.specs.Staging.{AreNear, AreLow}
-use Rattle.cov_engine.specs.Staged.{IsStaged}
+use Rattle.cov_engine.specs.Staged.{IsCommitPlan, IsStaged}
 use Rattle.cov_engine.specs.Holdings.{IsHeldBy}
 use Rattle.cov_engine.specs.Ruling.{rule_in}
+use Rattle.cov_engine.specs.States.{Declares, history_of, table_of}
 use Rattle.cov_history.specs.Sessions.{MayCome}
 use Rattle.cov_history.specs.Verdict.{verdict}
 use Rattle.cov_engine.specs.declared.counts.Counts.{Counts}
 use Rattle.cov_engine.specs.declared.file_part.FilePart.{FilePart}
 use Rattle.cov_engine.specs.declared.store.CommitMark.{CommitMark}
 use Rattle.cov_engine.specs.declared.edit_plan.EditPlan.{EditPlan}
+use Rattle.cov_engine.specs.declared.state.EngineState.{EngineState}
 use Rattle.cov_engine.specs.declared.ready.Ready.{Ready}
 use Rattle.cov_engine.specs.declared.ready.Ready.TheVariants as ready
 
@@ -67,3 +69,27 @@ IsReady history command options_spare ts rules commits_spare commits file_of_lin
     (rule_in command ≡ Some rule) × IsPlan ts rules rule plan × IsHeldBy history ts commits file_of_line entries stored
 IsReady history command options_spare ts rules commits_spare commits file_of_line entries stored (ready.Commit mark counts plans rows) =
     IsCommitReady history ts command commits_spare commits file_of_line entries stored mark counts plans.items rows
+
+-- a commit is planned in a state
+abbrev pub IsPlannedFor : EngineState → Formula ℕ → List Edit → CommitMark → List Entry → Type 0
+IsPlannedFor s ambition es mark plan =
+    IsCommitPlan (history_of s) (table_of s) s.visible.entries ambition es mark plan
+
+-- a state has what its history declares, and a commit is staged in it
+abbrev pub IsStagedFor : EngineState → Formula ℕ → List Edit → Ready → Type 0
+IsStagedFor s ambition es r =
+    Declares (history_of s) s
+    × IsStagedReady (history_of s) (table_of s) ambition es s.store.commits.spare
+    s.store.commits.items s.store.file_of_line.items s.visible.entries s.visible.files r
+
+-- a state has what its history declares, and what a command wants is ready in it
+abbrev pub IsReadyFor : EngineState → Command → Ready → Type 0
+IsReadyFor s command r =
+    Declares (history_of s) s
+    × IsReady (history_of s) command s.options.spare (table_of s) s.rules s.store.commits.spare
+    s.store.commits.items s.store.file_of_line.items s.visible.entries s.visible.files r
+
+-- a command is the next one of a state, and ready in it
+abbrev pub IsPrepared : EngineState → Command → Ready → Type 0
+IsPrepared s command r =
+    IsNext (history_of s) command s.commands.spare × IsReadyFor s command r

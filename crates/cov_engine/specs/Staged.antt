@@ -1,15 +1,19 @@
 -- A commit that is staged.
-use Rattle.std.specs.Prelude.{◌≡◌, ℕ, ◌+◌, ◌≤◌, List, length, map, ◌++◌}
+use Rattle.std.specs.Prelude.{◌≡◌, ℕ, ◌+◌, ◌≤◌, Bool, List, length, map, ◌++◌, None}
 use Rattle.std.specs.List.{AllByRecursion}
 use Rattle.cov_dd.specs.declared.triple.Triple.{Triple}
 use Rattle.cov_dd.specs.Diagrams.{Stands}
 use Rattle.cov_expr.specs.Formula.{Formula, reach, value}
 use Rattle.cov_edit.specs.declared.command.Command.{Command}
+use Rattle.cov_edit.specs.declared.command.Command.TheVariants as commands
 use Rattle.cov_edit.specs.declared.edit.Edit.{Edit}
 use Rattle.cov_edit.specs.History.{option_count}
 use Rattle.cov_edit.specs.Numbering.{numbers_of, line_count}
 use Rattle.cov_edit.specs.Touched.{touched}
+use Rattle.cov_history.specs.BadChoices.{unsound_refusal}
 use Rattle.cov_history.specs.FileOfLine.{new_file_of_line}
+use Rattle.cov_history.specs.Verdict.{RefusedBy}
+use Rattle.cov_history.specs.declared.refusal.Refusal.{Refusal}
 use Rattle.cov_engine.specs.Staging.{contents, new_files, HasRoom}
 use Rattle.cov_engine.specs.Holdings.{IsHeldBy}
 use Rattle.cov_engine.specs.Carrying.{ArePlanned}
@@ -49,3 +53,15 @@ pub record IsStaged (history : List Command) (ts : List Triple) (ambition : Form
   pub row_room : HasRowRoom plan entries
   pub stands : Stands ts mark.node 0 (option_count history) (value ambition)
   pub planned : ArePlanned (length history + 1) old_stored (numbers_of history).nodes (line_count history) mark.node ts (line_count history) es plans
+
+-- edits within an ambition leave each variant sound, whatever session they come from
+abbrev pub LeavesSound : List Command → Formula ℕ → List Edit → Type 0
+LeavesSound history ambition es =
+    (base : ℕ) (choice : List Bool) →
+    unsound_refusal history ambition (commands.Commit base choice ambition es) ≡ None
+
+-- a refusal is that of the first variant that they leave unsound, or memory is wanting
+abbrev pub LeavesUnsound : List Command → Formula ℕ → List Edit → Refusal → Type 0
+LeavesUnsound history ambition es refusal =
+    (base : ℕ) (choice : List Bool) →
+    RefusedBy refusal (unsound_refusal history ambition (commands.Commit base choice ambition es))

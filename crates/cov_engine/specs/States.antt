@@ -9,9 +9,11 @@ use Rattle.cov_edit.specs.Limits.{limits_of}
 use Rattle.cov_edit.specs.Numbering.{line_count, node_count}
 use Rattle.cov_rules.specs.Installing.{Standing}
 use Rattle.cov_view.specs.Refusals.{first_of}
+use Rattle.cov_engine.specs.Holdings.{IsHeldBy}
 use Rattle.cov_engine.specs.Ruling.{AreRulesOf}
 use Rattle.cov_history.specs.Verdict.{IsLegal, name_refusals}
 use Rattle.cov_engine.specs.declared.counts.Counts.{Counts}
+use Rattle.cov_engine.specs.declared.state.EngineState.{EngineState}
 use Rattle.cov_history.specs.declared.refusal.Refusal.{Refusal}
 
 -- a history, and the table of the visibilities and rules that an engine keeps of it
@@ -38,6 +40,31 @@ pub record IsStateOf (history : List Command) (names : List (List ℕ)) (ts : Li
   pub rules : AreRulesOf history ts standing
   pub most : length history ≤ (limits_of history).commands
   pub counted : AreCountsOf history counts
+
+-- the history of a state, and its table
+abbrev pub history_of : EngineState → List Command
+history_of s = s.commands.commands
+
+abbrev pub table_of : EngineState → List Triple
+table_of s = s.visible.table
+
+-- a state's options, rules and counts are those of a history
+abbrev pub Declares : List Command → EngineState → Type 0
+Declares history s = IsStateOf history s.options.names (table_of s) s.rules.standing s.counts
+
+-- so are its rows, files, lines and commits
+abbrev pub Contains : List Command → EngineState → Type 0
+Contains history s =
+    IsHeldBy history (table_of s) s.store.commits.items s.store.file_of_line.items
+    s.visible.entries s.visible.files
+
+-- a state keeps a history
+abbrev pub Keeps : List Command → EngineState → Type 0
+Keeps history s = Declares history s × Contains history s
+
+-- a state keeps its own history. While a command is prepared that isn't in it yet, what the command makes is there as well
+abbrev pub IsKept : EngineState → Type 0
+IsKept s = Keeps (history_of s) s
 
 -- the refusal of an option by its name, these being declared
 abbrev pub name_refusal : List (List ℕ) → List ℕ → Option Refusal

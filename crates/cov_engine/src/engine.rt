@@ -11,11 +11,10 @@ ghost use Rattle.cov_rules.specs.Completion.{Complete, IsCompletion, IsRefusalBy
 ghost use Rattle.cov_view.specs.Views.{Shows};
 ghost use Rattle.cov_vis.specs.Listings.{has_options_below, is_reduced, reads};
 ghost use Rattle.cov_history.specs.Files.{file_dated};
-ghost use Rattle.cov_engine.specs.Holdings.{IsHeldBy};
 ghost use Rattle.cov_history.specs.Kept.{kept_of};
 ghost use Rattle.cov_history.specs.Completing.{completed_in};
 ghost use Rattle.cov_engine.specs.Reading.{IsFileAt, line_row};
-ghost use Rattle.cov_engine.specs.States.{AreCountsOf, IsStateOf, receipt_number};
+ghost use Rattle.cov_engine.specs.States.{AreCountsOf, IsKept, history_of, table_of, receipt_number};
 ghost use Rattle.cov_history.specs.Verdict.{IsLegal, verdict, RefusedBy};
 ghost use Rattle.cov_engine.specs.Visibility.{IsVisibilityOf, as_row, has_line_number, is_no_line, is_refusal, presence_of};
 ghost use Rattle.cov_engine.specs.Visible.{IsWhole, shown};
@@ -51,16 +50,15 @@ impl Model for Engine {
     ghost use Rattle.std.specs.Coded.{codes};
     ghost use Rattle.cov_dd.specs.contracts.triple.Triple as triples;
     ghost use Rattle.cov_edit.specs.contracts.command.Command as row;
-    ghost use Rattle.cov_engine.specs.States.{EngineValue, IsStateOf};
-    ghost use Rattle.cov_engine.specs.Holdings.{IsHeldBy};
+    ghost use Rattle.cov_engine.specs.States.{EngineValue, IsKept, history_of, table_of};
 
     ghost Value = { EngineValue };
 
     ghost coded = { Prim.hlevel (codes, row.the_row.coded, triples.the_row.coded) };
 
-    ghost view = { λ e. record { history = e.state.commands.commands; table = e.state.visible.table } };
+    ghost view = { λ e. record { history = history_of e.state; table = table_of e.state } };
 
-    ghost invariant = { λ e. IsStateOf e.state.commands.commands e.state.options.names e.state.visible.table e.state.rules.standing e.state.counts × IsHeldBy e.state.commands.commands e.state.visible.table e.state.store.commits.items e.state.store.file_of_line.items e.state.visible.entries e.state.visible.files };
+    ghost invariant = { λ e. IsKept e.state };
 }
 
 impl Engine {
@@ -302,9 +300,8 @@ impl Engine {
     }
 
     pub(crate) fn of_state(state: EngineState) -> Engine
-        requires state { IsStateOf state.commands.commands state.options.names state.visible.table state.rules.standing state.counts }
-        requires held { IsHeldBy state.commands.commands state.visible.table state.store.commits.items state.store.file_of_line.items state.visible.entries state.visible.files }
-        ensures { result ≡ record { history = state.commands.commands; table = state.visible.table } }
+        requires { IsKept state }
+        ensures { result ≡ record { history = history_of state; table = table_of state } }
     {
         Engine { state }
     }

@@ -1,12 +1,11 @@
 // Commands that are installed, or given up.
 ghost use Rattle.std.specs.Prelude.{◌≡◌, ◌-◌, ◌++◌, ◌≤◌, [], ◌∷◌, map, take};
 ghost use Rattle.cov_edit.specs.Touched.{AreRising};
-ghost use Rattle.cov_engine.specs.Holdings.{IsHeldBy};
 ghost use Rattle.cov_engine.specs.Parts.{part_node, count_below};
 ghost use Rattle.cov_engine.specs.Staging.{contents, AreNear};
 ghost use Rattle.cov_edit.specs.History.{edits_in};
-ghost use Rattle.cov_engine.specs.Ready.{IsNext, IsReady};
-ghost use Rattle.cov_engine.specs.States.{IsStateOf, receipt_number};
+ghost use Rattle.cov_engine.specs.Ready.{IsPrepared};
+ghost use Rattle.cov_engine.specs.States.{history_of, table_of, receipt_number, IsKept, Keeps};
 ghost use Rattle.cov_engine.specs.declared.ready.Ready.TheVariants as ready;
 
 use crate::edit_plan::EditPlan;
@@ -24,15 +23,11 @@ use std::collections::VecDeque;
 
 /// Adds all of a command that is ready but the command itself, and answers the number on its receipt.
 pub(crate) fn add_ready(state: &mut EngineState, command: &Command, ready: Ready) -> u32
-    requires state { IsStateOf state.old.commands.commands state.old.options.names state.old.visible.table state.old.rules.standing state.old.counts }
-    requires next { IsNext state.old.commands.commands command.now state.old.commands.spare }
-    requires ready { IsReady state.old.commands.commands command.now state.old.options.spare state.old.visible.table state.old.rules
-        state.old.store.commits.spare state.old.store.commits.items state.old.store.file_of_line.items state.old.visible.entries state.old.visible.files ready }
+    requires prepared { IsPrepared state.old command.now ready }
     ensures commands { state.new.commands ≡ state.old.commands }
-    ensures table { state.new.visible.table ≡ state.old.visible.table }
-    ensures state { IsStateOf (state.old.commands.commands ++ command.now ∷ []) state.new.options.names state.new.visible.table state.new.rules.standing state.new.counts }
-    ensures held { IsHeldBy (state.old.commands.commands ++ command.now ∷ []) state.new.visible.table state.new.store.commits.items state.new.store.file_of_line.items state.new.visible.entries state.new.visible.files }
-    ensures number { result ≡ receipt_number state.old.commands.commands command.now }
+    ensures table { table_of state.new ≡ table_of state.old }
+    ensures kept { Keeps (history_of state.old ++ command.now ∷ []) state.new }
+    ensures number { result ≡ receipt_number (history_of state.old) command.now }
 {
     match ready {
         Ready::Option { name } => add_option(state, command, name),
@@ -47,29 +42,21 @@ pub(crate) fn add_ready(state: &mut EngineState, command: &Command, ready: Ready
 }
 
 fn add_option(state: &mut EngineState, command: &Command, name: OptionName) -> u32
-    requires state { IsStateOf state.old.commands.commands state.old.options.names state.old.visible.table state.old.rules.standing state.old.counts }
-    requires next { IsNext state.old.commands.commands command.now state.old.commands.spare }
-    requires ready { IsReady state.old.commands.commands command.now state.old.options.spare state.old.visible.table state.old.rules
-        state.old.store.commits.spare state.old.store.commits.items state.old.store.file_of_line.items state.old.visible.entries state.old.visible.files (ready.Option name) }
+    requires prepared { IsPrepared state.old command.now (ready.Option name) }
     ensures commands { state.new.commands ≡ state.old.commands }
-    ensures table { state.new.visible.table ≡ state.old.visible.table }
-    ensures state { IsStateOf (state.old.commands.commands ++ command.now ∷ []) state.new.options.names state.new.visible.table state.new.rules.standing state.new.counts }
-    ensures held { IsHeldBy (state.old.commands.commands ++ command.now ∷ []) state.new.visible.table state.new.store.commits.items state.new.store.file_of_line.items state.new.visible.entries state.new.visible.files }
-    ensures number { result ≡ receipt_number state.old.commands.commands command.now }
+    ensures table { table_of state.new ≡ table_of state.old }
+    ensures kept { Keeps (history_of state.old ++ command.now ∷ []) state.new }
+    ensures number { result ≡ receipt_number (history_of state.old) command.now }
 {
     u32::from(state.options.declare(name).number())
 }
 
 fn add_rule(state: &mut EngineState, command: &Command, rule: Rule, plan: RulePlan) -> u32
-    requires state { IsStateOf state.old.commands.commands state.old.options.names state.old.visible.table state.old.rules.standing state.old.counts }
-    requires next { IsNext state.old.commands.commands command.now state.old.commands.spare }
-    requires ready { IsReady state.old.commands.commands command.now state.old.options.spare state.old.visible.table state.old.rules
-        state.old.store.commits.spare state.old.store.commits.items state.old.store.file_of_line.items state.old.visible.entries state.old.visible.files (ready.Rule rule plan) }
+    requires prepared { IsPrepared state.old command.now (ready.Rule rule plan) }
     ensures commands { state.new.commands ≡ state.old.commands }
-    ensures table { state.new.visible.table ≡ state.old.visible.table }
-    ensures state { IsStateOf (state.old.commands.commands ++ command.now ∷ []) state.new.options.names state.new.visible.table state.new.rules.standing state.new.counts }
-    ensures held { IsHeldBy (state.old.commands.commands ++ command.now ∷ []) state.new.visible.table state.new.store.commits.items state.new.store.file_of_line.items state.new.visible.entries state.new.visible.files }
-    ensures number { result ≡ receipt_number state.old.commands.commands command.now }
+    ensures table { table_of state.new ≡ table_of state.old }
+    ensures kept { Keeps (history_of state.old ++ command.now ∷ []) state.new }
+    ensures number { result ≡ receipt_number (history_of state.old) command.now }
 {
     let at = Position::new(state.commands.len() as u32 + 1);
     state.rules.install(plan, rule, at)
@@ -83,15 +70,11 @@ fn add_commit(
     plans: VecDeque<EditPlan>,
     rows: EntryPlan,
 ) -> u32
-    requires state { IsStateOf state.old.commands.commands state.old.options.names state.old.visible.table state.old.rules.standing state.old.counts }
-    requires next { IsNext state.old.commands.commands command.now state.old.commands.spare }
-    requires ready { IsReady state.old.commands.commands command.now state.old.options.spare state.old.visible.table state.old.rules
-        state.old.store.commits.spare state.old.store.commits.items state.old.store.file_of_line.items state.old.visible.entries state.old.visible.files (ready.Commit mark counts plans rows) }
+    requires prepared { IsPrepared state.old command.now (ready.Commit mark counts plans rows) }
     ensures commands { state.new.commands ≡ state.old.commands }
-    ensures table { state.new.visible.table ≡ state.old.visible.table }
-    ensures state { IsStateOf (state.old.commands.commands ++ command.now ∷ []) state.new.options.names state.new.visible.table state.new.rules.standing state.new.counts }
-    ensures held { IsHeldBy (state.old.commands.commands ++ command.now ∷ []) state.new.visible.table state.new.store.commits.items state.new.store.file_of_line.items state.new.visible.entries state.new.visible.files }
-    ensures number { result ≡ receipt_number state.old.commands.commands command.now }
+    ensures table { table_of state.new ≡ table_of state.old }
+    ensures kept { Keeps (history_of state.old ++ command.now ∷ []) state.new }
+    ensures number { result ≡ receipt_number (history_of state.old) command.now }
 {
     install(
         &mut state.store,
@@ -108,14 +91,10 @@ fn add_commit(
 
 /// Gives up what is ready for a command.
 pub(crate) fn give_up(state: &mut EngineState, command: &Command, ready: &Ready)
-    requires state { IsStateOf state.old.commands.commands state.old.options.names state.old.visible.table state.old.rules.standing state.old.counts }
-    requires next { IsNext state.old.commands.commands command.now state.old.commands.spare }
-    requires ready { IsReady state.old.commands.commands command.now state.old.options.spare state.old.visible.table state.old.rules
-        state.old.store.commits.spare state.old.store.commits.items state.old.store.file_of_line.items state.old.visible.entries state.old.visible.files ready.now }
+    requires prepared { IsPrepared state.old command.now ready.now }
     ensures commands { state.new.commands ≡ state.old.commands }
-    ensures table { state.new.visible.table ≡ state.old.visible.table }
-    ensures state { IsStateOf state.new.commands.commands state.new.options.names state.new.visible.table state.new.rules.standing state.new.counts }
-    ensures held { IsHeldBy state.new.commands.commands state.new.visible.table state.new.store.commits.items state.new.store.file_of_line.items state.new.visible.entries state.new.visible.files }
+    ensures table { table_of state.new ≡ table_of state.old }
+    ensures kept { IsKept state.new }
 {
     match ready {
         Ready::Option { .. } | Ready::Rule { .. } => (),

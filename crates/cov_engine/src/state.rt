@@ -1,15 +1,12 @@
 // What an engine keeps.
-ghost use Rattle.std.specs.Prelude.{◌≡◌, ◌<◌, ◌≤◌, ◌+◌, ◌-◌, ℕ, List, Bool, length, None, IfOk, IfErr, OnOk, OnErr};
+ghost use Rattle.std.specs.Prelude.{◌≡◌, ◌<◌, ◌≤◌, ◌+◌, ◌-◌, ℕ, length, None, IfOk, IfErr, OnOk, OnErr};
 ghost use Rattle.cov_dd.specs.Diagrams.{diagram_size, Extends};
-ghost use Rattle.cov_edit.specs.declared.command.Command.TheVariants.{Commit};
 ghost use Rattle.cov_expr.specs.Formula.{Formula, reach};
-ghost use Rattle.cov_history.specs.BadChoices.{unsound_refusal};
-ghost use Rattle.cov_engine.specs.Staged.{IsCommitPlan};
 ghost use Rattle.cov_edit.specs.History.{option_count};
-ghost use Rattle.cov_engine.specs.Holdings.{IsHeldBy};
 ghost use Rattle.cov_engine.specs.Refusing.{early_refusal};
-ghost use Rattle.cov_engine.specs.States.{IsStateOf, name_refusal};
-ghost use Rattle.cov_engine.specs.Ready.{IsReady, IsInBounds, IsStagedReady};
+ghost use Rattle.cov_engine.specs.States.{history_of, table_of, name_refusal, IsKept};
+ghost use Rattle.cov_engine.specs.Staged.{LeavesSound, LeavesUnsound};
+ghost use Rattle.cov_engine.specs.Ready.{IsInBounds, IsPlannedFor, IsReadyFor, IsStagedFor};
 ghost use Rattle.cov_history.specs.Verdict.{verdict, RefusedBy};
 ghost use Rattle.cov_engine.specs.declared.ready.Ready.TheVariants as ready;
 
@@ -44,17 +41,14 @@ pub(crate) struct EngineState {
 
 /// Makes everything ready for a command, unless the history refuses it.
 pub(crate) fn make_ready(state: &mut EngineState, command: &Command) -> Result<Ready, Refusal>
-    requires state { IsStateOf state.old.commands.commands state.old.options.names state.old.visible.table state.old.rules.standing state.old.counts }
-    requires held { IsHeldBy state.old.commands.commands state.old.visible.table state.old.store.commits.items state.old.store.file_of_line.items state.old.visible.entries state.old.visible.files }
-    ensures history { state.new.commands.commands ≡ state.old.commands.commands }
-    ensures extends { Extends state.old.visible.table state.new.visible.table }
-    ensures state { IsStateOf state.new.commands.commands state.new.options.names state.new.visible.table state.new.rules.standing state.new.counts }
+    requires kept { IsKept state.old }
+    ensures history { history_of state.new ≡ history_of state.old }
+    ensures extends { Extends (table_of state.old) (table_of state.new) }
     ensures room { OnOk result (0 < state.new.commands.spare) }
-    ensures accepted { OnOk result (verdict state.old.commands.commands command.now ≡ None) }
-    ensures ready { IfOk result (IsReady state.new.commands.commands command.now state.new.options.spare state.new.visible.table state.new.rules
-        state.new.store.commits.spare state.new.store.commits.items state.new.store.file_of_line.items state.new.visible.entries state.new.visible.files) }
-    ensures refused { IfErr result (λ refusal. RefusedBy refusal (verdict state.old.commands.commands command.now)) }
-    ensures held { OnErr result (IsHeldBy state.new.commands.commands state.new.visible.table state.new.store.commits.items state.new.store.file_of_line.items state.new.visible.entries state.new.visible.files) }
+    ensures accepted { OnOk result (verdict (history_of state.old) command.now ≡ None) }
+    ensures ready { IfOk result (IsReadyFor state.new command.now) }
+    ensures refused { IfErr result (λ refusal. RefusedBy refusal (verdict (history_of state.old) command.now)) }
+    ensures kept { OnErr result (IsKept state.new) }
 {
     if state.commands.len() >= LIMITS.commands {
         return Err(Refusal::Full);
@@ -68,19 +62,16 @@ pub(crate) fn make_ready(state: &mut EngineState, command: &Command) -> Result<R
 
 // Makes everything ready for a command that isn't refused early, where the history isn't full.
 fn with_room(state: &mut EngineState, command: &Command) -> Result<Ready, Refusal>
-    requires state { IsStateOf state.old.commands.commands state.old.options.names state.old.visible.table state.old.rules.standing state.old.counts }
-    requires held { IsHeldBy state.old.commands.commands state.old.visible.table state.old.store.commits.items state.old.store.file_of_line.items state.old.visible.entries state.old.visible.files }
-    requires passes { early_refusal state.old.commands.commands command.now ≡ None }
-    requires few { length state.old.commands.commands < LIMITS.commands }
-    ensures history { state.new.commands.commands ≡ state.old.commands.commands }
-    ensures extends { Extends state.old.visible.table state.new.visible.table }
-    ensures state { IsStateOf state.new.commands.commands state.new.options.names state.new.visible.table state.new.rules.standing state.new.counts }
+    requires kept { IsKept state.old }
+    requires passes { early_refusal (history_of state.old) command.now ≡ None }
+    requires few { length (history_of state.old) < LIMITS.commands }
+    ensures history { history_of state.new ≡ history_of state.old }
+    ensures extends { Extends (table_of state.old) (table_of state.new) }
     ensures room { OnOk result (0 < state.new.commands.spare) }
-    ensures accepted { OnOk result (verdict state.old.commands.commands command.now ≡ None) }
-    ensures ready { IfOk result (IsReady state.new.commands.commands command.now state.new.options.spare state.new.visible.table state.new.rules
-        state.new.store.commits.spare state.new.store.commits.items state.new.store.file_of_line.items state.new.visible.entries state.new.visible.files) }
-    ensures refused { IfErr result (λ refusal. RefusedBy refusal (verdict state.old.commands.commands command.now)) }
-    ensures held { OnErr result (IsHeldBy state.new.commands.commands state.new.visible.table state.new.store.commits.items state.new.store.file_of_line.items state.new.visible.entries state.new.visible.files) }
+    ensures accepted { OnOk result (verdict (history_of state.old) command.now ≡ None) }
+    ensures ready { IfOk result (IsReadyFor state.new command.now) }
+    ensures refused { IfErr result (λ refusal. RefusedBy refusal (verdict (history_of state.old) command.now)) }
+    ensures kept { OnErr result (IsKept state.new) }
 {
     match state.commands.reserve() {
         Ok(()) => ready_for(state, command),
@@ -90,18 +81,15 @@ fn with_room(state: &mut EngineState, command: &Command) -> Result<Ready, Refusa
 
 // Makes ready what a command adds that isn't refused early, where there is room for one more.
 fn ready_for(state: &mut EngineState, command: &Command) -> Result<Ready, Refusal>
-    requires state { IsStateOf state.old.commands.commands state.old.options.names state.old.visible.table state.old.rules.standing state.old.counts }
-    requires held { IsHeldBy state.old.commands.commands state.old.visible.table state.old.store.commits.items state.old.store.file_of_line.items state.old.visible.entries state.old.visible.files }
-    requires passes { early_refusal state.old.commands.commands command.now ≡ None }
-    requires few { length state.old.commands.commands < LIMITS.commands }
+    requires kept { IsKept state.old }
+    requires passes { early_refusal (history_of state.old) command.now ≡ None }
+    requires few { length (history_of state.old) < LIMITS.commands }
     ensures commands { state.new.commands ≡ state.old.commands }
-    ensures extends { Extends state.old.visible.table state.new.visible.table }
-    ensures state { IsStateOf state.new.commands.commands state.new.options.names state.new.visible.table state.new.rules.standing state.new.counts }
-    ensures accepted { OnOk result (verdict state.old.commands.commands command.now ≡ None) }
-    ensures ready { IfOk result (IsReady state.new.commands.commands command.now state.new.options.spare state.new.visible.table state.new.rules
-        state.new.store.commits.spare state.new.store.commits.items state.new.store.file_of_line.items state.new.visible.entries state.new.visible.files) }
-    ensures refused { IfErr result (λ refusal. RefusedBy refusal (verdict state.old.commands.commands command.now)) }
-    ensures held { OnErr result (IsHeldBy state.new.commands.commands state.new.visible.table state.new.store.commits.items state.new.store.file_of_line.items state.new.visible.entries state.new.visible.files) }
+    ensures extends { Extends (table_of state.old) (table_of state.new) }
+    ensures accepted { OnOk result (verdict (history_of state.old) command.now ≡ None) }
+    ensures ready { IfOk result (IsReadyFor state.new command.now) }
+    ensures refused { IfErr result (λ refusal. RefusedBy refusal (verdict (history_of state.old) command.now)) }
+    ensures kept { OnErr result (IsKept state.new) }
 {
     let alloc = state.store.commits.allocator();
     match command {
@@ -168,18 +156,15 @@ fn name_refusal(options: &Options, name: &[u8]) -> Option<Refusal>
 
 // Stages a commit, unless it would leave a variant unsound.
 fn commit_ready(state: &mut EngineState, ambition: &Expr, edits: &Edits) -> Result<Ready, Refusal>
-    requires state { IsStateOf state.old.commands.commands state.old.options.names state.old.visible.table state.old.rules.standing state.old.counts }
-    requires held { IsHeldBy state.old.commands.commands state.old.visible.table state.old.store.commits.items state.old.store.file_of_line.items state.old.visible.entries state.old.visible.files }
-    requires reach { reach ambition.now ≤ option_count state.old.commands.commands }
-    requires fits { IsInBounds state.old.commands.commands edits.now }
+    requires kept { IsKept state.old }
+    requires reach { reach ambition.now ≤ option_count (history_of state.old) }
+    requires fits { IsInBounds (history_of state.old) edits.now }
     ensures commands { state.new.commands ≡ state.old.commands }
-    ensures extends { Extends state.old.visible.table state.new.visible.table }
-    ensures state { IsStateOf state.new.commands.commands state.new.options.names state.new.visible.table state.new.rules.standing state.new.counts }
-    ensures ready { IfOk result (IsStagedReady state.new.commands.commands state.new.visible.table ambition.now edits.now state.new.store.commits.spare
-        state.new.store.commits.items state.new.store.file_of_line.items state.new.visible.entries state.new.visible.files) }
-    ensures held { OnErr result (IsHeldBy state.new.commands.commands state.new.visible.table state.new.store.commits.items state.new.store.file_of_line.items state.new.visible.entries state.new.visible.files) }
-    ensures sound { OnOk result ((base : ℕ) (choice : List Bool) → unsound_refusal state.old.commands.commands ambition.now (Commit base choice ambition.now edits.now) ≡ None) }
-    ensures refused { IfErr result (λ refusal. (base : ℕ) (choice : List Bool) → RefusedBy refusal (unsound_refusal state.old.commands.commands ambition.now (Commit base choice ambition.now edits.now))) }
+    ensures extends { Extends (table_of state.old) (table_of state.new) }
+    ensures ready { IfOk result (IsStagedFor state.new ambition.now edits.now) }
+    ensures kept { OnErr result (IsKept state.new) }
+    ensures sound { OnOk result (LeavesSound (history_of state.old) ambition.now edits.now) }
+    ensures refused { IfErr result (LeavesUnsound (history_of state.old) ambition.now edits.now) }
 {
     let (mark, rows) = commit_planned(state, ambition, edits)?;
     Ok(commit_staged(state, mark, rows, edits)?)
@@ -191,17 +176,15 @@ fn commit_planned(
     ambition: &Expr,
     edits: &Edits,
 ) -> Result<(CommitMark, EntryPlan), Refusal>
-    requires state { IsStateOf state.old.commands.commands state.old.options.names state.old.visible.table state.old.rules.standing state.old.counts }
-    requires held { IsHeldBy state.old.commands.commands state.old.visible.table state.old.store.commits.items state.old.store.file_of_line.items state.old.visible.entries state.old.visible.files }
-    requires reach { reach ambition.now ≤ option_count state.old.commands.commands }
-    requires fits { IsInBounds state.old.commands.commands edits.now }
+    requires kept { IsKept state.old }
+    requires reach { reach ambition.now ≤ option_count (history_of state.old) }
+    requires fits { IsInBounds (history_of state.old) edits.now }
     ensures commands { state.new.commands ≡ state.old.commands }
-    ensures extends { Extends state.old.visible.table state.new.visible.table }
-    ensures state { IsStateOf state.new.commands.commands state.new.options.names state.new.visible.table state.new.rules.standing state.new.counts }
-    ensures held { IsHeldBy state.new.commands.commands state.new.visible.table state.new.store.commits.items state.new.store.file_of_line.items state.new.visible.entries state.new.visible.files }
-    ensures planned { IfOk result (λ planned. IsCommitPlan state.new.commands.commands state.new.visible.table state.new.visible.entries ambition.now edits.now planned.0 planned.1) }
-    ensures sound { OnOk result ((base : ℕ) (choice : List Bool) → unsound_refusal state.old.commands.commands ambition.now (Commit base choice ambition.now edits.now) ≡ None) }
-    ensures refused { IfErr result (λ refusal. (base : ℕ) (choice : List Bool) → RefusedBy refusal (unsound_refusal state.old.commands.commands ambition.now (Commit base choice ambition.now edits.now))) }
+    ensures extends { Extends (table_of state.old) (table_of state.new) }
+    ensures kept { IsKept state.new }
+    ensures planned { IfOk result (λ planned. IsPlannedFor state.new ambition.now edits.now planned.0 planned.1) }
+    ensures sound { OnOk result (LeavesSound (history_of state.old) ambition.now edits.now) }
+    ensures refused { IfErr result (LeavesUnsound (history_of state.old) ambition.now edits.now) }
 {
     let alloc = state.store.commits.allocator();
     let nodes = touched(edits)?;
@@ -254,18 +237,15 @@ fn commit_staged(
     rows: EntryPlan,
     edits: &Edits,
 ) -> Result<Ready, Memory>
-    requires state { IsStateOf state.old.commands.commands state.old.options.names state.old.visible.table state.old.rules.standing state.old.counts }
-    requires held { IsHeldBy state.old.commands.commands state.old.visible.table state.old.store.commits.items state.old.store.file_of_line.items state.old.visible.entries state.old.visible.files }
-    requires fits { IsInBounds state.old.commands.commands edits.now }
-    requires position { mark.position ≡ length state.old.commands.commands + 1 }
-    requires node { mark.node < diagram_size state.old.visible.table }
+    requires kept { IsKept state.old }
+    requires fits { IsInBounds (history_of state.old) edits.now }
+    requires position { mark.position ≡ length (history_of state.old) + 1 }
+    requires node { mark.node < diagram_size (table_of state.old) }
     ensures commands { state.new.commands ≡ state.old.commands }
-    ensures extends { Extends state.old.visible.table state.new.visible.table }
-    ensures state { IsStateOf state.new.commands.commands state.new.options.names state.new.visible.table state.new.rules.standing state.new.counts }
-    ensures ready { IfOk result (λ ready. (ambition : Formula ℕ) → IsCommitPlan state.old.commands.commands state.old.visible.table state.old.visible.entries ambition edits.now mark rows →
-        IsStagedReady state.new.commands.commands state.new.visible.table ambition edits.now state.new.store.commits.spare
-        state.new.store.commits.items state.new.store.file_of_line.items state.new.visible.entries state.new.visible.files ready) }
-    ensures held { OnErr result (IsHeldBy state.new.commands.commands state.new.visible.table state.new.store.commits.items state.new.store.file_of_line.items state.new.visible.entries state.new.visible.files) }
+    ensures extends { Extends (table_of state.old) (table_of state.new) }
+    ensures ready { IfOk result (λ ready. (ambition : Formula ℕ) →
+        IsPlannedFor state.old ambition edits.now mark rows → IsStagedFor state.new ambition edits.now ready) }
+    ensures kept { OnErr result (IsKept state.new) }
 {
     let alloc = state.store.commits.allocator();
     let counts = with_sizes(state.counts, measure(edits.as_slice()));

@@ -17,11 +17,11 @@ use Rattle.cov_engine.proofs.refusing.edit_refusal.Goals as goal
 
 pub first_refused-requires-clause-rising : goal.first_refused-requires-clause-rising
 first_refused-requires-clause-rising c =
-    let state = c.args.state.now in held-rise state.commands.commands state.visible.table state.store.commits.items state.store.file_of_line.items state.visible.entries state.visible.files c.requires.held
+    let state = c.args.state.now in held-rise state.commands.commands state.visible.table state.store.commits.items state.store.file_of_line.items state.visible.entries state.visible.files c.requires.kept.1
 
 pub first_refused-requires-clause-once : goal.first_refused-requires-clause-once
 first_refused-requires-clause-once c =
-    subst AreOnce (sym (c.requires.held.of_entries.rows c.args.choice c.args.base)) (replay-once c.args.choice (take c.args.base c.args.state.now.commands.commands))
+    subst AreOnce (sym (c.requires.kept.1.of_entries.rows c.args.choice c.args.base)) (replay-once c.args.choice (take c.args.base c.args.state.now.commands.commands))
 
 module _ (state : EngineState) (base : ℕ) (choice : List Bool) (es : List Edit)
     (told : IsStateOf state.commands.commands state.options.names state.visible.table state.rules.standing state.counts)
@@ -36,9 +36,9 @@ module _ (state : EngineState) (base : ℕ) (choice : List Bool) (es : List Edit
 pub returns-in-Some : goal.returns-in-Some
 returns-in-Some c =
     ap (option_map refusals.BadRecord) (sym c.in-Some.is)
-    ∙ told-found c.args.state.now c.args.base c.args.choice c.args.edits.now c.requires.state c.requires.held c.is_empty.result c.is_empty.ensures c.if-is_empty.false c.in_ok-edit.field-0 c.in_ok-edit.ensures
+    ∙ told-found c.args.state.now c.args.base c.args.choice c.args.edits.now c.requires.kept.0 c.requires.kept.1 c.is_empty.result c.is_empty.ensures c.if-is_empty.false c.in_ok-edit.field-0 c.in_ok-edit.ensures
 
 pub returns-in-None : goal.returns-in-None
 returns-in-None c =
     ap (option_map refusals.BadRecord) (sym c.in-None.is)
-    ∙ told-found c.args.state.now c.args.base c.args.choice c.args.edits.now c.requires.state c.requires.held c.is_empty.result c.is_empty.ensures c.if-is_empty.false c.in_ok-edit.field-0 c.in_ok-edit.ensures
+    ∙ told-found c.args.state.now c.args.base c.args.choice c.args.edits.now c.requires.kept.0 c.requires.kept.1 c.is_empty.result c.is_empty.ensures c.if-is_empty.false c.in_ok-edit.field-0 c.in_ok-edit.ensures
