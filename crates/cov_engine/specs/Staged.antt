@@ -15,14 +15,14 @@ use Rattle.cov_history.specs.FileOfLine.{new_file_of_line}
 use Rattle.cov_history.specs.Verdict.{RefusedBy}
 use Rattle.cov_history.specs.declared.refusal.Refusal.{Refusal}
 use Rattle.cov_engine.specs.Staging.{contents, new_files, HasRoom}
-use Rattle.cov_engine.specs.Holdings.{IsHeldBy}
+use Rattle.cov_engine.specs.Holdings.{AreRowsAndLinesOf}
 use Rattle.cov_engine.specs.Carrying.{ArePlanned}
 use Rattle.cov_engine.specs.RowPlans.{edit_changes, made_by, kinds_made_by}
 use Rattle.cov_tree.specs.declared.entry.Entry.{Entry}
 use Rattle.cov_tree.specs.Changes.{Makes}
 use Rattle.cov_tree.specs.Dated.{Dated, HasRoom as HasRowRoom, nodes_in, kinds_in, nodes_with, kinds_with}
 use Rattle.cov_engine.specs.declared.file_part.FilePart.{FilePart}
-use Rattle.cov_engine.specs.declared.store.CommitMark.{CommitMark}
+use Rattle.cov_engine.specs.declared.history_index.CommitMark.{CommitMark}
 use Rattle.cov_engine.specs.declared.edit_plan.EditPlan.{EditPlan}
 
 -- a commit is planned after a history: its position and what it touches are kept, its node stands for the ambition, which names
@@ -41,7 +41,7 @@ pub record IsCommitPlan (history : List Command) (ts : List Triple) (entries : D
 pub record IsStaged (history : List Command) (ts : List Triple) (ambition : Formula ℕ) (es : List Edit) (commits : List CommitMark) (mark : CommitMark) (plans : List EditPlan) (plan : List Entry) (file_of_line : List ℕ) (entries : Dated) (stored : List FilePart) : Type 0 where
   pub old_file_of_line : List ℕ
   pub old_stored : List FilePart
-  pub held : IsHeldBy history ts commits old_file_of_line entries old_stored
+  pub held : AreRowsAndLinesOf history ts commits old_file_of_line entries old_stored
   pub at : mark.position ≡ length history + 1
   pub touches : mark.touched ≡ touched es
   pub file_of_line_is : file_of_line ≡ old_file_of_line ++ new_file_of_line (numbers_of history).nodes es

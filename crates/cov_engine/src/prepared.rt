@@ -6,8 +6,8 @@ ghost use Rattle.cov_history.specs.Verdict.{verdict};
 ghost use Rattle.cov_engine.specs.States.{history_of, table_of, receipt_number};
 
 use crate::Engine;
-use crate::installing::{add_ready, give_up};
-use crate::ready::Ready;
+use crate::addition::Addition;
+use crate::installing::{add, give_up};
 use crate::state::EngineState;
 use cov_base::Position;
 use cov_edit::Command;
@@ -18,7 +18,7 @@ use std::marker::Model;
 pub struct Prepared {
     state: EngineState,
     command: Command,
-    ready: Ready,
+    ready: Addition,
 }
 
 impl Model for Prepared {
@@ -33,7 +33,8 @@ impl Model for Prepared {
 
     ghost coded = { Prim.hlevel (codes, row.the_row.coded, triples.the_row.coded) };
 
-    ghost view = { λ p. record { history = history_of p.state; command = p.command; table = table_of p.state } };
+    ghost view = { λ p.
+        record { history = history_of p.state; command = p.command; table = table_of p.state } };
 
     ghost invariant = { λ p. IsPrepared p.state p.command p.ready };
 }
@@ -46,11 +47,12 @@ pub struct Receipt {
 }
 
 impl Prepared {
-    pub(crate) fn new(state: EngineState, command: Command, ready: Ready) -> Prepared
+    pub(crate) fn new(state: EngineState, command: Command, ready: Addition) -> Prepared
         requires accepted { verdict (history_of state) command ≡ None }
         requires room { 0 < state.commands.spare }
         requires ready { IsReadyFor state command ready }
-        ensures { result ≡ record { history = history_of state; command = command; table = table_of state } }
+        ensures { result ≡
+            record { history = history_of state; command = command; table = table_of state } }
     {
         command.bounds_are_kept();
         Prepared {
@@ -93,7 +95,7 @@ impl Prepared {
             command,
             ready,
         } = self;
-        let number = add_ready(&mut state, &command, ready);
+        let number = add(&mut state, &command, ready);
         match state.commands.push(command) {
             Ok(()) => (),
             Err(_) => unreachable!(),
