@@ -15,7 +15,7 @@ use Rattle.cov_history.specs.Overtaking.{share_choice, overtaken_from}
 use Rattle.cov_engine.specs.Marks.{AreMarks}
 use Rattle.cov_engine.specs.Overtakers.{IsFirstOf, IsOvertaker, is_beyond, IsAfter, NoneTouches}
 use Rattle.cov_engine.specs.Visibility.{item_of}
-use Rattle.cov_engine.specs.declared.store.CommitMark.{CommitMark}
+use Rattle.cov_engine.specs.declared.history_index.CommitMark.{CommitMark}
 use Rattle.cov_engine.proofs.FileOfLine.{item-suc}
 
 pub all-drop : {X : Type 0} (P : X → Type 0) (n : ℕ) (xs : List X) → AllByRecursion P xs → AllByRecursion P (drop n xs)

@@ -20,7 +20,7 @@ use Rattle.cov_edit.proofs.CallerLemmas.{touched-rising}
 use Rattle.cov_engine.specs.Marks.{IsMark, AreMarks}
 use Rattle.cov_engine.specs.Overtakers.{HaveNoCommonChoice, Overtakes, IsFirstOf, IsOvertaker}
 use Rattle.cov_history.specs.Overtaking.{share_choice, overtakes, overtaken_from, overtaken}
-use Rattle.cov_engine.specs.declared.store.CommitMark.{CommitMark}
+use Rattle.cov_engine.specs.declared.history_index.CommitMark.{CommitMark}
 use Rattle.cov_engine.proofs.Marking.{marks-grown}
 
 module _ (history : List Command) (ts : List Triple) (base within : ℕ) (ambition : Formula ℕ) (es : List Edit)

@@ -8,11 +8,11 @@ use Rattle.cov_edit.specs.declared.command.Command.{Command}
 use Rattle.cov_edit.specs.Numbering.{line_count}
 use Rattle.cov_edit.specs.Variant.{Line}
 use Rattle.cov_engine.specs.declared.file_part.FilePart.{FilePart}
-use Rattle.cov_engine.specs.declared.store.CommitMark.{CommitMark}
+use Rattle.cov_engine.specs.declared.history_index.CommitMark.{CommitMark}
 use Rattle.cov_history.specs.FileNodes.{files_of}
 use Rattle.cov_history.specs.Kept.{Kept, kept_number, kept_of, file_kept, is_kept_anchor}
 use Rattle.cov_tree.specs.Dated.{Dated}
-use Rattle.cov_engine.specs.Holdings.{IsFileOf, IsHeldBy}
+use Rattle.cov_engine.specs.Holdings.{IsFileOf, AreRowsAndLinesOf}
 use Rattle.cov_history.specs.Verdict.{IsLegal}
 use Rattle.cov_engine.specs.Parts.{part_of}
 use Rattle.cov_engine.specs.Visibility.{item_of, stored_file_of}
@@ -71,7 +71,7 @@ module _ {X : Type 0} where
   item-none xs zero h = inl refl
   item-none xs (suc n) h = let end = slice-end xs n (sym (item-suc xs n) ∙ h) in inr (omega (arith, end))
 
-module _ (history : List Command) (ts : List Triple) (commits : List CommitMark) (file_of_line : List ℕ) (entries : Dated) (stored : List FilePart) (legal : IsLegal history) (held : IsHeldBy history ts commits file_of_line entries stored) where
+module _ (history : List Command) (ts : List Triple) (commits : List CommitMark) (file_of_line : List ℕ) (entries : Dated) (stored : List FilePart) (legal : IsLegal history) (held : AreRowsAndLinesOf history ts commits file_of_line entries stored) where
   -- a file of the history
   abbrev IsMade : ℕ → Type 0
   IsMade file = has_node file (files_of history) ≡ true

@@ -22,7 +22,7 @@ use Rattle.cov_edit.specs.Replay.{replay}
 use Rattle.cov_view.specs.declared.row.ViewRow.{ViewRow}
 use Rattle.cov_view.specs.Seen.{with_file_row}
 use Rattle.cov_view.specs.Views.{row_by_number}
-use Rattle.cov_engine.specs.declared.store.CommitMark.{CommitMark}
+use Rattle.cov_engine.specs.declared.history_index.CommitMark.{CommitMark}
 use Rattle.cov_engine.specs.declared.file_part.FilePart.{FilePart}
 use Rattle.cov_history.specs.Kept.{seen_at, Holding, held_by, kept_of}
 use Rattle.cov_history.specs.Files.{DatedLine, file_dated}
@@ -31,7 +31,7 @@ use Rattle.cov_engine.specs.Nodes.{AreDated}
 use Rattle.cov_engine.specs.Showing.{bare_row, with_lines, with_node}
 use Rattle.cov_history.specs.FileNodes.{files_from, files_of}
 use Rattle.cov_engine.specs.Parts.{part_of, files_among}
-use Rattle.cov_engine.specs.Holdings.{IsFileOf, AreEntriesOf, IsHeldBy}
+use Rattle.cov_engine.specs.Holdings.{IsFileOf, AreEntriesOf, AreRowsAndLinesOf}
 use Rattle.cov_tree.specs.Carried.{AreNodesAt}
 use Rattle.cov_tree.specs.Dated.{Dated, rows_at as entry_rows, nodes_in, kinds_in}
 use Rattle.cov_tree.proofs.CallerLemmas.{nodes_stay, rows_stay}
@@ -138,8 +138,8 @@ entries-grown history old new entries held grown = record {
 }
 
 -- what is held is so with a table that has more entries
-pub held-grown : (history : List Command) (old new : List Triple) (commits : List CommitMark) (file_of_line : List ℕ) (entries : Dated) (stored : List FilePart) → IsHeldBy history old commits file_of_line entries stored → Extends old new
-    → IsHeldBy history new commits file_of_line entries stored
+pub held-grown : (history : List Command) (old new : List Triple) (commits : List CommitMark) (file_of_line : List ℕ) (entries : Dated) (stored : List FilePart) → AreRowsAndLinesOf history old commits file_of_line entries stored → Extends old new
+    → AreRowsAndLinesOf history new commits file_of_line entries stored
 held-grown history old new commits file_of_line entries stored held grown = record {
   of_entries = entries-grown history old new entries held.of_entries grown;
   below = held.below;
@@ -193,7 +193,7 @@ files-same history k h = files-append history (k ∷ []) ∙ ap (λ files. files
 
 -- a declaration leaves what is held as it is
 pub held-declared : (history longer : List Command) (k : Command) (ts : List Triple) (commits : List CommitMark) (file_of_line : List ℕ) (entries : Dated) (stored : List FilePart)
-    → IsHeldBy history ts commits file_of_line entries stored → has_commit (k ∷ []) ≡ false → longer ≡ history ++ k ∷ [] → IsHeldBy longer ts commits file_of_line entries stored
+    → AreRowsAndLinesOf history ts commits file_of_line entries stored → has_commit (k ∷ []) ≡ false → longer ≡ history ++ k ∷ [] → AreRowsAndLinesOf longer ts commits file_of_line entries stored
 held-declared history longer k ts commits file_of_line entries stored held h e = rw e (record {
   of_entries = record {
     rows = λ c p. held.of_entries.rows c p ∙ sym (ap (λ (v : Variant). v.rows) (rows-declared c p history k h));
@@ -227,7 +227,7 @@ take-none (suc p) = refl
 -- before any command nothing is held
 pub held-none : (history : List Command) (ts : List Triple) (commits : List CommitMark) (file_of_line : List ℕ) (entries : Dated) (stored : List FilePart) → history ≡ [] → commits ≡ [] → file_of_line ≡ [] → stored ≡ []
     → entries.from ≡ 0 → ((table : List Triple) (c : List Bool) (p : ℕ) → entry_rows table c p entries ≡ []) → nodes_in entries ≡ [] → kinds_in entries ≡ [] → ((table : List Triple) → AreNodesAt table entries)
-    → IsHeldBy history ts commits file_of_line entries stored
+    → AreRowsAndLinesOf history ts commits file_of_line entries stored
 held-none history ts commits file_of_line entries stored he ce le ee from none nodes kinds within =
     rw (he, ce, le, ee) (record {
       of_entries = record {

@@ -11,7 +11,7 @@ use Rattle.cov_edit.specs.declared.command.Command.{Command}
 use Rattle.cov_edit.specs.declared.command.Command.TheVariants as commands
 use Rattle.cov_edit.specs.History.{options_of, option_count}
 use Rattle.cov_edit.specs.Numbering.{Numbers, nodes_made, anchors_of, no_numbers, numbers_of, line_count, node_count}
-use Rattle.cov_engine.specs.declared.store.CommitMark.{CommitMark}
+use Rattle.cov_engine.specs.declared.history_index.CommitMark.{CommitMark}
 use Rattle.cov_engine.specs.declared.file_part.FilePart.{FilePart}
 use Rattle.cov_engine.specs.Marks.{AreMarks}
 use Rattle.cov_history.specs.Kept.{held_by, kept_of}
@@ -19,7 +19,7 @@ use Rattle.cov_history.specs.Files.{dated, file_dated}
 use Rattle.cov_tree.specs.declared.entry.Entry.{Entry}
 use Rattle.cov_tree.specs.Dated.{Dated, nodes_in, kinds_in}
 use Rattle.cov_engine.specs.RowPlans.{IsSet}
-use Rattle.cov_engine.specs.Holdings.{IsFileOf, IsHeldBy}
+use Rattle.cov_engine.specs.Holdings.{IsFileOf, AreRowsAndLinesOf}
 use Rattle.cov_engine.specs.Parts.{part_node, files_among}
 use Rattle.cov_edit.specs.Touched.{AreRising}
 use Rattle.cov_history.specs.FileNodes.{files_made, files_of}
@@ -203,7 +203,7 @@ module _ (history : List Command) (base : ℕ) (choice : List Bool) (ambition : 
   row-later = let from = staged.held.of_entries.from in omega (arith, from)
 
   -- after the commit, the stored files with its lines are what is held
-  pub held-committed : (later : Dated) (after : List FilePart) → IsSet q plan entries later → AreInstalled q ss stored after → IsHeldBy (history ++ commit ∷ []) ts all_commits file_of_line later after
+  pub held-committed : (later : Dated) (after : List FilePart) → IsSet q plan entries later → AreInstalled q ss stored after → AreRowsAndLinesOf (history ++ commit ∷ []) ts all_commits file_of_line later after
   held-committed later after set installed =
       let same : map part_node after ≡ map part_node stored =
       installed-rows part_node (λ e f same. ap (λ (s : Contents). s.node) same) (λ e ls newest f same. ap (λ (s : Contents). s.node) same) q ss stored after installed in

@@ -4,9 +4,11 @@ pub mod Committed
 pub mod Dating
 pub mod Deciding
 pub mod Judging
+pub mod Keeping
 pub mod FileLines
 pub mod FileOfLine
 pub mod Fresh
+pub mod Halving
 pub mod Holdings
 pub mod Installed
 pub mod Judged
@@ -19,6 +21,7 @@ pub mod Named
 pub mod NamedView
 pub mod Nodes
 pub mod Noting
+pub mod OptionPositions
 pub mod Planned
 pub mod Readied
 pub mod Refused

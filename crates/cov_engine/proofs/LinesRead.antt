@@ -10,15 +10,15 @@ use Rattle.cov_history.specs.Kept.{Kept, kept_of}
 use Rattle.cov_history.specs.Verdict.{IsLegal}
 use Rattle.cov_tree.specs.Dated.{Dated}
 use Rattle.cov_engine.specs.declared.file_part.FilePart.{FilePart}
-use Rattle.cov_engine.specs.declared.store.CommitMark.{CommitMark}
-use Rattle.cov_engine.specs.Holdings.{IsHeldBy}
+use Rattle.cov_engine.specs.declared.history_index.CommitMark.{CommitMark}
+use Rattle.cov_engine.specs.Holdings.{AreRowsAndLinesOf}
 use Rattle.cov_engine.specs.Nodes.{AreDated}
 use Rattle.cov_engine.specs.Parts.{part_of}
 use Rattle.cov_engine.specs.Reading.{line_row, stored_rows}
 use Rattle.cov_engine.proofs.FileLines.{file-rows}
 use Rattle.cov_engine.proofs.FileOfLine.{stored-held, none-stored}
 
-module _ (history : List Command) (ts : List Triple) (commits : List CommitMark) (file_of_line : List ℕ) (entries : Dated) (stored : List FilePart) (legal : IsLegal history) (held : IsHeldBy history ts commits file_of_line entries stored) where
+module _ (history : List Command) (ts : List Triple) (commits : List CommitMark) (file_of_line : List ℕ) (entries : Dated) (stored : List FilePart) (legal : IsLegal history) (held : AreRowsAndLinesOf history ts commits file_of_line entries stored) where
   -- the lines that are read of a file
   pub lines-read : (c : List Bool) (at file : ℕ) → stored_rows ts c at (part_of stored file) ≡ map line_row (lines_of (replay c (take at history)) file)
   lines-read c at file = by (part_of stored file) refl

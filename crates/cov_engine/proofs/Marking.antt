@@ -11,7 +11,7 @@ use Rattle.cov_edit.specs.Touched.{AreRising}
 use Rattle.cov_edit.proofs.CallerLemmas.{touched-rising}
 use Rattle.cov_engine.specs.Marks.{IsMark, AreMarks}
 use Rattle.cov_history.specs.Sessions.{has_commit}
-use Rattle.cov_engine.specs.declared.store.CommitMark.{CommitMark}
+use Rattle.cov_engine.specs.declared.history_index.CommitMark.{CommitMark}
 use Rattle.cov_engine.proofs.Nodes.{stands-on}
 
 module _ (old new : List Triple) (count more : ℕ) (grown : Extends old new) (few : count ≤ more) where

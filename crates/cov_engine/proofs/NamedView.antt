@@ -30,9 +30,9 @@ use Rattle.cov_view.specs.Seen.{Seen, has_row, row_at, AreRows}
 use Rattle.cov_view.specs.Views.{by_number, line_by_number, row_by_number, IsMade, Shows, ShowsLines}
 use Rattle.cov_view.specs.declared.row.ViewRow.{ViewRow}
 use Rattle.cov_engine.specs.declared.file_part.FilePart.{FilePart}
-use Rattle.cov_engine.specs.declared.store.CommitMark.{CommitMark}
+use Rattle.cov_engine.specs.declared.history_index.CommitMark.{CommitMark}
 use Rattle.cov_engine.specs.declared.visible.Visible.{Visible}
-use Rattle.cov_engine.specs.Holdings.{IsHeldBy}
+use Rattle.cov_engine.specs.Holdings.{AreRowsAndLinesOf}
 use Rattle.cov_engine.specs.Parts.{part_of}
 use Rattle.cov_engine.specs.Reading.{line_row, stored_rows}
 use Rattle.cov_engine.specs.Showing.{bare_row}
@@ -135,7 +135,7 @@ rows-once es rows once = by (list_any changes_rows es)
 
 -- the first edit that is refused on what edits are tried on is the first that the variant refuses
 pub tried-first : (history : List Command) (commits : List CommitMark) (file_of_line : List ℕ) (v : Visible) (c : List Bool) (at : ℕ) (es : List Edit) (found : Option ℕ) → IsLegal history
-    → IsHeldBy history v.table commits file_of_line v.entries v.files → found ≡ place_refused 0 (seen_tried v c at es) es
+    → AreRowsAndLinesOf history v.table commits file_of_line v.entries v.files → found ≡ place_refused 0 (seen_tried v c at es) es
     → found ≡ option_map (λ refused. refused.0) (first_refused (numbers_of (take at history)) (replay c (take at history)) es)
 tried-first history commits file_of_line v c at es found legal held first =
     first

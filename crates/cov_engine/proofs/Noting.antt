@@ -3,7 +3,7 @@ use Rattle.std.proofs.Common.{◌≡◌, ℕ, zero, suc, ◌<◌, ◌≤◌, Lis
 use Rattle.std.specs.List.{AllByRecursion}
 use Rattle.cov_base.proofs.CallerLemmas.{all-map, all-append, opened, rest_of}
 use Rattle.cov_engine.specs.Overtakers.{AreNoted}
-use Rattle.cov_engine.specs.declared.store.CommitMark.{CommitMark}
+use Rattle.cov_engine.specs.declared.history_index.CommitMark.{CommitMark}
 
 -- one more that is listed with what is noted at those that aren't changes nothing
 pub one-listed : (xs : List ℕ) (d x : ℕ) → get_or (xs ++ d ∷ []) x d ≡ get_or xs x d

@@ -18,9 +18,11 @@ use Rattle.cov_edit.proofs.CallerLemmas.{numbers_from-append}
 use Rattle.cov_rules.specs.Installing.{RulesValue, Standing, expressions, reach_of}
 use Rattle.cov_view.specs.Refusals.{first_of}
 use Rattle.cov_view.proofs.CallerLemmas.{none-when}
+use Rattle.cov_engine.specs.Summaries.{summary_of, IsSummaryOf}
+use Rattle.cov_engine.specs.declared.summary.EditSummary.{EditSummary}
 use Rattle.cov_engine.specs.declared.counts.Counts.{Counts}
 use Rattle.cov_engine.specs.declared.file_part.FilePart.{FilePart}
-use Rattle.cov_engine.specs.declared.store.CommitMark.{CommitMark}
+use Rattle.cov_engine.specs.declared.history_index.CommitMark.{CommitMark}
 use Rattle.cov_engine.specs.declared.edit_plan.EditPlan.{EditPlan}
 use Rattle.cov_engine.specs.declared.sizes.Sizes.{Sizes}
 use Rattle.cov_history.specs.declared.refusal.Refusal.{Refusal}
@@ -33,12 +35,12 @@ use Rattle.cov_tree.specs.declared.entry.Entry.{Entry}
 use Rattle.cov_tree.specs.Changes.{Makes}
 use Rattle.cov_tree.specs.Dated.{Dated, HasRoom as HasRowRoom, planned as entries_planned, without_room}
 use Rattle.cov_engine.specs.RowPlans.{edit_changes, made_by, made_with, kinds_made_by, IsSet}
-use Rattle.cov_engine.specs.Holdings.{IsFileOf, IsHeldBy}
+use Rattle.cov_engine.specs.Holdings.{IsFileOf, AreRowsAndLinesOf}
 use Rattle.cov_engine.specs.Parts.{part_node, count_below, files_among}
 use Rattle.cov_edit.specs.Touched.{AreRising}
 use Rattle.cov_history.specs.FileNodes.{files_made, files_of}
 use Rattle.cov_history.specs.Sessions.{IsGood, session_of}
-use Rattle.cov_engine.specs.States.{AreCountsOf, IsStateOf}
+use Rattle.cov_engine.specs.States.{AreCountsOf, AreDeclarationsOf}
 use Rattle.cov_engine.specs.Overtakers.{IsOvertaker}
 use Rattle.cov_history.specs.Overtaking.{overtaken}
 use Rattle.cov_history.specs.Verdict.{IsLegal, as_overtaken, verdict, refusals_of, size_refusals}
@@ -56,8 +58,8 @@ use Rattle.cov_edit.specs.History.{edits_in}
 use Rattle.cov_engine.specs.Ready.{IsNext, IsInBounds, AreCountsWith, IsCommitReady, IsStagedReady, IsReady}
 use Rattle.cov_history.proofs.CallerLemmas.{files-commit, files-rise, made-within, edits-accepted, new-files_of_lines-count}
 use Rattle.cov_history.specs.BadChoices.{unsound_refusal}
-use Rattle.cov_engine.specs.declared.ready.Ready.{Ready}
-use Rattle.cov_engine.specs.declared.ready.Ready.TheVariants as ready
+use Rattle.cov_engine.specs.declared.addition.Addition.{Addition}
+use Rattle.cov_engine.specs.declared.addition.Addition.TheVariants as additions
 use Rattle.cov_engine.proofs.States.{legal-one, sum-one, options-append, below}
 use Rattle.cov_engine.proofs.StoredFiles.{same-nodes}
 use Rattle.cov_engine.proofs.Rising.{count-front}
@@ -70,7 +72,7 @@ use Rattle.cov_engine.proofs.Installed.{edits-near, edits-low, staged-rise, stag
 
 -- what is found among the commits is what overtakes in the history
 overtaken-found : (history : List Command) (names : List (List ℕ)) (ts : List Triple) (standing : Standing) (counts : Counts) (commits : List CommitMark) (file_of_line : List ℕ) (entries : Dated) (stored : List FilePart) (valid base : ℕ)
-    (ambition : Formula ℕ) (es : List Edit) (found : Option ℕ) → IsStateOf history names ts standing counts → IsHeldBy history ts commits file_of_line entries stored → reach ambition ≤ option_count history
+    (ambition : Formula ℕ) (es : List Edit) (found : Option ℕ) → AreDeclarationsOf history names ts standing counts → AreRowsAndLinesOf history ts commits file_of_line entries stored → reach ambition ≤ option_count history
     → valid ≡ standing.conjunction → IsOvertaker ts valid commits base ambition es found → found ≡ overtaken history base ambition es
 overtaken-found history names ts standing counts commits file_of_line entries stored valid base ambition es found state held low is first =
     first history state.rules.below.few (subst (λ fs. reach_of fs ≤ option_count history) state.rules.constraints state.rules.below.constraints) low
@@ -102,9 +104,13 @@ module _ (history : List Command) (k : Command) (base : ℕ) (choice : List Bool
         bytes = bytes-few history es others sized;
       }
 
+  -- what is counted of its edits is theirs
+  pub commit-summary : IsLegal history → (summary : EditSummary) → IsSummaryOf (edits_in k) summary → summary ≡ summary_of es
+  commit-summary legal summary own = subst (λ j. IsSummaryOf (edits_in j) summary) is own (in-bounds legal).edits
+
   -- the verdict on it is that of what is found to overtake it, or else of a variant left unsound
   pub late-verdict : (names : List (List ℕ)) (ts : List Triple) (standing : Standing) (counts : Counts) (commits : List CommitMark) (file_of_line : List ℕ) (entries : Dated) (stored : List FilePart) (valid : ℕ) (found : Option ℕ)
-      → length history < LIMITS.commands → IsStateOf history names ts standing counts → IsHeldBy history ts commits file_of_line entries stored → valid ≡ standing.conjunction
+      → length history < LIMITS.commands → AreDeclarationsOf history names ts standing counts → AreRowsAndLinesOf history ts commits file_of_line entries stored → valid ≡ standing.conjunction
       → IsOvertaker ts valid commits base ambition es found → verdict history k ≡ first_of (as_overtaken found ∷ unsound_refusal history ambition (commands.Commit base choice ambition es) ∷ [])
   late-verdict names ts standing counts commits file_of_line entries stored valid found few state held conjunction first =
       ap (verdict history) is
@@ -114,19 +120,15 @@ module _ (history : List Command) (k : Command) (base : ℕ) (choice : List Bool
 
   -- what is staged for a commit is what its command wants
   module _ (os : ℕ) (ts : List Triple) (rules : RulesValue) (spare : ℕ) (commits : List CommitMark) (file_of_line : List ℕ) (entries : Dated) (stored : List FilePart) where
-    as-staged : (r : Ready) → IsStagedReady history ts ambition es spare commits file_of_line entries stored r → IsReady history k os ts rules spare commits file_of_line entries stored r
-    as-staged (ready.Option name) h = absurd h
-    as-staged (ready.Rule rule plan) h = absurd h
-    as-staged (ready.Commit mark counts plans rows) h =
+    pub as-staged : (r : Addition) → IsStagedReady history ts ambition es spare commits file_of_line entries stored r → IsReady history k os ts rules spare commits file_of_line entries stored r
+    as-staged (additions.Option name) h = absurd h
+    as-staged (additions.Rule rule plan) h = absurd h
+    as-staged (additions.Commit mark counts plans rows) h =
         subst (λ c. IsCommitReady history ts c spare commits file_of_line entries stored mark counts plans.items rows) (sym is) (good, h.0, h.1, h.2)
-
-    pub all-staged : (r : Result Ready Refusal) → IfOk r (IsStagedReady history ts ambition es spare commits file_of_line entries stored) → IfOk r (IsReady history k os ts rules spare commits file_of_line entries stored)
-    all-staged (Ok r) h = as-staged r h
-    all-staged (Err e) h = tt
 
 -- what is the same but for rooms holds the same
 pub held-contents : (history : List Command) (ts : List Triple) (commits : List CommitMark) (file_of_line : List ℕ) (before after : Dated) (old now : List FilePart) → without_room after ≡ without_room before → map contents now ≡ map contents old
-    → IsHeldBy history ts commits file_of_line before old → IsHeldBy history ts commits file_of_line after now
+    → AreRowsAndLinesOf history ts commits file_of_line before old → AreRowsAndLinesOf history ts commits file_of_line after now
 held-contents history ts commits file_of_line before after old now rows same held =
     record {
       of_entries = entries-room history ts before after rows held.of_entries;
@@ -146,12 +148,12 @@ take-front n xs ys e = take-append-le n xs ys (omega (arith, e)) ∙ take_all n 
 -- what is staged is cut off again
 pub given-up : (history : List Command) (ts : List Triple) (ambition : Formula ℕ) (es : List Edit) (counts : Counts) (commits : List CommitMark) (mark : CommitMark) (ss : List EditPlan) (plan : List Entry) (file_of_line : List ℕ) (entries : Dated) (stored : List FilePart)
     (commits' : List CommitMark) (file_of_line' : List ℕ) (entries' : Dated) (stored' : List FilePart) → AreCountsOf history counts → IsStaged history ts ambition es commits mark ss plan file_of_line entries stored
-    → commits' ≡ commits → file_of_line' ≡ take counts.lines file_of_line → entries' ≡ entries → map contents stored' ≡ map contents (take (count_below counts.nodes (map part_node stored)) stored) → IsHeldBy history ts commits' file_of_line' entries' stored'
+    → commits' ≡ commits → file_of_line' ≡ take counts.lines file_of_line → entries' ≡ entries → map contents stored' ≡ map contents (take (count_below counts.nodes (map part_node stored)) stored) → AreRowsAndLinesOf history ts commits' file_of_line' entries' stored'
 given-up history ts ambition es counts commits mark ss plan file_of_line entries stored commits' file_of_line' entries' stored' are staged ce he xe ee =
     let lines = are.lines in
     let held_lines = staged.held.lines in
-    subst (λ cs. IsHeldBy history ts cs file_of_line' entries' stored') (sym ce)
-    (subst (λ xs. IsHeldBy history ts commits xs entries' stored')
+    subst (λ cs. AreRowsAndLinesOf history ts cs file_of_line' entries' stored') (sym ce)
+    (subst (λ xs. AreRowsAndLinesOf history ts commits xs entries' stored')
     (sym (he ∙ ap (take counts.lines) staged.file_of_line_is ∙ take-front counts.lines staged.old_file_of_line (new_file_of_line (numbers_of history).nodes es) (omega (arith, lines, held_lines))))
     (held-contents history ts commits staged.old_file_of_line entries entries' staged.old_stored stored' (ap without_room xe)
     (ee ∙ sym (take-map contents (count_below counts.nodes (map part_node stored)) stored) ∙ ap (take (count_below counts.nodes (map part_node stored))) staged.files
@@ -208,7 +210,7 @@ module _ (history : List Command) (base : ℕ) (choice : List Bool) (ambition : 
 
   -- the state with a commit
   pub state-with : (names : List (List ℕ)) (ts : List Triple) (standing : Standing) (counts new : Counts) → fits_command commit ≡ true → verdict history commit ≡ None → AreCountsWith history es new
-      → IsStateOf history names ts standing counts → IsStateOf (history ++ commit ∷ []) names ts standing new
+      → AreDeclarationsOf history names ts standing counts → AreDeclarationsOf (history ++ commit ∷ []) names ts standing new
   state-with names ts standing counts new fits accepted with old = record {
     legal = legal-one [] history commit old.legal fits accepted;
     options = old.options ∙ sym options-same;
@@ -228,7 +230,7 @@ first-nodes history counts are = let nodes = are.nodes in omega (arith, nodes)
 
 -- a command for which a commit is ready
 module _ (history : List Command) (names : List (List ℕ)) (ts : List Triple) (standing : Standing) (old new : Counts) (ks : ℕ) (commits : List CommitMark) (mark : CommitMark) (ss : List EditPlan) (plan : List Entry) (file_of_line : List ℕ) (entries : Dated) (stored : List FilePart)
-    (state : IsStateOf history names ts standing old) where
+    (state : AreDeclarationsOf history names ts standing old) where
   abbrev IsThat : Command → Type 0
   IsThat command = IsCommitReady history ts command ks commits file_of_line entries stored mark new ss plan
 
@@ -249,12 +251,20 @@ module _ (history : List Command) (names : List (List ℕ)) (ts : List Triple) (
       subst (λ q. CanCarryOutAll q ss stored) (sym r.1.at)
       (staged-plans history base choice ambition es state.legal r.0 next.accepted ts commits mark ss plan file_of_line entries stored r.1)
 
-  pub ready-state : (command : Command) (spare : ℕ) → IsNext history command spare → IsThat command → IsStateOf (history ++ command ∷ []) names ts standing new
+  pub ready-state : (command : Command) (spare : ℕ) → IsNext history command spare → IsThat command → AreDeclarationsOf (history ++ command ∷ []) names ts standing new
   ready-state (commands.Option name) spare next r = absurd r
   ready-state (commands.Constraint expr) spare next r = absurd r
   ready-state (commands.Prefer expr) spare next r = absurd r
   ready-state (commands.Default option on) spare next r = absurd r
   ready-state (commands.Commit base choice ambition es) spare next r = state-with history base choice ambition es names ts standing old new next.fits next.accepted r.2 state
+
+  -- it declares no option
+  pub ready-options : (command : Command) → IsThat command → options_of (command ∷ []) ≡ []
+  ready-options (commands.Option name) r = absurd r
+  ready-options (commands.Constraint expr) r = refl
+  ready-options (commands.Prefer expr) r = refl
+  ready-options (commands.Default option on) r = refl
+  ready-options (commands.Commit base choice ambition es) r = refl
 
   pub ready-rows : (command : Command) (spare : ℕ) → IsNext history command spare → IsThat command → (entries.from ≤ mark.position) × HasRowRoom plan entries
   ready-rows (commands.Option name) spare next r = absurd r
@@ -268,20 +278,20 @@ module _ (history : List Command) (names : List (List ℕ)) (ts : List Triple) (
 
   pub ready-held : (command : Command) (spare : ℕ) (commits' : List CommitMark) (file_of_line' : List ℕ) (entries' : Dated) (stored' : List FilePart) → IsNext history command spare → IsThat command
       → commits' ≡ commits ++ mark ∷ [] → file_of_line' ≡ file_of_line → IsSet mark.position plan entries entries' → AreInstalled mark.position ss stored stored'
-      → IsHeldBy (history ++ command ∷ []) ts commits' file_of_line' entries' stored'
+      → AreRowsAndLinesOf (history ++ command ∷ []) ts commits' file_of_line' entries' stored'
   ready-held (commands.Option name) spare commits' file_of_line' entries' stored' next r ce he set installed = absurd r
   ready-held (commands.Constraint expr) spare commits' file_of_line' entries' stored' next r ce he set installed = absurd r
   ready-held (commands.Prefer expr) spare commits' file_of_line' entries' stored' next r ce he set installed = absurd r
   ready-held (commands.Default option on) spare commits' file_of_line' entries' stored' next r ce he set installed = absurd r
   ready-held (commands.Commit base choice ambition es) spare commits' file_of_line' entries' stored' next r ce he set installed =
-      subst (λ cs. IsHeldBy (history ++ commands.Commit base choice ambition es ∷ []) ts cs file_of_line' entries' stored') (sym ce)
-      (subst (λ xs. IsHeldBy (history ++ commands.Commit base choice ambition es ∷ []) ts (commits ++ mark ∷ []) xs entries' stored') (sym he)
+      subst (λ cs. AreRowsAndLinesOf (history ++ commands.Commit base choice ambition es ∷ []) ts cs file_of_line' entries' stored') (sym ce)
+      (subst (λ xs. AreRowsAndLinesOf (history ++ commands.Commit base choice ambition es ∷ []) ts (commits ++ mark ∷ []) xs entries' stored') (sym he)
       (held-committed history base choice ambition es state.legal r.0 next.accepted ts commits mark ss plan file_of_line entries stored r.1 entries' stored'
       (subst (λ q. IsSet q plan entries entries') r.1.at set) (subst (λ q. AreInstalled q ss stored stored') r.1.at installed)))
 
   -- given up, it leaves what is held
   pub ready-given-up : (command : Command) (commits' : List CommitMark) (file_of_line' : List ℕ) (entries' : Dated) (stored' : List FilePart) → IsThat command
-      → commits' ≡ commits → file_of_line' ≡ take old.lines file_of_line → entries' ≡ entries → map contents stored' ≡ map contents (take (count_below old.nodes (map part_node stored)) stored) → IsHeldBy history ts commits' file_of_line' entries' stored'
+      → commits' ≡ commits → file_of_line' ≡ take old.lines file_of_line → entries' ≡ entries → map contents stored' ≡ map contents (take (count_below old.nodes (map part_node stored)) stored) → AreRowsAndLinesOf history ts commits' file_of_line' entries' stored'
   ready-given-up (commands.Option name) commits' file_of_line' entries' stored' r ce he xe ee = absurd r
   ready-given-up (commands.Constraint expr) commits' file_of_line' entries' stored' r ce he xe ee = absurd r
   ready-given-up (commands.Prefer expr) commits' file_of_line' entries' stored' r ce he xe ee = absurd r
@@ -331,20 +341,20 @@ made-changes history counts ts entries es some before node at plan are is own sa
     (subst (λ n. Makes ts entries plan (edit_changes n n at some)) (nodes-before history counts es some before are is) makes))
 
 -- the node of the constraints is one of each table that goes on, and names only declared options
-pub conjunction-stands : {history : List Command} {names : List (List ℕ)} {ts : List Triple} {standing : Standing} {counts : Counts} (new : List Triple) → IsStateOf history names ts standing counts → Extends ts new
+pub conjunction-stands : {history : List Command} {names : List (List ℕ)} {ts : List Triple} {standing : Standing} {counts : Counts} (new : List Triple) → AreDeclarationsOf history names ts standing counts → Extends ts new
     → Stands new standing.conjunction 0 (option_count history) (is_valid (expressions standing.constraints))
 conjunction-stands {history} {names} {ts} {standing} new state grown =
     stands_weaker 0 (option_count history) (is_valid (expressions standing.constraints)) (omega arith) state.rules.below.constraints (λ c. refl) (stands_later grown state.rules.holds.conjunction)
 
 -- the node of the constraints is true on exactly the valid choices, in each table that goes on
-pub conjunction-later : {history : List Command} {names : List (List ℕ)} {ts : List Triple} {standing : Standing} {counts : Counts} (new : List Triple) → IsStateOf history names ts standing counts → Extends ts new
+pub conjunction-later : {history : List Command} {names : List (List ℕ)} {ts : List Triple} {standing : Standing} {counts : Counts} (new : List Triple) → AreDeclarationsOf history names ts standing counts → Extends ts new
     → (c : List Bool) → value_in new standing.conjunction c ≡ is_valid_in history c
 conjunction-later new state grown c =
     grown.value _ state.rules.holds.conjunction.within c ∙ state.rules.holds.conjunction.value c ∙ ap (λ fs. is_valid fs c) state.rules.constraints
 
 -- a history with edits that are within its limits
 module _ (history : List Command) (es : List Edit) (counts : Counts) (ts : List Triple) (commits : List CommitMark) (file_of_line : List ℕ) (entries : Dated) (stored : List FilePart)
-    (are : AreCountsOf history counts) (held : IsHeldBy history ts commits file_of_line entries stored) (within : IsInBounds history es) where
+    (are : AreCountsOf history counts) (held : AreRowsAndLinesOf history ts commits file_of_line entries stored) (within : IsInBounds history es) where
   nodes-are : counts.nodes - 1 ≡ (numbers_of history).nodes
   nodes-are = first-nodes history counts are
 
@@ -387,7 +397,7 @@ module _ (history : List Command) (es : List Edit) (counts : Counts) (ts : List 
         record {
           old_file_of_line = file_of_line;
           old_stored = stored;
-          held = subst (λ cs. IsHeldBy history ts cs file_of_line entries' stored) (sym ce) (held-contents history ts commits file_of_line entries entries' stored stored xe refl held);
+          held = subst (λ cs. AreRowsAndLinesOf history ts cs file_of_line entries' stored) (sym ce) (held-contents history ts commits file_of_line entries entries' stored stored xe refl held);
           at = planned_before.at;
           touches = planned_before.touches;
           file_of_line_is = he ∙ ap (λ k. file_of_line ++ new_file_of_line k some) nodes ∙ ap (λ x. file_of_line ++ new_file_of_line (numbers_of history).nodes x) e;
@@ -418,11 +428,11 @@ module _ (history : List Command) (es : List Edit) (counts : Counts) (ts : List 
         free,
       )
 
-pub held-again : (history : List Command) (ts : List Triple) (commits commits' : List CommitMark) (file_of_line file_of_line' : List ℕ) (entries entries' : Dated) (stored stored' : List FilePart) → IsHeldBy history ts commits file_of_line entries stored
-    → commits' ≡ commits → file_of_line' ≡ file_of_line → without_room entries' ≡ without_room entries → map contents stored' ≡ map contents stored → IsHeldBy history ts commits' file_of_line' entries' stored'
+pub held-again : (history : List Command) (ts : List Triple) (commits commits' : List CommitMark) (file_of_line file_of_line' : List ℕ) (entries entries' : Dated) (stored stored' : List FilePart) → AreRowsAndLinesOf history ts commits file_of_line entries stored
+    → commits' ≡ commits → file_of_line' ≡ file_of_line → without_room entries' ≡ without_room entries → map contents stored' ≡ map contents stored → AreRowsAndLinesOf history ts commits' file_of_line' entries' stored'
 held-again history ts commits commits' file_of_line file_of_line' entries entries' stored stored' held ce he xe ee =
-    subst (λ cs. IsHeldBy history ts cs file_of_line' entries' stored') (sym ce)
-    (subst (λ xs. IsHeldBy history ts commits xs entries' stored') (sym he) (held-contents history ts commits file_of_line entries entries' stored stored' xe ee held))
+    subst (λ cs. AreRowsAndLinesOf history ts cs file_of_line' entries' stored') (sym ce)
+    (subst (λ xs. AreRowsAndLinesOf history ts commits xs entries' stored') (sym he) (held-contents history ts commits file_of_line entries entries' stored stored' xe ee held))
 
 -- the nodes of what is held are of the table
 pub held-within : (history : List Command) (ts : List Triple) (q : ℕ) (stored : List FilePart) → length history ≤ q → AllByRecursion (IsFileOf history ts) stored → AllByRecursion (HasNodesIn ts q) stored

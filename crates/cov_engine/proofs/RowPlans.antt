@@ -26,12 +26,12 @@ use Rattle.cov_tree.specs.Dated.{Dated, rows_at, rows_with, planned, nodes_in, n
 use Rattle.cov_tree.specs.Entries.{rows_in, AllAreWithin}
 use Rattle.cov_tree.proofs.CallerLemmas.{newest_but_room, nodes_but_room}
 use Rattle.cov_engine.specs.declared.counts.Counts.{Counts}
-use Rattle.cov_engine.specs.declared.store.CommitMark.{CommitMark}
+use Rattle.cov_engine.specs.declared.history_index.CommitMark.{CommitMark}
 use Rattle.cov_engine.specs.declared.file_part.FilePart.{FilePart}
 use Rattle.cov_engine.specs.States.{AreCountsOf}
 use Rattle.cov_history.specs.FileNodes.{if_file, files_made}
 use Rattle.cov_engine.specs.Parts.{files_among}
-use Rattle.cov_engine.specs.Holdings.{AreEntriesOf, IsHeldBy}
+use Rattle.cov_engine.specs.Holdings.{AreEntriesOf, AreRowsAndLinesOf}
 use Rattle.cov_engine.specs.RowPlans.{edit_changes, AlsoMakes, AreNodesUpTo, number_alone, made_by, made_with, kinds_made_by, IsSet}
 
 -- the next node isn't among the first so many
@@ -265,7 +265,7 @@ entries-once history ts entries held = λ p c. subst AreOnce (sym (held.rows c p
 
 -- the nodes of a plan that makes no change are those made before
 pub up-to-made : (history : List Command) (ts : List Triple) (commits : List CommitMark) (file_of_line : List ℕ) (entries : Dated) (stored : List FilePart) (counts : Counts) (before : ℕ) (plan : List Entry) → AreCountsOf history counts
-    → nodes_with plan entries ≡ nodes_in entries → IsHeldBy history ts commits file_of_line entries stored → before ≡ counts.nodes - 1 → AreNodesUpTo before plan entries
+    → nodes_with plan entries ≡ nodes_in entries → AreRowsAndLinesOf history ts commits file_of_line entries stored → before ≡ counts.nodes - 1 → AreNodesUpTo before plan entries
 up-to-made history ts commits file_of_line entries stored counts before plan are same held is =
     let nodes = are.nodes in
     subst (AllByRecursion (λ n. n ≤ before)) (sym same) (all-map (λ n. n ≤ (numbers_of history).nodes) (λ n. n ≤ before) (λ n low. omega (arith, low, nodes, is)) (nodes_in entries) held.below)

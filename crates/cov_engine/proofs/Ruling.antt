@@ -22,15 +22,15 @@ use Rattle.cov_rules.specs.declared.rules.RuleFault.TheVariants as faults
 use Rattle.cov_rules.proofs.CallerLemmas.{holds_later, stay_below}
 use Rattle.cov_view.specs.Refusals.{when, first_of}
 use Rattle.cov_engine.specs.declared.file_part.FilePart.{FilePart}
-use Rattle.cov_engine.specs.declared.store.CommitMark.{CommitMark}
-use Rattle.cov_engine.specs.declared.ready.Ready.{Ready}
-use Rattle.cov_engine.specs.declared.ready.Ready.TheVariants as ready
+use Rattle.cov_engine.specs.declared.history_index.CommitMark.{CommitMark}
+use Rattle.cov_engine.specs.declared.addition.Addition.{Addition}
+use Rattle.cov_engine.specs.declared.addition.Addition.TheVariants as additions
 use Rattle.cov_history.specs.declared.refusal.Refusal.{Refusal}
 use Rattle.cov_history.specs.declared.refusal.Refusal.TheVariants as refusals
 use Rattle.cov_history.specs.Completing.{completed_in}
 use Rattle.cov_engine.specs.Ruling.{AreRulesOf, IsRefusalOf, IsRuleReady, as_refusal, rule_in}
 use Rattle.cov_tree.specs.Dated.{Dated}
-use Rattle.cov_engine.specs.Holdings.{IsHeldBy}
+use Rattle.cov_engine.specs.Holdings.{AreRowsAndLinesOf}
 use Rattle.cov_engine.specs.Ready.{IsReady}
 use Rattle.cov_history.specs.Sessions.{MayCome}
 use Rattle.cov_history.specs.Verdict.{RefusedBy, leaves_variant, verdict}
@@ -249,12 +249,8 @@ rule-of (commands.Default option on) not_option not_commit = record { rule = rul
 rule-of (commands.Commit base choice ambition es) not_option not_commit = absurd (not_commit base choice ambition es refl)
 
 -- with what is held, a rule that is ready is what its command wants
-module _ (history : List Command) (k : Command) (os : ℕ) (ts : List Triple) (standing : RulesValue) (ks : ℕ) (commits : List CommitMark) (file_of_line : List ℕ) (entries : Dated) (stored : List FilePart) (held : IsHeldBy history ts commits file_of_line entries stored) where
-  as-ready : (r : Ready) → IsRuleReady k ts standing r → IsReady history k os ts standing ks commits file_of_line entries stored r
-  as-ready (ready.Option name) h = absurd h
-  as-ready (ready.Rule rule plan) h = (h.0, h.1, held)
-  as-ready (ready.Commit mark counts plans rows) h = absurd h
-
-  pub all-ready : (r : Result Ready Refusal) → IfOk r (IsRuleReady k ts standing) → IfOk r (IsReady history k os ts standing ks commits file_of_line entries stored)
-  all-ready (Ok r) h = as-ready r h
-  all-ready (Err e) h = tt
+module _ (history : List Command) (k : Command) (os : ℕ) (ts : List Triple) (standing : RulesValue) (ks : ℕ) (commits : List CommitMark) (file_of_line : List ℕ) (entries : Dated) (stored : List FilePart) (held : AreRowsAndLinesOf history ts commits file_of_line entries stored) where
+  pub as-ready : (r : Addition) → IsRuleReady k ts standing r → IsReady history k os ts standing ks commits file_of_line entries stored r
+  as-ready (additions.Option name) h = absurd h
+  as-ready (additions.Rule rule plan) h = (h.0, h.1, held)
+  as-ready (additions.Commit mark counts plans rows) h = absurd h

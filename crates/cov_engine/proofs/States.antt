@@ -27,7 +27,7 @@ use Rattle.cov_history.specs.declared.refusal.Refusal.TheVariants as refusals
 use Rattle.cov_engine.specs.Ruling.{AreRulesOf, rule_in}
 use Rattle.cov_history.specs.Completing.{completed_in}
 use Rattle.cov_history.specs.Sessions.{has_commit}
-use Rattle.cov_engine.specs.States.{EngineValue, AreCountsOf, IsStateOf}
+use Rattle.cov_engine.specs.States.{EngineValue, AreCountsOf, AreDeclarationsOf}
 use Rattle.cov_history.specs.Verdict.{IsLegalFrom, verdict, refusals_of}
 use Rattle.cov_engine.proofs.Ruling.{rules-grown, rules-same, rules-with, completed-same}
 
@@ -77,7 +77,7 @@ counts-kept history k counts h old =
     }
 
 -- the state before any command
-pub state-none : (history : List Command) (names : List (List ℕ)) (ts : List Triple) (standing : Standing) → history ≡ [] → names ≡ [] → AreRulesOf [] ts standing → IsStateOf history names ts standing (record { lines = 0; nodes = 1; bytes = 0 })
+pub state-none : (history : List Command) (names : List (List ℕ)) (ts : List Triple) (standing : Standing) → history ≡ [] → names ≡ [] → AreRulesOf [] ts standing → AreDeclarationsOf history names ts standing (record { lines = 0; nodes = 1; bytes = 0 })
 state-none history names ts standing he ne rules =
     rw (he, ne) (record {
       legal = tt;
@@ -89,8 +89,8 @@ state-none history names ts standing he ne rules =
 
 -- the state of a history with a declaration more
 pub state-declared : (history : List Command) (k : Command) (names names' : List (List ℕ)) (ts : List Triple) (standing standing' : Standing) (counts : Counts)
-    → has_commit (k ∷ []) ≡ false → fits_command k ≡ true → verdict history k ≡ None → IsStateOf history names ts standing counts
-    → names' ≡ options_of (history ++ k ∷ []) → AreRulesOf (history ++ k ∷ []) ts standing' → IsStateOf (history ++ k ∷ []) names' ts standing' counts
+    → has_commit (k ∷ []) ≡ false → fits_command k ≡ true → verdict history k ≡ None → AreDeclarationsOf history names ts standing counts
+    → names' ≡ options_of (history ++ k ∷ []) → AreRulesOf (history ++ k ∷ []) ts standing' → AreDeclarationsOf (history ++ k ∷ []) names' ts standing' counts
 state-declared history k names names' ts standing standing' counts h fits accepted old ne rules = record {
   legal = legal-one [] history k old.legal fits accepted;
   options = ne;
@@ -102,14 +102,19 @@ state-declared history k names names' ts standing standing' counts h fits accept
   counted = counts-kept history k counts h old.counted;
 }
 
+-- there is room for an option that is accepted
+pub options-few : (history : List Command) (k : Command) (name : List ℕ) → k ≡ commands.Option name → verdict history k ≡ None → option_count history < LIMITS.options
+options-few history k name is accepted =
+    below LIMITS.options (option_count history)
+    (none-when _ refusals.Full _ (none-when (nat_le LIMITS.commands (length history)) refusals.Full (refusals_of history (commands.Option name)) (ap (verdict history) (sym is) ∙ accepted)).1).0
+
 -- so of an option
 pub option-installed : (history : List Command) (k : Command) (name : List ℕ) (names names' : List (List ℕ)) (ts : List Triple) (standing : Standing) (counts : Counts)
-    → k ≡ commands.Option name → fits_command k ≡ true → verdict history k ≡ None → IsStateOf history names ts standing counts → names' ≡ names ++ name ∷ [] → IsStateOf (history ++ k ∷ []) names' ts standing counts
+    → k ≡ commands.Option name → fits_command k ≡ true → verdict history k ≡ None → AreDeclarationsOf history names ts standing counts → names' ≡ names ++ name ∷ [] → AreDeclarationsOf (history ++ k ∷ []) names' ts standing counts
 option-installed history k name names names' ts standing counts is fits accepted old ne =
     let one : option_count (history ++ k ∷ []) ≡ option_count history + 1 =
     ap (λ j. option_count (history ++ j ∷ [])) is ∙ ap (λ ns. length ns) (options-append history (commands.Option name ∷ [])) ∙ length_push (options_of history) name in
-    let few : option_count history < LIMITS.options = below LIMITS.options (option_count history)
-    (none-when _ refusals.Full _ (none-when (nat_le LIMITS.commands (length history)) refusals.Full (refusals_of history (commands.Option name)) (ap (verdict history) (sym is) ∙ accepted)).1).0 in
+    let few = options-few history k name is accepted in
     state-declared history k names names' ts standing standing counts (ap (λ j. has_commit (j ∷ [])) is) fits accepted old
     (ne ∙ ap (λ ns. ns ++ name ∷ []) old.options ∙ sym (options-append history (commands.Option name ∷ [])) ∙ ap (λ j. options_of (history ++ j ∷ [])) (sym is))
     (rules-same history k ts standing (ap rule_in is) (omega (arith, one)) (omega (arith, one, few)) old.rules)
@@ -143,10 +148,10 @@ rule-reach history k rule is accepted = by k is (none-when (nat_le LIMITS.comman
 
 -- the state of a history with a rule more
 pub rule-installed : (history : List Command) (k : Command) (rule : Rule) (plan : RulePlan) (at : ℕ) (names : List (List ℕ)) (ts : List Triple) (standing standing' : Standing) (counts : Counts)
-    → rule_in k ≡ Some rule → fits_command k ≡ true → verdict history k ≡ None → at ≡ length history + 1 → IsStateOf history names ts standing counts
+    → rule_in k ≡ Some rule → fits_command k ≡ true → verdict history k ≡ None → at ≡ length history + 1 → AreDeclarationsOf history names ts standing counts
     → Plans ts standing rule plan → Follows rule at standing standing'
     → ((us : List Triple) → Holds us standing → Plans us standing rule plan → Holds us standing')
-    → ((count : ℕ) → AreBelow count standing → reach_of_rule rule ≤ count → AreBelow count standing') → IsStateOf (history ++ k ∷ []) names ts standing' counts
+    → ((count : ℕ) → AreBelow count standing → reach_of_rule rule ≤ count → AreBelow count standing') → AreDeclarationsOf (history ++ k ∷ []) names ts standing' counts
 rule-installed history k rule plan at names ts standing standing' counts is fits accepted here old plans follows holds below =
     let same : options_of (history ++ k ∷ []) ≡ options_of history = options-append history (k ∷ []) ∙ ap (λ ns. options_of history ++ ns) (rule-options k rule is) ∙ append-nil (options_of history) in
     state-declared history k names names ts standing standing' counts (rule-alone k rule is) fits accepted old (old.options ∙ sym same)
@@ -155,7 +160,7 @@ rule-installed history k rule plan at names ts standing standing' counts is fits
 
 -- the state of a history whose table has grown
 pub state-grown : (history : List Command) (names : List (List ℕ)) (ts ts' : List Triple) (standing standing' : Standing) (counts : Counts)
-    → IsStateOf history names ts standing counts → Extends ts ts' → standing' ≡ standing → IsStateOf history names ts' standing' counts
+    → AreDeclarationsOf history names ts standing counts → Extends ts ts' → standing' ≡ standing → AreDeclarationsOf history names ts' standing' counts
 state-grown history names ts ts' standing standing' counts old x se =
     rw (se) (record {
       legal = old.legal;
@@ -167,6 +172,6 @@ state-grown history names ts ts' standing standing' counts old x se =
 
 -- the rules of a state complete a choice as the history does that its engine is seen as
 pub completed-there : (engine : EngineValue) (history : List Command) (names : List (List ℕ)) (ts : List Triple) (standing : Standing) (counts : Counts) (count : ℕ) (partial : List (ℕ × Bool))
-    → record { history = history; table = ts } ≡ engine → IsStateOf history names ts standing counts → count ≡ length names → completed count standing partial ≡ completed_in engine.history partial
+    → record { history = history; table = ts } ≡ engine → AreDeclarationsOf history names ts standing counts → count ≡ length names → completed count standing partial ≡ completed_in engine.history partial
 completed-there engine history names ts standing counts count partial seen state same =
     completed-same history ts standing count partial state.rules (same ∙ ap length state.options) ∙ ap (λ (e : EngineValue). completed_in e.history partial) seen

@@ -18,7 +18,7 @@ use Rattle.cov_view.specs.References.{is_dir_kind, is_made_node}
 use Rattle.cov_view.specs.Seen.{Seen}
 use Rattle.cov_view.specs.Views.{row_by_number, ShowsLines, IsMade, Shows}
 use Rattle.cov_view.specs.declared.row.ViewRow.{ViewRow}
-use Rattle.cov_engine.specs.declared.store.CommitMark.{CommitMark}
+use Rattle.cov_engine.specs.declared.history_index.CommitMark.{CommitMark}
 use Rattle.cov_engine.specs.declared.file_part.FilePart.{FilePart}
 use Rattle.cov_tree.specs.Dated.{Dated, rows_at as entry_rows}
 use Rattle.cov_engine.specs.declared.visible.Visible.{Visible}
@@ -26,7 +26,7 @@ use Rattle.cov_engine.specs.Showing.{with_node, AreFresh}
 use Rattle.cov_engine.specs.Visible.{shown}
 use Rattle.cov_history.specs.FileNodes.{files_from, files_of}
 use Rattle.cov_engine.specs.Parts.{part_node}
-use Rattle.cov_engine.specs.Holdings.{IsFileOf, AreEntriesOf, IsHeldBy}
+use Rattle.cov_engine.specs.Holdings.{IsFileOf, AreEntriesOf, AreRowsAndLinesOf}
 use Rattle.cov_history.specs.Naming.{NamesOnlyMade}
 use Rattle.cov_history.specs.Verdict.{IsLegal}
 use Rattle.cov_history.proofs.CallerLemmas.{among-more, files-append, rows-tell, holding-stands, replay-once, replay-stands, legal-named, legal-take}
@@ -97,7 +97,7 @@ module _ (ts : List Triple) (c : List Bool) (at : ℕ) (commits : List CommitMar
     rows-fresh : AreEntriesOf history ts entries → AreFresh ts c at stored [] (entry_rows ts c at entries)
     rows-fresh of_entries = once-fresh ts c at stored (entry_rows ts c at entries) (once of_entries)
 
-    view-shows : IsLegal history → IsHeldBy history ts commits file_of_line entries stored → IsVariant
+    view-shows : IsLegal history → AreRowsAndLinesOf history ts commits file_of_line entries stored → IsVariant
     view-shows legal held =
         let are : v.rows ≡ map (row_by_number ns) seen.rows = sym (view-rows ns ts c at history entries stored held.of_entries) in
         let named : NamesOnlyMade ns.nodes v = legal-named c (take at history) (legal-take at [] history legal) in
@@ -119,7 +119,7 @@ module _ (ts : List Triple) (c : List Bool) (at : ℕ) (commits : List CommitMar
         }
 
 -- what holds a history shows the variant of the replay at each position and on each choice
-pub visible-shows : (history value : List Command) (commits : List CommitMark) (file_of_line : List ℕ) (v : Visible) → IsLegal history → IsHeldBy history v.table commits file_of_line v.entries v.files → history ≡ value
+pub visible-shows : (history value : List Command) (commits : List CommitMark) (file_of_line : List ℕ) (v : Visible) → IsLegal history → AreRowsAndLinesOf history v.table commits file_of_line v.entries v.files → history ≡ value
     → (at : ℕ) (c : List Bool) → Shows (numbers_of (take at value)) (numbers_of (take at value)).addresses (shown v c at) (replay c (take at value))
 visible-shows history value commits file_of_line v legal held is at c =
     subst (λ h. Shows (numbers_of (take at h)) (numbers_of (take at h)).addresses (shown v c at) (replay c (take at h))) is

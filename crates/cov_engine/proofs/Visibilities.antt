@@ -17,9 +17,9 @@ use Rattle.cov_edit.specs.Replay.{replay}
 use Rattle.cov_edit.specs.Variant.{Variant, Line}
 use Rattle.cov_file.specs.Dated.{DatedLine as FileLine, vis_at, vis_of, all_rows}
 use Rattle.cov_engine.specs.declared.file_part.FilePart.{FilePart}
-use Rattle.cov_engine.specs.declared.store.CommitMark.{CommitMark}
+use Rattle.cov_engine.specs.declared.history_index.CommitMark.{CommitMark}
 use Rattle.cov_history.specs.Files.{DatedLine, dated, file_dated}
-use Rattle.cov_engine.specs.Holdings.{IsFileOf, IsHeldBy}
+use Rattle.cov_engine.specs.Holdings.{IsFileOf, AreRowsAndLinesOf}
 use Rattle.cov_history.specs.Kept.{Kept, seen_at, is_seen, kept_address, kept_number, kept_of, lines_seen, file_kept}
 use Rattle.cov_engine.specs.Nodes.{IsDated, AreDated}
 use Rattle.cov_history.specs.Verdict.{IsLegal}
@@ -193,7 +193,7 @@ pub record TellsVisibility (history : List Command) (ts : List Triple) (line : �
   pub none : is_none answer ≡ is_no_line history line
   pub stands : IfSome answer (IsVisibilityOf history ts line)
 
-module _ (history : List Command) (ts : List Triple) (commits : List CommitMark) (file_of_line : List ℕ) (entries : Dated) (stored : List FilePart) (legal : IsLegal history) (held : IsHeldBy history ts commits file_of_line entries stored) where
+module _ (history : List Command) (ts : List Triple) (commits : List CommitMark) (file_of_line : List ℕ) (entries : Dated) (stored : List FilePart) (legal : IsLegal history) (held : AreRowsAndLinesOf history ts commits file_of_line entries stored) where
   -- where the line's file has no stored file
   pub no-answer : (line : ℕ) → stored_file_of stored (item_of file_of_line line) ≡ None → is_no_line history line ≡ true
   no-answer line h = by (no-line-file history ts commits file_of_line entries stored legal held line h)

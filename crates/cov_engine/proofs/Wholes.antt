@@ -15,9 +15,9 @@ use Rattle.cov_history.specs.Kept.{Kept, kept_number, kept_of, file_kept}
 use Rattle.cov_order.specs.Orders.{has_line, AreLines}
 use Rattle.cov_tree.specs.Dated.{Dated}
 use Rattle.cov_engine.specs.declared.file_part.FilePart.{FilePart}
-use Rattle.cov_engine.specs.declared.store.CommitMark.{CommitMark}
+use Rattle.cov_engine.specs.declared.history_index.CommitMark.{CommitMark}
 use Rattle.cov_engine.specs.declared.visible.Visible.{Visible}
-use Rattle.cov_engine.specs.Holdings.{IsFileOf, IsHeldBy}
+use Rattle.cov_engine.specs.Holdings.{IsFileOf, AreRowsAndLinesOf}
 use Rattle.cov_engine.specs.Parts.{part_node}
 use Rattle.cov_engine.specs.Visible.{AreLineNodes, HaveNoCommonLine, HaveNoCommonLines, IsWhole}
 use Rattle.cov_history.proofs.CallerLemmas.{files-rise, holding-whole}
@@ -94,11 +94,11 @@ module _ (history : List Command) (ts : List Triple) where
   )
 
 -- the files that are held are by rising node
-pub held-rise : (history : List Command) (ts : List Triple) (commits : List CommitMark) (file_of_line : List ℕ) (entries : Dated) (stored : List FilePart) → IsHeldBy history ts commits file_of_line entries stored → AreRising (map part_node stored)
+pub held-rise : (history : List Command) (ts : List Triple) (commits : List CommitMark) (file_of_line : List ℕ) (entries : Dated) (stored : List FilePart) → AreRowsAndLinesOf history ts commits file_of_line entries stored → AreRising (map part_node stored)
 held-rise history ts commits file_of_line entries stored held = subst AreRising (sym held.parts) (files-rise history).0
 
 -- what holds the rows and lines of a history is whole
-pub held-whole : (history : List Command) (commits : List CommitMark) (file_of_line : List ℕ) (v : Visible) → IsHeldBy history v.table commits file_of_line v.entries v.files → IsWhole v
+pub held-whole : (history : List Command) (commits : List CommitMark) (file_of_line : List ℕ) (v : Visible) → AreRowsAndLinesOf history v.table commits file_of_line v.entries v.files → IsWhole v
 held-whole history commits file_of_line v held =
     let rising : AreRising (map part_node v.files) = held-rise history v.table commits file_of_line v.entries v.files held in
     record {

@@ -15,7 +15,7 @@ use Rattle.cov_history.specs.FileOfLine.{AreFilesOfLines}
 use Rattle.cov_engine.specs.Nodes.{AreDated}
 use Rattle.cov_history.specs.FileNodes.{files_of}
 use Rattle.cov_engine.specs.Parts.{part_node, files_in}
-use Rattle.cov_engine.specs.declared.store.CommitMark.{CommitMark}
+use Rattle.cov_engine.specs.declared.history_index.CommitMark.{CommitMark}
 use Rattle.cov_engine.specs.declared.file_part.FilePart.{FilePart}
 
 -- a stored file has its node's lines in order, with no change beyond the history
@@ -32,7 +32,7 @@ pub record AreEntriesOf (history : List Command) (ts : List Triple) (entries : D
 
 -- the entries are a history's; so are the files, in order, with their lines, whose nodes are of a table; the file of each line is
 -- noted, and so are the commits
-pub record IsHeldBy (history : List Command) (ts : List Triple) (commits : List CommitMark) (file_of_line : List ℕ) (entries : Dated) (stored : List FilePart) : Type 0 where
+pub record AreRowsAndLinesOf (history : List Command) (ts : List Triple) (commits : List CommitMark) (file_of_line : List ℕ) (entries : Dated) (stored : List FilePart) : Type 0 where
   pub of_entries : AreEntriesOf history ts entries
   pub below : AllByRecursion (λ node. node ≤ (numbers_of history).nodes) (nodes_in entries)
   pub made : files_in entries ≡ files_of history

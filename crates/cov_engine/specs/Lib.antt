@@ -13,6 +13,7 @@ pub mod RowPlans
 pub mod Ruling
 pub mod Showing
 pub mod States
+pub mod Summaries
 pub mod TriedRows
 pub mod Trying
 pub mod Carrying

@@ -14,7 +14,7 @@ use Rattle.cov_engine.specs.Marks.{AreMarks}
 use Rattle.cov_history.specs.Overtaking.{overtaken}
 use Rattle.cov_engine.specs.Visibility.{item_of}
 use Rattle.cov_engine.specs.declared.commits.Notes.{Notes}
-use Rattle.cov_engine.specs.declared.store.CommitMark.{CommitMark}
+use Rattle.cov_engine.specs.declared.history_index.CommitMark.{CommitMark}
 
 -- two nodes are true on no common choice
 abbrev pub HaveNoCommonChoice : List Triple → ℕ → ℕ → Type 0

@@ -13,17 +13,19 @@ use Rattle.cov_tree.specs.declared.entry.Entry.{Entry}
 use Rattle.cov_tree.specs.Dated.{Dated}
 use Rattle.cov_rules.specs.Installing.{RulesValue, IsPlan}
 use Rattle.cov_engine.specs.Staging.{AreNear, AreLow}
-use Rattle.cov_engine.specs.Staged.{IsStaged}
-use Rattle.cov_engine.specs.Holdings.{IsHeldBy}
+use Rattle.cov_engine.specs.Staged.{IsCommitPlan, IsStaged}
+use Rattle.cov_engine.specs.Holdings.{AreRowsAndLinesOf}
 use Rattle.cov_engine.specs.Ruling.{rule_in}
+use Rattle.cov_engine.specs.States.{Declares, history_of, table_of}
 use Rattle.cov_history.specs.Sessions.{MayCome}
 use Rattle.cov_history.specs.Verdict.{verdict}
 use Rattle.cov_engine.specs.declared.counts.Counts.{Counts}
 use Rattle.cov_engine.specs.declared.file_part.FilePart.{FilePart}
-use Rattle.cov_engine.specs.declared.store.CommitMark.{CommitMark}
+use Rattle.cov_engine.specs.declared.history_index.CommitMark.{CommitMark}
 use Rattle.cov_engine.specs.declared.edit_plan.EditPlan.{EditPlan}
-use Rattle.cov_engine.specs.declared.ready.Ready.{Ready}
-use Rattle.cov_engine.specs.declared.ready.Ready.TheVariants as ready
+use Rattle.cov_engine.specs.declared.state.EngineState.{EngineState}
+use Rattle.cov_engine.specs.declared.addition.Addition.{Addition}
+use Rattle.cov_engine.specs.declared.addition.Addition.TheVariants as additions
 
 -- a history accepts a command, and has room for it
 pub record IsNext (history : List Command) (command : Command) (spare : ℕ) : Type 0 where
@@ -47,10 +49,10 @@ pub record AreCountsWith (history : List Command) (es : List Edit) (counts : Cou
   pub bytes : counts.bytes ≡ byte_count history + text_bytes es
 
 -- what is staged for edits and an ambition is ready, and there is room for their commit
-abbrev pub IsStagedReady : List Command → List Triple → Formula ℕ → List Edit → ℕ → List CommitMark → List ℕ → Dated → List FilePart → Ready → Type 0
-IsStagedReady history ts ambition es spare commits file_of_line entries stored (ready.Option name) = ⊥
-IsStagedReady history ts ambition es spare commits file_of_line entries stored (ready.Rule rule plan) = ⊥
-IsStagedReady history ts ambition es spare commits file_of_line entries stored (ready.Commit mark counts plans rows) =
+abbrev pub IsStagedReady : List Command → List Triple → Formula ℕ → List Edit → ℕ → List CommitMark → List ℕ → Dated → List FilePart → Addition → Type 0
+IsStagedReady history ts ambition es spare commits file_of_line entries stored (additions.Option name) = ⊥
+IsStagedReady history ts ambition es spare commits file_of_line entries stored (additions.Rule rule plan) = ⊥
+IsStagedReady history ts ambition es spare commits file_of_line entries stored (additions.Commit mark counts plans rows) =
     IsStaged history ts ambition es commits mark plans.items rows file_of_line entries stored × AreCountsWith history es counts × (0 < spare)
 
 -- a commit is staged, and there is room for it
@@ -60,10 +62,34 @@ IsCommitReady history ts (commands.Commit base choice ambition es) spare commits
 IsCommitReady history ts command spare commits file_of_line entries stored mark counts plans rows = ⊥
 
 -- what a command wants is ready: a name and room for it, a rule with its plan, or what a commit stages
-abbrev pub IsReady : List Command → Command → ℕ → List Triple → RulesValue → ℕ → List CommitMark → List ℕ → Dated → List FilePart → Ready → Type 0
-IsReady history command options_spare ts rules commits_spare commits file_of_line entries stored (ready.Option name) =
-    (command ≡ commands.Option name) × (0 < options_spare) × IsHeldBy history ts commits file_of_line entries stored
-IsReady history command options_spare ts rules commits_spare commits file_of_line entries stored (ready.Rule rule plan) =
-    (rule_in command ≡ Some rule) × IsPlan ts rules rule plan × IsHeldBy history ts commits file_of_line entries stored
-IsReady history command options_spare ts rules commits_spare commits file_of_line entries stored (ready.Commit mark counts plans rows) =
+abbrev pub IsReady : List Command → Command → ℕ → List Triple → RulesValue → ℕ → List CommitMark → List ℕ → Dated → List FilePart → Addition → Type 0
+IsReady history command options_spare ts rules commits_spare commits file_of_line entries stored (additions.Option name) =
+    (command ≡ commands.Option name) × (0 < options_spare) × AreRowsAndLinesOf history ts commits file_of_line entries stored
+IsReady history command options_spare ts rules commits_spare commits file_of_line entries stored (additions.Rule rule plan) =
+    (rule_in command ≡ Some rule) × IsPlan ts rules rule plan × AreRowsAndLinesOf history ts commits file_of_line entries stored
+IsReady history command options_spare ts rules commits_spare commits file_of_line entries stored (additions.Commit mark counts plans rows) =
     IsCommitReady history ts command commits_spare commits file_of_line entries stored mark counts plans.items rows
+
+-- a commit is planned in a state
+abbrev pub IsPlannedFor : EngineState → Formula ℕ → List Edit → CommitMark → List Entry → Type 0
+IsPlannedFor s ambition es mark plan =
+    IsCommitPlan (history_of s) (table_of s) s.visible.entries ambition es mark plan
+
+-- a state has what its history declares, and a commit is staged in it
+abbrev pub IsStagedFor : EngineState → Formula ℕ → List Edit → Addition → Type 0
+IsStagedFor s ambition es r =
+    Declares (history_of s) s
+    × IsStagedReady (history_of s) (table_of s) ambition es s.index.commits.spare
+    s.index.commits.items s.index.file_of_line.items s.visible.entries s.visible.files r
+
+-- a state has what its history declares, and what a command wants is ready in it
+abbrev pub IsReadyFor : EngineState → Command → Addition → Type 0
+IsReadyFor s command r =
+    Declares (history_of s) s
+    × IsReady (history_of s) command s.options.spare (table_of s) s.rules s.index.commits.spare
+    s.index.commits.items s.index.file_of_line.items s.visible.entries s.visible.files r
+
+-- a command is the next one of a state, and ready in it
+abbrev pub IsPrepared : EngineState → Command → Addition → Type 0
+IsPrepared s command r =
+    IsNext (history_of s) command s.commands.spare × IsReadyFor s command r

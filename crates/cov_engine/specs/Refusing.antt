@@ -12,14 +12,6 @@ use Rattle.cov_history.specs.Verdict.{as_invalid, as_bad_record, has_no_edits, s
 use Rattle.cov_history.specs.declared.refusal.Refusal.{Refusal}
 use Rattle.cov_history.specs.declared.refusal.Refusal.TheVariants as refusals
 
--- whether a command declares an option
-abbrev pub is_option : Command → Bool
-is_option (commands.Option name) = true
-is_option (commands.Constraint expr) = false
-is_option (commands.Prefer expr) = false
-is_option (commands.Default option on) = false
-is_option (commands.Commit base choice ambition es) = false
-
 -- the refusal where not all of so many options are declared
 abbrev pub undeclared : ℕ → ℕ → Option Refusal
 undeclared declared count = when (nat_lt declared count) refusals.BadOption

@@ -12,8 +12,8 @@ use Rattle.cov_rules.specs.declared.rules.Rule.TheVariants as rules
 use Rattle.cov_rules.specs.declared.rules.RuleFault.{RuleFault}
 use Rattle.cov_rules.specs.declared.rules.RuleFault.TheVariants as faults
 use Rattle.cov_history.specs.Verdict.{RefusedBy}
-use Rattle.cov_engine.specs.declared.ready.Ready.{Ready}
-use Rattle.cov_engine.specs.declared.ready.Ready.TheVariants as ready
+use Rattle.cov_engine.specs.declared.addition.Addition.{Addition}
+use Rattle.cov_engine.specs.declared.addition.Addition.TheVariants as additions
 use Rattle.cov_history.specs.declared.refusal.Refusal.{Refusal}
 use Rattle.cov_history.specs.declared.refusal.Refusal.TheVariants as refusals
 
@@ -50,7 +50,7 @@ abbrev pub IsRefusalOf : Standing → Rule → Refusal → Type 0
 IsRefusalOf s rule r = (count : ℕ) → AreOptions count s rule → RefusedBy r (as_refusal (refusal count s rule))
 
 -- a command's rule is ready, with its plan beside the rules that stand
-abbrev pub IsRuleReady : Command → List Triple → RulesValue → Ready → Type 0
-IsRuleReady command ts standing (ready.Option name) = ⊥
-IsRuleReady command ts standing (ready.Rule rule plan) = (rule_in command ≡ Some rule) × IsPlan ts standing rule plan
-IsRuleReady command ts standing (ready.Commit mark counts plans rows) = ⊥
+abbrev pub IsRuleReady : Command → List Triple → RulesValue → Addition → Type 0
+IsRuleReady command ts standing (additions.Option name) = ⊥
+IsRuleReady command ts standing (additions.Rule rule plan) = (rule_in command ≡ Some rule) × IsPlan ts standing rule plan
+IsRuleReady command ts standing (additions.Commit mark counts plans rows) = ⊥

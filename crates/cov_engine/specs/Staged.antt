@@ -1,24 +1,28 @@
 -- A commit that is staged.
-use Rattle.std.specs.Prelude.{◌≡◌, ℕ, ◌+◌, ◌≤◌, List, length, map, ◌++◌}
+use Rattle.std.specs.Prelude.{◌≡◌, ℕ, ◌+◌, ◌≤◌, Bool, List, length, map, ◌++◌, None}
 use Rattle.std.specs.List.{AllByRecursion}
 use Rattle.cov_dd.specs.declared.triple.Triple.{Triple}
 use Rattle.cov_dd.specs.Diagrams.{Stands}
 use Rattle.cov_expr.specs.Formula.{Formula, reach, value}
 use Rattle.cov_edit.specs.declared.command.Command.{Command}
+use Rattle.cov_edit.specs.declared.command.Command.TheVariants as commands
 use Rattle.cov_edit.specs.declared.edit.Edit.{Edit}
 use Rattle.cov_edit.specs.History.{option_count}
 use Rattle.cov_edit.specs.Numbering.{numbers_of, line_count}
 use Rattle.cov_edit.specs.Touched.{touched}
+use Rattle.cov_history.specs.BadChoices.{unsound_refusal}
 use Rattle.cov_history.specs.FileOfLine.{new_file_of_line}
+use Rattle.cov_history.specs.Verdict.{RefusedBy}
+use Rattle.cov_history.specs.declared.refusal.Refusal.{Refusal}
 use Rattle.cov_engine.specs.Staging.{contents, new_files, HasRoom}
-use Rattle.cov_engine.specs.Holdings.{IsHeldBy}
+use Rattle.cov_engine.specs.Holdings.{AreRowsAndLinesOf}
 use Rattle.cov_engine.specs.Carrying.{ArePlanned}
 use Rattle.cov_engine.specs.RowPlans.{edit_changes, made_by, kinds_made_by}
 use Rattle.cov_tree.specs.declared.entry.Entry.{Entry}
 use Rattle.cov_tree.specs.Changes.{Makes}
 use Rattle.cov_tree.specs.Dated.{Dated, HasRoom as HasRowRoom, nodes_in, kinds_in, nodes_with, kinds_with}
 use Rattle.cov_engine.specs.declared.file_part.FilePart.{FilePart}
-use Rattle.cov_engine.specs.declared.store.CommitMark.{CommitMark}
+use Rattle.cov_engine.specs.declared.history_index.CommitMark.{CommitMark}
 use Rattle.cov_engine.specs.declared.edit_plan.EditPlan.{EditPlan}
 
 -- a commit is planned after a history: its position and what it touches are kept, its node stands for the ambition, which names
@@ -37,7 +41,7 @@ pub record IsCommitPlan (history : List Command) (ts : List Triple) (entries : D
 pub record IsStaged (history : List Command) (ts : List Triple) (ambition : Formula ℕ) (es : List Edit) (commits : List CommitMark) (mark : CommitMark) (plans : List EditPlan) (plan : List Entry) (file_of_line : List ℕ) (entries : Dated) (stored : List FilePart) : Type 0 where
   pub old_file_of_line : List ℕ
   pub old_stored : List FilePart
-  pub held : IsHeldBy history ts commits old_file_of_line entries old_stored
+  pub held : AreRowsAndLinesOf history ts commits old_file_of_line entries old_stored
   pub at : mark.position ≡ length history + 1
   pub touches : mark.touched ≡ touched es
   pub file_of_line_is : file_of_line ≡ old_file_of_line ++ new_file_of_line (numbers_of history).nodes es
@@ -49,3 +53,15 @@ pub record IsStaged (history : List Command) (ts : List Triple) (ambition : Form
   pub row_room : HasRowRoom plan entries
   pub stands : Stands ts mark.node 0 (option_count history) (value ambition)
   pub planned : ArePlanned (length history + 1) old_stored (numbers_of history).nodes (line_count history) mark.node ts (line_count history) es plans
+
+-- edits within an ambition leave each variant sound, whatever session they come from
+abbrev pub LeavesSound : List Command → Formula ℕ → List Edit → Type 0
+LeavesSound history ambition es =
+    (base : ℕ) (choice : List Bool) →
+    unsound_refusal history ambition (commands.Commit base choice ambition es) ≡ None
+
+-- a refusal is that of the first variant that they leave unsound, or memory is wanting
+abbrev pub LeavesUnsound : List Command → Formula ℕ → List Edit → Refusal → Type 0
+LeavesUnsound history ambition es refusal =
+    (base : ℕ) (choice : List Bool) →
+    RefusedBy refusal (unsound_refusal history ambition (commands.Commit base choice ambition es))

@@ -1,5 +1,5 @@
 -- What an engine keeps of its history.
-use Rattle.std.specs.Prelude.{◌≡◌, ℕ, ◌+◌, ◌≤◌, List, length, Option}
+use Rattle.std.specs.Prelude.{◌≡◌, ℕ, suc, ◌+◌, ◌≤◌, List, [], ◌∷◌, length, Option}
 use Rattle.cov_base.specs.declared.limits.TheConstants.{LIMITS}
 use Rattle.cov_dd.specs.declared.triple.Triple.{Triple}
 use Rattle.cov_edit.specs.declared.command.Command.{Command}
@@ -9,9 +9,11 @@ use Rattle.cov_edit.specs.Limits.{limits_of}
 use Rattle.cov_edit.specs.Numbering.{line_count, node_count}
 use Rattle.cov_rules.specs.Installing.{Standing}
 use Rattle.cov_view.specs.Refusals.{first_of}
+use Rattle.cov_engine.specs.Holdings.{AreRowsAndLinesOf}
 use Rattle.cov_engine.specs.Ruling.{AreRulesOf}
 use Rattle.cov_history.specs.Verdict.{IsLegal, name_refusals}
 use Rattle.cov_engine.specs.declared.counts.Counts.{Counts}
+use Rattle.cov_engine.specs.declared.state.EngineState.{EngineState}
 use Rattle.cov_history.specs.declared.refusal.Refusal.{Refusal}
 
 -- a history, and the table of the visibilities and rules that an engine keeps of it
@@ -32,12 +34,48 @@ pub record AreCountsOf (history : List Command) (counts : Counts) : Type 0 where
   pub bytes : counts.bytes ≡ byte_count history
 
 -- the names of options, the rules that stand with their table, and the counts are those of a legal history
-pub record IsStateOf (history : List Command) (names : List (List ℕ)) (ts : List Triple) (standing : Standing) (counts : Counts) : Type 0 where
+pub record AreDeclarationsOf (history : List Command) (names : List (List ℕ)) (ts : List Triple) (standing : Standing) (counts : Counts) : Type 0 where
   pub legal : IsLegal history
   pub options : names ≡ options_of history
   pub rules : AreRulesOf history ts standing
   pub most : length history ≤ (limits_of history).commands
   pub counted : AreCountsOf history counts
+
+-- the history of a state, and its table
+abbrev pub history_of : EngineState → List Command
+history_of s = s.commands.commands
+
+abbrev pub table_of : EngineState → List Triple
+table_of s = s.visible.table
+
+-- the positions at which commands declare options, so many commands coming before these
+abbrev pub options_at : ℕ → List Command → List ℕ
+options_at n [] = []
+options_at n (commands.Option name ∷ ks) = suc n ∷ options_at (suc n) ks
+options_at n (commands.Constraint expr ∷ ks) = options_at (suc n) ks
+options_at n (commands.Prefer expr ∷ ks) = options_at (suc n) ks
+options_at n (commands.Default option on ∷ ks) = options_at (suc n) ks
+options_at n (commands.Commit base choice ambition es ∷ ks) = options_at (suc n) ks
+
+-- a state's options with their positions, its rules and its counts are those of a history
+abbrev pub Declares : List Command → EngineState → Type 0
+Declares history s =
+    AreDeclarationsOf history s.options.names (table_of s) s.rules.standing s.counts
+    × (s.option_positions ≡ options_at 0 history)
+
+-- so are its rows, files, lines and commits
+abbrev pub Contains : List Command → EngineState → Type 0
+Contains history s =
+    AreRowsAndLinesOf history (table_of s) s.index.commits.items s.index.file_of_line.items
+    s.visible.entries s.visible.files
+
+-- a state keeps a history
+abbrev pub Keeps : List Command → EngineState → Type 0
+Keeps history s = Declares history s × Contains history s
+
+-- a state keeps its own history. While a command is prepared that isn't in it yet, what the command makes is there as well
+abbrev pub IsKept : EngineState → Type 0
+IsKept s = Keeps (history_of s) s
 
 -- the refusal of an option by its name, these being declared
 abbrev pub name_refusal : List (List ℕ) → List ℕ → Option Refusal

@@ -40,10 +40,14 @@ module _ (ts : List Triple) (c : List Bool) (at : ℕ) (stored : List FilePart) 
   abbrev pub whole_row : Row → ViewRow
   whole_row r = record { node = nodes.Old r.node; kind = r.kind; parent = nodes.Old r.parent; name = r.name; lines = row_lines r.kind r.node }
 
+-- all rows that a choice shows at a position where edits change rows, and otherwise those of the nodes that they touch
+abbrev pub rows_for : Visible → List Bool → ℕ → Bool → List ℕ → List Row
+rows_for v c at changes nodes = if changes then rows_at v.table c at v.entries else rows_among v.table c at nodes v.entries
+
 -- the rows that edits are tried on, on a choice at a position: all where one of them changes rows, and else those of the nodes that
 -- they touch
 abbrev pub rows_tried : Visible → List Bool → ℕ → List Edit → List Row
-rows_tried v c at es = if list_any changes_rows es then rows_at v.table c at v.entries else rows_among v.table c at (touched es) v.entries
+rows_tried v c at es = rows_for v c at (list_any changes_rows es) (touched es)
 
 -- what edits are tried on: these rows with their lines
 abbrev pub seen_tried : Visible → List Bool → ℕ → List Edit → Seen

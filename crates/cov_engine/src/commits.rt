@@ -3,7 +3,7 @@ ghost use Rattle.std.specs.Prelude.{◌≡◌, ◌<◌, ◌≤◌, ◌++◌, [],
 ghost use Rattle.std.specs.List.{AllByRecursion};
 ghost use Rattle.cov_engine.specs.Overtakers.{noted, NoneTouches};
 
-use crate::store::CommitMark;
+use crate::history_index::CommitMark;
 use cov_base::{Memory, NodeNo, Position};
 use std::alloc::Global;
 use std::marker::Model;
@@ -28,7 +28,7 @@ pub(crate) struct Notes {
 impl Model for Commits {
     ghost use Rattle.std.specs.Prelude.{◌-◌, vec_len, vec_capacity};
     ghost use Rattle.std.specs.Coded.{codes};
-    ghost use Rattle.cov_engine.specs.contracts.store.CommitMark as row;
+    ghost use Rattle.cov_engine.specs.contracts.history_index.CommitMark as row;
     ghost use Rattle.cov_engine.specs.Marks.{CommitsValue};
     ghost use Rattle.cov_engine.specs.Overtakers.{noted, AreNoted};
 

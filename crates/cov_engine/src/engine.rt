@@ -11,20 +11,20 @@ ghost use Rattle.cov_rules.specs.Completion.{Complete, IsCompletion, IsRefusalBy
 ghost use Rattle.cov_view.specs.Views.{Shows};
 ghost use Rattle.cov_vis.specs.Listings.{has_options_below, is_reduced, reads};
 ghost use Rattle.cov_history.specs.Files.{file_dated};
-ghost use Rattle.cov_engine.specs.Holdings.{IsHeldBy};
 ghost use Rattle.cov_history.specs.Kept.{kept_of};
 ghost use Rattle.cov_history.specs.Completing.{completed_in};
 ghost use Rattle.cov_engine.specs.Reading.{IsFileAt, line_row};
-ghost use Rattle.cov_engine.specs.States.{AreCountsOf, IsStateOf, receipt_number};
+ghost use Rattle.cov_engine.specs.States.{AreCountsOf, IsKept, history_of, table_of, receipt_number};
 ghost use Rattle.cov_history.specs.Verdict.{IsLegal, verdict, RefusedBy};
 ghost use Rattle.cov_engine.specs.Visibility.{IsVisibilityOf, as_row, has_line_number, is_no_line, is_refusal, presence_of};
 ghost use Rattle.cov_engine.specs.Visible.{IsWhole, shown};
 
 use crate::commits::Commits;
-use crate::installing::add_ready;
+use crate::history_index::{HistoryIndex, add_nodes, file_of};
+use crate::installing::add;
+use crate::option_positions::OptionPositions;
 use crate::places::part_of;
 use crate::state::{EngineState, make_ready};
-use crate::store::{Store, add_nodes, file_of};
 use crate::{Counts, FileFault, FileParts, Prepared, Receipt, Refusal, Visible, reading};
 use cov_base::{Choice, FileRows, LineNo, Memory, MemoryOr, Name, NodeNo, Position};
 use cov_dd::{Node, Table};
@@ -51,16 +51,15 @@ impl Model for Engine {
     ghost use Rattle.std.specs.Coded.{codes};
     ghost use Rattle.cov_dd.specs.contracts.triple.Triple as triples;
     ghost use Rattle.cov_edit.specs.contracts.command.Command as row;
-    ghost use Rattle.cov_engine.specs.States.{EngineValue, IsStateOf};
-    ghost use Rattle.cov_engine.specs.Holdings.{IsHeldBy};
+    ghost use Rattle.cov_engine.specs.States.{EngineValue, IsKept, history_of, table_of};
 
     ghost Value = { EngineValue };
 
     ghost coded = { Prim.hlevel (codes, row.the_row.coded, triples.the_row.coded) };
 
-    ghost view = { λ e. record { history = e.state.commands.commands; table = e.state.visible.table } };
+    ghost view = { λ e. record { history = history_of e.state; table = table_of e.state } };
 
-    ghost invariant = { λ e. IsStateOf e.state.commands.commands e.state.options.names e.state.visible.table e.state.rules.standing e.state.counts × IsHeldBy e.state.commands.commands e.state.visible.table e.state.store.commits.items e.state.store.file_of_line.items e.state.visible.entries e.state.visible.files };
+    ghost invariant = { λ e. IsKept e.state };
 }
 
 impl Engine {
@@ -78,7 +77,7 @@ impl Engine {
                     nodes: 1,
                     bytes: 0,
                 },
-                store: Store {
+                index: HistoryIndex {
                     commits: Commits::new(alloc),
                     file_of_line: Vec::new(alloc),
                 },
@@ -87,6 +86,7 @@ impl Engine {
                     entries: Entries::new(alloc)?,
                     files: FileParts::new(alloc),
                 },
+                option_positions: OptionPositions::new(alloc)?,
             },
         })
     }
@@ -141,7 +141,7 @@ impl Engine {
         ensures none { is_none result ≡ is_no_line self.now.history line }
         ensures stands { IfSome result (IsVisibilityOf self.now.history self.now.table line) }
     {
-        match file_of(&self.state.store, &self.state.visible, line) {
+        match file_of(&self.state.index, &self.state.visible, line) {
             Some(part) => part.lines.vis(line),
             None => None,
         }
@@ -169,7 +169,7 @@ impl Engine {
     {
         match part_of(self.state.visible.files.as_slice(), file) {
             Some(part) => part.lines.all(),
-            None => Ok(FileRows::new(self.state.store.commits.allocator())),
+            None => Ok(FileRows::new(self.state.index.commits.allocator())),
         }
     }
 
@@ -247,7 +247,7 @@ impl Engine {
     pub fn lines_at(&self, file: NodeNo, choice: Choice, at: Position) -> Result<FileRows, Memory>
         ensures { IfOk result (λ rows. rows ≡ map line_row (lines_of (replay choice (take at self.now.history)) file)) }
     {
-        let alloc = self.state.store.commits.allocator();
+        let alloc = self.state.index.commits.allocator();
         reading::lines_at(alloc, &self.state.visible, file, choice, at)
     }
 
@@ -260,7 +260,7 @@ impl Engine {
 
     /// Makes everything ready for a command, so that its installation can't fail. A refusal, the first of the verdict on it,
     /// hands the engine back. Every node keeps its value, refused or not. A commit takes time in all rows, and for each edit at
-    /// most in the lines of its file; one on an older base looks at the commands since.
+    /// most in the lines of its file; where a commit after its base touched a node that it touches, it looks at all of these.
     pub fn prepare(self, command: Command) -> Result<Prepared, (Engine, Refusal)>
         ensures prepared { IfOk result (λ prepared. (prepared.history ≡ self.history) × (prepared.command ≡ command)) }
         ensures accepted { OnOk result (verdict self.history command ≡ None) }
@@ -292,7 +292,7 @@ impl Engine {
             Ok(ready) => ready,
             Err(refusal) => return Err(refusal),
         };
-        let number = add_ready(&mut self.state, &command, ready);
+        let number = add(&mut self.state, &command, ready);
         match self.state.commands.push(command) {
             Ok(()) => (),
             Err(_) => unreachable!(),
@@ -302,9 +302,8 @@ impl Engine {
     }
 
     pub(crate) fn of_state(state: EngineState) -> Engine
-        requires state { IsStateOf state.commands.commands state.options.names state.visible.table state.rules.standing state.counts }
-        requires held { IsHeldBy state.commands.commands state.visible.table state.store.commits.items state.store.file_of_line.items state.visible.entries state.visible.files }
-        ensures { result ≡ record { history = state.commands.commands; table = state.visible.table } }
+        requires { IsKept state }
+        ensures { result ≡ record { history = history_of state; table = table_of state } }
     {
         Engine { state }
     }

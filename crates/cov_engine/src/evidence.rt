@@ -10,7 +10,7 @@ ghost use Rattle.cov_tree.specs.Dated.{rows_with};
 ghost use Rattle.cov_engine.specs.Evidence.{CanBeTested, first_faulty, refusal_by_plan, refusal_for};
 
 use crate::Refusal;
-use crate::store::view_of_rows;
+use crate::history_index::view_of_rows;
 use cov_base::{Choice, Memory, Steps, Uncounted};
 use cov_dd::{Node, Table};
 use cov_edit::Edit;
@@ -45,13 +45,14 @@ pub(crate) fn refusal_left(
     valid: Node,
     ambition: Node,
     count: u8,
-    edits: &[Edit],
+    changes_rows: bool,
 ) -> Result<Option<Refusal>, Memory>
     requires { CanBeTested table.old entries.now plan.now valid ambition count }
     ensures extends { Extends table.old table.new }
-    ensures found { IfOk result (λ found. found ≡ (if list_any changes_rows edits.now then refusal_by_plan table.old entries.now plan.now valid ambition count else None)) }
+    ensures found { IfOk result (λ found. found ≡ (if changes_rows
+        then refusal_by_plan table.old entries.now plan.now valid ambition count else None)) }
 {
-    match change_rows(edits) {
+    match changes_rows {
         true => fault_left(alloc, table, entries, plan, valid, ambition, count),
         false => Ok(None),
     }

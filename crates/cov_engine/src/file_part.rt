@@ -38,7 +38,7 @@ impl FilePart {
     }
 
     /// Nothing more is expected.
-    pub(crate) fn settle(&mut self)
+    pub(crate) fn expect_nothing(&mut self)
         ensures { contents self.new ≡ contents self.old }
     {
         self.lines.settle();

@@ -11,7 +11,7 @@ ghost use Rattle.cov_engine.specs.Staging.{contents, new_files, AreNear, AreLow,
 
 use crate::FilePart;
 use crate::edit_plan::{EditPlan, carry_out};
-use crate::file_staging::{add_room_for, settle_file_of, stage_file};
+use crate::file_staging::{add_room_for, expect_nothing_for, stage_file};
 use cov_base::{Memory, NodeNo, Position};
 use cov_edit::Edit;
 use std::alloc::Global;
@@ -108,7 +108,7 @@ impl FileParts {
     }
 
     /// Takes back what was expected of files for edits, so many nodes having been made before.
-    pub(crate) fn settle(&mut self, before: u32, edits: &[Edit])
+    pub(crate) fn expect_nothing(&mut self, before: u32, edits: &[Edit])
         requires rising { AreRising (map part_node self.old) }
         requires near { AreNear before edits.now }
         ensures { map contents self.new ≡ map contents self.old }
@@ -116,7 +116,7 @@ impl FileParts {
         let files = self.parts.as_mut_slice();
         let mut ahead = edits;
         while let [edit, rest @ ..] = ahead {
-            settle_file_of(files, before, edit);
+            expect_nothing_for(files, before, edit);
             ahead = rest;
         }
     }

@@ -100,7 +100,7 @@ fn expect_delete(files: &mut [FilePart], file: NodeNo, line: LineNo) -> Result<(
 }
 
 /// Takes back what was expected of files for an edit, so many nodes having been made before.
-pub(crate) fn settle_file_of(files: &mut [FilePart], before: u32, edit: &Edit)
+pub(crate) fn expect_nothing_for(files: &mut [FilePart], before: u32, edit: &Edit)
     requires rising { AreRising (map part_node files.old) }
     requires near { AreNear before (edit.now ∷ []) }
     ensures { map contents files.new ≡ map contents files.old }
@@ -108,18 +108,18 @@ pub(crate) fn settle_file_of(files: &mut [FilePart], before: u32, edit: &Edit)
     match edit {
         Edit::New { .. } | Edit::Rename { .. } | Edit::Move { .. } | Edit::Remove { .. } => (),
         Edit::Insert { file, .. } | Edit::Delete { file, .. } => {
-            settle(files, node_number(before, file));
+            expect_nothing_in(files, node_number(before, file));
         }
     }
 }
 
 // What was expected of a file is no longer.
-fn settle(files: &mut [FilePart], file: NodeNo)
+fn expect_nothing_in(files: &mut [FilePart], file: NodeNo)
     requires rising { AreRising (map part_node files.old) }
     ensures { map contents files.new ≡ map contents files.old }
 {
     match index_of(files, file) {
-        Some(at) => files[at].settle(),
+        Some(at) => files[at].expect_nothing(),
         None => (),
     }
 }

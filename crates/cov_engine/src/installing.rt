@@ -1,20 +1,19 @@
 // Commands that are installed, or given up.
 ghost use Rattle.std.specs.Prelude.{◌≡◌, ◌-◌, ◌++◌, ◌≤◌, [], ◌∷◌, map, take};
 ghost use Rattle.cov_edit.specs.Touched.{AreRising};
-ghost use Rattle.cov_engine.specs.Holdings.{IsHeldBy};
 ghost use Rattle.cov_engine.specs.Parts.{part_node, count_below};
 ghost use Rattle.cov_engine.specs.Staging.{contents, AreNear};
 ghost use Rattle.cov_edit.specs.History.{edits_in};
-ghost use Rattle.cov_engine.specs.Ready.{IsNext, IsReady};
-ghost use Rattle.cov_engine.specs.States.{IsStateOf, receipt_number};
-ghost use Rattle.cov_engine.specs.declared.ready.Ready.TheVariants as ready;
+ghost use Rattle.cov_engine.specs.Ready.{IsPrepared};
+ghost use Rattle.cov_engine.specs.States.{history_of, table_of, receipt_number, IsKept, Keeps};
+ghost use Rattle.cov_engine.specs.declared.addition.Addition.TheVariants as additions;
 
+use crate::addition::Addition;
 use crate::edit_plan::EditPlan;
+use crate::history_index::{CommitMark, HistoryIndex};
 use crate::places::count_below;
-use crate::ready::Ready;
 use crate::staging::{install, unstage};
 use crate::state::EngineState;
-use crate::store::{CommitMark, Store};
 use crate::{Counts, Visible};
 use cov_base::{NodeNo, OptionName, Position};
 use cov_edit::{Command, Edit};
@@ -23,21 +22,17 @@ use cov_tree::EntryPlan;
 use std::collections::VecDeque;
 
 /// Adds all of a command that is ready but the command itself, and answers the number on its receipt.
-pub(crate) fn add_ready(state: &mut EngineState, command: &Command, ready: Ready) -> u32
-    requires state { IsStateOf state.old.commands.commands state.old.options.names state.old.visible.table state.old.rules.standing state.old.counts }
-    requires next { IsNext state.old.commands.commands command.now state.old.commands.spare }
-    requires ready { IsReady state.old.commands.commands command.now state.old.options.spare state.old.visible.table state.old.rules
-        state.old.store.commits.spare state.old.store.commits.items state.old.store.file_of_line.items state.old.visible.entries state.old.visible.files ready }
+pub(crate) fn add(state: &mut EngineState, command: &Command, ready: Addition) -> u32
+    requires prepared { IsPrepared state.old command.now ready }
     ensures commands { state.new.commands ≡ state.old.commands }
-    ensures table { state.new.visible.table ≡ state.old.visible.table }
-    ensures state { IsStateOf (state.old.commands.commands ++ command.now ∷ []) state.new.options.names state.new.visible.table state.new.rules.standing state.new.counts }
-    ensures held { IsHeldBy (state.old.commands.commands ++ command.now ∷ []) state.new.visible.table state.new.store.commits.items state.new.store.file_of_line.items state.new.visible.entries state.new.visible.files }
-    ensures number { result ≡ receipt_number state.old.commands.commands command.now }
+    ensures table { table_of state.new ≡ table_of state.old }
+    ensures kept { Keeps (history_of state.old ++ command.now ∷ []) state.new }
+    ensures number { result ≡ receipt_number (history_of state.old) command.now }
 {
     match ready {
-        Ready::Option { name } => add_option(state, command, name),
-        Ready::Rule { rule, plan } => add_rule(state, command, rule, plan),
-        Ready::Commit {
+        Addition::Option { name } => add_option(state, command, name),
+        Addition::Rule { rule, plan } => add_rule(state, command, rule, plan),
+        Addition::Commit {
             mark,
             counts,
             plans,
@@ -47,29 +42,23 @@ pub(crate) fn add_ready(state: &mut EngineState, command: &Command, ready: Ready
 }
 
 fn add_option(state: &mut EngineState, command: &Command, name: OptionName) -> u32
-    requires state { IsStateOf state.old.commands.commands state.old.options.names state.old.visible.table state.old.rules.standing state.old.counts }
-    requires next { IsNext state.old.commands.commands command.now state.old.commands.spare }
-    requires ready { IsReady state.old.commands.commands command.now state.old.options.spare state.old.visible.table state.old.rules
-        state.old.store.commits.spare state.old.store.commits.items state.old.store.file_of_line.items state.old.visible.entries state.old.visible.files (ready.Option name) }
+    requires prepared { IsPrepared state.old command.now (additions.Option name) }
     ensures commands { state.new.commands ≡ state.old.commands }
-    ensures table { state.new.visible.table ≡ state.old.visible.table }
-    ensures state { IsStateOf (state.old.commands.commands ++ command.now ∷ []) state.new.options.names state.new.visible.table state.new.rules.standing state.new.counts }
-    ensures held { IsHeldBy (state.old.commands.commands ++ command.now ∷ []) state.new.visible.table state.new.store.commits.items state.new.store.file_of_line.items state.new.visible.entries state.new.visible.files }
-    ensures number { result ≡ receipt_number state.old.commands.commands command.now }
+    ensures table { table_of state.new ≡ table_of state.old }
+    ensures kept { Keeps (history_of state.old ++ command.now ∷ []) state.new }
+    ensures number { result ≡ receipt_number (history_of state.old) command.now }
 {
+    let at = Position::new(state.commands.len() as u32 + 1);
+    state.option_positions.push(at);
     u32::from(state.options.declare(name).number())
 }
 
 fn add_rule(state: &mut EngineState, command: &Command, rule: Rule, plan: RulePlan) -> u32
-    requires state { IsStateOf state.old.commands.commands state.old.options.names state.old.visible.table state.old.rules.standing state.old.counts }
-    requires next { IsNext state.old.commands.commands command.now state.old.commands.spare }
-    requires ready { IsReady state.old.commands.commands command.now state.old.options.spare state.old.visible.table state.old.rules
-        state.old.store.commits.spare state.old.store.commits.items state.old.store.file_of_line.items state.old.visible.entries state.old.visible.files (ready.Rule rule plan) }
+    requires prepared { IsPrepared state.old command.now (additions.Rule rule plan) }
     ensures commands { state.new.commands ≡ state.old.commands }
-    ensures table { state.new.visible.table ≡ state.old.visible.table }
-    ensures state { IsStateOf (state.old.commands.commands ++ command.now ∷ []) state.new.options.names state.new.visible.table state.new.rules.standing state.new.counts }
-    ensures held { IsHeldBy (state.old.commands.commands ++ command.now ∷ []) state.new.visible.table state.new.store.commits.items state.new.store.file_of_line.items state.new.visible.entries state.new.visible.files }
-    ensures number { result ≡ receipt_number state.old.commands.commands command.now }
+    ensures table { table_of state.new ≡ table_of state.old }
+    ensures kept { Keeps (history_of state.old ++ command.now ∷ []) state.new }
+    ensures number { result ≡ receipt_number (history_of state.old) command.now }
 {
     let at = Position::new(state.commands.len() as u32 + 1);
     state.rules.install(plan, rule, at)
@@ -83,18 +72,14 @@ fn add_commit(
     plans: VecDeque<EditPlan>,
     rows: EntryPlan,
 ) -> u32
-    requires state { IsStateOf state.old.commands.commands state.old.options.names state.old.visible.table state.old.rules.standing state.old.counts }
-    requires next { IsNext state.old.commands.commands command.now state.old.commands.spare }
-    requires ready { IsReady state.old.commands.commands command.now state.old.options.spare state.old.visible.table state.old.rules
-        state.old.store.commits.spare state.old.store.commits.items state.old.store.file_of_line.items state.old.visible.entries state.old.visible.files (ready.Commit mark counts plans rows) }
+    requires prepared { IsPrepared state.old command.now (additions.Commit mark counts plans rows) }
     ensures commands { state.new.commands ≡ state.old.commands }
-    ensures table { state.new.visible.table ≡ state.old.visible.table }
-    ensures state { IsStateOf (state.old.commands.commands ++ command.now ∷ []) state.new.options.names state.new.visible.table state.new.rules.standing state.new.counts }
-    ensures held { IsHeldBy (state.old.commands.commands ++ command.now ∷ []) state.new.visible.table state.new.store.commits.items state.new.store.file_of_line.items state.new.visible.entries state.new.visible.files }
-    ensures number { result ≡ receipt_number state.old.commands.commands command.now }
+    ensures table { table_of state.new ≡ table_of state.old }
+    ensures kept { Keeps (history_of state.old ++ command.now ∷ []) state.new }
+    ensures number { result ≡ receipt_number (history_of state.old) command.now }
 {
     install(
-        &mut state.store,
+        &mut state.index,
         &mut state.visible,
         state.counts.nodes - 1,
         edits_in(command),
@@ -107,20 +92,16 @@ fn add_commit(
 }
 
 /// Gives up what is ready for a command.
-pub(crate) fn give_up(state: &mut EngineState, command: &Command, ready: &Ready)
-    requires state { IsStateOf state.old.commands.commands state.old.options.names state.old.visible.table state.old.rules.standing state.old.counts }
-    requires next { IsNext state.old.commands.commands command.now state.old.commands.spare }
-    requires ready { IsReady state.old.commands.commands command.now state.old.options.spare state.old.visible.table state.old.rules
-        state.old.store.commits.spare state.old.store.commits.items state.old.store.file_of_line.items state.old.visible.entries state.old.visible.files ready.now }
+pub(crate) fn give_up(state: &mut EngineState, command: &Command, ready: &Addition)
+    requires prepared { IsPrepared state.old command.now ready.now }
     ensures commands { state.new.commands ≡ state.old.commands }
-    ensures table { state.new.visible.table ≡ state.old.visible.table }
-    ensures state { IsStateOf state.new.commands.commands state.new.options.names state.new.visible.table state.new.rules.standing state.new.counts }
-    ensures held { IsHeldBy state.new.commands.commands state.new.visible.table state.new.store.commits.items state.new.store.file_of_line.items state.new.visible.entries state.new.visible.files }
+    ensures table { table_of state.new ≡ table_of state.old }
+    ensures kept { IsKept state.new }
 {
     match ready {
-        Ready::Option { .. } | Ready::Rule { .. } => (),
-        Ready::Commit { .. } => cut_off(
-            &mut state.store,
+        Addition::Option { .. } | Addition::Rule { .. } => (),
+        Addition::Commit { .. } => cut_off(
+            &mut state.index,
             &mut state.visible,
             state.counts,
             edits_in(command),
@@ -129,18 +110,18 @@ pub(crate) fn give_up(state: &mut EngineState, command: &Command, ready: &Ready)
 }
 
 // Cuts off what is staged for the edits of a commit.
-fn cut_off(store: &mut Store, visible: &mut Visible, counts: Counts, edits: &[Edit])
+fn cut_off(index: &mut HistoryIndex, visible: &mut Visible, counts: Counts, edits: &[Edit])
     requires rising { AreRising (map part_node visible.old.files) }
     requires nodes { 1 ≤ counts.nodes }
     requires near { AreNear (counts.nodes - 1) edits.now }
     ensures table { visible.new.table ≡ visible.old.table }
-    ensures commits { store.new.commits.items ≡ store.old.commits.items }
+    ensures commits { index.new.commits.items ≡ index.old.commits.items }
     ensures entries { visible.new.entries ≡ visible.old.entries }
-    ensures file_of_line { store.new.file_of_line.items ≡ take counts.lines store.old.file_of_line.items }
+    ensures file_of_line { index.new.file_of_line.items ≡ take counts.lines index.old.file_of_line.items }
     ensures files { map contents visible.new.files ≡ map contents (take (count_below counts.nodes (map part_node visible.old.files)) visible.old.files) }
 {
     let files = count_below(visible.files.as_slice(), NodeNo::new(counts.nodes));
-    unstage(store, visible, files, counts.nodes - 1, counts.lines, edits);
+    unstage(index, visible, files, counts.nodes - 1, counts.lines, edits);
 }
 
 fn edits_in(command: &Command) -> &[Edit]

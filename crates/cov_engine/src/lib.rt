@@ -1,6 +1,7 @@
 //! What a history holds for all choices and positions at once, and which commands it accepts.
 #![tactic(auto)]
 
+mod addition;
 mod commits;
 mod counts;
 mod edit_plan;
@@ -9,22 +10,23 @@ mod evidence;
 mod file_part;
 mod file_parts;
 mod file_staging;
+mod history_index;
 mod installing;
 pub mod laws;
 mod number;
+mod option_positions;
 mod overtaking;
 mod places;
 mod planning;
 mod prepared;
 mod reading;
-mod ready;
 mod refusing;
 mod row_planning;
 mod rule;
 mod sizes;
 mod staging;
 mod state;
-mod store;
+mod summary;
 mod trial;
 mod tried_rows;
 mod visible;

@@ -1,49 +1,51 @@
 // The first commit that overtakes another.
-ghost use Rattle.std.specs.Prelude.{◌≡◌, ◌<◌, true, is_some, IfOk};
+ghost use Rattle.std.specs.Prelude.{◌≡◌, ◌<◌, List, true, is_some, IfOk};
 ghost use Rattle.std.specs.List.{AllByRecursion};
 ghost use Rattle.std.specs.Option.{option_copied};
 ghost use Rattle.cov_dd.specs.Diagrams.{diagram_size, Extends};
-ghost use Rattle.cov_edit.specs.Touched.{AreRising};
+ghost use Rattle.cov_edit.specs.Touched.{touched, AreRising};
+ghost use Rattle.cov_edit.specs.declared.edit.Edit.{Edit};
 ghost use Rattle.cov_engine.specs.Overtakers.{Overtakes, Decides, IsFirstOf, HaveNoCommonChoice, IsOvertaker, is_beyond, IsAfter};
 ghost use Rattle.cov_engine.specs.Visibility.{item_of};
 
 use crate::commits::Commits;
+use crate::history_index::CommitMark;
 use crate::number::item_of;
-use crate::store::CommitMark;
 use cov_base::{Memory, NodeNo, Position, Steps, Uncounted};
 use cov_dd::{Node, Table};
-use cov_edit::{Edits, have_common, touched};
+use cov_edit::have_common;
 use cov_expr::Expr;
 use cov_vis::compile;
 
-/// The position of the first commit that overtakes edits within an ambition; a node is true on exactly the valid choices. It
-/// takes time in the edits alone where nothing after the base is noted at the nodes that they touch, and otherwise in the
-/// commits after the base as well. Where there is no commit after the base it takes neither time nor memory in the edits.
+/// The position of the first commit that overtakes edits within an ambition which touch these nodes; a node is true on exactly the
+/// valid choices. It takes time in the nodes alone where nothing after the base is noted at them, and otherwise in the commits after
+/// the base as well. Where there is no commit after the base it takes neither time nor memory.
 pub(crate) fn overtaken(
     table: &mut Table,
     valid: Node,
     commits: &Commits,
     base: Position,
     ambition: &Expr,
-    edits: &Edits,
+    nodes: &[NodeNo],
 ) -> Result<Option<Position>, Memory>
     requires valid { valid < diagram_size table.old }
     requires nodes { AllByRecursion (λ m. m.node < diagram_size table.old) commits.now.items }
     requires rising { AllByRecursion (λ m. AreRising m.touched) commits.now.items }
+    requires own { AreRising nodes.now }
     ensures extends { Extends table.old table.new }
-    ensures first { IfOk result (IsOvertaker table.old valid commits.now.items base ambition.now edits.now) }
+    ensures first { IfOk result (λ found. (es : List Edit) → nodes.now ≡ touched es →
+        IsOvertaker table.old valid commits.now.items base ambition.now es found) }
 {
     let marks = commits.as_slice();
     if !ends_after(marks, marks.len(), base) {
         return Ok(None);
     }
-    let touched = touched(edits)?;
-    if commits.none_touches(base, touched.as_slice()) {
+    if commits.none_touches(base, nodes) {
         return Ok(None);
     }
     let node = compile(table, ambition)?;
     let within = table.and(valid, node, &mut Steps::<Uncounted>::new())?;
-    first_overtaking(table, after(marks, base), base, within, touched.as_slice())
+    first_overtaking(table, after(marks, base), base, within, nodes)
 }
 
 // The commits after a base. It takes time in how many these are.

@@ -48,27 +48,14 @@ pub(crate) fn part_of(files: &[FilePart], node: NodeNo) -> Option<&FilePart>
     }
 }
 
-/// How many files have lower nodes.
+/// How many files have lower nodes. It looks at as many files as halvings leave.
 pub(crate) fn count_below(files: &[FilePart], node: NodeNo) -> usize
     requires rising { AreRising (map part_node files.now) }
     ensures { result ≡ count_below node (map part_node files.now) }
 {
-    let mut low = 0;
-    let mut high = files.len();
-    while low < high {
-        let middle = low + (high - low) / 2;
-        if is_below(&files[middle], node) {
-            low = middle + 1;
-        } else {
-            high = middle;
-        }
-    }
-    low
-}
-
-// Whether a file has a lower node.
-fn is_below(file: &FilePart, node: NodeNo) -> bool
-    ensures { result ≡ nat_lt file.now.node node }
-{
-    file.node.number() < node.number()
+    files.partition_point(
+        |file: &FilePart| -> bool
+            ensures { result ≡ nat_lt file.now.node node }
+        { file.node < node },
+    )
 }

@@ -22,7 +22,7 @@ use std::collections::VecDeque;
 /// Where a commit's edits are planned: the position after it, how many nodes and lines were made before it, and the node of
 /// its ambition.
 #[derive(Drop)]
-pub(crate) struct Site {
+pub(crate) struct CommitContext {
     pub(crate) at: Position,
     pub(crate) nodes: u32,
     pub(crate) lines: u32,
@@ -35,22 +35,22 @@ pub(crate) fn plan_edits(
     table: &mut Table,
     files: &[FilePart],
     plans: &mut VecDeque<EditPlan>,
-    site: &Site,
+    context: &CommitContext,
     edits: &[Edit],
 ) -> Result<(), Memory>
     requires rising { AreRising (map part_node files.now) }
-    requires nodes { AllByRecursion (HasNodesIn table.old site.now.at) files.now }
-    requires ambition { site.now.ambition < diagram_size table.old }
-    requires near { AreNear site.now.nodes edits.now }
-    requires low { AreLow site.now.lines edits.now }
-    requires few { site.now.lines + length (anchors_of 0 edits.now) < 2 ^ 32 }
+    requires nodes { AllByRecursion (HasNodesIn table.old context.now.at) files.now }
+    requires ambition { context.now.ambition < diagram_size table.old }
+    requires near { AreNear context.now.nodes edits.now }
+    requires low { AreLow context.now.lines edits.now }
+    requires few { context.now.lines + length (anchors_of 0 edits.now) < 2 ^ 32 }
     ensures extends { Extends table.old table.new }
-    ensures plans { OnOk result (plans.old.items ≡ [] → ArePlanned site.now.at files.now site.now.nodes site.now.lines site.now.ambition table.new site.now.lines edits.now plans.new.items) }
+    ensures plans { OnOk result (plans.old.items ≡ [] → ArePlanned context.now.at files.now context.now.nodes context.now.lines context.now.ambition table.new context.now.lines edits.now plans.new.items) }
 {
-    let mut made = site.lines;
+    let mut made = context.lines;
     let mut ahead = edits;
     while let [edit, rest @ ..] = ahead {
-        made = plan_edit(table, files, plans, site, made, edit)?;
+        made = plan_edit(table, files, plans, context, made, edit)?;
         ahead = rest;
     }
     Ok(())
@@ -61,19 +61,19 @@ fn plan_edit(
     table: &mut Table,
     files: &[FilePart],
     plans: &mut VecDeque<EditPlan>,
-    site: &Site,
+    context: &CommitContext,
     made: u32,
     edit: &Edit,
 ) -> Result<u32, Memory>
     requires rising { AreRising (map part_node files.now) }
-    requires nodes { AllByRecursion (HasNodesIn table.old site.now.at) files.now }
-    requires ambition { site.now.ambition < diagram_size table.old }
-    requires near { AreNear site.now.nodes (edit.now ∷ []) }
-    requires low { AreLow site.now.lines (edit.now ∷ []) }
+    requires nodes { AllByRecursion (HasNodesIn table.old context.now.at) files.now }
+    requires ambition { context.now.ambition < diagram_size table.old }
+    requires near { AreNear context.now.nodes (edit.now ∷ []) }
+    requires low { AreLow context.now.lines (edit.now ∷ []) }
     requires few { made + length (anchors_of 0 (edit.now ∷ [])) < 2 ^ 32 }
     ensures extends { Extends table.old table.new }
     ensures made { IfOk result (λ next. next ≡ made + length (anchors_of 0 (edit.now ∷ []))) }
-    ensures planned { OnOk result (IsPlannedBehind site.now.at files.now site.now.nodes site.now.lines site.now.ambition table.new made edit.now plans.old.items plans.new.items) }
+    ensures planned { OnOk result (IsPlannedBehind context.now.at files.now context.now.nodes context.now.lines context.now.ambition table.new made edit.now plans.old.items plans.new.items) }
 {
     match edit {
         Edit::New { .. } | Edit::Rename { .. } | Edit::Move { .. } | Edit::Remove { .. } => {
@@ -82,18 +82,18 @@ fn plan_edit(
         Edit::Insert { file, after, text } => {
             let line = made + 1;
             plans.push_back(EditPlan::Insert {
-                file: node_number(site.nodes, file),
-                anchor: line_number(site.lines, after),
+                file: node_number(context.nodes, file),
+                anchor: line_number(context.lines, after),
                 line: LineNo::new(line),
                 text: text.copy()?,
-                vis: site.ambition,
+                vis: context.ambition,
             })?;
             Ok(line)
         }
         Edit::Delete { file, line } => {
-            let file = node_number(site.nodes, file);
-            let line = line_number(site.lines, line);
-            let vis = take(table, old_node(files, file, line), site.ambition)?;
+            let file = node_number(context.nodes, file);
+            let line = line_number(context.lines, line);
+            let vis = take(table, old_node(files, file, line), context.ambition)?;
             plans.push_back(EditPlan::Delete { file, line, vis })?;
             Ok(made)
         }

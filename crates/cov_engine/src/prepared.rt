@@ -1,13 +1,13 @@
 // Commands that a history has accepted, and doesn't have yet.
 ghost use Rattle.std.specs.Prelude.{◌≡◌, ◌<◌, ◌+◌, ◌++◌, [], ◌∷◌, None, length};
 ghost use Rattle.cov_dd.specs.Diagrams.{Extends};
-ghost use Rattle.cov_engine.specs.Ready.{IsReady};
+ghost use Rattle.cov_engine.specs.Ready.{IsReadyFor};
 ghost use Rattle.cov_history.specs.Verdict.{verdict};
-ghost use Rattle.cov_engine.specs.States.{IsStateOf, receipt_number};
+ghost use Rattle.cov_engine.specs.States.{history_of, table_of, receipt_number};
 
 use crate::Engine;
-use crate::installing::{add_ready, give_up};
-use crate::ready::Ready;
+use crate::addition::Addition;
+use crate::installing::{add, give_up};
 use crate::state::EngineState;
 use cov_base::Position;
 use cov_edit::Command;
@@ -18,28 +18,25 @@ use std::marker::Model;
 pub struct Prepared {
     state: EngineState,
     command: Command,
-    ready: Ready,
+    ready: Addition,
 }
 
 impl Model for Prepared {
     ghost use Rattle.std.specs.Coded.{codes};
     ghost use Rattle.cov_dd.specs.contracts.triple.Triple as triples;
     ghost use Rattle.cov_edit.specs.contracts.command.Command as row;
-    ghost use Rattle.cov_engine.specs.States.{IsStateOf};
     ghost use Rattle.cov_dd.specs.Diagrams.{Extends};
-    ghost use Rattle.cov_engine.specs.Ready.{IsNext, IsReady};
-    ghost use Rattle.cov_engine.specs.States.{Pending};
+    ghost use Rattle.cov_engine.specs.Ready.{IsPrepared};
+    ghost use Rattle.cov_engine.specs.States.{Pending, history_of, table_of};
 
     ghost Value = { Pending };
 
     ghost coded = { Prim.hlevel (codes, row.the_row.coded, triples.the_row.coded) };
 
-    ghost view = { λ p. record { history = p.state.commands.commands; command = p.command; table = p.state.visible.table } };
+    ghost view = { λ p.
+        record { history = history_of p.state; command = p.command; table = table_of p.state } };
 
-    ghost invariant = { λ p. IsStateOf p.state.commands.commands p.state.options.names p.state.visible.table p.state.rules.standing p.state.counts
-        × IsNext p.state.commands.commands p.command p.state.commands.spare
-        × IsReady p.state.commands.commands p.command p.state.options.spare p.state.visible.table p.state.rules
-        p.state.store.commits.spare p.state.store.commits.items p.state.store.file_of_line.items p.state.visible.entries p.state.visible.files p.ready };
+    ghost invariant = { λ p. IsPrepared p.state p.command p.ready };
 }
 
 /// What a command made: the position after it, and the option's number, the rule's within its kind, or 0 for a commit.
@@ -50,13 +47,12 @@ pub struct Receipt {
 }
 
 impl Prepared {
-    pub(crate) fn new(state: EngineState, command: Command, ready: Ready) -> Prepared
-        requires state { IsStateOf state.commands.commands state.options.names state.visible.table state.rules.standing state.counts }
-        requires accepted { verdict state.commands.commands command ≡ None }
+    pub(crate) fn new(state: EngineState, command: Command, ready: Addition) -> Prepared
+        requires accepted { verdict (history_of state) command ≡ None }
         requires room { 0 < state.commands.spare }
-        requires ready { IsReady state.commands.commands command state.options.spare state.visible.table state.rules
-            state.store.commits.spare state.store.commits.items state.store.file_of_line.items state.visible.entries state.visible.files ready }
-        ensures { result ≡ record { history = state.commands.commands; command = command; table = state.visible.table } }
+        requires ready { IsReadyFor state command ready }
+        ensures { result ≡
+            record { history = history_of state; command = command; table = table_of state } }
     {
         command.bounds_are_kept();
         Prepared {
@@ -99,7 +95,7 @@ impl Prepared {
             command,
             ready,
         } = self;
-        let number = add_ready(&mut state, &command, ready);
+        let number = add(&mut state, &command, ready);
         match state.commands.push(command) {
             Ok(()) => (),
             Err(_) => unreachable!(),

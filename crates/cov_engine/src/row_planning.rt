@@ -8,7 +8,7 @@ ghost use Rattle.cov_engine.specs.RowPlans.{edit_changes, AlsoMakes, AreNodesUpT
 ghost use Rattle.cov_engine.specs.Staging.{AreNear};
 
 use crate::number::node_number;
-use crate::planning::Site;
+use crate::planning::CommitContext;
 use cov_base::{Memory, NodeNo};
 use cov_dd::Table;
 use cov_edit::Edit;
@@ -19,24 +19,24 @@ pub(crate) fn plan_rows(
     table: &mut Table,
     entries: &Entries,
     plan: &mut EntryPlan,
-    site: &Site,
+    context: &CommitContext,
     edits: &[Edit],
 ) -> Result<(), Memory>
     requires within { AreNodesWith table.old plan.old entries.now }
     requires once { AreOnceWith table.old plan.old entries.now }
-    requires nodes { AreNodesUpTo site.now.nodes plan.old entries.now }
-    requires ambition { site.now.ambition < diagram_size table.old }
-    requires near { AreNear site.now.nodes edits.now }
-    requires few { site.now.nodes + nodes_made edits.now < 2 ^ 32 }
+    requires nodes { AreNodesUpTo context.now.nodes plan.old entries.now }
+    requires ambition { context.now.ambition < diagram_size table.old }
+    requires near { AreNear context.now.nodes edits.now }
+    requires few { context.now.nodes + nodes_made edits.now < 2 ^ 32 }
     ensures extends { Extends table.old table.new }
-    ensures makes { OnOk result (AlsoMakes table.old table.new entries.now plan.old plan.new (edit_changes site.now.nodes site.now.nodes site.now.ambition edits.now)) }
-    ensures nodes { OnOk result (nodes_with plan.new entries.now ≡ made_by site.now.nodes edits.now (nodes_with plan.old entries.now)) }
-    ensures kinds { OnOk result (kinds_with plan.new entries.now ≡ kinds_made_by site.now.nodes edits.now (kinds_with plan.old entries.now)) }
+    ensures makes { OnOk result (AlsoMakes table.old table.new entries.now plan.old plan.new (edit_changes context.now.nodes context.now.nodes context.now.ambition edits.now)) }
+    ensures nodes { OnOk result (nodes_with plan.new entries.now ≡ made_by context.now.nodes edits.now (nodes_with plan.old entries.now)) }
+    ensures kinds { OnOk result (kinds_with plan.new entries.now ≡ kinds_made_by context.now.nodes edits.now (kinds_with plan.old entries.now)) }
 {
-    let mut made = site.nodes;
+    let mut made = context.nodes;
     let mut ahead = edits;
     while let [edit, rest @ ..] = ahead {
-        made = plan_row(table, entries, plan, site, made, edit)?;
+        made = plan_row(table, entries, plan, context, made, edit)?;
         ahead = rest;
     }
     Ok(())
@@ -47,45 +47,45 @@ fn plan_row(
     table: &mut Table,
     entries: &Entries,
     plan: &mut EntryPlan,
-    site: &Site,
+    context: &CommitContext,
     made: u32,
     edit: &Edit,
 ) -> Result<u32, Memory>
     requires within { AreNodesWith table.old plan.old entries.now }
     requires once { AreOnceWith table.old plan.old entries.now }
     requires nodes { AreNodesUpTo made plan.old entries.now }
-    requires ambition { site.now.ambition < diagram_size table.old }
-    requires near { AreNear site.now.nodes (edit.now ∷ []) }
+    requires ambition { context.now.ambition < diagram_size table.old }
+    requires near { AreNear context.now.nodes (edit.now ∷ []) }
     requires few { made + nodes_made (edit.now ∷ []) < 2 ^ 32 }
     ensures extends { Extends table.old table.new }
     ensures within { AreNodesWith table.new plan.new entries.now }
     ensures once { AreOnceWith table.new plan.new entries.now }
     ensures made { IfOk result (λ next. next ≡ made + nodes_made (edit.now ∷ [])) }
-    ensures makes { OnOk result (AlsoMakes table.old table.new entries.now plan.old plan.new (edit_changes site.now.nodes made site.now.ambition (edit.now ∷ []))) }
+    ensures makes { OnOk result (AlsoMakes table.old table.new entries.now plan.old plan.new (edit_changes context.now.nodes made context.now.ambition (edit.now ∷ []))) }
     ensures nodes { OnOk result (nodes_with plan.new entries.now ≡ made_by made (edit.now ∷ []) (nodes_with plan.old entries.now)) }
     ensures kinds { OnOk result (kinds_with plan.new entries.now ≡ kinds_made_by made (edit.now ∷ []) (kinds_with plan.old entries.now)) }
 {
     match edit {
         Edit::New { kind, parent, name } => {
             let node = NodeNo::new(made + 1);
-            let parent = node_number(site.nodes, parent);
-            plan.created(entries, table, node, *kind, parent, name, site.ambition)?;
+            let parent = node_number(context.nodes, parent);
+            plan.created(entries, table, node, *kind, parent, name, context.ambition)?;
             Ok(made + 1)
         }
         Edit::Rename { node, name } => {
-            let node = node_number(site.nodes, node);
-            plan.renamed(entries, table, node, name, site.ambition)?;
+            let node = node_number(context.nodes, node);
+            plan.renamed(entries, table, node, name, context.ambition)?;
             Ok(made)
         }
         Edit::Move { node, parent } => {
-            let node = node_number(site.nodes, node);
-            let parent = node_number(site.nodes, parent);
-            plan.moved(entries, table, node, parent, site.ambition)?;
+            let node = node_number(context.nodes, node);
+            let parent = node_number(context.nodes, parent);
+            plan.moved(entries, table, node, parent, context.ambition)?;
             Ok(made)
         }
         Edit::Remove { node } => {
-            let node = node_number(site.nodes, node);
-            plan.removed(entries, table, node, site.ambition)?;
+            let node = node_number(context.nodes, node);
+            plan.removed(entries, table, node, context.ambition)?;
             Ok(made)
         }
         Edit::Insert { .. } | Edit::Delete { .. } => Ok(made),

@@ -8,7 +8,7 @@ ghost use Rattle.cov_edit.specs.declared.command.Command.{Command as AnyCommand}
 ghost use Rattle.cov_engine.specs.Ruling.{rule_in, rule_refusal, IsRefusalOf, IsRuleReady};
 
 use crate::Refusal;
-use crate::ready::Ready;
+use crate::addition::Addition;
 use cov_base::Memory;
 use cov_dd::Table;
 use cov_edit::Command;
@@ -21,7 +21,7 @@ pub(crate) fn rule_ready(
     rules: &mut Rules,
     table: &mut Table,
     command: &Command,
-) -> Result<Ready, Refusal>
+) -> Result<Addition, Refusal>
     requires holds { Holds table.old rules.old.standing }
     requires rule { is_some (rule_in command.now) ≡ true }
     ensures extends { Extends table.old table.new }
@@ -50,7 +50,7 @@ fn copied_rule(alloc: Global, command: &Command) -> Result<Rule, Memory>
 }
 
 // A rule with its plan.
-fn planned(rules: &mut Rules, table: &mut Table, rule: Rule) -> Result<Ready, Refusal>
+fn planned(rules: &mut Rules, table: &mut Table, rule: Rule) -> Result<Addition, Refusal>
     requires holds { Holds table.old rules.old.standing }
     ensures extends { Extends table.old table.new }
     ensures same { rules.new.standing ≡ rules.old.standing }
@@ -59,13 +59,13 @@ fn planned(rules: &mut Rules, table: &mut Table, rule: Rule) -> Result<Ready, Re
     ensures refused { IfErr result (IsRefusalOf rules.old.standing rule) }
 {
     match plan(rules, table, &rule) {
-        Ok(plan) => Ok(Ready::Rule { rule, plan }),
+        Ok(plan) => Ok(Addition::Rule { rule, plan }),
         Err(refusal) => given_up(rule, refusal),
     }
 }
 
 // Drops a rule that is refused, so that it is dropped in one place, and answers why.
-fn given_up(_: Rule, refusal: Refusal) -> Result<Ready, Refusal>
+fn given_up(_: Rule, refusal: Refusal) -> Result<Addition, Refusal>
     ensures { result ≡ Err refusal }
 {
     Err(refusal)

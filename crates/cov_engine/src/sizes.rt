@@ -65,17 +65,17 @@ fn with_edit(sizes: Sizes, edit: &Edit) -> Sizes
 }
 
 /// The refusal of edits that are too many or make too much, where so much is there already.
-pub(crate) fn refusal(counts: Counts, edits: &Edits) -> Option<Refusal>
+pub(crate) fn refusal(counts: Counts, edits: &Edits, sizes: Sizes) -> Option<Refusal>
+    requires { length edits.now ≤ LIMITS.edits → sizes ≡ sizes_of edits.now }
     ensures { result ≡ sizes_refusal counts edits.now }
 {
     if edits.len() > LIMITS.edits {
         return Some(Refusal::TooManyEdits);
     }
-    refusal_of_sizes(counts, measure(edits.as_slice()))
+    refusal_of_sizes(counts, sizes)
 }
 
 fn refusal_of_sizes(counts: Counts, sizes: Sizes) -> Option<Refusal>
-    requires few { sizes.bytes ≤ LIMITS.edits * MOST_TEXT_BYTES }
     ensures { result ≡ first_of (amount_refusals LIMITS (counts.lines + sizes.lines) (counts.nodes + sizes.nodes) sizes.bytes (counts.bytes + sizes.bytes)) }
 {
     if u64::from(counts.lines) + u64::from(sizes.lines) > LIMITS.lines {

@@ -15,8 +15,8 @@ ghost use Rattle.cov_engine.specs.Carrying.{CanCarryOutAll, AreInstalled};
 
 use crate::Visible;
 use crate::edit_plan::EditPlan;
+use crate::history_index::{CommitMark, HistoryIndex};
 use crate::number::node_number;
-use crate::store::{CommitMark, Store};
 use cov_base::{Memory, NodeNo, Position};
 use cov_edit::Edit;
 use cov_tree::{Entries, EntryPlan};
@@ -62,41 +62,14 @@ fn stage_file_of_line(
     }
 }
 
-// The last node that there is with those that edits make, so many having been made before.
-fn last_node(before: u32, edits: &[Edit]) -> NodeNo
-    requires few { before + nodes_made edits.now < 2 ^ 32 - 1 }
-    ensures { result ≡ before + nodes_made edits.now }
-{
-    let mut last = before;
-    let mut ahead = edits;
-    while let [edit, rest @ ..] = ahead {
-        last += made_by(edit);
-        ahead = rest;
-    }
-    NodeNo::new(last)
-}
-
-// How many nodes an edit makes.
-fn made_by(edit: &Edit) -> u32
-    ensures { result ≡ nodes_made (edit.now ∷ []) }
-{
-    match edit {
-        Edit::New { .. } => 1,
-        Edit::Insert { .. }
-        | Edit::Delete { .. }
-        | Edit::Rename { .. }
-        | Edit::Move { .. }
-        | Edit::Remove { .. } => 0,
-    }
-}
-
-/// Adds what a commit's edits make, and makes room for what they do to files and for the commit. On `Err` some of it may be
-/// there.
+/// Adds what a commit's edits make, up to a last node, and makes room for what they do to files and for the commit. On `Err` some of
+/// it may be there.
 pub(crate) fn stage(
-    store: &mut Store,
+    index: &mut HistoryIndex,
     visible: &mut Visible,
     rows: &EntryPlan,
     before: u32,
+    last: NodeNo,
     lines: u32,
     edits: &[Edit],
 ) -> Result<(), Memory>
@@ -105,27 +78,27 @@ pub(crate) fn stage(
     requires low { AreLow lines edits.now }
     requires few_edits { length edits.now ≤ LIMITS.edits }
     requires few_nodes { before + nodes_made edits.now < 2 ^ 32 - 1 }
-    ensures commits { store.new.commits.items ≡ store.old.commits.items }
+    ensures commits { index.new.commits.items ≡ index.old.commits.items }
     ensures entries { without_room visible.new.entries ≡ without_room visible.old.entries }
-    ensures file_of_line { OnOk result (store.new.file_of_line.items ≡ store.old.file_of_line.items ++ new_file_of_line before edits.now) }
+    ensures file_of_line { OnOk result (index.new.file_of_line.items ≡ index.old.file_of_line.items ++ new_file_of_line before edits.now) }
     ensures files { OnOk result (map contents visible.new.files ≡ map contents visible.old.files ++ new_files before edits.now) }
     ensures room { OnOk result (AllByRecursion (HasRoom before lines edits.now) visible.new.files) }
     ensures row_room { OnOk result (HasRowRoom rows.now visible.new.entries) }
-    ensures commit_room { OnOk result (0 < store.new.commits.spare) }
-    ensures front_file_of_line { take (length store.old.file_of_line.items) store.new.file_of_line.items ≡ store.old.file_of_line.items }
+    ensures commit_room { OnOk result (0 < index.new.commits.spare) }
+    ensures front_file_of_line { take (length index.old.file_of_line.items) index.new.file_of_line.items ≡ index.old.file_of_line.items }
     ensures table { visible.new.table ≡ visible.old.table }
     ensures front_files { map contents (take (length visible.old.files) visible.new.files) ≡ map contents visible.old.files }
 {
-    store.commits.reserve(last_node(before, edits))?;
+    index.commits.reserve(last)?;
     visible.entries.reserve(rows)?;
-    stage_files_of_lines(&mut store.file_of_line, before, edits)?;
+    stage_files_of_lines(&mut index.file_of_line, before, edits)?;
     visible.files.stage(before, edits)?;
     visible.files.add_rooms(before, lines, edits)
 }
 
 /// Cuts off what a commit's edits made behind so many files and lines, so many nodes having been made before.
 pub(crate) fn unstage(
-    store: &mut Store,
+    index: &mut HistoryIndex,
     visible: &mut Visible,
     files: usize,
     before: u32,
@@ -135,19 +108,19 @@ pub(crate) fn unstage(
     requires rising { AreRising (map part_node (take files visible.old.files)) }
     requires near { AreNear before edits.now }
     ensures table { visible.new.table ≡ visible.old.table }
-    ensures commits { store.new.commits.items ≡ store.old.commits.items }
+    ensures commits { index.new.commits.items ≡ index.old.commits.items }
     ensures entries { visible.new.entries ≡ visible.old.entries }
-    ensures file_of_line { store.new.file_of_line.items ≡ take lines store.old.file_of_line.items }
+    ensures file_of_line { index.new.file_of_line.items ≡ take lines index.old.file_of_line.items }
     ensures files { map contents visible.new.files ≡ map contents (take files visible.old.files) }
 {
-    store.file_of_line.truncate(lines as usize);
+    index.file_of_line.truncate(lines as usize);
     visible.files.truncate(files);
-    visible.files.settle(before, edits);
+    visible.files.expect_nothing(before, edits);
 }
 
 /// Installs a commit that is staged: carries out its plans, makes its changes of rows, and keeps its mark.
 pub(crate) fn install(
-    store: &mut Store,
+    index: &mut HistoryIndex,
     visible: &mut Visible,
     before: u32,
     edits: &[Edit],
@@ -160,17 +133,17 @@ pub(crate) fn install(
     requires can { CanCarryOutAll mark.position plans.items visible.old.files }
     requires later { visible.old.entries.from ≤ mark.position }
     requires row_room { HasRowRoom rows visible.old.entries }
-    requires room { 0 < store.old.commits.spare }
-    ensures commits { store.new.commits.items ≡ store.old.commits.items ++ mark ∷ [] }
+    requires room { 0 < index.old.commits.spare }
+    ensures commits { index.new.commits.items ≡ index.old.commits.items ++ mark ∷ [] }
     ensures entries { IsSet mark.position rows visible.old.entries visible.new.entries }
-    ensures file_of_line { store.new.file_of_line.items ≡ store.old.file_of_line.items }
+    ensures file_of_line { index.new.file_of_line.items ≡ index.old.file_of_line.items }
     ensures table { visible.new.table ≡ visible.old.table }
     ensures files { AreInstalled mark.position plans.items visible.old.files visible.new.files }
 {
     visible.files.carry_out_all(plans, mark.position);
-    visible.files.settle(before, edits);
+    visible.files.expect_nothing(before, edits);
     set_rows(&mut visible.entries, rows, mark.position);
-    store.commits.push(mark);
+    index.commits.push(mark);
 }
 
 // Makes the changes of a plan from a position on.

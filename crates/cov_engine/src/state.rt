@@ -1,30 +1,31 @@
 // What an engine keeps.
-ghost use Rattle.std.specs.Prelude.{◌≡◌, ◌<◌, ◌≤◌, ◌+◌, ◌-◌, ℕ, List, Bool, length, None, IfOk, IfErr, OnOk, OnErr};
+ghost use Rattle.std.specs.Prelude.{◌≡◌, ◌<◌, ◌≤◌, ◌+◌, ◌-◌, ℕ, length, None, IfOk, IfErr, OnOk, OnErr};
 ghost use Rattle.cov_dd.specs.Diagrams.{diagram_size, Extends};
-ghost use Rattle.cov_edit.specs.declared.command.Command.TheVariants.{Commit};
 ghost use Rattle.cov_expr.specs.Formula.{Formula, reach};
-ghost use Rattle.cov_history.specs.BadChoices.{unsound_refusal};
-ghost use Rattle.cov_engine.specs.Staged.{IsCommitPlan};
-ghost use Rattle.cov_edit.specs.History.{option_count};
-ghost use Rattle.cov_engine.specs.Holdings.{IsHeldBy};
+ghost use Rattle.cov_edit.specs.History.{edits_in, option_count};
 ghost use Rattle.cov_engine.specs.Refusing.{early_refusal};
-ghost use Rattle.cov_engine.specs.States.{IsStateOf, name_refusal};
-ghost use Rattle.cov_engine.specs.Ready.{IsReady, IsInBounds, IsStagedReady};
+ghost use Rattle.cov_engine.specs.Staging.{sizes_of};
+ghost use Rattle.cov_engine.specs.Summaries.{summary_of, IsSummaryOf};
+ghost use Rattle.cov_engine.specs.States.{history_of, table_of, name_refusal, IsKept};
+ghost use Rattle.cov_engine.specs.Staged.{LeavesSound, LeavesUnsound};
+ghost use Rattle.cov_engine.specs.Ready.{IsInBounds, IsPlannedFor, IsReadyFor, IsStagedFor};
 ghost use Rattle.cov_history.specs.Verdict.{verdict, RefusedBy};
-ghost use Rattle.cov_engine.specs.declared.ready.Ready.TheVariants as ready;
+ghost use Rattle.cov_engine.specs.declared.addition.Addition.TheVariants as additions;
 
+use crate::addition::{Addition, stage_commit};
 use crate::evidence::refusal_left;
+use crate::history_index::{CommitMark, HistoryIndex};
+use crate::option_positions::OptionPositions;
 use crate::overtaking::overtaken;
-use crate::planning::{Site, plan_edits};
-use crate::ready::{Ready, stage_commit};
+use crate::planning::{CommitContext, plan_edits};
 use crate::refusing::early_refusal;
 use crate::row_planning::plan_rows;
 use crate::rule::rule_ready;
-use crate::sizes::{measure, with_sizes};
-use crate::store::{CommitMark, Store};
+use crate::sizes::{Sizes, with_sizes};
+use crate::summary::{EditSummary, summarize};
 use crate::{Counts, Refusal, Visible};
-use cov_base::{LIMITS, Memory, OptionName, Position};
-use cov_edit::{Command, Commands, Edits, touched};
+use cov_base::{LIMITS, Memory, NodeNo, OptionName, Position};
+use cov_edit::{Command, Commands, Edits};
 use cov_expr::{Expr, Options};
 use cov_rules::Rules;
 use cov_tree::EntryPlan;
@@ -36,74 +37,83 @@ use std::collections::VecDeque;
 pub(crate) struct EngineState {
     pub(crate) commands: Commands,
     pub(crate) options: Options,
+    pub(crate) option_positions: OptionPositions,
     pub(crate) rules: Rules,
     pub(crate) counts: Counts,
-    pub(crate) store: Store,
+    pub(crate) index: HistoryIndex,
     pub(crate) visible: Visible,
 }
 
 /// Makes everything ready for a command, unless the history refuses it.
-pub(crate) fn make_ready(state: &mut EngineState, command: &Command) -> Result<Ready, Refusal>
-    requires state { IsStateOf state.old.commands.commands state.old.options.names state.old.visible.table state.old.rules.standing state.old.counts }
-    requires held { IsHeldBy state.old.commands.commands state.old.visible.table state.old.store.commits.items state.old.store.file_of_line.items state.old.visible.entries state.old.visible.files }
-    ensures history { state.new.commands.commands ≡ state.old.commands.commands }
-    ensures extends { Extends state.old.visible.table state.new.visible.table }
-    ensures state { IsStateOf state.new.commands.commands state.new.options.names state.new.visible.table state.new.rules.standing state.new.counts }
+pub(crate) fn make_ready(state: &mut EngineState, command: &Command) -> Result<Addition, Refusal>
+    requires kept { IsKept state.old }
+    ensures history { history_of state.new ≡ history_of state.old }
+    ensures extends { Extends (table_of state.old) (table_of state.new) }
     ensures room { OnOk result (0 < state.new.commands.spare) }
-    ensures accepted { OnOk result (verdict state.old.commands.commands command.now ≡ None) }
-    ensures ready { IfOk result (IsReady state.new.commands.commands command.now state.new.options.spare state.new.visible.table state.new.rules
-        state.new.store.commits.spare state.new.store.commits.items state.new.store.file_of_line.items state.new.visible.entries state.new.visible.files) }
-    ensures refused { IfErr result (λ refusal. RefusedBy refusal (verdict state.old.commands.commands command.now)) }
-    ensures held { OnErr result (IsHeldBy state.new.commands.commands state.new.visible.table state.new.store.commits.items state.new.store.file_of_line.items state.new.visible.entries state.new.visible.files) }
+    ensures accepted { OnOk result (verdict (history_of state.old) command.now ≡ None) }
+    ensures ready { IfOk result (IsReadyFor state.new command.now) }
+    ensures refused { IfErr result (λ refusal.
+        RefusedBy refusal (verdict (history_of state.old) command.now)) }
+    ensures kept { OnErr result (IsKept state.new) }
 {
     if state.commands.len() >= LIMITS.commands {
         return Err(Refusal::Full);
     }
-    match early_refusal(state, command) {
+    let summary = match summarize(state.index.commits.allocator(), command) {
+        Ok(summary) => summary,
+        Err(Memory) => return Err(Refusal::Memory),
+    };
+    match early_refusal(state, command, &summary) {
         Ok(Some(refusal)) => Err(refusal),
-        Ok(None) => with_room(state, command),
+        Ok(None) => with_room(state, command, summary),
         Err(Memory) => Err(Refusal::Memory),
     }
 }
 
 // Makes everything ready for a command that isn't refused early, where the history isn't full.
-fn with_room(state: &mut EngineState, command: &Command) -> Result<Ready, Refusal>
-    requires state { IsStateOf state.old.commands.commands state.old.options.names state.old.visible.table state.old.rules.standing state.old.counts }
-    requires held { IsHeldBy state.old.commands.commands state.old.visible.table state.old.store.commits.items state.old.store.file_of_line.items state.old.visible.entries state.old.visible.files }
-    requires passes { early_refusal state.old.commands.commands command.now ≡ None }
-    requires few { length state.old.commands.commands < LIMITS.commands }
-    ensures history { state.new.commands.commands ≡ state.old.commands.commands }
-    ensures extends { Extends state.old.visible.table state.new.visible.table }
-    ensures state { IsStateOf state.new.commands.commands state.new.options.names state.new.visible.table state.new.rules.standing state.new.counts }
+fn with_room(
+    state: &mut EngineState,
+    command: &Command,
+    summary: EditSummary,
+) -> Result<Addition, Refusal>
+    requires kept { IsKept state.old }
+    requires summary { IsSummaryOf (edits_in command.now) summary }
+    requires passes { early_refusal (history_of state.old) command.now ≡ None }
+    requires few { length (history_of state.old) < LIMITS.commands }
+    ensures history { history_of state.new ≡ history_of state.old }
+    ensures extends { Extends (table_of state.old) (table_of state.new) }
     ensures room { OnOk result (0 < state.new.commands.spare) }
-    ensures accepted { OnOk result (verdict state.old.commands.commands command.now ≡ None) }
-    ensures ready { IfOk result (IsReady state.new.commands.commands command.now state.new.options.spare state.new.visible.table state.new.rules
-        state.new.store.commits.spare state.new.store.commits.items state.new.store.file_of_line.items state.new.visible.entries state.new.visible.files) }
-    ensures refused { IfErr result (λ refusal. RefusedBy refusal (verdict state.old.commands.commands command.now)) }
-    ensures held { OnErr result (IsHeldBy state.new.commands.commands state.new.visible.table state.new.store.commits.items state.new.store.file_of_line.items state.new.visible.entries state.new.visible.files) }
+    ensures accepted { OnOk result (verdict (history_of state.old) command.now ≡ None) }
+    ensures ready { IfOk result (IsReadyFor state.new command.now) }
+    ensures refused { IfErr result (λ refusal.
+        RefusedBy refusal (verdict (history_of state.old) command.now)) }
+    ensures kept { OnErr result (IsKept state.new) }
 {
     match state.commands.reserve() {
-        Ok(()) => ready_for(state, command),
+        Ok(()) => ready_for(state, command, summary),
         Err(_) => Err(Refusal::Memory),
     }
 }
 
 // Makes ready what a command adds that isn't refused early, where there is room for one more.
-fn ready_for(state: &mut EngineState, command: &Command) -> Result<Ready, Refusal>
-    requires state { IsStateOf state.old.commands.commands state.old.options.names state.old.visible.table state.old.rules.standing state.old.counts }
-    requires held { IsHeldBy state.old.commands.commands state.old.visible.table state.old.store.commits.items state.old.store.file_of_line.items state.old.visible.entries state.old.visible.files }
-    requires passes { early_refusal state.old.commands.commands command.now ≡ None }
-    requires few { length state.old.commands.commands < LIMITS.commands }
+fn ready_for(
+    state: &mut EngineState,
+    command: &Command,
+    summary: EditSummary,
+) -> Result<Addition, Refusal>
+    requires kept { IsKept state.old }
+    requires summary { IsSummaryOf (edits_in command.now) summary }
+    requires passes { early_refusal (history_of state.old) command.now ≡ None }
+    requires few { length (history_of state.old) < LIMITS.commands }
     ensures commands { state.new.commands ≡ state.old.commands }
-    ensures extends { Extends state.old.visible.table state.new.visible.table }
-    ensures state { IsStateOf state.new.commands.commands state.new.options.names state.new.visible.table state.new.rules.standing state.new.counts }
-    ensures accepted { OnOk result (verdict state.old.commands.commands command.now ≡ None) }
-    ensures ready { IfOk result (IsReady state.new.commands.commands command.now state.new.options.spare state.new.visible.table state.new.rules
-        state.new.store.commits.spare state.new.store.commits.items state.new.store.file_of_line.items state.new.visible.entries state.new.visible.files) }
-    ensures refused { IfErr result (λ refusal. RefusedBy refusal (verdict state.old.commands.commands command.now)) }
-    ensures held { OnErr result (IsHeldBy state.new.commands.commands state.new.visible.table state.new.store.commits.items state.new.store.file_of_line.items state.new.visible.entries state.new.visible.files) }
+    ensures extends { Extends (table_of state.old) (table_of state.new) }
+    ensures accepted { OnOk result (verdict (history_of state.old) command.now ≡ None) }
+    ensures ready { IfOk result (IsReadyFor state.new command.now) }
+    ensures refused { IfErr result (λ refusal.
+        RefusedBy refusal (verdict (history_of state.old) command.now)) }
+    ensures kept { OnErr result (IsKept state.new) }
 {
-    let alloc = state.store.commits.allocator();
+    let alloc = state.index.commits.allocator();
     match command {
         Command::Option { name } => option_ready(&mut state.options, name),
         Command::Commit {
@@ -114,13 +124,13 @@ fn ready_for(state: &mut EngineState, command: &Command) -> Result<Ready, Refusa
         } => match overtaken(
             &mut state.visible.table,
             state.rules.conjunction(),
-            &state.store.commits,
+            &state.index.commits,
             *base,
             ambition,
-            edits,
+            summary.touched.as_slice(),
         ) {
             Ok(Some(position)) => Err(Refusal::Overtaken { position }),
-            Ok(None) => commit_ready(state, ambition, edits),
+            Ok(None) => commit_ready(state, ambition, edits, summary),
             Err(Memory) => Err(Refusal::Memory),
         },
         _ => rule_ready(alloc, &mut state.rules, &mut state.visible.table, command),
@@ -128,17 +138,17 @@ fn ready_for(state: &mut EngineState, command: &Command) -> Result<Ready, Refusa
 }
 
 // Makes room for an option, and a copy of its name.
-fn option_ready(options: &mut Options, name: &OptionName) -> Result<Ready, Refusal>
+fn option_ready(options: &mut Options, name: &OptionName) -> Result<Addition, Refusal>
     ensures names { options.new.names ≡ options.old.names }
     ensures room { OnOk result (0 < options.new.spare) }
     ensures accepted { OnOk result (name_refusal options.old.names name.now ≡ None) }
-    ensures ready { IfOk result (λ r. r ≡ ready.Option name.now) }
+    ensures ready { IfOk result (λ r. r ≡ additions.Option name.now) }
     ensures refused { IfErr result (λ refusal. RefusedBy refusal (name_refusal options.old.names name.now)) }
 {
     match name_refusal(options, name.as_slice()) {
         Some(refusal) => Err(refusal),
         None => match copied_name(options, name) {
-            Ok(name) => Ok(Ready::Option { name }),
+            Ok(name) => Ok(Addition::Option { name }),
             Err(Memory) => Err(Refusal::Memory),
         },
     }
@@ -167,22 +177,26 @@ fn name_refusal(options: &Options, name: &[u8]) -> Option<Refusal>
 }
 
 // Stages a commit, unless it would leave a variant unsound.
-fn commit_ready(state: &mut EngineState, ambition: &Expr, edits: &Edits) -> Result<Ready, Refusal>
-    requires state { IsStateOf state.old.commands.commands state.old.options.names state.old.visible.table state.old.rules.standing state.old.counts }
-    requires held { IsHeldBy state.old.commands.commands state.old.visible.table state.old.store.commits.items state.old.store.file_of_line.items state.old.visible.entries state.old.visible.files }
-    requires reach { reach ambition.now ≤ option_count state.old.commands.commands }
-    requires fits { IsInBounds state.old.commands.commands edits.now }
+fn commit_ready(
+    state: &mut EngineState,
+    ambition: &Expr,
+    edits: &Edits,
+    summary: EditSummary,
+) -> Result<Addition, Refusal>
+    requires kept { IsKept state.old }
+    requires summary { summary ≡ summary_of edits.now }
+    requires reach { reach ambition.now ≤ option_count (history_of state.old) }
+    requires fits { IsInBounds (history_of state.old) edits.now }
     ensures commands { state.new.commands ≡ state.old.commands }
-    ensures extends { Extends state.old.visible.table state.new.visible.table }
-    ensures state { IsStateOf state.new.commands.commands state.new.options.names state.new.visible.table state.new.rules.standing state.new.counts }
-    ensures ready { IfOk result (IsStagedReady state.new.commands.commands state.new.visible.table ambition.now edits.now state.new.store.commits.spare
-        state.new.store.commits.items state.new.store.file_of_line.items state.new.visible.entries state.new.visible.files) }
-    ensures held { OnErr result (IsHeldBy state.new.commands.commands state.new.visible.table state.new.store.commits.items state.new.store.file_of_line.items state.new.visible.entries state.new.visible.files) }
-    ensures sound { OnOk result ((base : ℕ) (choice : List Bool) → unsound_refusal state.old.commands.commands ambition.now (Commit base choice ambition.now edits.now) ≡ None) }
-    ensures refused { IfErr result (λ refusal. (base : ℕ) (choice : List Bool) → RefusedBy refusal (unsound_refusal state.old.commands.commands ambition.now (Commit base choice ambition.now edits.now))) }
+    ensures extends { Extends (table_of state.old) (table_of state.new) }
+    ensures ready { IfOk result (IsStagedFor state.new ambition.now edits.now) }
+    ensures kept { OnErr result (IsKept state.new) }
+    ensures sound { OnOk result (LeavesSound (history_of state.old) ambition.now edits.now) }
+    ensures refused { IfErr result (LeavesUnsound (history_of state.old) ambition.now edits.now) }
 {
-    let (mark, rows) = commit_planned(state, ambition, edits)?;
-    Ok(commit_staged(state, mark, rows, edits)?)
+    let sizes = summary.sizes;
+    let (mark, rows) = commit_planned(state, ambition, edits, summary)?;
+    Ok(commit_staged(state, mark, rows, edits, sizes)?)
 }
 
 // Plans the changes of rows of a commit, unless it would leave a variant unsound.
@@ -190,33 +204,33 @@ fn commit_planned(
     state: &mut EngineState,
     ambition: &Expr,
     edits: &Edits,
+    summary: EditSummary,
 ) -> Result<(CommitMark, EntryPlan), Refusal>
-    requires state { IsStateOf state.old.commands.commands state.old.options.names state.old.visible.table state.old.rules.standing state.old.counts }
-    requires held { IsHeldBy state.old.commands.commands state.old.visible.table state.old.store.commits.items state.old.store.file_of_line.items state.old.visible.entries state.old.visible.files }
-    requires reach { reach ambition.now ≤ option_count state.old.commands.commands }
-    requires fits { IsInBounds state.old.commands.commands edits.now }
+    requires kept { IsKept state.old }
+    requires summary { summary ≡ summary_of edits.now }
+    requires reach { reach ambition.now ≤ option_count (history_of state.old) }
+    requires fits { IsInBounds (history_of state.old) edits.now }
     ensures commands { state.new.commands ≡ state.old.commands }
-    ensures extends { Extends state.old.visible.table state.new.visible.table }
-    ensures state { IsStateOf state.new.commands.commands state.new.options.names state.new.visible.table state.new.rules.standing state.new.counts }
-    ensures held { IsHeldBy state.new.commands.commands state.new.visible.table state.new.store.commits.items state.new.store.file_of_line.items state.new.visible.entries state.new.visible.files }
-    ensures planned { IfOk result (λ planned. IsCommitPlan state.new.commands.commands state.new.visible.table state.new.visible.entries ambition.now edits.now planned.0 planned.1) }
-    ensures sound { OnOk result ((base : ℕ) (choice : List Bool) → unsound_refusal state.old.commands.commands ambition.now (Commit base choice ambition.now edits.now) ≡ None) }
-    ensures refused { IfErr result (λ refusal. (base : ℕ) (choice : List Bool) → RefusedBy refusal (unsound_refusal state.old.commands.commands ambition.now (Commit base choice ambition.now edits.now))) }
+    ensures extends { Extends (table_of state.old) (table_of state.new) }
+    ensures kept { IsKept state.new }
+    ensures planned { IfOk result (λ planned.
+        IsPlannedFor state.new ambition.now edits.now planned.0 planned.1) }
+    ensures sound { OnOk result (LeavesSound (history_of state.old) ambition.now edits.now) }
+    ensures refused { IfErr result (LeavesUnsound (history_of state.old) ambition.now edits.now) }
 {
-    let alloc = state.store.commits.allocator();
-    let nodes = touched(edits)?;
+    let alloc = state.index.commits.allocator();
     let mark = CommitMark {
         position: Position::new(state.commands.len() as u32 + 1),
         node: compile(&mut state.visible.table, ambition)?,
-        touched: nodes,
+        touched: summary.touched,
     };
-    let site = site_of(state.counts, &mark);
+    let context = context_of(state.counts, &mark);
     let mut rows = EntryPlan::new(alloc);
     plan_rows(
         &mut state.visible.table,
         &state.visible.entries,
         &mut rows,
-        &site,
+        &context,
         edits.as_slice(),
     )?;
     match refusal_left(
@@ -227,7 +241,7 @@ fn commit_planned(
         state.rules.conjunction(),
         mark.node,
         state.options.count(),
-        edits.as_slice(),
+        summary.changes_rows,
     )? {
         Some(refusal) => Err(refusal),
         None => Ok((mark, rows)),
@@ -235,11 +249,11 @@ fn commit_planned(
 }
 
 // Where a commit's edits are planned.
-fn site_of(counts: Counts, mark: &CommitMark) -> Site
+fn context_of(counts: Counts, mark: &CommitMark) -> CommitContext
     requires { 1 ≤ counts.nodes }
     ensures { result ≡ record { at = mark.now.position; nodes = counts.nodes - 1; lines = counts.lines; ambition = mark.now.node } }
 {
-    Site {
+    CommitContext {
         at: mark.position,
         nodes: counts.nodes - 1,
         lines: counts.lines,
@@ -253,39 +267,40 @@ fn commit_staged(
     mark: CommitMark,
     rows: EntryPlan,
     edits: &Edits,
-) -> Result<Ready, Memory>
-    requires state { IsStateOf state.old.commands.commands state.old.options.names state.old.visible.table state.old.rules.standing state.old.counts }
-    requires held { IsHeldBy state.old.commands.commands state.old.visible.table state.old.store.commits.items state.old.store.file_of_line.items state.old.visible.entries state.old.visible.files }
-    requires fits { IsInBounds state.old.commands.commands edits.now }
-    requires position { mark.position ≡ length state.old.commands.commands + 1 }
-    requires node { mark.node < diagram_size state.old.visible.table }
+    sizes: Sizes,
+) -> Result<Addition, Memory>
+    requires kept { IsKept state.old }
+    requires sizes { sizes ≡ sizes_of edits.now }
+    requires fits { IsInBounds (history_of state.old) edits.now }
+    requires position { mark.position ≡ length (history_of state.old) + 1 }
+    requires node { mark.node < diagram_size (table_of state.old) }
     ensures commands { state.new.commands ≡ state.old.commands }
-    ensures extends { Extends state.old.visible.table state.new.visible.table }
-    ensures state { IsStateOf state.new.commands.commands state.new.options.names state.new.visible.table state.new.rules.standing state.new.counts }
-    ensures ready { IfOk result (λ ready. (ambition : Formula ℕ) → IsCommitPlan state.old.commands.commands state.old.visible.table state.old.visible.entries ambition edits.now mark rows →
-        IsStagedReady state.new.commands.commands state.new.visible.table ambition edits.now state.new.store.commits.spare
-        state.new.store.commits.items state.new.store.file_of_line.items state.new.visible.entries state.new.visible.files ready) }
-    ensures held { OnErr result (IsHeldBy state.new.commands.commands state.new.visible.table state.new.store.commits.items state.new.store.file_of_line.items state.new.visible.entries state.new.visible.files) }
+    ensures extends { Extends (table_of state.old) (table_of state.new) }
+    ensures ready { IfOk result (λ ready. (ambition : Formula ℕ) →
+        IsPlannedFor state.old ambition edits.now mark rows →
+        IsStagedFor state.new ambition edits.now ready) }
+    ensures kept { OnErr result (IsKept state.new) }
 {
-    let alloc = state.store.commits.allocator();
-    let counts = with_sizes(state.counts, measure(edits.as_slice()));
-    let site = site_of(state.counts, &mark);
+    let alloc = state.index.commits.allocator();
+    let counts = with_sizes(state.counts, sizes);
+    let context = context_of(state.counts, &mark);
     let mut plans = VecDeque::new(alloc);
     plan_edits(
         &mut state.visible.table,
         state.visible.files.as_slice(),
         &mut plans,
-        &site,
+        &context,
         edits.as_slice(),
     )?;
     stage_commit(
-        &mut state.store,
+        &mut state.index,
         &mut state.visible,
         &rows,
         state.counts,
+        NodeNo::new(counts.nodes - 1),
         edits.as_slice(),
     )?;
-    Ok(Ready::Commit {
+    Ok(Addition::Commit {
         mark,
         counts,
         plans,

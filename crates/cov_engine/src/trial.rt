@@ -2,19 +2,20 @@
 ghost use Rattle.std.specs.Prelude.{◌≡◌, ◌≤◌, ◌<◌, ◌-◌, ◌^◌, true, false, length, map, Option, IfOk, OnOk};
 ghost use Rattle.cov_base.specs.Rows.{AreOnce};
 ghost use Rattle.cov_base.specs.declared.limits.TheConstants.{LIMITS};
-ghost use Rattle.cov_edit.specs.Touched.{touched, AreRising};
+ghost use Rattle.cov_edit.specs.Touched.{AreRising};
 ghost use Rattle.cov_tree.specs.Dated.{rows_at};
 ghost use Rattle.cov_view.specs.Seen.{kind_in, seen_fault};
 ghost use Rattle.cov_view.specs.Views.{FaultBy};
 ghost use Rattle.cov_engine.specs.Parts.{part_node};
-ghost use Rattle.cov_engine.specs.Trying.{deleted_from, file_shows, has_tried, is_file, place_refused, place_tried, rows_changed, rows_tried, seen_tried, takes, takes_rows, tried_after};
+ghost use Rattle.cov_engine.specs.Summaries.{summary_of};
+ghost use Rattle.cov_engine.specs.Trying.{deleted_from, file_shows, has_tried, is_file, place_refused, place_tried, rows_changed, rows_for, seen_tried, takes, takes_rows, tried_after};
 
 use crate::Visible;
-use crate::evidence::change_rows;
 use crate::places::part_of;
+use crate::summary::EditSummary;
 use crate::tried_rows::TriedRows;
 use cov_base::{Choice, Kind, LineNo, LineRef, Memory, NodeNo, NodeRef, Position};
-use cov_edit::{Edit, Edits, touched};
+use cov_edit::{Edit, Edits};
 use cov_tree::NodeRows;
 use cov_view::{EditFault, is_head};
 use indexmap::IndexSet;
@@ -29,14 +30,15 @@ pub(crate) fn first_refused(
     choice: Choice,
     at: Position,
     edits: &Edits,
+    summary: &EditSummary,
 ) -> Result<Option<u32>, Memory>
+    requires summary { summary.now ≡ summary_of edits.now }
     requires rising { AreRising (map part_node visible.now.files) }
     requires once { AreOnce (rows_at visible.now.table choice at visible.now.entries) }
     requires few { length edits.now ≤ LIMITS.edits }
     ensures { IfOk result (λ found. found ≡ place_refused 0 (seen_tried visible.now choice at edits.now) edits.now) }
 {
-    let nodes = touched(edits)?;
-    let rows = rows_tried(visible, choice, at, edits.as_slice(), nodes.as_slice())?;
+    let rows = rows_tried(visible, choice, at, summary)?;
     let mut trial = Trial {
         rows: TriedRows::new(alloc, &visible.table, choice, rows)?,
         made: Vec::new(alloc),
@@ -50,22 +52,21 @@ pub(crate) fn first_refused(
     trial.first_refused(&sight, edits.as_slice())
 }
 
-// The rows that edits are tried on, which touch these nodes.
+// The rows that edits with a summary are tried on.
 fn rows_tried(
     visible: &Visible,
     choice: Choice,
     at: Position,
-    edits: &[Edit],
-    nodes: &[NodeNo],
+    summary: &EditSummary,
 ) -> Result<NodeRows, Memory>
-    requires touched { nodes.now ≡ touched edits.now }
-    ensures { IfOk result (λ rows. rows ≡ rows_tried visible.now choice at edits.now) }
+    ensures { IfOk result (λ rows.
+        rows ≡ rows_for visible.now choice at summary.now.changes_rows summary.now.touched) }
 {
-    match change_rows(edits) {
+    match summary.changes_rows {
         true => visible.entries.rows_at(&visible.table, choice, at),
         false => visible
             .entries
-            .rows_among(nodes, &visible.table, choice, at),
+            .rows_among(summary.touched.as_slice(), &visible.table, choice, at),
     }
 }
 
@@ -109,6 +110,7 @@ struct Trial {
 }
 
 impl Model for Trial {
+    ghost use Rattle.cov_engine.specs.Summaries.{summary_of};
     ghost use Rattle.cov_engine.specs.Trying.{Trying};
 
     ghost Value = { Trying };

@@ -8,7 +8,7 @@ ghost use Rattle.cov_view.specs.Seen.{kind_in, seen_after, seen_fault};
 ghost use Rattle.cov_view.specs.Views.{FaultBy};
 ghost use Rattle.cov_engine.specs.Showing.{bare_row};
 
-use crate::store::view_of_rows;
+use crate::history_index::view_of_rows;
 use cov_base::{Choice, Kind, Memory, NodeNo, NodeRef};
 use cov_dd::Table;
 use cov_edit::Edit;

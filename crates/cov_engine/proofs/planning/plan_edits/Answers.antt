@@ -13,7 +13,7 @@ loop-ahead-init c = record {
   near = c.requires.near;
   low = c.requires.low;
   few = c.requires.few;
-  planned = λ us x ss planned start. subst (ArePlanned c.args.site.now.at c.args.files.now c.args.site.now.nodes c.args.site.now.lines c.args.site.now.ambition us c.args.site.now.lines c.args.edits.now)
+  planned = λ us x ss planned start. subst (ArePlanned c.args.context.now.at c.args.files.now c.args.context.now.nodes c.args.context.now.lines c.args.context.now.ambition us c.args.context.now.lines c.args.edits.now)
       (sym (ap (λ l. l ++ ss) start)) planned;
 }
 
@@ -24,15 +24,15 @@ loop-ahead-preserved c =
     let more = c.in_ok-made.ensures.made in
     record {
       extends = extends_trans c.args.table.now c.loop-ahead.table c.plan_edit.new.table i.extends x;
-      nodes = nodes-later c.loop-ahead.table c.plan_edit.new.table c.args.site.now.at c.args.files.now x i.nodes;
+      nodes = nodes-later c.loop-ahead.table c.plan_edit.new.table c.args.context.now.at c.args.files.now x i.nodes;
       ambition = let grown = x.count in let low = i.ambition in omega (arith, grown, low);
       near = all-rest _ c.loop-ahead.ahead.now i.near;
       low = all-rest _ c.loop-ahead.ahead.now i.low;
       few = few-rest c.loop-ahead.made c.in_ok-made.made c.edit-item.result c.edit-item.result more _ c.loop-ahead.ahead.now c.edit-item.is c.in-len1-up.len_at_least i.few;
       planned = λ us y ss planned start.
-          let all = planned-rest c.loop-ahead.made c.in_ok-made.made c.edit-item.result c.edit-item.result more c.args.site.now.at c.args.files.now c.args.site.now.nodes c.args.site.now.lines c.args.site.now.ambition
+          let all = planned-rest c.loop-ahead.made c.in_ok-made.made c.edit-item.result c.edit-item.result more c.args.context.now.at c.args.files.now c.args.context.now.nodes c.args.context.now.lines c.args.context.now.ambition
           c.plan_edit.new.table us c.loop-ahead.ahead.now c.loop-ahead.plans.items c.plan_edit.new.plans.items ss c.edit-item.is c.in-len1-up.len_at_least y c.in_ok-made.ensures.planned planned in
-          subst (ArePlanned c.args.site.now.at c.args.files.now c.args.site.now.nodes c.args.site.now.lines c.args.site.now.ambition us c.args.site.now.lines c.args.edits.now)
+          subst (ArePlanned c.args.context.now.at c.args.files.now c.args.context.now.nodes c.args.context.now.lines c.args.context.now.ambition us c.args.context.now.lines c.args.edits.now)
           (sym all.1) (i.planned us (extends_trans c.loop-ahead.table c.plan_edit.new.table us x y) all.0 all.2 start);
     }
 
@@ -41,6 +41,6 @@ returns-in_err-made-clause-extends c = extends_trans c.args.table.now c.loop-ahe
 
 pub returns-clause-plans : goal.returns-clause-plans
 returns-clause-plans c = λ start.
-    planned-end c.args.site.now.at c.args.files.now c.args.site.now.nodes c.args.site.now.lines c.args.site.now.ambition c.loop-ahead.table c.loop-ahead.made c.args.site.now.lines
+    planned-end c.args.context.now.at c.args.files.now c.args.context.now.nodes c.args.context.now.lines c.args.context.now.ambition c.loop-ahead.table c.loop-ahead.made c.args.context.now.lines
     c.args.edits.now c.loop-ahead.ahead.now c.loop-ahead.plans.items c.in_default.len_below
     (λ rest planned. c.loop-ahead.invariant.planned c.loop-ahead.table (extends_none c.loop-ahead.table) rest planned start)

@@ -12,13 +12,13 @@ use Rattle.cov_engine.proofs.planning.plan_edits.Given as goal
 abbrev pub invariant-loop-ahead : goal.invariant-loop-ahead
 invariant-loop-ahead l = record {
   extends : Extends l.fn.table l.table;
-  nodes : AllByRecursion (HasNodesIn l.table l.site.at) l.files;
-  ambition : l.site.ambition < diagram_size l.table;
-  near : AreNear l.site.nodes l.ahead;
-  low : AreLow l.site.lines l.ahead;
+  nodes : AllByRecursion (HasNodesIn l.table l.context.at) l.files;
+  ambition : l.context.ambition < diagram_size l.table;
+  near : AreNear l.context.nodes l.ahead;
+  low : AreLow l.context.lines l.ahead;
   few : l.made + length (anchors_of 0 l.ahead) < 2 ^ 32;
-  planned : (us : List Triple) → Extends l.table us → (ss : List EditPlan) → ArePlanned l.site.at l.files l.site.nodes l.site.lines l.site.ambition us l.made l.ahead ss
-      → l.fn.plans.items ≡ [] → ArePlanned l.site.at l.files l.site.nodes l.site.lines l.site.ambition us l.site.lines l.edits (l.plans.items ++ ss);
+  planned : (us : List Triple) → Extends l.table us → (ss : List EditPlan) → ArePlanned l.context.at l.files l.context.nodes l.context.lines l.context.ambition us l.made l.ahead ss
+      → l.fn.plans.items ≡ [] → ArePlanned l.context.at l.files l.context.nodes l.context.lines l.context.ambition us l.context.lines l.edits (l.plans.items ++ ss);
 }
 
 abbrev pub decreases-loop-ahead : goal.decreases-loop-ahead

@@ -10,8 +10,8 @@ use Rattle.cov_engine.proofs.refusing.choice_refusal.Goals as goal
 
 pub valid-requires : goal.valid-requires
 valid-requires c =
-    subst (λ es. reach_of es ≤ length c.args.choice) (sym (c.requires.state.rules.at c.args.base))
-    (let low = rules-within c.args.state.now.commands.commands c.args.base c.requires.state.legal in let count = c.requires.count in omega (arith, low, count))
+    subst (λ es. reach_of es ≤ length c.args.choice) (sym (c.requires.kept.0.0.rules.at c.args.base))
+    (let low = rules-within c.args.state.now.commands.commands c.args.base c.requires.kept.0.0.legal in let count = c.requires.count in omega (arith, low, count))
 
 none-false : (base : ℕ) (history : List Command) (choice : List Bool) (rules : List Installed) → expressions_at base rules ≡ constraints_of (take base history) → is_valid (expressions_at base rules) choice ≡ true
     → first_false_in (take base history) choice ≡ None
@@ -20,9 +20,9 @@ none-false base history choice rules same valid = ap (λ es. first_false es choi
 pub returns-in-true : goal.returns-in-true
 returns-in-true c =
     choice-valid (take c.args.base c.args.state.now.commands.commands) c.args.choice c.args.ambition.now true
-    (none-false c.args.base c.args.state.now.commands.commands c.args.choice c.args.state.now.rules.standing.constraints (c.requires.state.rules.at c.args.base) c.in-Ok.ensures.ok) (sym c.value.ensures ∙ c.in-true.is)
+    (none-false c.args.base c.args.state.now.commands.commands c.args.choice c.args.state.now.rules.standing.constraints (c.requires.kept.0.0.rules.at c.args.base) c.in-Ok.ensures.ok) (sym c.value.ensures ∙ c.in-true.is)
 
 pub returns-in-false : goal.returns-in-false
 returns-in-false c =
     choice-valid (take c.args.base c.args.state.now.commands.commands) c.args.choice c.args.ambition.now false
-    (none-false c.args.base c.args.state.now.commands.commands c.args.choice c.args.state.now.rules.standing.constraints (c.requires.state.rules.at c.args.base) c.in-Ok.ensures.ok) (sym c.value.ensures ∙ c.in-false.is)
+    (none-false c.args.base c.args.state.now.commands.commands c.args.choice c.args.state.now.rules.standing.constraints (c.requires.kept.0.0.rules.at c.args.base) c.in-Ok.ensures.ok) (sym c.value.ensures ∙ c.in-false.is)

@@ -24,8 +24,8 @@ loop-ahead-preserved c =
     let i = c.loop-ahead.invariant in
     let x = c.plan_row.ensures.extends in
     let more = c.in_ok-made.ensures.made in
-    let n = c.args.site.now.nodes in
-    let a = c.args.site.now.ambition in
+    let n = c.args.context.now.nodes in
+    let a = c.args.context.now.ambition in
     record {
       extends = extends_trans c.args.table.now c.loop-ahead.table c.plan_row.new.table i.extends x;
       within = c.plan_row.ensures.within;
@@ -49,7 +49,7 @@ returns-in_err-made-clause-extends c = extends_trans c.args.table.now c.loop-ahe
 pub returns-clause-makes : goal.returns-clause-makes
 returns-clause-makes c =
     let i = c.loop-ahead.invariant in
-    also-all c.args.table.now c.loop-ahead.table c.args.entries.now c.args.plan.now c.loop-ahead.plan c.args.site.now.nodes c.loop-ahead.made c.args.site.now.ambition c.loop-ahead.ahead.now i.makes.0 _ c.in_default.len_below i.makes.2 i.makes.1
+    also-all c.args.table.now c.loop-ahead.table c.args.entries.now c.args.plan.now c.loop-ahead.plan c.args.context.now.nodes c.loop-ahead.made c.args.context.now.ambition c.loop-ahead.ahead.now i.makes.0 _ c.in_default.len_below i.makes.2 i.makes.1
 
 pub returns-clause-nodes : goal.returns-clause-nodes
 returns-clause-nodes c = listed-all number_alone c.loop-ahead.made c.loop-ahead.ahead.now _ _ c.in_default.len_below c.loop-ahead.invariant.listed

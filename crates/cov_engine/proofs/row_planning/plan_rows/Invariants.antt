@@ -14,13 +14,13 @@ invariant-loop-ahead l = record {
   within : AreNodesWith l.table l.plan l.entries;
   once : AreOnceWith l.table l.plan l.entries;
   up_to : AreNodesUpTo l.made l.plan l.entries;
-  ambition : l.site.ambition < diagram_size l.table;
-  near : AreNear l.site.nodes l.ahead;
+  ambition : l.context.ambition < diagram_size l.table;
+  near : AreNear l.context.nodes l.ahead;
   few : l.made + nodes_made l.ahead < 2 ^ 32;
   makes : (done : List (RowChange × ℕ)) × AlsoMakes l.fn.table l.table l.entries l.fn.plan l.plan done
-      × (done ++ edit_changes l.site.nodes l.made l.site.ambition l.ahead ≡ edit_changes l.site.nodes l.site.nodes l.site.ambition l.edits);
-  kinds : kinds_made_by l.made l.ahead (kinds_with l.plan l.entries) ≡ kinds_made_by l.site.nodes l.edits (kinds_with l.fn.plan l.entries);
-  listed : made_by l.made l.ahead (nodes_with l.plan l.entries) ≡ made_by l.site.nodes l.edits (nodes_with l.fn.plan l.entries);
+      × (done ++ edit_changes l.context.nodes l.made l.context.ambition l.ahead ≡ edit_changes l.context.nodes l.context.nodes l.context.ambition l.edits);
+  kinds : kinds_made_by l.made l.ahead (kinds_with l.plan l.entries) ≡ kinds_made_by l.context.nodes l.edits (kinds_with l.fn.plan l.entries);
+  listed : made_by l.made l.ahead (nodes_with l.plan l.entries) ≡ made_by l.context.nodes l.edits (nodes_with l.fn.plan l.entries);
 }
 
 abbrev pub decreases-loop-ahead : goal.decreases-loop-ahead

@@ -1,5 +1,5 @@
 use Rattle.cov_engine.proofs.StoredFiles.{all-carried-rising}
 use Rattle.cov_engine.proofs.staging.install.Goals as goal
 
-pub settle-requires-clause-rising : goal.settle-requires-clause-rising
-settle-requires-clause-rising c = all-carried-rising c.args.mark.position c.args.plans.items c.args.visible.now.files c.carry_out_all.new.self c.carry_out_all.ensures c.requires.rising
+pub expect_nothing-requires-clause-rising : goal.expect_nothing-requires-clause-rising
+expect_nothing-requires-clause-rising c = all-carried-rising c.args.mark.position c.args.plans.items c.args.visible.now.files c.carry_out_all.new.self c.carry_out_all.ensures c.requires.rising

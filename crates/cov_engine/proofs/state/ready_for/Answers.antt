@@ -1,8 +1,8 @@
-use Rattle.std.specs.Prelude.{IfOk}
 use Rattle.cov_edit.specs.Recorded.{Recorded}
-use Rattle.cov_engine.specs.Ready.{IsReady, IsStagedReady}
+use Rattle.cov_engine.specs.Refusing.{early_refusal}
+use Rattle.cov_engine.specs.States.{IsKept}
 use Rattle.std.proofs.Common.{◌≡◌, [], ◌∷◌, refl, sym, ap, subst, ◌∙◌}
-use Rattle.std.proofs.lemmas.Result.{IfErr-weaker, on_ok_weaker}
+use Rattle.std.proofs.lemmas.Result.{IfErr-weaker, IfOk-weaker, on_ok_weaker}
 use Rattle.cov_dd.proofs.CallerLemmas.{extends_trans}
 use Rattle.cov_edit.specs.History.{option_count}
 use Rattle.cov_edit.specs.declared.command.Command.TheVariants as commands
@@ -10,66 +10,65 @@ use Rattle.cov_view.specs.Refusals.{first_of}
 use Rattle.cov_view.proofs.CallerLemmas.{first-one}
 use Rattle.cov_history.specs.BadChoices.{unsound_refusal}
 use Rattle.cov_history.specs.Verdict.{verdict, as_overtaken, RefusedBy}
+use Rattle.cov_engine.proofs.Deciding.{touched-own}
 use Rattle.cov_engine.proofs.Holdings.{held-grown}
+use Rattle.cov_engine.proofs.Keeping.{kept-grown, kept-roomier, with_options, option-readied, commit-readied}
 use Rattle.cov_engine.proofs.Marking.{marks-within, marks-rising}
-use Rattle.cov_engine.proofs.Readied.{on-any, reach-declared, in-bounds, late-verdict, all-staged}
+use Rattle.cov_engine.proofs.Readied.{on-any, commit-summary, reach-declared, in-bounds, late-verdict}
 use Rattle.cov_engine.proofs.Refused.{early-may}
-use Rattle.cov_engine.proofs.Ruling.{RuleOf, rule-of, all-ready, rule-accepted, rule-refused}
+use Rattle.cov_engine.proofs.Ruling.{RuleOf, rule-of, as-ready, rule-accepted, rule-refused}
 use Rattle.cov_engine.proofs.States.{state-grown}
 use Rattle.cov_engine.proofs.state.ready_for.Goals as goal
 
 pub overtaken-requires-clause-nodes : goal.overtaken-requires-clause-nodes
 overtaken-requires-clause-nodes c =
     let history = c.args.state.now.commands.commands in
-    marks-within c.args.state.now.visible.table (option_count history) 0 history c.args.state.now.store.commits.items c.requires.held.marks
+    marks-within c.args.state.now.visible.table (option_count history) 0 history c.args.state.now.index.commits.items c.requires.kept.1.marks
 
 pub overtaken-requires-clause-rising : goal.overtaken-requires-clause-rising
 overtaken-requires-clause-rising c =
     let history = c.args.state.now.commands.commands in
-    marks-rising c.args.state.now.visible.table (option_count history) 0 history c.args.state.now.store.commits.items c.requires.held.marks
+    marks-rising c.args.state.now.visible.table (option_count history) 0 history c.args.state.now.index.commits.items c.requires.kept.1.marks
 
-pub commit_ready-requires-clause-state : goal.commit_ready-requires-clause-state
-commit_ready-requires-clause-state c =
-    state-grown c.args.state.now.commands.commands c.args.state.now.options.names c.args.state.now.visible.table c.overtaken.new.table c.args.state.now.rules.standing _ c.args.state.now.counts c.requires.state
-    c.overtaken.ensures.extends refl
+pub overtaken-requires-clause-own : goal.overtaken-requires-clause-own
+overtaken-requires-clause-own c =
+    touched-own c.in-Commit.edits c.args.summary.touched c.as_slice.result.now c.as_slice.ensures
+    (ap (λ s. s.touched) (commit-summary c.args.state.now.commands.commands c.args.command.now c.in-Commit.base c.in-Commit.choice c.in-Commit.ambition c.in-Commit.edits c.in-Commit.is c.requires.passes c.requires.kept.0.0.legal c.args.summary c.requires.summary))
 
-pub commit_ready-requires-clause-held : goal.commit_ready-requires-clause-held
-commit_ready-requires-clause-held c =
-    (held-grown c.args.state.now.commands.commands c.args.state.now.visible.table c.overtaken.new.table c.args.state.now.store.commits.items c.args.state.now.store.file_of_line.items c.args.state.now.visible.entries c.args.state.now.visible.files
-    c.requires.held c.overtaken.ensures.extends)
+pub commit_ready-requires-clause-summary : goal.commit_ready-requires-clause-summary
+commit_ready-requires-clause-summary c =
+    commit-summary c.args.state.now.commands.commands c.args.command.now c.in-Commit.base c.in-Commit.choice c.in-Commit.ambition c.in-Commit.edits c.in-Commit.is c.requires.passes c.requires.kept.0.0.legal c.args.summary c.requires.summary
+
+pub commit_ready-requires-clause-kept : goal.commit_ready-requires-clause-kept
+commit_ready-requires-clause-kept c = kept-grown c.args.state.now c.overtaken.new.table c.requires.kept c.overtaken.ensures.extends
 
 pub commit_ready-requires-clause-reach : goal.commit_ready-requires-clause-reach
 commit_ready-requires-clause-reach c = reach-declared c.args.state.now.commands.commands c.args.command.now c.in-Commit.base c.in-Commit.choice c.in-Commit.ambition c.in-Commit.edits c.in-Commit.is c.requires.passes
 
 pub commit_ready-requires-clause-fits : goal.commit_ready-requires-clause-fits
 commit_ready-requires-clause-fits c =
-    in-bounds c.args.state.now.commands.commands c.args.command.now c.in-Commit.base c.in-Commit.choice c.in-Commit.ambition c.in-Commit.edits c.in-Commit.is c.requires.passes c.requires.state.legal
-
-pub returns-in-Ok-Some-clause-state : goal.returns-in-Ok-Some-clause-state
-returns-in-Ok-Some-clause-state c =
-    state-grown c.args.state.now.commands.commands c.args.state.now.options.names c.args.state.now.visible.table c.overtaken.new.table c.args.state.now.rules.standing _ c.args.state.now.counts c.requires.state
-    c.overtaken.ensures.extends refl
+    in-bounds c.args.state.now.commands.commands c.args.command.now c.in-Commit.base c.in-Commit.choice c.in-Commit.ambition c.in-Commit.edits c.in-Commit.is c.requires.passes c.requires.kept.0.0.legal
 
 pub returns-in-Ok-Some-clause-refused : goal.returns-in-Ok-Some-clause-refused
 returns-in-Ok-Some-clause-refused c =
     late-verdict c.args.state.now.commands.commands c.args.command.now c.in-Commit.base c.in-Commit.choice c.in-Commit.ambition c.in-Commit.edits c.in-Commit.is c.requires.passes
-    c.args.state.now.options.names c.args.state.now.visible.table c.args.state.now.rules.standing c.args.state.now.counts c.args.state.now.store.commits.items
-    c.args.state.now.store.file_of_line.items c.args.state.now.visible.entries c.args.state.now.visible.files c.conjunction.result c.in-Ok-Some.field-0 c.requires.few c.requires.state c.requires.held c.conjunction.ensures
-    c.in-Ok-Some.ensures.first
+    c.args.state.now.options.names c.args.state.now.visible.table c.args.state.now.rules.standing c.args.state.now.counts c.args.state.now.index.commits.items
+    c.args.state.now.index.file_of_line.items c.args.state.now.visible.entries c.args.state.now.visible.files c.conjunction.result c.in-Ok-Some.field-0 c.requires.few c.requires.kept.0.0 c.requires.kept.1 c.conjunction.ensures
+    (c.in-Ok-Some.ensures.first c.in-Commit.edits
+    (c.as_slice.ensures ∙ ap (λ s. s.touched) (commit-summary c.args.state.now.commands.commands c.args.command.now c.in-Commit.base c.in-Commit.choice c.in-Commit.ambition c.in-Commit.edits c.in-Commit.is c.requires.passes c.requires.kept.0.0.legal c.args.summary c.requires.summary)))
     ∙ ap (λ found. first_of (as_overtaken found ∷ unsound_refusal c.args.state.now.commands.commands c.in-Commit.ambition (commands.Commit c.in-Commit.base c.in-Commit.choice c.in-Commit.ambition c.in-Commit.edits) ∷ [])) c.in-Ok-Some.field-0-is
 
-pub returns-in-Ok-Some-clause-held : goal.returns-in-Ok-Some-clause-held
-returns-in-Ok-Some-clause-held c =
-    (held-grown c.args.state.now.commands.commands c.args.state.now.visible.table c.overtaken.new.table c.args.state.now.store.commits.items c.args.state.now.store.file_of_line.items c.args.state.now.visible.entries c.args.state.now.visible.files
-    c.requires.held c.overtaken.ensures.extends)
+pub returns-in-Ok-Some-clause-kept : goal.returns-in-Ok-Some-clause-kept
+returns-in-Ok-Some-clause-kept c = kept-grown c.args.state.now c.overtaken.new.table c.requires.kept c.overtaken.ensures.extends
 
 judged : (c : goal.After-commit_ready) → verdict c.args.state.now.commands.commands c.args.command.now
     ≡ unsound_refusal c.args.state.now.commands.commands c.in-Commit.ambition (commands.Commit c.in-Commit.base c.in-Commit.choice c.in-Commit.ambition c.in-Commit.edits)
 judged c =
     late-verdict c.args.state.now.commands.commands c.args.command.now c.in-Commit.base c.in-Commit.choice c.in-Commit.ambition c.in-Commit.edits c.in-Commit.is c.requires.passes
-    c.args.state.now.options.names c.args.state.now.visible.table c.args.state.now.rules.standing c.args.state.now.counts c.args.state.now.store.commits.items
-    c.args.state.now.store.file_of_line.items c.args.state.now.visible.entries c.args.state.now.visible.files c.conjunction.result c.in-Ok-None.field-0 c.requires.few c.requires.state c.requires.held c.conjunction.ensures
-    c.in-Ok-None.ensures.first
+    c.args.state.now.options.names c.args.state.now.visible.table c.args.state.now.rules.standing c.args.state.now.counts c.args.state.now.index.commits.items
+    c.args.state.now.index.file_of_line.items c.args.state.now.visible.entries c.args.state.now.visible.files c.conjunction.result c.in-Ok-None.field-0 c.requires.few c.requires.kept.0.0 c.requires.kept.1 c.conjunction.ensures
+    (c.in-Ok-None.ensures.first c.in-Commit.edits
+    (c.as_slice.ensures ∙ ap (λ s. s.touched) (commit-summary c.args.state.now.commands.commands c.args.command.now c.in-Commit.base c.in-Commit.choice c.in-Commit.ambition c.in-Commit.edits c.in-Commit.is c.requires.passes c.requires.kept.0.0.legal c.args.summary c.requires.summary)))
     ∙ ap (λ found. first_of (as_overtaken found ∷ unsound_refusal c.args.state.now.commands.commands c.in-Commit.ambition (commands.Commit c.in-Commit.base c.in-Commit.choice c.in-Commit.ambition c.in-Commit.edits) ∷ [])) c.in-Ok-None.field-0-is
     ∙ first-one _
 
@@ -81,23 +80,23 @@ returns-in-Ok-None-clause-accepted c = on_ok_weaker c.commit_ready.result (λ so
 
 pub returns-in-Ok-None-clause-ready : goal.returns-in-Ok-None-clause-ready
 returns-in-Ok-None-clause-ready c =
-    subst (λ (ks : Recorded). IfOk c.commit_ready.result (IsReady ks.commands c.args.command.now c.commit_ready.new.state.options.spare c.commit_ready.new.state.visible.table c.commit_ready.new.state.rules c.commit_ready.new.state.store.commits.spare c.commit_ready.new.state.store.commits.items c.commit_ready.new.state.store.file_of_line.items c.commit_ready.new.state.visible.entries c.commit_ready.new.state.visible.files)) (sym c.commit_ready.ensures.commands)
-    (all-staged c.args.state.now.commands.commands c.args.command.now c.in-Commit.base c.in-Commit.choice c.in-Commit.ambition c.in-Commit.edits c.in-Commit.is c.requires.passes c.commit_ready.new.state.options.spare c.commit_ready.new.state.visible.table c.commit_ready.new.state.rules c.commit_ready.new.state.store.commits.spare c.commit_ready.new.state.store.commits.items c.commit_ready.new.state.store.file_of_line.items c.commit_ready.new.state.visible.entries c.commit_ready.new.state.visible.files c.commit_ready.result
-    (subst (λ (ks : Recorded). IfOk c.commit_ready.result (IsStagedReady ks.commands c.commit_ready.new.state.visible.table c.in-Commit.ambition c.in-Commit.edits c.commit_ready.new.state.store.commits.spare c.commit_ready.new.state.store.commits.items c.commit_ready.new.state.store.file_of_line.items c.commit_ready.new.state.visible.entries c.commit_ready.new.state.visible.files)) c.commit_ready.ensures.commands c.commit_ready.ensures.ready))
+    commit-readied c.commit_ready.new.state c.args.command.now c.in-Commit.base c.in-Commit.choice c.in-Commit.ambition c.in-Commit.edits c.in-Commit.is
+    (ap (λ (ks : Recorded). early_refusal ks.commands c.args.command.now) c.commit_ready.ensures.commands ∙ c.requires.passes) c.commit_ready.result c.commit_ready.ensures.ready
 
 pub returns-in-Ok-None-clause-refused : goal.returns-in-Ok-None-clause-refused
 returns-in-Ok-None-clause-refused c =
     IfErr-weaker c.commit_ready.result _ _ (λ r refused. subst (RefusedBy r) (sym (judged c)) (refused c.in-Commit.base c.in-Commit.choice)) c.commit_ready.ensures.refused
 
-pub returns-in-Err-clause-state : goal.returns-in-Err-clause-state
-returns-in-Err-clause-state c =
-    state-grown c.args.state.now.commands.commands c.args.state.now.options.names c.args.state.now.visible.table c.overtaken.new.table c.args.state.now.rules.standing _ c.args.state.now.counts c.requires.state
-    c.overtaken.ensures.extends refl
+pub returns-in-Err-clause-kept : goal.returns-in-Err-clause-kept
+returns-in-Err-clause-kept c = kept-grown c.args.state.now c.overtaken.new.table c.requires.kept c.overtaken.ensures.extends
 
-pub returns-in-Err-clause-held : goal.returns-in-Err-clause-held
-returns-in-Err-clause-held c =
-    (held-grown c.args.state.now.commands.commands c.args.state.now.visible.table c.overtaken.new.table c.args.state.now.store.commits.items c.args.state.now.store.file_of_line.items c.args.state.now.visible.entries c.args.state.now.visible.files
-    c.requires.held c.overtaken.ensures.extends)
+pub returns-in-Option-clause-ready : goal.returns-in-Option-clause-ready
+returns-in-Option-clause-ready c =
+    option-readied (with_options c.args.state.now c.option_ready.new.options) c.args.command.now c.in-Option.name c.in-Option.is
+    (kept-roomier c.args.state.now c.option_ready.new.options c.requires.kept c.option_ready.ensures.names) c.option_ready.result c.option_ready.ensures.room c.option_ready.ensures.ready
+
+pub returns-in-Option-clause-kept : goal.returns-in-Option-clause-kept
+returns-in-Option-clause-kept c = on-any c.option_ready.result _ (kept-roomier c.args.state.now c.option_ready.new.options c.requires.kept c.option_ready.ensures.names)
 
 pub returns-in_default : goal.returns-in_default
 returns-in_default c =
@@ -106,15 +105,31 @@ returns-in_default c =
     let ts = c.args.state.now.visible.table in
     let standing = c.args.state.now.rules.standing in
     let of : RuleOf k = rule-of k c.in_default.not-Option c.in_default.not-Commit in
-    let grown = held-grown history ts c.rule_ready.new.table c.args.state.now.store.commits.items c.args.state.now.store.file_of_line.items c.args.state.now.visible.entries c.args.state.now.visible.files c.requires.held c.rule_ready.ensures.extends in
+    let kept : IsKept (record {
+      commands = c.args.state.now.commands;
+      options = c.args.state.now.options;
+      option_positions = c.args.state.now.option_positions;
+      rules = c.rule_ready.new.rules;
+      counts = c.args.state.now.counts;
+      index = c.args.state.now.index;
+      visible = record { table = c.rule_ready.new.table; entries = c.args.state.now.visible.entries; files = c.args.state.now.visible.files };
+    }) = (
+      (
+        state-grown history c.args.state.now.options.names ts c.rule_ready.new.table standing c.rule_ready.new.rules.standing c.args.state.now.counts
+            c.requires.kept.0.0 c.rule_ready.ensures.extends c.rule_ready.ensures.same,
+        c.requires.kept.0.1,
+      ),
+      held-grown history ts c.rule_ready.new.table c.args.state.now.index.commits.items c.args.state.now.index.file_of_line.items c.args.state.now.visible.entries c.args.state.now.visible.files c.requires.kept.1 c.rule_ready.ensures.extends,
+    ) in
     record {
       commands = refl;
       extends = c.rule_ready.ensures.extends;
-      state = state-grown history c.args.state.now.options.names ts c.rule_ready.new.table standing c.rule_ready.new.rules.standing c.args.state.now.counts
-          c.requires.state c.rule_ready.ensures.extends c.rule_ready.ensures.same;
-      accepted = on_ok_weaker c.rule_ready.result (λ accepted. rule-accepted history ts standing c.requires.state.rules c.requires.few k of.rule of.is (early-may history k c.requires.passes) (accepted of.rule of.is)) c.rule_ready.ensures.accepted;
-      ready = all-ready history k c.args.state.now.options.spare c.rule_ready.new.table c.rule_ready.new.rules _ c.args.state.now.store.commits.items c.args.state.now.store.file_of_line.items c.args.state.now.visible.entries c.args.state.now.visible.files
-          grown c.rule_ready.result c.rule_ready.ensures.ready;
-      refused = IfErr-weaker c.rule_ready.result _ _ (λ r refused. rule-refused history ts standing c.requires.state.rules c.requires.few k of.rule of.is (early-may history k c.requires.passes) r (refused of.rule of.is)) c.rule_ready.ensures.refused;
-      held = on-any c.rule_ready.result _ grown;
+      accepted = on_ok_weaker c.rule_ready.result (λ accepted. rule-accepted history ts standing c.requires.kept.0.0.rules c.requires.few k of.rule of.is (early-may history k c.requires.passes) (accepted of.rule of.is)) c.rule_ready.ensures.accepted;
+      ready = IfOk-weaker c.rule_ready.result _ _ (λ own is. (
+        kept.0,
+        as-ready history k c.args.state.now.options.spare c.rule_ready.new.table c.rule_ready.new.rules _ c.args.state.now.index.commits.items c.args.state.now.index.file_of_line.items c.args.state.now.visible.entries c.args.state.now.visible.files
+            kept.1 own is,
+      )) c.rule_ready.ensures.ready;
+      refused = IfErr-weaker c.rule_ready.result _ _ (λ r refused. rule-refused history ts standing c.requires.kept.0.0.rules c.requires.few k of.rule of.is (early-may history k c.requires.passes) r (refused of.rule of.is)) c.rule_ready.ensures.refused;
+      kept = on-any c.rule_ready.result _ kept;
     }

@@ -13,7 +13,7 @@ returns-clause-ok c =
     let history = c.args.self.now.history in
     let ts = c.self.inside.state.visible.table in
     let s = c.self.inside.state.rules.standing in
-    let are : AreRulesOf history ts s = subst (λ (e : EngineValue). AreRulesOf e.history ts s) c.self.view_is c.self.invariant.0.rules in
+    let are : AreRulesOf history ts s = subst (λ (e : EngineValue). AreRulesOf e.history ts s) c.self.view_is c.self.invariant.0.0.rules in
     on_ok_weaker c.valid.result
     (λ valid. ap (λ es. first_false es c.args.choice) (sym (constraints-now history ts s c.position.result are c.position.ensures)) ∙ allowed c.args.choice (expressions_at c.position.result s.constraints) valid)
     c.valid.ensures.ok

@@ -3,7 +3,7 @@ use Rattle.cov_base.specs.Rows.{Row}
 use Rattle.cov_base.specs.declared.number.NodeRef.TheVariants.{Old}
 use Rattle.cov_view.specs.Seen.{kind_in}
 use Rattle.cov_engine.proofs.Showing.{kind-added}
-use Rattle.cov_engine.proofs.store.add_node.Goals as goal
+use Rattle.cov_engine.proofs.history_index.add_node.Goals as goal
 
 pub add_lines-requires : goal.add_lines-requires
 add_lines-requires c =

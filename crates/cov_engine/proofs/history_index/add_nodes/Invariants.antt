@@ -1,7 +1,7 @@
 use Rattle.std.proofs.Common.{◌≡◌, length}
 use Rattle.std.specs.List.{fold}
 use Rattle.cov_engine.specs.Showing.{with_node, AreFresh}
-use Rattle.cov_engine.proofs.store.add_nodes.Given as goal
+use Rattle.cov_engine.proofs.history_index.add_nodes.Given as goal
 
 abbrev pub invariant-loop-ahead : goal.invariant-loop-ahead
 invariant-loop-ahead l = record {

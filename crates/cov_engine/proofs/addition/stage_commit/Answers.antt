@@ -3,7 +3,7 @@ use Rattle.cov_edit.specs.Touched.{AreRising}
 use Rattle.cov_engine.specs.Parts.{part_node}
 use Rattle.cov_engine.proofs.Rising.{rising-front}
 use Rattle.cov_engine.proofs.StoredFiles.{same-rising}
-use Rattle.cov_engine.proofs.ready.stage_commit.Goals as goal
+use Rattle.cov_engine.proofs.addition.stage_commit.Goals as goal
 
 pub unstage-requires-clause-rising : goal.unstage-requires-clause-rising
 unstage-requires-clause-rising c =

@@ -34,7 +34,7 @@ pub(crate) struct CommitMark {
 
 /// The commits, and the file of each line by number.
 #[derive(Drop)]
-pub(crate) struct Store {
+pub(crate) struct HistoryIndex {
     pub(crate) commits: Commits,
     pub(crate) file_of_line: Vec<NodeNo>,
 }
@@ -123,11 +123,15 @@ pub(crate) fn add_lines(
 }
 
 /// The file of a line.
-pub(crate) fn file_of<'a>(store: &Store, visible: &'a Visible, line: LineNo) -> Option<&'a FilePart>
+pub(crate) fn file_of<'a>(
+    index: &HistoryIndex,
+    visible: &'a Visible,
+    line: LineNo,
+) -> Option<&'a FilePart>
     requires rising { AreRising (map part_node visible.now.files) }
-    ensures { option_copied result ≡ stored_file_of visible.now.files (item_of store.now.file_of_line.items line) }
+    ensures { option_copied result ≡ stored_file_of visible.now.files (item_of index.now.file_of_line.items line) }
 {
-    match item_of(&store.file_of_line, line.number() as usize) {
+    match item_of(&index.file_of_line, line.number() as usize) {
         Some(file) => part_of(visible.files.as_slice(), *file),
         None => None,
     }

@@ -2,7 +2,7 @@ use Rattle.std.proofs.Common.{◌≡◌, length, map}
 use Rattle.cov_engine.specs.Staging.{contents, AreNear}
 use Rattle.cov_edit.specs.Touched.{AreRising}
 use Rattle.cov_engine.specs.Parts.{part_node}
-use Rattle.cov_engine.proofs.file_parts.FileParts.settle.Given as goal
+use Rattle.cov_engine.proofs.file_parts.FileParts.expect_nothing.Given as goal
 
 abbrev pub invariant-loop-ahead : goal.invariant-loop-ahead
 invariant-loop-ahead l = record {

@@ -5,7 +5,7 @@ use Rattle.cov_view.specs.Soundness.{AreOld, old_row}
 use Rattle.cov_engine.specs.Showing.{with_node, AreFresh}
 use Rattle.cov_engine.proofs.Fresh.{once-fresh}
 use Rattle.cov_engine.proofs.Holdings.{bare-rows, no_files, rows-old, rows-told}
-use Rattle.cov_engine.proofs.store.view_of_rows.Goals as goal
+use Rattle.cov_engine.proofs.history_index.view_of_rows.Goals as goal
 
 pub add_nodes-requires : goal.add_nodes-requires
 add_nodes-requires c = record {
