@@ -45,6 +45,7 @@ impl Model for Changes {
       inserts = vec_capacity c.newest - vec_len c.newest;
       room = min (vec_capacity c.earlier - vec_len c.earlier) (2 ^ 32 - 1 - vec_len c.earlier);
       is_open = c.is_open;
+      nodes = nodes_of c.newest.items c.earlier.items;
     } };
 
     ghost invariant = { λ c. AreChanges c.from c.newest.items c.earlier.items };

@@ -51,6 +51,7 @@ impl Model for FileLines {
         position = position_of f.changes;
       };
       coming = record { inserts = f.coming.inserts; deletes = f.coming.deletes.items };
+      nodes = f.changes.nodes;
     } };
 
     ghost invariant = { λ f. AreKept f.order.lines f.texts.entries f.changes
