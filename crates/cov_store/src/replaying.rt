@@ -94,7 +94,8 @@ fn read(alloc: Global, engine: Engine, reader: Reader, payload: Text) -> Result<
 // Accepts a command, or tells its refusal.
 fn accept(mut engine: Engine, reader: Reader, command: Command) -> Result<Step, StoreFault>
     requires most { length engine.history ≤ 2 ^ 20 }
-    ensures reads { (payload : List ℕ) → IsRecordOf payload command → Reads engine.history payload reader result }
+    ensures reads { (payload : List ℕ) → IsRecordOf payload command →
+        Reads engine.history payload reader result }
     ensures reason { (before now : ℕ) → IfErr result (HasReason before now) }
 {
     match engine.append(command) {
