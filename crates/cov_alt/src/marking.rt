@@ -25,7 +25,8 @@ pub(crate) fn mark_all(
     on: &Side,
     off: &Side,
 ) -> Result<AltLines, Memory>
-    ensures { IfOk result (λ lines. lines ≡ fold (with_marked engine.now.history on.now off.now) [] rows.now) }
+    ensures { IfOk result (λ lines. lines ≡
+        fold (with_marked engine.now.history on.now off.now) [] rows.now) }
 {
     let mut lines = AltLines::new(alloc);
     let mut ahead = rows;
@@ -44,7 +45,8 @@ fn add_marked(
     on: &Side,
     off: &Side,
 ) -> Result<(), Memory>
-    ensures { OnOk result (lines.new ≡ with_marked engine.now.history on.now off.now lines.old row.now) }
+    ensures { OnOk result (lines.new ≡ with_marked engine.now.history on.now off.now lines.old
+        row.now) }
 {
     match mark_of(engine, row.line, on, off) {
         Some(mark) => add(lines, row, mark),
@@ -65,7 +67,8 @@ fn add(lines: &mut AltLines, row: &FileRow, mark: Mark) -> Result<(), Memory>
 
 // The mark of a line, None where it is on neither side.
 fn mark_of(engine: &Engine, line: LineNo, on: &Side, off: &Side) -> Option<Mark>
-    ensures { result ≡ mark_if (is_on engine.now.history on.now line) (is_on engine.now.history off.now line) }
+    ensures { result ≡ mark_if (is_on engine.now.history on.now line)
+        (is_on engine.now.history off.now line) }
 {
     match engine.vis(line) {
         Some(node) => mark_if(

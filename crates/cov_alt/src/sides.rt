@@ -26,8 +26,10 @@ pub fn alt(
     requires count { length choice ≡ option_count engine.now.history }
     requires valid { first_false_in engine.now.history choice ≡ None }
     requires option { option < length choice }
-    ensures lines { IfOk result (λ lines. sides_at engine.now.history choice option path.now ≡ Ok lines) }
-    ensures refused { IfErr result (IsAltFaultOf (sides_at engine.now.history choice option path.now)) }
+    ensures lines { IfOk result (λ lines.
+        sides_at engine.now.history choice option path.now ≡ Ok lines) }
+    ensures refused { IfErr result (IsAltFaultOf
+        (sides_at engine.now.history choice option path.now)) }
 {
     let on = match side(engine, choice, option, true) {
         Ok(on) => on,

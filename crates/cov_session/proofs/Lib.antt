@@ -5,6 +5,7 @@ pub mod Changing
 pub mod Counting
 pub mod Deleting
 pub mod DeletesWithin
+mod Examples
 pub mod Faulting
 pub mod Heads
 pub mod Keeping

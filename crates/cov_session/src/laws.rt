@@ -9,7 +9,7 @@ pub fn open_sessions_stay()
     cov_history::laws::good_sessions_stay();
 }
 
-/// A commit that is accepted shows of its files what its session saw.
+/// A commit that is accepted shows, of each file that it touches, what its session saw.
 pub fn commit_shows_files()
     ensures { CommitShowsFiles }
 {

@@ -63,7 +63,16 @@ impl Model for OpenSession {
 
     ghost coded = { Prim.hlevel (codes, formula_code coded_ℕ, edit_row.the_row.coded, view_row.the_row.coded) };
 
-    ghost view = { λ s. record { name = s.name; session = record { base = s.base; choice = s.choice; ambition = s.ambition; edits = s.edits }; view = s.view } };
+    ghost view = { λ s. record {
+      name = s.name;
+      session = record {
+        base = s.base;
+        choice = s.choice;
+        ambition = s.ambition;
+        edits = s.edits;
+      };
+      view = s.view;
+    } };
 
     ghost invariant = { λ s. IsCounted s.view s.edits s.bytes };
 }
@@ -79,14 +88,17 @@ impl OpenSession {
         partial: &Partial,
         ambition: Expr,
     ) -> Result<OpenSession, SessionFault>
-        requires options { list_all (λ b. nat_lt b.0 (option_count engine.old.history)) partial.now ≡ true }
+        requires options { list_all (λ b. nat_lt b.0 (option_count engine.old.history))
+            partial.now ≡ true }
         requires ambition { reach ambition ≤ option_count engine.old.history }
         ensures history { engine.new.history ≡ engine.old.history }
         ensures extends { Extends engine.old.table engine.new.table }
         ensures name { IfOk result (λ s. s.name ≡ name) }
-        ensures opened { IfOk result (λ s. opened engine.old.history partial.now ambition ≡ Ok s.session) }
+        ensures opened { IfOk result (λ s.
+            opened engine.old.history partial.now ambition ≡ Ok s.session) }
         ensures open { IfOk result (IsOpen engine.old.history) }
-        ensures refused { IfErr result (λ fault. IsOpeningFault fault (opened engine.old.history partial.now ambition)) }
+        ensures refused { IfErr result (λ fault.
+            IsOpeningFault fault (opened engine.old.history partial.now ambition)) }
         ensures declared { IfErr result (NamesDeclared (option_count engine.old.history)) }
     {
         open_options_are_declared();
@@ -110,7 +122,8 @@ impl OpenSession {
         requires valid { first_false_in engine.now.history choice ≡ None }
         requires inside { value ambition choice ≡ true }
         ensures name { IfOk result (λ s. s.name ≡ name) }
-        ensures begun { IfOk result (λ s. s.session ≡ new_session engine.now.history ambition choice) }
+        ensures begun { IfOk result (λ s.
+            s.session ≡ new_session engine.now.history ambition choice) }
         ensures open { IfOk result (IsOpen engine.now.history) }
     {
         let view = view_now(alloc, engine, choice)?;
@@ -171,11 +184,15 @@ impl OpenSession {
     /// It takes the time of `View::apply`, and copies no more than the edit's text or name.
     pub fn edit(&mut self, edit: Edit) -> Result<(), SessionFault>
         requires text { has_line_text edit ≡ true }
-        ensures accepted { OnOk result ((history : List AnyCommand) → IsOpen history self.old → addition_fault history self.old.session (edit ∷ []) ≡ None) }
-        ensures open { OnOk result ((history : List AnyCommand) → IsOpen history self.old → IsOpen history self.new) }
+        ensures accepted { OnOk result ((history : List AnyCommand) → IsOpen history self.old →
+            addition_fault history self.old.session (edit ∷ []) ≡ None) }
+        ensures open { OnOk result ((history : List AnyCommand) → IsOpen history self.old →
+            IsOpen history self.new) }
         ensures grown { OnOk result (self.new.session ≡ with_edits self.old.session (edit ∷ [])) }
         ensures name { self.new.name ≡ self.old.name }
-        ensures refused { IfErr result (λ fault. (history : List AnyCommand) → IsOpen history self.old → IsAdditionFault fault (addition_fault history self.old.session (edit ∷ []))) }
+        ensures refused { IfErr result (λ fault. (history : List AnyCommand) →
+            IsOpen history self.old →
+            IsAdditionFault fault (addition_fault history self.old.session (edit ∷ []))) }
         ensures same { OnErr result (self.new ≡ self.old) }
     {
         let bytes = self.room_for(1, bytes_of(&edit))?;
@@ -189,7 +206,9 @@ impl OpenSession {
         ensures bytes { IfOk result (λ all. all ≡ text_bytes self.now.session.edits + bytes) }
         ensures light { IfOk result (λ all. all ≤ LIMITS.commit_bytes) }
         ensures room { OnOk result (length self.now.session.edits + edits ≤ LIMITS.edits) }
-        ensures refused { IfErr result (λ fault. (history : List AnyCommand) (es : List AnyEdit) → length es ≡ edits → text_bytes es ≡ bytes → IsAdditionFault fault (addition_fault history self.now.session es)) }
+        ensures refused { IfErr result (λ fault. (history : List AnyCommand) (es : List AnyEdit) →
+            length es ≡ edits → text_bytes es ≡ bytes →
+            IsAdditionFault fault (addition_fault history self.now.session es)) }
     {
         if self.edits.len() + edits > LIMITS.edits {
             return Err(SessionFault::TooManyEdits);
@@ -207,11 +226,15 @@ impl OpenSession {
         requires room { length self.old.session.edits < LIMITS.edits }
         requires light { bytes ≤ LIMITS.commit_bytes }
         requires bytes { bytes ≡ text_bytes self.old.session.edits + edit_bytes edit }
-        ensures accepted { OnOk result ((history : List AnyCommand) → IsOpen history self.old → addition_fault history self.old.session (edit ∷ []) ≡ None) }
-        ensures open { OnOk result ((history : List AnyCommand) → IsOpen history self.old → IsOpen history self.new) }
+        ensures accepted { OnOk result ((history : List AnyCommand) → IsOpen history self.old →
+            addition_fault history self.old.session (edit ∷ []) ≡ None) }
+        ensures open { OnOk result ((history : List AnyCommand) → IsOpen history self.old →
+            IsOpen history self.new) }
         ensures grown { OnOk result (self.new.session ≡ with_edits self.old.session (edit ∷ [])) }
         ensures name { self.new.name ≡ self.old.name }
-        ensures refused { IfErr result (λ fault. (history : List AnyCommand) → IsOpen history self.old → IsAdditionFault fault (addition_fault history self.old.session (edit ∷ []))) }
+        ensures refused { IfErr result (λ fault. (history : List AnyCommand) →
+            IsOpen history self.old →
+            IsAdditionFault fault (addition_fault history self.old.session (edit ∷ []))) }
         ensures same { OnErr result (self.new ≡ self.old) }
     {
         holding_stands();
@@ -236,11 +259,20 @@ impl OpenSession {
     /// is. The head isn't a line.
     pub fn replace(&mut self, file: NodeRef, line: LineRef, text: Text) -> Result<(), SessionFault>
         requires text { is_line_text text ≡ true }
-        ensures accepted { OnOk result ((history : List AnyCommand) → IsOpen history self.old → addition_fault history self.old.session (edits.Insert file line text ∷ edits.Delete file line ∷ []) ≡ None) }
-        ensures open { OnOk result ((history : List AnyCommand) → IsOpen history self.old → IsOpen history self.new) }
-        ensures grown { OnOk result (self.new.session ≡ with_edits self.old.session (edits.Insert file line text ∷ edits.Delete file line ∷ [])) }
+        ensures accepted { OnOk result ((history : List AnyCommand) → IsOpen history self.old →
+            addition_fault history self.old.session
+            (edits.Insert file line text ∷ edits.Delete file line ∷ []) ≡ None) }
+        ensures open { OnOk result ((history : List AnyCommand) → IsOpen history self.old →
+            IsOpen history self.new) }
+        ensures grown { OnOk result (self.new.session ≡
+            with_edits self.old.session
+            (edits.Insert file line text ∷ edits.Delete file line ∷ [])) }
         ensures name { self.new.name ≡ self.old.name }
-        ensures refused { IfErr result (λ fault. (history : List AnyCommand) → IsOpen history self.old → IsAdditionFault fault (addition_fault history self.old.session (edits.Insert file line text ∷ edits.Delete file line ∷ []))) }
+        ensures refused { IfErr result (λ fault. (history : List AnyCommand) →
+            IsOpen history self.old →
+            IsAdditionFault fault
+            (addition_fault history self.old.session
+            (edits.Insert file line text ∷ edits.Delete file line ∷ []))) }
         ensures same { OnErr result (self.new ≡ self.old) }
     {
         holding_stands();
@@ -265,11 +297,20 @@ impl OpenSession {
         requires room { length self.old.session.edits + 2 ≤ LIMITS.edits }
         requires light { bytes ≤ LIMITS.commit_bytes }
         requires bytes { bytes ≡ text_bytes self.old.session.edits + length text }
-        ensures accepted { OnOk result ((history : List AnyCommand) → IsOpen history self.old → addition_fault history self.old.session (edits.Insert file.now line.now text ∷ edits.Delete file.now line.now ∷ []) ≡ None) }
-        ensures open { OnOk result ((history : List AnyCommand) → IsOpen history self.old → IsOpen history self.new) }
-        ensures grown { OnOk result (self.new.session ≡ with_edits self.old.session (edits.Insert file.now line.now text ∷ edits.Delete file.now line.now ∷ [])) }
+        ensures accepted { OnOk result ((history : List AnyCommand) → IsOpen history self.old →
+            addition_fault history self.old.session
+            (edits.Insert file.now line.now text ∷ edits.Delete file.now line.now ∷ []) ≡ None) }
+        ensures open { OnOk result ((history : List AnyCommand) → IsOpen history self.old →
+            IsOpen history self.new) }
+        ensures grown { OnOk result (self.new.session ≡
+            with_edits self.old.session
+            (edits.Insert file.now line.now text ∷ edits.Delete file.now line.now ∷ [])) }
         ensures name { self.new.name ≡ self.old.name }
-        ensures refused { IfErr result (λ fault. (history : List AnyCommand) → IsOpen history self.old → IsAdditionFault fault (addition_fault history self.old.session (edits.Insert file.now line.now text ∷ edits.Delete file.now line.now ∷ []))) }
+        ensures refused { IfErr result (λ fault. (history : List AnyCommand) →
+            IsOpen history self.old →
+            IsAdditionFault fault
+            (addition_fault history self.old.session
+            (edits.Insert file.now line.now text ∷ edits.Delete file.now line.now ∷ []))) }
         ensures same { OnErr result (self.new ≡ self.old) }
     {
         holding_stands();
@@ -321,7 +362,8 @@ fn bytes_of(edit: &Edit) -> usize
 
 // Why the head of a file can't be deleted.
 fn head_fault(view: &View, file: NodeRef) -> EditFault
-    ensures { (ns : Numbers) (table : List (List ℕ)) (v : Variant) → Shows ns table view.now v → refusal ns v (edits.Delete file (Old 0)) ≡ Some result }
+    ensures { (ns : Numbers) (table : List (List ℕ)) (v : Variant) → Shows ns table view.now v →
+        refusal ns v (edits.Delete file (Old 0)) ≡ Some result }
 {
     match view.kind(file) {
         None => EditFault::NoSuchNode,
@@ -333,7 +375,8 @@ fn head_fault(view: &View, file: NodeRef) -> EditFault
 // Appends an insertion after a line and the deletion of that line, both or neither.
 fn push_both(list: &mut Edits, file: &NodeRef, line: &LineRef, text: Text) -> Result<(), Memory>
     requires { is_line_text text ≡ true }
-    ensures ok { OnOk result (list.new ≡ list.old ++ edits.Insert file.now line.now text ∷ edits.Delete file.now line.now ∷ []) }
+    ensures ok { OnOk result (list.new ≡
+        list.old ++ edits.Insert file.now line.now text ∷ edits.Delete file.now line.now ∷ []) }
     ensures err { OnErr result (list.new ≡ list.old) }
 {
     list.push(Edit::Insert {
@@ -355,7 +398,8 @@ fn push_both(list: &mut Edits, file: &NodeRef, line: &LineRef, text: Text) -> Re
 
 // Takes the last two edits away.
 fn pop_both(list: &mut Edits)
-    ensures { (first : List AnyEdit) (insert delete : AnyEdit) → list.old ≡ first ++ insert ∷ delete ∷ [] → list.new ≡ first }
+    ensures { (first : List AnyEdit) (insert delete : AnyEdit) →
+        list.old ≡ first ++ insert ∷ delete ∷ [] → list.new ≡ first }
 {
     list.pop();
     list.pop();
@@ -366,9 +410,12 @@ fn delete_line(view: &mut View, file: &NodeRef, line: &LineRef)
     requires nodes { view.old.nodes_made < 2 ^ 32 - 1 }
     requires lines { view.old.lines_made < 2 ^ 32 - 1 }
     requires there { seen_fault view.old.rows (edits.Delete file.now line.now) ≡ None }
-    ensures accepted { (ns : Numbers) (table : List (List ℕ)) (v : Variant) → Shows ns table view.old v → refusal ns v (edits.Delete file.now line.now) ≡ None }
-    ensures applied { (ns : Numbers) (table : List (List ℕ)) (v : Variant) → IsTable table → Shows ns table view.old v →
-        Shows ns (table_after ns table (edits.Delete file.now line.now)) view.new (fold edited v (next_by_number ns table view.old (edits.Delete file.now line.now))) }
+    ensures accepted { (ns : Numbers) (table : List (List ℕ)) (v : Variant) →
+        Shows ns table view.old v → refusal ns v (edits.Delete file.now line.now) ≡ None }
+    ensures applied { (ns : Numbers) (table : List (List ℕ)) (v : Variant) → IsTable table →
+        Shows ns table view.old v →
+        Shows ns (table_after ns table (edits.Delete file.now line.now)) view.new
+        (fold edited v (next_by_number ns table view.old (edits.Delete file.now line.now))) }
     ensures nodes { view.new.nodes_made ≡ view.old.nodes_made }
     ensures lines { view.new.lines_made ≡ view.old.lines_made }
 {

@@ -80,13 +80,19 @@ impl Sessions {
         partial: &Partial,
         ambition: Expr,
     ) -> Result<Opened, SessionFault>
-        requires options { list_all (λ b. nat_lt b.0 (option_count engine.old.history)) partial.now ≡ true }
+        requires options { list_all (λ b. nat_lt b.0 (option_count engine.old.history))
+            partial.now ≡ true }
         requires ambition { reach ambition ≤ option_count engine.old.history }
         ensures history { engine.new.history ≡ engine.old.history }
         ensures extends { Extends engine.old.table engine.new.table }
-        ensures opened { IfOk result (λ opened. Makes (opened_among engine.old.history (map as_named self.old) name partial.now ambition) (λ s. map as_named self.old ++ record { name = name; session = s } ∷ []) opened (map as_named self.new)) }
+        ensures opened { IfOk result (λ opened.
+            Makes
+            (opened_among engine.old.history (map as_named self.old) name partial.now ambition)
+            (λ s. map as_named self.old ++ record { name = name; session = s } ∷ []) opened
+            (map as_named self.new)) }
         ensures open { AreOpen engine.old.history self.old → AreOpen engine.old.history self.new }
-        ensures refused { IfErr result (IsSessionFaultOf (opened_among engine.old.history (map as_named self.old) name partial.now ambition)) }
+        ensures refused { IfErr result (IsSessionFaultOf
+            (opened_among engine.old.history (map as_named self.old) name partial.now ambition)) }
         ensures declared { IfErr result (NamesDeclared (option_count engine.old.history)) }
         ensures same { OnErr result (self.new ≡ self.old) }
     {
@@ -112,10 +118,17 @@ impl Sessions {
     /// changes. It takes the time of `View::apply`.
     pub fn edit(&mut self, name: &Name, edit: Edit) -> Result<Option<u32>, SessionFault>
         requires text { has_line_text edit ≡ true }
-        ensures taken { OnOk result ((history : List AnyCommand) → AreOpen history self.old → taken history (map as_named self.old) name.now (edit ∷ []) ≡ Ok (map as_named self.new)) }
-        ensures open { (history : List AnyCommand) → AreOpen history self.old → AreOpen history self.new }
-        ensures number { IfOk result (λ number. option_map (λ s. line_made s.session edit) (named (map as_named self.old) name.now) ≡ Some number) }
-        ensures refused { IfErr result (λ fault. (history : List AnyCommand) → AreOpen history self.old → IsSessionFaultOf (taken history (map as_named self.old) name.now (edit ∷ [])) fault) }
+        ensures taken { OnOk result ((history : List AnyCommand) → AreOpen history self.old →
+            taken history (map as_named self.old) name.now (edit ∷ []) ≡
+            Ok (map as_named self.new)) }
+        ensures open { (history : List AnyCommand) → AreOpen history self.old →
+            AreOpen history self.new }
+        ensures number { IfOk result (λ number.
+            option_map (λ s. line_made s.session edit) (named (map as_named self.old) name.now) ≡
+            Some number) }
+        ensures refused { IfErr result (λ fault. (history : List AnyCommand) →
+            AreOpen history self.old →
+            IsSessionFaultOf (taken history (map as_named self.old) name.now (edit ∷ [])) fault) }
         ensures same { OnErr result (self.new ≡ self.old) }
     {
         let Some(key) = key_of(&self.keys, name) else {
@@ -140,10 +153,20 @@ impl Sessions {
         text: Text,
     ) -> Result<u32, SessionFault>
         requires text { is_line_text text ≡ true }
-        ensures taken { OnOk result ((history : List AnyCommand) → AreOpen history self.old → taken history (map as_named self.old) name.now (edits.Insert file line text ∷ edits.Delete file line ∷ []) ≡ Ok (map as_named self.new)) }
-        ensures open { (history : List AnyCommand) → AreOpen history self.old → AreOpen history self.new }
-        ensures number { IfOk result (λ number. option_map (λ s. own_lines s.session) (named (map as_named self.old) name.now) ≡ Some number) }
-        ensures refused { IfErr result (λ fault. (history : List AnyCommand) → AreOpen history self.old → IsSessionFaultOf (taken history (map as_named self.old) name.now (edits.Insert file line text ∷ edits.Delete file line ∷ [])) fault) }
+        ensures taken { OnOk result ((history : List AnyCommand) → AreOpen history self.old →
+            taken history (map as_named self.old) name.now
+            (edits.Insert file line text ∷ edits.Delete file line ∷ []) ≡
+            Ok (map as_named self.new)) }
+        ensures open { (history : List AnyCommand) → AreOpen history self.old →
+            AreOpen history self.new }
+        ensures number { IfOk result (λ number.
+            option_map (λ s. own_lines s.session) (named (map as_named self.old) name.now) ≡
+            Some number) }
+        ensures refused { IfErr result (λ fault. (history : List AnyCommand) →
+            AreOpen history self.old →
+            IsSessionFaultOf
+            (taken history (map as_named self.old) name.now
+            (edits.Insert file line text ∷ edits.Delete file line ∷ [])) fault) }
         ensures same { OnErr result (self.new ≡ self.old) }
     {
         let Some(key) = key_of(&self.keys, name) else {
@@ -159,7 +182,8 @@ impl Sessions {
 
     /// What the session of a name sees, `NoSession` exactly where no open one has it. It takes no memory.
     pub fn view(&self, name: &Name) -> Result<&View, NoSession>
-        ensures view { IfOk result (λ view. (s : SessionValue) × IsOfName self.now name.now s × (s.view ≡ view.now)) }
+        ensures view { IfOk result (λ view.
+            (s : SessionValue) × IsOfName self.now name.now s × (s.view ≡ view.now)) }
         ensures none { OnErr result (named (map as_named self.now) name.now ≡ None) }
     {
         match self.session(name) {
@@ -175,9 +199,14 @@ impl Sessions {
         requires open { AreOpen engine.old.history self.old }
         ensures history { engine.new.history ≡ engine.old.history }
         ensures extends { Extends engine.old.table engine.new.table }
-        ensures refreshed { IfOk result (λ opened. Makes (refreshed_among engine.old.history (map as_named self.old) name.now) (λ s. with_session (map as_named self.old) (record { name = name.now; session = s })) opened (map as_named self.new)) }
+        ensures refreshed { IfOk result (λ opened.
+            Makes
+            (refreshed_among engine.old.history (map as_named self.old) name.now)
+            (λ s. with_session (map as_named self.old) (record { name = name.now; session = s }))
+            opened (map as_named self.new)) }
         ensures open { AreOpen engine.old.history self.new }
-        ensures refused { IfErr result (IsSessionFaultOf (refreshed_among engine.old.history (map as_named self.old) name.now)) }
+        ensures refused { IfErr result (IsSessionFaultOf
+            (refreshed_among engine.old.history (map as_named self.old) name.now)) }
         ensures declared { IfErr result (NamesDeclared (option_count engine.old.history)) }
         ensures same { OnErr result (self.new ≡ self.old) }
     {
@@ -194,8 +223,11 @@ impl Sessions {
 
     /// The commit of the session of a name, in memory of its own; `NoSession` exactly where no open one has the name.
     pub fn command(&self, name: &Name) -> Result<Command, MemoryOr<NoSession>>
-        ensures command { IfOk result (λ command. option_map (λ s. commit_of s.session) (named (map as_named self.now) name.now) ≡ Some command) }
-        ensures none { IsErrOf result (failing.Refused (record {})) → named (map as_named self.now) name.now ≡ None }
+        ensures command { IfOk result (λ command.
+            option_map (λ s. commit_of s.session) (named (map as_named self.now) name.now) ≡
+            Some command) }
+        ensures none { IsErrOf result (failing.Refused (record {})) →
+            named (map as_named self.now) name.now ≡ None }
     {
         match self.session(name) {
             Some(session) => Ok(session.command(*self.keys.allocator())?),
@@ -205,8 +237,10 @@ impl Sessions {
 
     /// Ends the session of a name, `NoSession` exactly where no open one has it. It takes no memory, and time in how many are open.
     pub fn discard(&mut self, name: &Name) -> Result<(), NoSession>
-        ensures without { OnOk result (map as_named self.new ≡ without (map as_named self.old) name.now) }
-        ensures open { (history : List AnyCommand) → AreOpen history self.old → AreOpen history self.new }
+        ensures without { OnOk result (map as_named self.new ≡
+            without (map as_named self.old) name.now) }
+        ensures open { (history : List AnyCommand) → AreOpen history self.old →
+            AreOpen history self.new }
         ensures there { OnOk result (is_some (named (map as_named self.old) name.now) ≡ true) }
         ensures none { OnErr result (named (map as_named self.old) name.now ≡ None) }
         ensures same { OnErr result (self.new ≡ self.old) }

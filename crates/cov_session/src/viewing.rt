@@ -13,7 +13,9 @@ use std::alloc::Global;
 /// The variant of a choice now; nothing in it is new. It takes time in the rows and lines that the engine keeps.
 pub(crate) fn view_now(alloc: Global, engine: &Engine, choice: Choice) -> Result<View, Memory>
     requires count { length choice ≡ option_count engine.now.history }
-    ensures shows { IfOk result (λ view. Shows (numbers_of engine.now.history) (numbers_of engine.now.history).addresses view (replay choice engine.now.history)) }
+    ensures shows { IfOk result (λ view.
+        Shows (numbers_of engine.now.history) (numbers_of engine.now.history).addresses view
+        (replay choice engine.now.history)) }
     ensures nodes { IfOk result (λ view. view.nodes_made ≡ 0) }
     ensures lines { IfOk result (λ view. view.lines_made ≡ 0) }
 {

@@ -55,10 +55,12 @@ pub fn append<D: Disk>(
         (λ image. IsStored image (engine.old.history ++ command ∷ []))) }
     ensures gate { OnOk result
         (HasGate (D.contents disk.new) (gate_of (engine.old.history ++ command ∷ []))) }
-    ensures stored { ((image : List ℕ) → D.images disk.old image → IsStored image engine.old.history) →
+    ensures stored { ((image : List ℕ) → D.images disk.old image →
+        IsStored image engine.old.history) →
         OnOk result ((image : List ℕ) → D.images disk.new image →
         IsStored image (engine.old.history ++ command ∷ [])) }
-    ensures any_moment { ((image : List ℕ) → D.images disk.old image → IsStored image engine.old.history) →
+    ensures any_moment { ((image : List ℕ) → D.images disk.old image →
+        IsStored image engine.old.history) →
         LeavesOnly D.moment D.images_since disk.old disk.new
         (λ image. IsStored image engine.old.history
         ⊎ IsStored image (engine.old.history ++ command ∷ [])) }

@@ -61,24 +61,37 @@ impl Store {
     /// Opens a disk as a store: syncs, makes a disk of at most 13 bytes anew, and accepts the commands of the records one after
     /// another. A disk that is refused is left as it was. It takes time in the records and in what their commands take.
     pub fn open<D: Disk>(alloc: Global, disk: &mut D) -> Result<Store, StoreFault>
-        ensures stands { (history : List Command) → IfSome (D.contents disk.old) (λ image. StandsFor image history →
+        ensures stands { (history : List Command) →
+            IfSome (D.contents disk.old) (λ image. StandsFor image history →
             GivesHistory history (D.faults disk.old) (D.faults disk.new) result) }
-        ensures damage { (number : ℕ) (cause : StoreDamage) → IfSome (D.contents disk.old) (λ image. (damage : HasDamage image number cause) →
-            TellsDamage damage.history number cause (D.faults disk.old) (D.faults disk.new) result) }
+        ensures damage { (number : ℕ) (cause : StoreDamage) →
+            IfSome (D.contents disk.old) (λ image. (damage : HasDamage image number cause) →
+            TellsDamage damage.history number cause (D.faults disk.old) (D.faults disk.new)
+            result) }
         ensures no_store { IfSome (D.contents disk.old) (λ image. IsNoStore image →
             TellsNoStore (D.faults disk.old) (D.faults disk.new) result) }
-        ensures opened { IfOk result (λ store. IfSome (D.contents disk.old) (λ image. StandsFor image store.history)) }
-        ensures faulty { IfErr result (λ fault. IfSome (D.contents disk.old) (λ image. IsImageFaultOf image fault)) }
+        ensures opened { IfOk result (λ store.
+            IfSome (D.contents disk.old) (λ image. StandsFor image store.history)) }
+        ensures faulty { IfErr result (λ fault.
+            IfSome (D.contents disk.old) (λ image. IsImageFaultOf image fault)) }
         ensures cause { IfErr result (HasReason (D.faults disk.old) (D.faults disk.new)) }
         ensures verdict { IfErr result IsOfVerdict }
-        ensures written { IfOk result (λ store. IfSome (D.contents disk.new) (λ image. IsStored image store.history)) }
-        ensures gate { IfOk result (λ store. HasGate (D.contents disk.new) (gate_of store.history)) }
-        ensures kept { IfErr result (λ fault. IfSome (D.contents disk.old) (λ image. OnImageRefused fault (D.contents disk.new ≡ D.contents disk.old))) }
-        ensures stays { (history : List Command) → IfSome (D.contents disk.old) (λ image. StandsFor image history →
+        ensures written { IfOk result (λ store.
+            IfSome (D.contents disk.new) (λ image. IsStored image store.history)) }
+        ensures gate { IfOk result (λ store.
+            HasGate (D.contents disk.new) (gate_of store.history)) }
+        ensures kept { IfErr result (λ fault.
+            IfSome (D.contents disk.old)
+            (λ image. OnImageRefused fault (D.contents disk.new ≡ D.contents disk.old))) }
+        ensures stays { (history : List Command) →
+            IfSome (D.contents disk.old) (λ image. StandsFor image history →
             IfSome (D.contents disk.new) (λ now. StandsFor now history)) }
-        ensures stored { IfOk result (λ store. (image : List ℕ) → D.images disk.new image → IsStored image store.history) }
-        ensures any_moment { (history : List Command) → ((image : List ℕ) → D.images disk.old image → StandsFor image history) →
-            LeavesOnly D.moment D.images_since disk.old disk.new (λ image. StandsFor image history) }
+        ensures stored { IfOk result (λ store. (image : List ℕ) → D.images disk.new image →
+            IsStored image store.history) }
+        ensures any_moment { (history : List Command) →
+            ((image : List ℕ) → D.images disk.old image → StandsFor image history) →
+            LeavesOnly D.moment D.images_since disk.old disk.new
+            (λ image. StandsFor image history) }
         ensures later { D.faults disk.old ≤ D.faults disk.new }
     {
         match Reader::open(alloc, disk) {
@@ -106,14 +119,21 @@ impl Store {
         ensures refused { IfErr result (IsRefusedBy (verdict self.history command)) }
         ensures back { IfErr result (HandsBack self) }
         ensures same { IfErr result (λ fault. OnCommandRefused fault (disk.new ≡ disk.old)) }
-        ensures failed { IfErr result (λ fault. OnDiskFault fault (Rose (D.faults disk.old) (D.faults disk.new))) }
+        ensures failed { IfErr result (λ fault.
+            OnDiskFault fault (Rose (D.faults disk.old) (D.faults disk.new))) }
         ensures written { IfSome (D.contents disk.old) (λ image. IsStored image self.history) →
-            OnOk result (IfSome (D.contents disk.new) (λ image. IsStored image (self.history ++ command ∷ []))) }
-        ensures gate { IfOk result (λ done. HasGate (D.contents disk.new) (gate_of done.0.history)) }
-        ensures stored { ((image : List ℕ) → D.images disk.old image → IsStored image self.history) →
-            OnOk result ((image : List ℕ) → D.images disk.new image → IsStored image (self.history ++ command ∷ [])) }
-        ensures any_moment { ((image : List ℕ) → D.images disk.old image → IsStored image self.history) →
-            LeavesOnly D.moment D.images_since disk.old disk.new (λ image. IsStored image self.history ⊎ IsStored image (self.history ++ command ∷ [])) }
+            OnOk result (IfSome (D.contents disk.new)
+            (λ image. IsStored image (self.history ++ command ∷ []))) }
+        ensures gate { IfOk result (λ done.
+            HasGate (D.contents disk.new) (gate_of done.0.history)) }
+        ensures stored { ((image : List ℕ) → D.images disk.old image →
+            IsStored image self.history) →
+            OnOk result ((image : List ℕ) → D.images disk.new image →
+            IsStored image (self.history ++ command ∷ [])) }
+        ensures any_moment { ((image : List ℕ) → D.images disk.old image →
+            IsStored image self.history) →
+            LeavesOnly D.moment D.images_since disk.old disk.new (λ image.
+            IsStored image self.history ⊎ IsStored image (self.history ++ command ∷ [])) }
         ensures later { D.faults disk.old ≤ D.faults disk.new }
     {
         let Store {
