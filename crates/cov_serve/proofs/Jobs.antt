@@ -2,7 +2,6 @@
 use Rattle.std.proofs.Common.{◌≡◌, ◌∙◌, ◌⊎◌, inl, inr, refl, sym, ap, subst, ℕ, ◌+◌, ◌<◌, ◌≤◌, arith, Bool, true, false, List, [], ◌++◌, length, Option, Some, None, IfSome}
 use Rattle.std.proofs.lemmas.Bool.{false≢true}
 use Rattle.cov_base.specs.Causes.{Rose}
-use Rattle.cov_base.specs.Lines.{lines_of}
 use Rattle.cov_base.specs.declared.limits.TheConstants.{TOO_MANY_SCRIPT_BYTES}
 use Rattle.cov_edit.specs.declared.command.Command.{Command}
 use Rattle.cov_io.specs.Progress.{CountsGiven}
@@ -10,7 +9,7 @@ use Rattle.cov_loop.specs.Counts.{Counts}
 use Rattle.cov_loop.specs.Turns.{WritesFront, output}
 use Rattle.cov_loop.proofs.CallerLemmas.{fault_turn}
 use Rattle.cov_out.specs.declared.row.OutRow.{OutRow}
-use Rattle.cov_serve.specs.Jobs.{ComesTo, EndsAs, IsCaused, IsSettled, IsShort, JobOutcome, NoneRose, OnEnd, RowsPrecede, StandsForFront, StandsForTold, StartsFrom, TellsUnopened, history_after, outcome, replies, rows_of, served_script, served_status, told_line}
+use Rattle.cov_serve.specs.Jobs.{ComesTo, EndsAs, IsCaused, IsSettled, IsShort, JobOutcome, NoneRose, OnEnd, RowsPrecede, StandsForFront, StandsForTold, StartsFrom, TellsUnopened, history_after, outcome, replies, rows_of, served_script, served_status}
 use Rattle.cov_serve.specs.Laws.{rows_told}
 use Rattle.cov_serve.specs.Program.{EndsServed, OnServed, OnUnopened, PutsLast, ReadsAs, StopsOpening, StopsServing, TellsFault, check_line, usage_line}
 use Rattle.cov_serve.specs.States.{starting}
@@ -23,7 +22,7 @@ use Rattle.cov_serve.specs.declared.status.Status.TheVariants as statuses
 use Rattle.cov_store.specs.Stands.{StandsFor}
 use Rattle.cov_store.specs.declared.damage.StoreFault.{StoreFault}
 use Rattle.cov_serve.proofs.Crashing.{answered_none, between_start}
-use Rattle.cov_serve.proofs.Turns.{front_stands, front_stands_told, replies_as, rows_as, rows_precede, rows_precede_told, told_stands, told_stands_told}
+use Rattle.cov_serve.proofs.Turns.{front_stands, front_stands_told, rows_precede, rows_precede_told, told_stands, told_stands_told}
 use Rattle.cov_serve.proofs.Unopened.{Fails, Tells, fails_stops, none_written, opening_end, put_tells, tells_ends, tells_front, tells_rows, tells_rows_first, tells_unless, tells_whole, unopened_tells}
 
 -- what a job over a store asks of the disk is a history

@@ -1,5 +1,5 @@
 -- How it is told that a store isn't opened, and other lines that end a run.
-use Rattle.std.proofs.Common.{◌≡◌, ◌≢◌, ◌∙◌, ◌⊎◌, inl, inr, refl, sym, ap, subst, ℕ, arith, List, [], ◌++◌, append-nil, length, Option, Some, None, IfSome, Err, true}
+use Rattle.std.proofs.Common.{◌≡◌, ◌≢◌, ◌∙◌, ◌⊎◌, inl, inr, refl, sym, ap, subst, ℕ, List, [], ◌++◌, append-nil, length, Option, Some, None, IfSome, Err}
 use Rattle.cov_base.specs.Causes.{Rose}
 use Rattle.cov_edit.specs.History.{options_of}
 use Rattle.cov_edit.specs.declared.command.Command.{Command}

@@ -1,17 +1,16 @@
-use Rattle.std.proofs.Common.{◌≡◌, ◌≢◌, ◌∙◌, ◌⊎◌, inl, inr, refl, sym, ap, subst, false, List, [], ◌++◌, Some, IfSome}
+use Rattle.std.proofs.Common.{◌≡◌, ◌∙◌, ◌⊎◌, refl, sym, ap, subst, List, [], ◌++◌, Some, IfSome}
 use Rattle.std.proofs.lemmas.Bool.{false≢true}
 use Rattle.cov_disk.specs.Images.{LeavesOnly}
 use Rattle.cov_base.specs.Lines.{lines_of}
 use Rattle.cov_edit.specs.declared.command.Command.{Command}
 use Rattle.cov_journal.proofs.CallerLemmas.{joined, some_to, started}
-use Rattle.cov_loop.specs.Counts.{Counts, counts}
+use Rattle.cov_loop.specs.Counts.{counts}
 use Rattle.cov_loop.specs.Turns.{WritesFront}
 use Rattle.cov_serve.specs.Crashing.{StandsBetween}
-use Rattle.cov_serve.specs.Jobs.{ComesTo, EndsAs, IsCaused, IsSettled, IsShort, JobOutcome, NoneRose, OnEnd, RowsPrecede, StandsForFront, StandsForTold, StartsFrom, history_after, job_of, opens_disk, outcome, reads_source, replies, rows_of, served_script, served_status, writes_trees}
-use Rattle.cov_serve.specs.Program.{OnServed, PutsLast, check_line, usage_line}
+use Rattle.cov_serve.specs.Jobs.{ComesTo, EndsAs, IsCaused, IsSettled, IsShort, JobOutcome, NoneRose, RowsPrecede, StandsForFront, StandsForTold, StartsFrom, history_after, job_of, opens_disk, outcome, reads_source, replies, rows_of, served_script, served_status, writes_trees}
+use Rattle.cov_serve.specs.Program.{PutsLast, check_line, usage_line}
 use Rattle.cov_serve.specs.States.{State, starting}
 use Rattle.cov_serve.specs.Step.{model}
-use Rattle.cov_serve.specs.declared.job.Job.{Job}
 use Rattle.cov_serve.specs.declared.job.Job.TheVariants.{OnStore, Unknown}
 use Rattle.cov_serve.specs.declared.job.StoreJob.TheVariants.{Run, Check}
 use Rattle.cov_serve.specs.declared.status.Status.TheVariants.{Done, Usage, NoMemory}
@@ -20,7 +19,7 @@ use Rattle.cov_serve.proofs.Crashing.{between_start}
 use Rattle.cov_serve.proofs.Jobs.{check_tells, failed_ends, failed_front, failed_rows, failed_rows_first, failed_unless, failed_whole, front_at_start, reads_of, served_caused, served_end, served_kept, served_on, served_unless, serves, stopped_stands, told_at_start, usage_is, usage_tells}
 use Rattle.cov_serve.proofs.Runs.{leaves_weaker, none_more, serving_later}
 use Rattle.cov_serve.proofs.Turns.{front_served, front_stands, front_stands_told, last_is, replies_as, rows_as, rows_precede, rows_served, told_stands, told_stands_told}
-use Rattle.cov_serve.proofs.Unopened.{Fails, can_be_told, fails_stops, fault_caused, fault_kept, line_caused, line_kept, line_unless, none_written, not_unopened, on_unopened, reads_as, reads_gives, tells_ends, tells_front, tells_rows, tells_rows_first, tells_unless, tells_whole}
+use Rattle.cov_serve.proofs.Unopened.{Fails, can_be_told, fails_stops, fault_caused, fault_kept, line_caused, line_kept, line_unless, none_written, not_unopened, reads_as, reads_gives, tells_ends, tells_front, tells_rows, tells_rows_first, tells_unless, tells_whole}
 use Rattle.cov_serve.proofs.program.run.Goals as goal
 
 pub tell_fault-requires : goal.tell_fault-requires

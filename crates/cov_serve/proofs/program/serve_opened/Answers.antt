@@ -1,4 +1,4 @@
-use Rattle.std.proofs.Common.{◌≡◌, ◌++◌, refl, sym, subst, List, [], Some, IfSome}
+use Rattle.std.proofs.Common.{◌≡◌, ◌++◌, refl, sym, subst, [], Some, IfSome}
 use Rattle.cov_base.specs.Lines.{lines_of}
 use Rattle.cov_disk.specs.Images.{LeavesOnly}
 use Rattle.cov_journal.proofs.CallerLemmas.{some_to, started}
