@@ -38,7 +38,7 @@ use Rattle.cov_serve.specs.Finding.{Found, ◌>>=◌, by_code}
 use Rattle.cov_serve.specs.Isolation.{HasSession, SeeAlike, asks_in, has_form, is_own, works_in}
 use Rattle.cov_serve.specs.Replies.{directory_reply, seen_reply}
 use Rattle.cov_serve.specs.States.{State, with_sessions}
-use Rattle.cov_serve.specs.Step.{Act, Done, acted, added, as_outcome, deleted, inserted, listed_at, made, made_in, moved, node_at, plainly, ref_at, removed, renamed, replaced, served, served_edit, served_question, shown, step}
+use Rattle.cov_serve.specs.Step.{Act, Done, acted, added, as_outcome, deleted, inserted, listed_at, made_in, moved, node_at, plainly, ref_at, removed, renamed, replaced, served, served_edit, served_question, shown, step}
 use Rattle.cov_serve.proofs.NamedSessions.{same-name}
 use Rattle.cov_serve.proofs.OwnActs.{IsQuiet, IsQuietFault, added-is, fault-quiet, fault_on, grown, has-grown, node-is, node_on, view_on}
 

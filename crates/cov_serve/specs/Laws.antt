@@ -1,5 +1,5 @@
 -- Laws of the model's step.
-use Rattle.std.specs.Prelude.{◌≡◌, ◌≢◌, ℕ, ◌<◌, Bool, true, false, nat_le, nat_lt, List, [], ◌∷◌, length, Ok, Err, if◌then◌else◌}
+use Rattle.std.specs.Prelude.{◌≡◌, ◌≢◌, ℕ, ◌<◌, true, false, nat_le, nat_lt, List, [], ◌∷◌, length, Ok, Err, if◌then◌else◌}
 use Rattle.cov_base.specs.declared.limits.TheConstants.{MOST_SCRIPT_LINE_BYTES}
 use Rattle.std.proofs.Common.{ap, arith, refl, ◌∙◌}
 use Rattle.std.proofs.lemmas.Bool.{and_parts, false≢true}
@@ -7,7 +7,6 @@ use Rattle.std.proofs.lemmas.Bool.Decides.{nat_tests}
 use Rattle.cov_script.specs.Grouping.{grouped}
 use Rattle.cov_script.specs.Lines.{form_of, spoken}
 use Rattle.cov_script.specs.declared.code.Code.TheVariants.{Long}
-use Rattle.cov_script.specs.declared.grouped.GroupedLine.TheVariants as groups
 use Rattle.cov_script.specs.declared.line.Line.TheVariants as lines
 use Rattle.cov_loop.specs.Answers.{is_silent, is_passed_over}
 use Rattle.cov_loop.specs.Outcome.{Outcome, unchanged}

@@ -3,23 +3,21 @@
 
 mod adding;
 mod answering;
-mod comparing;
 mod declaring;
 mod editing;
-mod ending;
 mod finding;
 mod handled;
 mod job;
 mod last_line;
 pub mod laws;
 mod line;
-mod opening;
 mod presence;
 mod program;
 mod reply;
 mod seeing;
 mod server;
 mod serving;
+mod session_lines;
 mod state;
 mod status;
 mod stop;

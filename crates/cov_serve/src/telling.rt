@@ -1,11 +1,12 @@
-// How a choice and a file are told: a file in the variant of a choice, or as a session sees it.
+// How a choice and a file are told: a file in the variant of a choice, on both sides of an option, or as a session sees it.
 ghost use Rattle.cov_edit.specs.Replay.{replay};
 ghost use Rattle.cov_serve.specs.Acting.{Acts};
-ghost use Rattle.cov_serve.specs.Step.{completed, file_told, listed_at, shown, told};
+ghost use Rattle.cov_serve.specs.Step.{compared, completed, file_told, listed_at, shown, told};
 
 use crate::reply::lines_reply;
 use crate::state::ServerState;
 use crate::stop::Stop;
+use cov_alt::alt;
 use cov_base::{Choice, Name, Path, Text};
 use cov_expr::RawChoice;
 use cov_script::reply_complete;
@@ -36,6 +37,23 @@ impl ServerState {
         let at = self.engine.position();
         let file = self.engine.file_at(choice, at, path.as_slice())?;
         let lines = self.engine.lines_at(file, choice, at)?;
+        Ok(lines_reply(self.alloc, lines.as_slice())?)
+    }
+
+    /// Tells the lines of a file with an option on and with it off, in the variant of the choice to which the rules complete bindings.
+    #[tactic(auto, unfolding(crate::specs::Step::compared))]
+    pub(crate) fn compare(
+        &mut self,
+        choice: &RawChoice,
+        token: Text,
+        path: &Path,
+    ) -> Result<Text, Stop>
+        ensures { Acts (compared self.old choice.now token path.now) self.old self.new result }
+    {
+        let partial = self.find_partial(choice)?;
+        let option = self.find_option(token)?;
+        let choice = self.complete_partial(&partial)?;
+        let lines = alt(self.alloc, &self.engine, choice, option, path)?;
         Ok(lines_reply(self.alloc, lines.as_slice())?)
     }
 

@@ -1,13 +1,14 @@
-// How a session is opened, and refreshed.
+// How a session begins, begins anew and ends: it is opened, refreshed, committed or given up.
 ghost use Rattle.std.specs.Prelude.{◌≡◌};
-ghost use Rattle.cov_serve.specs.Acting.{Acts};
-ghost use Rattle.cov_serve.specs.Step.{opened, refreshed};
+ghost use Rattle.cov_serve.specs.Acting.{Acts, Handles};
+ghost use Rattle.cov_serve.specs.Step.{committed, dropped, opened, plainly, refreshed};
 
+use crate::handled::{Addition, Confirmation, Handled};
 use crate::state::ServerState;
 use crate::stop::Stop;
 use cov_base::{Name, Text};
 use cov_expr::{RawChoice, RawExpr};
-use cov_script::{reply_open, reply_refresh};
+use cov_script::{reply_open, reply_plain, reply_refresh};
 
 impl ServerState {
     /// Opens a session by a name that no open one has.
@@ -37,5 +38,27 @@ impl ServerState {
         let opened = self.sessions.refresh(&mut self.engine, name)?;
         let options = self.engine.options();
         Ok(reply_refresh(self.alloc, opened.base, options, opened.choice)?)
+    }
+
+    /// The commit of a session, which ends with it.
+    #[tactic(auto, unfolding(crate::specs::Step::committed))]
+    pub(crate) fn commit(&self, name: Name) -> Result<Handled, Stop>
+        ensures { Handles (plainly (committed self.now name)) self.now self.now result }
+    {
+        let command = self.sessions.command(&name)?;
+        Ok(Handled::Adds(Addition {
+            command,
+            ends: Some(name),
+            confirmation: Confirmation::Commit,
+        }))
+    }
+
+    /// Gives a session up.
+    #[tactic(auto, unfolding(crate::specs::Step::dropped))]
+    pub(crate) fn discard(&mut self, name: &Name) -> Result<Text, Stop>
+        ensures { Acts (dropped self.old name.now) self.old self.new result }
+    {
+        self.sessions.discard(name)?;
+        Ok(reply_plain(self.alloc)?)
     }
 }
