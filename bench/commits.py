@@ -38,23 +38,24 @@ def instructions(program, files):
     return counts
 
 
-def of_each_line(program):
-    """The instructions of a line `insert`, and of a line `commit` more than those of `drop`: the means over sessions in the small store."""
-    kinds = (lambda file: [session(file, 'drop')[0], 'drop s']), (lambda file: session(file, 'drop')), (lambda file: session(file, 'commit'))
-    empty, dropped, committed = (
-        counted(store(SIZES[0]) + [line for file in range(SIZES[0]) for line in kind(file)], program)[0] for kind in kinds)
-    return (dropped - empty) / SIZES[0], (committed - dropped) / SIZES[0]
+def of_insert(program):
+    """The instructions of the line `insert`, the mean over sessions in the small store that are dropped with it or without."""
+    sessions = [session(file, 'drop') for file in range(SIZES[0])]
+    without = [line for begin, _, end in sessions for line in (begin, end)]
+    within = [line for lines in sessions for line in lines]
+    less, more = (counted(store(SIZES[0]) + lines, program)[0] for lines in (without, within))
+    return (more - less) / SIZES[0]
 
 
 def figures(program):
-    insert, commit = of_each_line(program)
-    told = [no_limit('a line `insert`', insert, 'instructions'), no_limit('a line `commit` above `drop`', commit, 'instructions')]
-    less, more = (instructions(program, files) for files in SIZES)
-    told += [ratio('%s `commit` above `drop`, 10,000 files to 100' % which, many, few, 'instructions', 1.5)
-             for which, many, few in zip(('first', 'next'), more, less)]
-    less, more = (seconds(program, files) for files in SIZES)
-    return told + [ratio('`%s`, 10,000 files to 100' % last, 1e6 * many, 1e6 * few, 'us')
-                   for last, many, few in zip(('commit', 'drop'), more, less)]
+    few, many = (instructions(program, files) for files in SIZES)
+    short, long = (seconds(program, files) for files in SIZES)
+    told = [no_limit('`insert`, 100 files', of_insert(program), 'instructions'),
+            no_limit('`commit` above `drop`, 100 files', few[1], 'instructions')]
+    told += [ratio('%s `commit` above `drop`, 10,000 files to 100' % which, more, less, 'instructions', 1.5)
+             for which, more, less in zip(('first', 'next'), many, few)]
+    return told + [ratio('`%s`, 10,000 files to 100' % last, 1e6 * more, 1e6 * less, 'us')
+                   for last, more, less in zip(('commit', 'drop'), long, short)]
 
 
 if __name__ == '__main__':

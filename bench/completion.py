@@ -1,10 +1,11 @@
 #!/usr/bin/env python3
 """Times `complete -` of `covstore run` over 64 options with a default each, after 256 random clauses as constraints."""
+import statistics
 
 from generated import Random
-from timing import at_most, build, no_limit, served, tell
+from timing import ask, at_most, build, no_limit, started, tell
 
-OPTIONS, CLAUSES, ASKED, REPETITIONS = 64, 256, 100, 5
+OPTIONS, CLAUSES, ASKED = 64, 256, 100
 
 
 def clause(random, window):
@@ -17,19 +18,17 @@ def clause(random, window):
     return ' | '.join('%so%d' % ('' if signs >> i & 1 else '!', base + place) for i, place in enumerate(places))
 
 
-def script(window, asked):
+def rules(window):
     random = Random()
     lines = ['option o%d' % i for i in range(OPTIONS)] + ['default o%d off' % i for i in range(OPTIONS)]
-    lines += ['constraint ' + clause(random, window) for _ in range(CLAUSES)]
-    return lines + ['complete -'] * asked
+    return lines + ['constraint ' + clause(random, window) for _ in range(CLAUSES)]
 
 
 def of_window(program, window):
-    rounds = [(served(script(window, 0), program), served(script(window, ASKED), program)) for _ in range(REPETITIONS)]
-    assert all(asked[1].splitlines()[-1].startswith(b'ok o0=') for _, asked in rounds), 'each choice is completed'
-    without, asked = (min(run[0] for run in runs) for runs in zip(*rounds))
-    return [no_limit('the rules, window %d' % window, without, 's'),
-            at_most('`complete -`, window %d' % window, 1000 * (asked - without) / ASKED, 0.2, 'ms')]
+    with started(program) as child:
+        first = sum(ask(child, line) for line in rules(window))
+        each = statistics.median(ask(child, 'complete -') for _ in range(ASKED))
+    return [no_limit('the rules, window %d' % window, first, 's'), at_most('`complete -`, window %d' % window, 1000 * each, 0.2, 'ms')]
 
 
 def figures(program):

@@ -4,7 +4,7 @@ import statistics
 
 from timing import ask, build, counted, ratio, started, tell
 
-OTHERS, COMMITS, SESSIONS = 100, 5000, 60
+OTHERS, COMMITS, SESSIONS = 10, 5000, 60
 
 
 def store():
@@ -15,10 +15,13 @@ def store():
 
 
 def others():
-    """Commits of other files than those of the sessions."""
+    """Commits of other files than those of the sessions. Each takes out the line that was put into its file before, so that a session
+    doesn't see thousands of lines when it is opened."""
     lines = []
     for i in range(COMMITS):
-        lines += ['open other phone=on for phone', 'insert other /g%d 0 a line' % (i % OTHERS), 'commit other']
+        file, older = '/g%d' % (i % OTHERS), i - OTHERS + 1
+        taken_out = ['delete other %s %d' % (file, older)] if older > 0 else []
+        lines += ['open other phone=on for phone', 'insert other %s 0 a line' % file, *taken_out, 'commit other']
     return lines
 
 
