@@ -18,9 +18,11 @@ pub mod Planned
 pub mod PlannedChange
 pub mod PlannedNodes
 pub mod Plans
+pub mod Numbering
 pub mod Rows
 pub mod Searching
 pub mod ShiftedPlan
 pub mod Shifting
 pub mod Spreading
+pub mod Sweeping
 pub mod Turning

@@ -9,6 +9,7 @@ pub mod Looking
 pub mod Noted
 pub mod Places
 pub mod Planning
+pub mod Renumbered
 pub mod Shifts
 pub mod Spreading
 pub mod Standing

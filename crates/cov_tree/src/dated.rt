@@ -1,11 +1,14 @@
 // A node with its own changes.
-ghost use Rattle.std.specs.Prelude.{◌≡◌, ◌<◌, ◌≤◌, [], IfOk, OnOk, OnErr};
+ghost use Rattle.std.specs.Prelude.{◌≡◌, ◌<◌, ◌≤◌, ◌+◌, ◌++◌, [], length, take, drop, IfOk, OnOk, OnErr};
 ghost use Rattle.cov_base.specs.Older.{value_at};
 ghost use Rattle.cov_tree.specs.Dated.{entry_at, newest_entry, with_no_room};
 ghost use Rattle.cov_tree.specs.Installing.{IsChanged};
+ghost use Rattle.cov_tree.specs.Renumbered.{entry_visibilities, entry_without_vis, Gets};
 
 use crate::entry::{Entry, Place, Places};
+use crate::renumbering::{append, append_lists, renumber_lists};
 use cov_base::{Kind, Memory, NodeNo, OlderLists, Position};
+use cov_dd::{Node, Nodes};
 use std::alloc::Global;
 use std::mem;
 
@@ -67,6 +70,25 @@ impl DatedEntry {
             return self.places.as_slice();
         }
         self.older.at(position)
+    }
+
+    /// Appends each visibility, those of the newest change first.
+    pub(crate) fn append_nodes(&self, into: &mut Nodes) -> Result<(), Memory>
+        ensures ok { OnOk result (into.new ≡ into.old ++ entry_visibilities self.now) }
+        ensures front { take (length into.old) into.new ≡ into.old }
+    {
+        append(self.places.as_slice(), into)?;
+        append_lists(self.older.as_slice(), into)
+    }
+
+    /// Puts those of a list from a place on in their places. It answers the place after the last, and takes no memory.
+    pub(crate) fn renumber(&mut self, alloc: Global, from: &[Node], first: u64) -> u64
+        requires { first + length (entry_visibilities self.old) ≤ length from.now }
+        ensures next { result ≡ first + length (entry_visibilities self.old) }
+        ensures entry { Gets entry_visibilities entry_without_vis self.old self.new (drop first from.now) }
+    {
+        let second = self.places.renumber(from, first);
+        renumber_lists(&mut self.older, alloc, from, second)
     }
 
     /// The node as it is since its newest change, in memory of its own.

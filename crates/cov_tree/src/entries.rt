@@ -17,6 +17,8 @@ ghost use Rattle.cov_tree.specs.Installing.{IsPlaceOf, IsIndex, IsPut, AreChange
 ghost use Rattle.cov_tree.specs.Carried.{AreNodesAt, AreNodesWith, AreOnceAt, AreOnceWith, AreUnreadAt, AreUnreadWith};
 ghost use Rattle.cov_tree.specs.Changes.{all_changed, Makes};
 
+mod renumbering;
+
 use crate::dated::DatedEntry;
 use crate::entry::{Entry, Place};
 use crate::noted::NotedNodes;
