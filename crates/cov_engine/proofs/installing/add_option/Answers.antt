@@ -1,4 +1,4 @@
-use Rattle.std.proofs.Common.{[], ◌∷◌, ◌+◌, ◌<◌, length, refl, ap, ◌∙◌, arith}
+use Rattle.std.proofs.Common.{[], ◌∷◌, ◌+◌, length, refl, ap, ◌∙◌, arith}
 use Rattle.cov_history.specs.Sessions.{has_commit}
 use Rattle.cov_engine.proofs.OptionPositions.{positions-count, positions-option}
 use Rattle.cov_engine.proofs.States.{option-installed, options-few}
