@@ -13,7 +13,7 @@ use Rattle.cov_edit.specs.Variant.{Line, is_line}
 use Rattle.cov_edit.proofs.CallerLemmas.{line_count_after-is}
 use Rattle.cov_history.specs.InsertedTexts.{new_text, new_texts, texts_in, HasText}
 use Rattle.cov_history.specs.Kept.{Kept, hidden, hidden_where, kept_address, kept_number, new_line, kept_after, Holding, nothing_held, held_after, held_from}
-use Rattle.cov_history.specs.Laws.{LinesKeepTheirTexts}
+use Rattle.cov_history.specs.KeptLaws.{LinesKeepTheirTexts}
 use Rattle.cov_history.proofs.Appends.{lines-edits}
 use Rattle.cov_history.proofs.Standing.{all-mapped, table-after, no_table}
 
