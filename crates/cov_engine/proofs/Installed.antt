@@ -31,23 +31,24 @@ use Rattle.cov_history.specs.FileOfLine.{new_file_of_line, AreFilesOfLines}
 use Rattle.cov_engine.specs.Staging.{Contents, contents, new_files, AreNear, AreLow, HasRoom, named_line}
 use Rattle.cov_engine.specs.Staged.{IsStaged}
 use Rattle.cov_history.specs.Insertions.{numbered_amid, held_amid}
-use Rattle.cov_engine.specs.Nodes.{AreDated}
+use Rattle.cov_engine.specs.Nodes.{AreDated, IsTaken}
 use Rattle.cov_file.specs.Dated.{DatedLine as FileLine}
 use Rattle.cov_dd.specs.declared.triple.Triple.{Triple}
-use Rattle.cov_engine.specs.Carrying.{IsChangedIn, IsCarriedOut, AreCarriedOut, CanCarryOutAll, AreAllCarriedOut, AreInstalled, plan_file, with_other_lines}
-use Rattle.cov_engine.specs.declared.edit_plan.EditPlan.{EditPlan}
-use Rattle.cov_engine.specs.declared.edit_plan.EditPlan.TheVariants as plans
+use Rattle.cov_engine.specs.Carrying.{IsChangedIn, IsCarriedOut, AreCarriedOut, CanCarryOutAll, AreAllCarriedOut, AreInstalled, edited_node, with_other_lines}
+use Rattle.cov_engine.specs.declared.resolved_edit.ResolvedEdit.{ResolvedEdit}
+use Rattle.cov_engine.specs.declared.resolved_edit.ResolvedEdit.TheVariants as resolved
 use Rattle.cov_history.proofs.CallerLemmas.{commit-lines, files-commit, files-rise, lines-edits, all-mapped, base-nodes, new-files_of_lines-count}
 use Rattle.cov_engine.proofs.FileLines.{all-unmapped}
 use Rattle.cov_edit.proofs.CallerLemmas.{numbers_from-append}
 use Rattle.cov_engine.proofs.Refused.{declared-less}
 use Rattle.cov_engine.proofs.Rooms.{staged-nodes}
-use Rattle.cov_engine.proofs.RowPlans.{entries-committed, files-kinds, made-below}
+use Rattle.cov_engine.proofs.Resolved.{resolved-kinds, resolved-most}
+use Rattle.cov_engine.proofs.RowPlans.{entries-committed}
 use Rattle.cov_engine.proofs.States.{options-append}
 use Rattle.cov_engine.proofs.Marking.{marks-committed}
 use Rattle.cov_engine.proofs.Named.{edits-named, named-near, legal-files}
 use Rattle.cov_engine.proofs.MidCommit.{IsHere, AreHere, carried, line-files-along, named-low}
-use Rattle.cov_engine.proofs.Started.{planned-right}
+use Rattle.cov_engine.proofs.Started.{resolved-right}
 use Rattle.cov_engine.proofs.Committed.{new-files-all, line-files-after, file-empty}
 
 -- the nodes that its edits name have small numbers
@@ -73,28 +74,31 @@ files-contents history ts old now same files =
     HasFile : Contents → Type 0
     HasFile s = AreDated ts (option_count history) (file_dated s.node (kept_of history)) s.lines × (s.newest ≤ length history)
 
--- stored files before and after a plan are of the same rows
+-- stored files before and after an edit are of the same rows
 module _ {X : Type 0} (row : FilePart → X) (same : (e f : FilePart) → contents e ≡ contents f → row e ≡ row f)
     (kept : (e : FilePart) (ls : List FileLine) (newest : ℕ) (f : FilePart) → contents f ≡ with_other_lines e ls newest → row f ≡ row e) where
-  plan-row : (q : ℕ) (s : EditPlan) (e f : FilePart) → IsChangedIn (plan_file s) (IsCarriedOut q s) e f → row f ≡ row e
-  plan-row q (plans.Insert file anchor line text vis) e f h = by (nat_eq e.node file) refl
+  plan-row : (q : ℕ) (s : ResolvedEdit) (e f : FilePart) → IsChangedIn (edited_node s) (IsCarriedOut q s) e f → row f ≡ row e
+  plan-row q s e f h = by (nat_eq e.node (edited_node s)) refl
     where
-      by : (b : Bool) → nat_eq e.node file ≡ b → row f ≡ row e
-      by true is = kept e f.lines.lines q f (h.here is).row
-      by false is = ap row (h.elsewhere is)
-  plan-row q (plans.Delete file line vis) e f h = by (nat_eq e.node file) refl
-    where
-      by : (b : Bool) → nat_eq e.node file ≡ b → row f ≡ row e
-      by true is = kept e f.lines.lines q f (h.here is).row
+      own : (s : ResolvedEdit) → IsCarriedOut q s e f → row f ≡ row e
+      own (resolved.New node kind parent name on) k = ap row k
+      own (resolved.Insert file anchor line text vis) k = kept e f.lines.lines q f k.row
+      own (resolved.Delete file line vis) k = kept e f.lines.lines q f k.row
+      own (resolved.Rename node name on) k = ap row k
+      own (resolved.Move node parent on) k = ap row k
+      own (resolved.Remove node on) k = ap row k
+
+      by : (b : Bool) → nat_eq e.node (edited_node s) ≡ b → row f ≡ row e
+      by true is = own s (h.here is)
       by false is = ap row (h.elsewhere is)
 
-  plan-rows : (q : ℕ) (s : EditPlan) (es fs : List FilePart) → AreCarriedOut q s es fs → map row fs ≡ map row es
+  plan-rows : (q : ℕ) (s : ResolvedEdit) (es fs : List FilePart) → AreCarriedOut q s es fs → map row fs ≡ map row es
   plan-rows q s [] [] h = refl
   plan-rows q s [] (f ∷ fs) h = absurd h
   plan-rows q s (e ∷ es) [] h = absurd h
   plan-rows q s (e ∷ es) (f ∷ fs) h = ap (λ x. x ∷ map row fs) (plan-row q s e f h.0) ∙ ap (λ xs. row e ∷ xs) (plan-rows q s es fs h.1)
 
-  plans-rows : (q : ℕ) (ss : List EditPlan) (es fs : List FilePart) → AreAllCarriedOut q ss es fs → map row fs ≡ map row es
+  plans-rows : (q : ℕ) (ss : List ResolvedEdit) (es fs : List FilePart) → AreAllCarriedOut q ss es fs → map row fs ≡ map row es
   plans-rows q [] es fs h = ap (map row) h
   plans-rows q (s ∷ ss) es fs h = plans-rows q ss h.0 fs h.2 ∙ plan-rows q s es h.0 h.1
 
@@ -110,7 +114,7 @@ module _ {X : Type 0} (row : FilePart → X) (same : (e f : FilePart) → conten
       tail-of : contents f ∷ map contents fs ≡ contents e ∷ map contents es → map contents fs ≡ map contents es
       tail-of h = cc
 
-  pub installed-rows : (q : ℕ) (ss : List EditPlan) (es fs : List FilePart) → AreInstalled q ss es fs → map row fs ≡ map row es
+  pub installed-rows : (q : ℕ) (ss : List ResolvedEdit) (es fs : List FilePart) → AreInstalled q ss es fs → map row fs ≡ map row es
   installed-rows q ss es fs h = same-rows h.0 fs h.2 ∙ plans-rows q ss es h.0 h.1
 
 any-position : (q : ℕ) (o : Option ℕ) → o ≡ None → option_map_or (λ p. nat_eq q p) o true ≡ true
@@ -120,7 +124,7 @@ any-position q (Some p) h = absurd (cc)
 module _ (history : List Command) (base : ℕ) (choice : List Bool) (ambition : Formula ℕ) (es : List Edit) (legal : IsLegal history)
     (good : IsGood history (session_of base choice ambition es))
     (accepted : verdict history (commands.Commit base choice ambition es) ≡ None)
-    (ts : List Triple) (commits : List CommitMark) (mark : CommitMark) (ss : List EditPlan) (plan : List Entry) (file_of_line : List ℕ) (entries : Dated) (stored : List FilePart)
+    (ts : List Triple) (commits : List CommitMark) (mark : CommitMark) (ss : List ResolvedEdit) (plan : List Entry) (file_of_line : List ℕ) (entries : Dated) (stored : List FilePart)
     (staged : IsStaged history ts ambition es commits mark ss plan file_of_line entries stored) where
   abbrev n : ℕ
   n = (numbers_of history).nodes
@@ -136,7 +140,7 @@ module _ (history : List Command) (base : ℕ) (choice : List Bool) (ambition : 
 
   -- what is stored with the commit is of the files before it and of those that it makes
   pub staged-files : map part_node stored ≡ files_of (history ++ commit ∷ [])
-  staged-files = staged-nodes n staged.old_stored stored es staged.files ∙ ap (λ files. files ++ files_made n es) staged.held.parts ∙ sym (files-commit history base choice ambition es)
+  staged-files = staged-nodes staged.old_stored stored (files_made n es) staged.files ∙ ap (λ files. files ++ files_made n es) staged.held.parts ∙ sym (files-commit history base choice ambition es)
 
   pub staged-rise : AreRising (map part_node stored)
   staged-rise = subst AreRising (sym staged-files) (files-rise (history ++ commit ∷ [])).0
@@ -158,12 +162,12 @@ module _ (history : List Command) (base : ℕ) (choice : List Bool) (ambition : 
       (subst (AllByRecursion (λ file. 0 < file)) (sym staged-files)
       (all-map (λ file. (0 < file) × (file ≤ (numbers_of (history ++ commit ∷ [])).nodes)) (λ file. 0 < file) (λ file h. h.0) (files_of (history ++ commit ∷ [])) (files-rise (history ++ commit ∷ [])).1))
 
-  abbrev AreHereNow : List Edit → List Edit → List FilePart → Type 0
+  abbrev AreHereNow : List Edit → List ResolvedEdit → List FilePart → Type 0
   AreHereNow begun left xs = AreHere history base choice ambition es good legal ts mark.node staged.stands begun left xs
 
-  start : AreHereNow [] es stored
+  start : AreHereNow [] ss stored
   start =
-      all-both (λ e. (0 < e.node) × HasRoom n (line_count history) es e) (λ e. IsKeptFile (contents e)) (λ e. IsHere history base choice ambition es good legal ts mark.node staged.stands e.node [] es e.lines)
+      all-both (λ e. (0 < e.node) × HasRoom ss e) (λ e. IsKeptFile (contents e)) (λ e. IsHere history base choice ambition es good legal ts mark.node staged.stands e.node [] ss e.lines)
       (λ e h file. record {
         above = h.0;
         are_dated = file.0;
@@ -172,13 +176,13 @@ module _ (history : List Command) (base : ℕ) (choice : List Bool) (ambition : 
         changes = h.1.changes;
         position = λ t. any-position q e.lines.room.position (h.1.position t);
       }) stored
-      (all-both (λ e. 0 < e.node) (HasRoom n (line_count history) es) (λ e. (0 < e.node) × HasRoom n (line_count history) es e) (λ e a r. (a, r)) stored above-zero staged.room)
+      (all-both (λ e. 0 < e.node) (HasRoom ss) (λ e. (0 < e.node) × HasRoom ss e) (λ e a r. (a, r)) stored above-zero staged.room)
       (all-unmapped IsKeptFile contents stored kept-files)
 
   all-carried : CanCarryOutAll q ss stored × ((after : List FilePart) → AreAllCarriedOut q ss stored after → AreHereNow es [] after)
   all-carried =
-      carried history base choice ambition es good legal ts mark.node staged.stands es [] (line_count history) stored ss refl (omega arith)
-      (planned-right history base choice ambition es good legal ts mark.node staged.stands staged.old_stored staged.held.parts staged.held.files (line_count history) es ss staged.planned)
+      carried history base choice ambition es good legal ts mark.node staged.stands es [] n (line_count history) stored ss refl (omega arith)
+      (resolved-right history base choice ambition es good legal ts mark.node staged.stands staged.old_stored staged.held.parts staged.held.files ss staged.resolved)
       start
 
   pub staged-plans : CanCarryOutAll q ss stored
@@ -211,10 +215,10 @@ module _ (history : List Command) (base : ℕ) (choice : List Bool) (ambition : 
       let longer = length_push history commit in
       let count : length commits + 1 ≡ length all_commits = sym one in
       record {
-        of_entries = entries-committed history base choice ambition es ts mark.node staged.stands.value entries plan staged.held.of_entries staged.changes later set;
+        of_entries = entries-committed history base choice ambition es ts mark.node staged.stands.value entries plan staged.held.of_entries staged.old_stored ss staged.resolved staged.changes later set;
         below = let now = nodes-now in
-            subst (AllByRecursion (λ node. node ≤ (numbers_of (history ++ commit ∷ [])).nodes)) (sym (set.nodes ∙ staged.nodes)) (made-below n (numbers_of (history ++ commit ∷ [])).nodes es (nodes_in entries) (omega (arith, now)) staged.held.below);
-        made = ap files_among (set.kinds ∙ staged.kinds) ∙ files-kinds n es (kinds_in entries) ∙ ap (λ files. files ++ files_made n es) staged.held.made ∙ sym (files-commit history base choice ambition es);
+            subst (AllByRecursion (λ node. node ≤ (numbers_of (history ++ commit ∷ [])).nodes)) (sym (set.nodes ∙ staged.nodes)) (resolved-most (IsTaken ts q staged.old_stored mark.node) n (line_count history) mark.node (numbers_of (history ++ commit ∷ [])).nodes n (line_count history) es ss (nodes_in entries) (omega (arith, now)) staged.held.below staged.resolved);
+        made = ap files_among (set.kinds ∙ staged.kinds) ∙ resolved-kinds (IsTaken ts q staged.old_stored mark.node) n (line_count history) mark.node n (line_count history) es ss (kinds_in entries) staged.resolved ∙ ap (λ files. files ++ files_made n es) staged.held.made ∙ sym (files-commit history base choice ambition es);
         parts = same ∙ staged-files;
         files = files-contents (history ++ commit ∷ []) ts installed.0 after installed.2
             (all-map (λ e. IsHere history base choice ambition es good legal ts mark.node staged.stands e.node es [] e.lines) (IsFileOf (history ++ commit ∷ []) ts)

@@ -1,5 +1,5 @@
 -- From the rows with a plan to the refusal of a commit.
-use Rattle.std.proofs.Common.{◌≡◌, ℕ, ◌≤◌, Bool, true, false, cond, ◌&&◌, List, [], ◌∷◌, ◌++◌, Option, Some, None, option_map, refl, sym, ap, subst, ◌∙◌}
+use Rattle.std.proofs.Common.{◌≡◌, ℕ, ◌+◌, ◌≤◌, Bool, true, false, cond, ◌&&◌, List, [], ◌∷◌, ◌++◌, length, Option, Some, None, option_map, refl, sym, ap, subst, ◌∙◌}
 use Rattle.std.specs.List.{list_any}
 use Rattle.cov_base.specs.Choices.{with_option}
 use Rattle.cov_base.specs.Faults.{Fault, Clash, Orphan, Loop}
@@ -11,7 +11,7 @@ use Rattle.cov_edit.specs.declared.edit.Edit.{Edit}
 use Rattle.cov_edit.specs.declared.command.Command.{Command}
 use Rattle.cov_edit.specs.declared.command.Command.TheVariants as commands
 use Rattle.cov_edit.specs.History.{option_count, is_valid_in}
-use Rattle.cov_edit.specs.Numbering.{numbers_of}
+use Rattle.cov_edit.specs.Numbering.{numbers_of, line_count}
 use Rattle.cov_edit.specs.Replay.{replay}
 use Rattle.cov_tree.specs.declared.entry.Entry.{Entry}
 use Rattle.cov_tree.specs.Carried.{AreOnceWith, AreUnreadWith}
@@ -25,7 +25,10 @@ use Rattle.cov_history.specs.Verdict.{IsLegal}
 use Rattle.cov_history.proofs.CallerLemmas.{commit-unread, lines-sound, refusal-by_rows, replay-once}
 use Rattle.cov_engine.specs.Evidence.{refusal_for}
 use Rattle.cov_engine.specs.Holdings.{AreEntriesOf}
-use Rattle.cov_engine.specs.RowPlans.{edit_changes}
+use Rattle.cov_engine.specs.Resolved.{AreResolved}
+use Rattle.cov_engine.specs.RowPlans.{row_changes}
+use Rattle.cov_engine.specs.declared.file_part.FilePart.{FilePart}
+use Rattle.cov_engine.specs.declared.resolved_edit.ResolvedEdit.{ResolvedEdit}
 use Rattle.cov_edit.specs.Variant.{Variant}
 use Rattle.cov_engine.proofs.RowPlans.{planned-rows}
 
@@ -37,9 +40,11 @@ refusal-told c (Some (Orphan node)) = refl
 refusal-told c (Some (Loop node)) = refl
 
 module _ (history : List Command) (ts : List Triple) (entries : Dated) (ambition : Formula ℕ) (node : ℕ) (es : List Edit) (plan : List Entry) (of_entries : AreEntriesOf history ts entries)
-    (stands : Stands ts node 0 (option_count history) (value ambition)) (changes : Makes ts entries plan (edit_changes (numbers_of history).nodes (numbers_of history).nodes node es)) where
+    (stands : Stands ts node 0 (option_count history) (value ambition))
+    (stored : List FilePart) (ss : List ResolvedEdit) (resolved : AreResolved (length history + 1) stored (numbers_of history).nodes (line_count history) node ts es ss)
+    (changes : Makes ts entries plan (row_changes ss)) where
   rows : (base : ℕ) (choice : List Bool) (c : List Bool) → rows_with ts c plan entries ≡ (replay c (history ++ commands.Commit base choice ambition es ∷ [])).rows
-  rows base choice = planned-rows history base choice ambition es ts node stands.value entries plan of_entries changes
+  rows base choice = planned-rows history base choice ambition es ts node stands.value entries plan of_entries stored ss resolved changes
 
   -- on each choice the rows with a plan of a commit are of different nodes but the root
   pub once-with : AreOnceWith ts plan entries

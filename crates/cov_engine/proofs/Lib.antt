@@ -22,9 +22,9 @@ pub mod NamedView
 pub mod Nodes
 pub mod Noting
 pub mod OptionPositions
-pub mod Planned
 pub mod Readied
 pub mod Refused
+pub mod Resolved
 pub mod Rooms
 pub mod Rising
 pub mod RowPlans

@@ -32,13 +32,15 @@ use Rattle.cov_history.specs.Kept.{Kept, seen_at, kept_number, kept_of, held_by,
 use Rattle.cov_engine.specs.Nodes.{AreDated}
 use Rattle.cov_history.specs.Sessions.{IsGood, session_of}
 use Rattle.cov_history.specs.Verdict.{IsLegal}
-use Rattle.cov_engine.specs.Carrying.{CanInsert, CanDelete, IsCarriedOut, IsChangedIn, AreCarriedOut, CanCarryOutIn, CanCarryOutAll, AreAllCarriedOut}
+use Rattle.cov_engine.specs.Carrying.{CanInsert, CanDelete, CanCarryOut, IsCarriedOut, IsChangedIn, AreCarriedOut, CanCarryOutIn, CanCarryOutAll, AreAllCarriedOut, edited_node}
+use Rattle.cov_engine.specs.Resolved.{AreResolvedBy}
 use Rattle.cov_engine.specs.declared.file_part.FilePart.{FilePart}
-use Rattle.cov_engine.specs.declared.edit_plan.EditPlan.{EditPlan}
-use Rattle.cov_engine.specs.declared.edit_plan.EditPlan.TheVariants as plans
+use Rattle.cov_engine.specs.declared.resolved_edit.ResolvedEdit.{ResolvedEdit}
+use Rattle.cov_engine.specs.declared.resolved_edit.ResolvedEdit.TheVariants as resolved
 use Rattle.cov_history.proofs.CallerLemmas.{files_of_lines-stay, file_of_line-more, lines-edits, delete-dated, delete-elsewhere, delete-order, anchor-below, anchors-append, anchors-stay, anchor-known, insert-elsewhere, is_table-of, amid-within, stands-amid, any-mapped, insert-dated, order-takes, accepted-anchored, accepted-there, all-mapped}
 use Rattle.cov_engine.proofs.Committed.{numbers-dated, rows-same, no-anchor}
 use Rattle.cov_engine.proofs.Dating.{IsGone, gone, dated-numbers, insert-lines, delete-lines, all-after}
+use Rattle.cov_engine.proofs.Resolved.{resolved-by}
 use Rattle.cov_engine.proofs.StoredFiles.{all-pairs}
 
 alike-numbers : (ls ms : List FileLine) → AreAlike ls ms → file_numbers ls ≡ file_numbers ms
@@ -192,39 +194,22 @@ module _ (history : List Command) (base : ℕ) (choice : List Bool) (ambition : 
     count = option_count history
 
     -- a file has its lines, and room for the edits that are left
-    pub record IsHere (node : ℕ) (begun left : List Edit) (file : DatedFile) : Type 0 where
+    pub record IsHere (node : ℕ) (begun : List Edit) (left : List ResolvedEdit) (file : DatedFile) : Type 0 where
       pub above : 0 < node
       pub are_dated : AreDated ts count (file_dated node (lines_at begun)) file.lines
       pub newest : file.newest ≤ q
-      pub inserts : inserts_into n node left ≤ file.room.inserts
-      pub changes : (line : ℕ) → deletes_from n m node line left ≡ true → has_line line (file_numbers file.lines) ≡ true → has_line line file.room.changes ≡ true
-      pub position : touches n node left ≡ true → is_room_at q file.room ≡ true
+      pub inserts : inserts_into node left ≤ file.room.inserts
+      pub changes : (line : ℕ) → deletes_from node line left ≡ true → has_line line (file_numbers file.lines) ≡ true → has_line line file.room.changes ≡ true
+      pub position : touches node left ≡ true → is_room_at q file.room ≡ true
 
     -- a node is that of a line that is taken out, and FALSE if the line isn't made yet
     pub record IsRight (ks : List (Kept Line)) (file line vis : ℕ) : Type 0 where
       pub taken : 0 < file → AllByRecursion (IsGone ts count ambition q line vis) (file_dated file ks)
       pub fresh : m < line → Stands ts vis 0 count (λ c. false)
 
-    -- plans are those of edits, so many lines having been made before these
-    abbrev pub AreRight : List (Kept Line) → ℕ → List Edit → List EditPlan → Type 0
-    AreRight ks made [] ss = ss ≡ []
-    AreRight ks made (edits.New kind parent name ∷ later) ss = AreRight ks made later ss
-    AreRight ks made (edits.Insert file after text ∷ later) ss =
-        (rest : List EditPlan) × (ss ≡ plans.Insert (node_number n file) (line_number m after) (made + 1) text a ∷ rest) × AreRight ks (made + 1) later rest
-    AreRight ks made (edits.Delete file line ∷ later) ss =
-        (vis : ℕ) × (rest : List EditPlan) × (ss ≡ plans.Delete (node_number n file) (line_number m line) vis ∷ rest) × IsRight ks (node_number n file) (line_number m line) vis × AreRight ks made later rest
-    AreRight ks made (edits.Rename node name ∷ later) ss = AreRight ks made later ss
-    AreRight ks made (edits.Move node parent ∷ later) ss = AreRight ks made later ss
-    AreRight ks made (edits.Remove node ∷ later) ss = AreRight ks made later ss
-
-    right-on : (ks ks' : List (Kept Line)) → ((file line vis : ℕ) → IsRight ks file line vis → IsRight ks' file line vis) → (made : ℕ) (later : List Edit) (ss : List EditPlan) → AreRight ks made later ss → AreRight ks' made later ss
-    right-on ks ks' f made [] ss h = h
-    right-on ks ks' f made (edits.New kind parent name ∷ later) ss h = right-on ks ks' f made later ss h
-    right-on ks ks' f made (edits.Insert file after text ∷ later) ss h = (h.0, h.1, right-on ks ks' f (made + 1) later h.0 h.2)
-    right-on ks ks' f made (edits.Delete file line ∷ later) ss h = (h.0, h.1, h.2, f (node_number n file) (line_number m line) h.0 h.3, right-on ks ks' f made later h.1 h.4)
-    right-on ks ks' f made (edits.Rename node name ∷ later) ss h = right-on ks ks' f made later ss h
-    right-on ks ks' f made (edits.Move node parent ∷ later) ss h = right-on ks ks' f made later ss h
-    right-on ks ks' f made (edits.Remove node ∷ later) ss h = right-on ks ks' f made later ss h
+    -- edits by numbers, so many nodes and lines having been made before these
+    abbrev pub AreRight : List (Kept Line) → ℕ → ℕ → List Edit → List ResolvedEdit → Type 0
+    AreRight ks nodes lines later ss = AreResolvedBy (IsRight ks) n m a nodes lines later ss
 
     new-gone : (number line vis : ℕ) (text : List ℕ) → m < number → (m < line → Stands ts vis 0 count (λ c. false)) → IsGone ts count ambition q line vis (new_dated number text)
     new-gone number line vis text above fresh is =
@@ -284,10 +269,10 @@ module _ (history : List Command) (base : ℕ) (choice : List Bool) (ambition : 
             (subst (λ f. AllByRecursion (IsGone ts count ambition q line vis) (file_dated f (lines_at begun))) (sym same) (h.taken above))))
         by above false is = subst (AllByRecursion (IsGone ts count ambition q line vis)) (sym (delete-out begun later file which all other is)) (h.taken above)
 
-    pub numbers-here : (node : ℕ) (begun left : List Edit) (file : DatedFile) → IsHere node begun left file → file_numbers file.lines ≡ file_order node (lines_at begun)
+    pub numbers-here : (node : ℕ) (begun : List Edit) (left : List ResolvedEdit) (file : DatedFile) → IsHere node begun left file → file_numbers file.lines ≡ file_order node (lines_at begun)
     numbers-here node begun left file h = dated-numbers ts count (file_dated node (lines_at begun)) file.lines h.are_dated ∙ numbers-dated (file_kept node (lines_at begun))
 
-    module _ (begun later : List Edit) (file : NodeRef) (after : LineRef) (text : List ℕ) (all : begun ++ edits.Insert file after text ∷ later ≡ es) where
+    module _ (begun later : List Edit) (file : NodeRef) (after : LineRef) (text : List ℕ) (all : begun ++ edits.Insert file after text ∷ later ≡ es) (left : List ResolvedEdit) where
       abbrev f : ℕ
       f = node_number n file
 
@@ -297,42 +282,45 @@ module _ (history : List Command) (base : ℕ) (choice : List Bool) (ambition : 
       abbrev had : ℕ
       had = lines_amid history begun
 
+      abbrev put : ResolvedEdit
+      put = resolved.Insert f anchor (had + 1) text a
+
       touched : nat_eq f f ≡ true
       touched = grind (arith, nat_tests)
 
       -- a file can take the line
-      can-insert : (e : FilePart) → IsHere e.node begun (edits.Insert file after text ∷ later) e.lines → nat_eq e.node f ≡ true → CanInsert q anchor (had + 1) e
+      can-insert : (e : FilePart) → IsHere e.node begun (put ∷ left) e.lines → nat_eq e.node f ≡ true → CanInsert q anchor (had + 1) e
       can-insert e h is =
           let same : e.node ≡ f = grind (arith, nat_tests, is) in
-          let order = ap (λ k. file_order k (lines_at begun)) (sym same) ∙ sym (numbers-here e.node begun (edits.Insert file after text ∷ later) e.lines h) in
+          let order = ap (λ k. file_order k (lines_at begun)) (sym same) ∙ sym (numbers-here e.node begun (put ∷ left) e.lines h) in
           let takes = subst (λ order. Takes order anchor (had + 1)) order (insert-takes begun later file after text all) in
           let turned : nat_eq f e.node ≡ true = grind (arith, nat_tests, same) in
-          let some : suc (inserts_into n e.node later) ≤ e.lines.room.inserts =
-          subst (λ b. cond b (suc (inserts_into n e.node later)) (inserts_into n e.node later) ≤ e.lines.room.inserts) turned h.inserts in
+          let some : suc (inserts_into e.node left) ≤ e.lines.room.inserts =
+          subst (λ b. cond b (suc (inserts_into e.node left)) (inserts_into e.node left) ≤ e.lines.room.inserts) turned h.inserts in
           record {
             anchored = takes.anchored;
             above_head = takes.above_head;
             fresh = takes.fresh;
             later = h.newest;
             room = omega (arith, some);
-            position = h.position (or_left (nat_eq f e.node) (touches n e.node later) turned);
+            position = h.position (or_left (nat_eq f e.node) (touches e.node left) turned);
           }
 
       -- and has it then
-      inserted-here : (old new : DatedFile) → IsHere f begun (edits.Insert file after text ∷ later) old → AreAlike new.lines (with_line anchor (new_line (had + 1) text a q) old.lines)
-          → IsLeft old.room new.room q 1 → has_line (had + 1) new.room.changes ≡ true → new.newest ≡ q → IsHere f (begun ++ edits.Insert file after text ∷ []) later new
-      inserted-here old new h alike left own at =
-          let some : suc (inserts_into n f later) ≤ old.room.inserts =
-          subst (λ b. cond b (suc (inserts_into n f later)) (inserts_into n f later) ≤ old.room.inserts) touched h.inserts in
-          let fewer = left.inserts in
+      inserted-here : (old new : DatedFile) → IsHere f begun (put ∷ left) old → AreAlike new.lines (with_line anchor (new_line (had + 1) text a q) old.lines)
+          → IsLeft old.room new.room q 1 → has_line (had + 1) new.room.changes ≡ true → new.newest ≡ q → IsHere f (begun ++ edits.Insert file after text ∷ []) left new
+      inserted-here old new h alike fewer own at =
+          let some : suc (inserts_into f left) ≤ old.room.inserts =
+          subst (λ b. cond b (suc (inserts_into f left)) (inserts_into f left) ≤ old.room.inserts) touched h.inserts in
+          let less = fewer.inserts in
           record {
             above = h.above;
             are_dated = subst (λ ds. AreDated ts count ds new.lines) (sym (insert-here begun later file after text all))
                 (insert-lines ts count q anchor (had + 1) a text ambition (file_dated f (lines_at begun)) old.lines new.lines stands h.are_dated alike);
             newest = omega (arith, at);
-            inserts = omega (arith, some, fewer);
+            inserts = omega (arith, some, less);
             changes = λ line gone there. by line gone (nat_eq (had + 1) line) refl (sym (has_new line) ∙ there);
-            position = λ t. left.position;
+            position = λ t. fewer.position;
           }
         where
           has_new : (line : ℕ) → has_line line (file_numbers new.lines) ≡ (nat_eq (had + 1) line || has_line line (file_numbers old.lines))
@@ -341,171 +329,189 @@ module _ (history : List Command) (base : ℕ) (choice : List Bool) (ambition : 
               ∙ numbers-with anchor (new_line (had + 1) text a q) old.lines)
               ∙ has_after line anchor (had + 1) (file_numbers old.lines)
 
-          by : (line : ℕ) → deletes_from n m f line later ≡ true → (b : Bool) → nat_eq (had + 1) line ≡ b → (b || has_line line (file_numbers old.lines)) ≡ true → has_line line new.room.changes ≡ true
+          by : (line : ℕ) → deletes_from f line left ≡ true → (b : Bool) → nat_eq (had + 1) line ≡ b → (b || has_line line (file_numbers old.lines)) ≡ true → has_line line new.room.changes ≡ true
           by line gone true is there = let same : had + 1 ≡ line = grind (arith, nat_tests, is) in subst (λ k. has_line k new.room.changes ≡ true) same own
-          by line gone false is there = left.changes line (h.changes line gone there)
+          by line gone false is there = fewer.changes line (h.changes line gone there)
 
-      insert-next : (e e' : FilePart) → IsChangedIn f (IsCarriedOut q (plans.Insert f anchor (had + 1) text a)) e e' → IsHere e.node begun (edits.Insert file after text ∷ later) e.lines
-          → IsHere e'.node (begun ++ edits.Insert file after text ∷ []) later e'.lines
+      insert-next : (e e' : FilePart) → IsChangedIn f (IsCarriedOut q put) e e' → IsHere e.node begun (put ∷ left) e.lines
+          → IsHere e'.node (begun ++ edits.Insert file after text ∷ []) left e'.lines
       insert-next e e' changed h = by (nat_eq e.node f) refl
         where
-          by : (b : Bool) → nat_eq e.node f ≡ b → IsHere e'.node (begun ++ edits.Insert file after text ∷ []) later e'.lines
+          by : (b : Bool) → nat_eq e.node f ≡ b → IsHere e'.node (begun ++ edits.Insert file after text ∷ []) left e'.lines
           by true is =
               let same : e.node ≡ f = grind (arith, nat_tests, is) in
               let it = changed.here is in
-              subst (λ k. IsHere k (begun ++ edits.Insert file after text ∷ []) later e'.lines) (sym (ap (λ (s : Contents). s.node) it.row ∙ same))
-              (inserted-here e.lines e'.lines (subst (λ k. IsHere k begun (edits.Insert file after text ∷ later) e.lines) same h) it.lines it.room it.own (ap (λ (s : Contents). s.newest) it.row))
+              subst (λ k. IsHere k (begun ++ edits.Insert file after text ∷ []) left e'.lines) (sym (ap (λ (s : Contents). s.node) it.row ∙ same))
+              (inserted-here e.lines e'.lines (subst (λ k. IsHere k begun (put ∷ left) e.lines) same h) it.lines it.room it.own (ap (λ (s : Contents). s.newest) it.row))
           by false is =
               let turned : nat_eq f e.node ≡ false = grind (arith, nat_tests, is) in
-              subst (λ (x : FilePart). IsHere x.node (begun ++ edits.Insert file after text ∷ []) later x.lines) (sym (changed.elsewhere is)) (record {
+              subst (λ (x : FilePart). IsHere x.node (begun ++ edits.Insert file after text ∷ []) left x.lines) (sym (changed.elsewhere is)) (record {
                 above = h.above;
                 are_dated = subst (λ ds. AreDated ts count ds e.lines.lines) (sym (insert-there begun later file after text all e.node turned)) h.are_dated;
                 newest = h.newest;
-                inserts = subst (λ b. cond b (suc (inserts_into n e.node later)) (inserts_into n e.node later) ≤ e.lines.room.inserts) turned h.inserts;
+                inserts = subst (λ b. cond b (suc (inserts_into e.node left)) (inserts_into e.node left) ≤ e.lines.room.inserts) turned h.inserts;
                 changes = h.changes;
-                position = λ t. h.position (or_right (nat_eq f e.node) (touches n e.node later) t);
+                position = λ t. h.position (or_right (nat_eq f e.node) (touches e.node left) t);
               })
 
-    module _ (begun later : List Edit) (file : NodeRef) (line : LineRef) (all : begun ++ edits.Delete file line ∷ later ≡ es) where
+    module _ (begun later : List Edit) (file : NodeRef) (line : LineRef) (all : begun ++ edits.Delete file line ∷ later ≡ es) (vis : ℕ) (left : List ResolvedEdit) where
       abbrev df : ℕ
       df = node_number n file
 
       abbrev k : ℕ
       k = line_number m line
 
+      abbrev out : ResolvedEdit
+      out = resolved.Delete df k vis
+
       -- a file can take the line out
-      can-delete : (e : FilePart) → IsHere e.node begun (edits.Delete file line ∷ later) e.lines → nat_eq e.node df ≡ true → CanDelete q k e
+      can-delete : (e : FilePart) → IsHere e.node begun (out ∷ left) e.lines → nat_eq e.node df ≡ true → CanDelete q k e
       can-delete e h is =
           let same : e.node ≡ df = grind (arith, nat_tests, is) in
           let turned : nat_eq df e.node ≡ true = grind (arith, nat_tests, same) in
           let own : nat_eq k k ≡ true = grind (arith, nat_tests) in
           let there : has_line k (file_numbers e.lines.lines) ≡ true =
-          ap (has_line k) (numbers-here e.node begun (edits.Delete file line ∷ later) e.lines h ∙ ap (λ x. file_order x (lines_at begun)) same) ∙ delete-there begun later file line all in
+          ap (has_line k) (numbers-here e.node begun (out ∷ left) e.lines h ∙ ap (λ x. file_order x (lines_at begun)) same) ∙ delete-there begun later file line all in
           record {
             there = there;
             later = h.newest;
-            room = h.changes k (or_left (nat_eq df e.node && nat_eq k k) (deletes_from n m e.node k later) (and_from (nat_eq df e.node) (nat_eq k k) turned own)) there;
-            position = h.position (or_left (nat_eq df e.node) (touches n e.node later) turned);
+            room = h.changes k (or_left (nat_eq df e.node && nat_eq k k) (deletes_from e.node k left) (and_from (nat_eq df e.node) (nat_eq k k) turned own)) there;
+            position = h.position (or_left (nat_eq df e.node) (touches e.node left) turned);
           }
 
       -- and hasn't it then
-      deleted-here : (vis : ℕ) (old new : DatedFile) → IsRight (lines_at begun) df k vis → IsHere df begun (edits.Delete file line ∷ later) old → AreAlike new.lines (with_change k vis q old.lines)
-          → IsLeft old.room new.room q 0 → new.newest ≡ q → IsHere df (begun ++ edits.Delete file line ∷ []) later new
-      deleted-here vis old new right h alike left at =
+      deleted-here : (old new : DatedFile) → IsRight (lines_at begun) df k vis → IsHere df begun (out ∷ left) old → AreAlike new.lines (with_change k vis q old.lines)
+          → IsLeft old.room new.room q 0 → new.newest ≡ q → IsHere df (begun ++ edits.Delete file line ∷ []) left new
+      deleted-here old new right h alike fewer at =
           let some = h.inserts in
-          let fewer = left.inserts in
+          let less = fewer.inserts in
           record {
             above = h.above;
             are_dated = subst (λ ds. AreDated ts count ds new.lines) (sym (delete-here begun later file line all))
                 (delete-lines ts count q k vis ambition (file_dated df (lines_at begun)) old.lines new.lines (right.taken h.above) h.are_dated alike);
             newest = omega (arith, at);
-            inserts = omega (arith, some, fewer);
-            changes = λ some gone there. left.changes some
-                (h.changes some (or_right (nat_eq df df && nat_eq k some) (deletes_from n m df some later) gone)
+            inserts = omega (arith, some, less);
+            changes = λ some gone there. fewer.changes some
+                (h.changes some (or_right (nat_eq df df && nat_eq k some) (deletes_from df some left) gone)
                 (sym (ap (has_line some) (alike-numbers new.lines (with_change k vis q old.lines) alike ∙ numbers-changed k vis q old.lines)) ∙ there));
-            position = λ t. left.position;
+            position = λ t. fewer.position;
           }
 
-      delete-next : (vis : ℕ) → IsRight (lines_at begun) df k vis → (e e' : FilePart) → IsChangedIn df (IsCarriedOut q (plans.Delete df k vis)) e e' → IsHere e.node begun (edits.Delete file line ∷ later) e.lines
-          → IsHere e'.node (begun ++ edits.Delete file line ∷ []) later e'.lines
-      delete-next vis right e e' changed h = by (nat_eq e.node df) refl
+      delete-next : IsRight (lines_at begun) df k vis → (e e' : FilePart) → IsChangedIn df (IsCarriedOut q out) e e' → IsHere e.node begun (out ∷ left) e.lines
+          → IsHere e'.node (begun ++ edits.Delete file line ∷ []) left e'.lines
+      delete-next right e e' changed h = by (nat_eq e.node df) refl
         where
-          by : (b : Bool) → nat_eq e.node df ≡ b → IsHere e'.node (begun ++ edits.Delete file line ∷ []) later e'.lines
+          by : (b : Bool) → nat_eq e.node df ≡ b → IsHere e'.node (begun ++ edits.Delete file line ∷ []) left e'.lines
           by true is =
               let same : e.node ≡ df = grind (arith, nat_tests, is) in
               let it = changed.here is in
-              subst (λ x. IsHere x (begun ++ edits.Delete file line ∷ []) later e'.lines) (sym (ap (λ (s : Contents). s.node) it.row ∙ same))
-              (deleted-here vis e.lines e'.lines right (subst (λ x. IsHere x begun (edits.Delete file line ∷ later) e.lines) same h) it.lines it.room (ap (λ (s : Contents). s.newest) it.row))
+              subst (λ x. IsHere x (begun ++ edits.Delete file line ∷ []) left e'.lines) (sym (ap (λ (s : Contents). s.node) it.row ∙ same))
+              (deleted-here e.lines e'.lines right (subst (λ x. IsHere x begun (out ∷ left) e.lines) same h) it.lines it.room (ap (λ (s : Contents). s.newest) it.row))
           by false is =
               let turned : nat_eq df e.node ≡ false = grind (arith, nat_tests, is) in
-              subst (λ (x : FilePart). IsHere x.node (begun ++ edits.Delete file line ∷ []) later x.lines) (sym (changed.elsewhere is)) (record {
+              subst (λ (x : FilePart). IsHere x.node (begun ++ edits.Delete file line ∷ []) left x.lines) (sym (changed.elsewhere is)) (record {
                 above = h.above;
                 are_dated = subst (λ ds. AreDated ts count ds e.lines.lines) (sym (delete-out begun later file line all e.node turned)) h.are_dated;
                 newest = h.newest;
                 inserts = h.inserts;
-                changes = λ some gone there. h.changes some (or_right (nat_eq df e.node && nat_eq k some) (deletes_from n m e.node some later) gone) there;
-                position = λ t. h.position (or_right (nat_eq df e.node) (touches n e.node later) t);
+                changes = λ some gone there. h.changes some (or_right (nat_eq df e.node && nat_eq k some) (deletes_from e.node some left) gone) there;
+                position = λ t. h.position (or_right (nat_eq df e.node) (touches e.node left) t);
               })
 
-    abbrev pub AreHere : List Edit → List Edit → List FilePart → Type 0
+    abbrev pub AreHere : List Edit → List ResolvedEdit → List FilePart → Type 0
     AreHere begun left stored = AllByRecursion (λ e. IsHere e.node begun left e.lines) stored
 
-    -- an edit that changes rows does nothing to files
-    same-dated : (e : Edit) (begun : List Edit) → changes_rows e ≡ true → (x : FilePart) → AreDated ts count (file_dated x.node (lines_at begun)) x.lines.lines → AreDated ts count (file_dated x.node (lines_at (begun ++ e ∷ []))) x.lines.lines
-    same-dated e begun is x h = subst (λ ks. AreDated ts count (file_dated x.node ks) x.lines.lines) (sym (rows-leave begun e is)) h
-
-    row-here : (e : Edit) (begun later : List Edit) → changes_rows e ≡ true → (x : FilePart) → IsHere x.node begun (e ∷ later) x.lines → IsHere x.node (begun ++ e ∷ []) later x.lines
-    row-here (edits.New kind parent name) begun later is x h = record { above = h.above; are_dated = same-dated (edits.New kind parent name) begun is x h.are_dated; newest = h.newest; inserts = h.inserts; changes = h.changes; position = h.position }
-    row-here (edits.Insert file after text) begun later is x h = absurd (cc)
-    row-here (edits.Delete file line) begun later is x h = absurd (cc)
-    row-here (edits.Rename node name) begun later is x h = record { above = h.above; are_dated = same-dated (edits.Rename node name) begun is x h.are_dated; newest = h.newest; inserts = h.inserts; changes = h.changes; position = h.position }
-    row-here (edits.Move node parent) begun later is x h = record { above = h.above; are_dated = same-dated (edits.Move node parent) begun is x h.are_dated; newest = h.newest; inserts = h.inserts; changes = h.changes; position = h.position }
-    row-here (edits.Remove node) begun later is x h = record { above = h.above; are_dated = same-dated (edits.Remove node) begun is x h.are_dated; newest = h.newest; inserts = h.inserts; changes = h.changes; position = h.position }
-
-    right-behind : (e : Edit) (ks : List (Kept Line)) (made : ℕ) (later : List Edit) (ss : List EditPlan) → changes_rows e ≡ true → AreRight ks made (e ∷ later) ss → AreRight ks made later ss
-    right-behind (edits.New kind parent name) ks made later ss is h = h
-    right-behind (edits.Insert file after text) ks made later ss is h = absurd (cc)
-    right-behind (edits.Delete file line) ks made later ss is h = absurd (cc)
-    right-behind (edits.Rename node name) ks made later ss is h = h
-    right-behind (edits.Move node parent) ks made later ss is h = h
-    right-behind (edits.Remove node) ks made later ss is h = h
-
-    abbrev AreCarried : List EditPlan → List FilePart → Type 0
+    abbrev AreCarried : List ResolvedEdit → List FilePart → Type 0
     AreCarried ss stored = CanCarryOutAll q ss stored × ((after : List FilePart) → AreAllCarriedOut q ss stored after → AreHere es [] after)
 
-    row-carried : (e : Edit) (begun later : List Edit) → changes_rows e ≡ true → (made : ℕ) (stored : List FilePart) (ss : List EditPlan) → begun ++ e ∷ later ≡ es → made ≡ lines_amid history begun
-        → AreRight (lines_at begun) made (e ∷ later) ss → AreHere begun (e ∷ later) stored
-        → ((made : ℕ) (stored : List FilePart) (ss : List EditPlan) → (begun ++ e ∷ []) ++ later ≡ es → made ≡ lines_amid history (begun ++ e ∷ []) → AreRight (lines_at (begun ++ e ∷ [])) made later ss
-        → AreHere (begun ++ e ∷ []) later stored → AreCarried ss stored)
-        → AreCarried ss stored
-    row-carried e begun later is made stored ss all counted right here rest =
-        rest made stored ss (append_assoc begun (e ∷ []) later ∙ all)
-        (counted ∙ ap (λ l. m + length l) (sym (none_more m begun e (no-anchor m e is))))
-        (subst (λ ks. AreRight ks made later ss) (sym (rows-leave begun e is)) (right-behind e (lines_at begun) made later ss is right))
-        (all-map (λ x. IsHere x.node begun (e ∷ later) x.lines) (λ x. IsHere x.node (begun ++ e ∷ []) later x.lines) (row-here e begun later is) stored here)
+    -- an edit can be carried out in the stored files, and so can the others after it
+    carried-first : (s : ResolvedEdit) (ss : List ResolvedEdit) (begun next : List Edit) (stored : List FilePart)
+        → ((e : FilePart) → IsHere e.node begun (s ∷ ss) e.lines → CanCarryOutIn q s e)
+        → ((e e' : FilePart) → IsChangedIn (edited_node s) (IsCarriedOut q s) e e' → IsHere e.node begun (s ∷ ss) e.lines → IsHere e'.node next ss e'.lines)
+        → AreHere begun (s ∷ ss) stored → ((mid : List FilePart) → AreHere next ss mid → AreCarried ss mid) → AreCarried (s ∷ ss) stored
+    carried-first s ss begun next stored can goes here rest =
+        let on : (mid : List FilePart) → AreCarriedOut q s stored mid → AreCarried ss mid =
+        λ mid st. rest mid (all-pairs (IsChangedIn (edited_node s) (IsCarriedOut q s)) (λ x. IsHere x.node begun (s ∷ ss) x.lines) (λ x. IsHere x.node next ss x.lines) goes stored mid st here) in (
+          (all-map (λ x. IsHere x.node begun (s ∷ ss) x.lines) (CanCarryOutIn q s) can stored here, λ mid st. (on mid st).0),
+          λ after st. (on st.0 st.1).1 after st.2,
+        )
 
-    -- the plans of the edits can be carried out in the stored files, and are then
-    pub carried : (later begun : List Edit) (made : ℕ) (stored : List FilePart) (ss : List EditPlan) → begun ++ later ≡ es → made ≡ lines_amid history begun → AreRight (lines_at begun) made later ss
-        → AreHere begun later stored → CanCarryOutAll q ss stored × ((after : List FilePart) → AreAllCarriedOut q ss stored after → AreHere es [] after)
-    carried [] begun made stored ss all counted right here =
-        subst (λ ss. CanCarryOutAll q ss stored × ((after : List FilePart) → AreAllCarriedOut q ss stored after → AreHere es [] after)) (sym right)
-        (tt, λ after same. subst (λ b. AreHere b [] after) (sym (append-nil begun) ∙ all) (subst (AreHere begun []) (sym same) here))
-    carried (edits.New kind parent name ∷ later) begun made stored ss all counted right here =
-        row-carried (edits.New kind parent name) begun later refl made stored ss all counted right here (carried later (begun ++ edits.New kind parent name ∷ []))
-    carried (edits.Rename node name ∷ later) begun made stored ss all counted right here =
-        row-carried (edits.Rename node name) begun later refl made stored ss all counted right here (carried later (begun ++ edits.Rename node name ∷ []))
-    carried (edits.Move node parent ∷ later) begun made stored ss all counted right here =
-        row-carried (edits.Move node parent) begun later refl made stored ss all counted right here (carried later (begun ++ edits.Move node parent ∷ []))
-    carried (edits.Remove node ∷ later) begun made stored ss all counted right here =
-        row-carried (edits.Remove node) begun later refl made stored ss all counted right here (carried later (begun ++ edits.Remove node ∷ []))
-    carried (edits.Insert file after text ∷ later) begun made stored ss all counted right here =
+    -- an edit of rows leaves files as they are
+    here-behind : (e : Edit) (begun : List Edit) (ss : List ResolvedEdit) → changes_rows e ≡ true → (x : FilePart) → IsHere x.node begun ss x.lines → IsHere x.node (begun ++ e ∷ []) ss x.lines
+    here-behind e begun ss is x h = record {
+      above = h.above;
+      are_dated = subst (λ ks. AreDated ts count (file_dated x.node ks) x.lines.lines) (sym (rows-leave begun e is)) h.are_dated;
+      newest = h.newest;
+      inserts = h.inserts;
+      changes = h.changes;
+      position = h.position;
+    }
+
+    carried-row : (e : Edit) (begun : List Edit) (v s : ResolvedEdit) (ss : List ResolvedEdit) (stored : List FilePart) → changes_rows e ≡ true → s ≡ v
+        → ((node : ℕ) (file : DatedFile) → IsHere node begun (v ∷ ss) file → IsHere node begun ss file)
+        → ((x : FilePart) → CanCarryOut q v x) → ((old new : FilePart) → IsCarriedOut q v old new → new ≡ old)
+        → AreHere begun (s ∷ ss) stored → ((mid : List FilePart) → AreHere (begun ++ e ∷ []) ss mid → AreCarried ss mid) → AreCarried (s ∷ ss) stored
+    carried-row e begun v s ss stored is own drops can same here rest =
+        subst (λ x. AreCarried (x ∷ ss) stored) (sym own)
+        (carried-first v ss begun (begun ++ e ∷ []) stored (λ x h there. can x)
+        (λ x y changed h. subst (λ (z : FilePart). IsHere z.node (begun ++ e ∷ []) ss z.lines) (sym (left x y changed)) (here-behind e begun ss is x (drops x.node x.lines h)))
+        (subst (λ x. AreHere begun (x ∷ ss) stored) own here) rest)
+      where
+        left : (x y : FilePart) → IsChangedIn (edited_node v) (IsCarriedOut q v) x y → y ≡ x
+        left x y changed = by (nat_eq x.node (edited_node v)) refl
+          where
+            by : (b : Bool) → nat_eq x.node (edited_node v) ≡ b → y ≡ x
+            by true there = same x y (changed.here there)
+            by false there = changed.elsewhere there
+
+    -- the edits by numbers can be carried out in the stored files, and are then
+    pub carried : (later begun : List Edit) (nodes lines : ℕ) (stored : List FilePart) (ss : List ResolvedEdit) → begun ++ later ≡ es → lines ≡ lines_amid history begun → AreRight (lines_at begun) nodes lines later ss
+        → AreHere begun ss stored → CanCarryOutAll q ss stored × ((after : List FilePart) → AreAllCarriedOut q ss stored after → AreHere es [] after)
+    carried [] begun nodes lines stored [] all counted right here = (tt, λ after same. subst (λ b. AreHere b [] after) (sym (append-nil begun) ∙ all) (subst (AreHere begun []) (sym same) here))
+    carried [] begun nodes lines stored (s ∷ ss) all counted right here = absurd right
+    carried (e ∷ later) begun nodes lines stored [] all counted right here = absurd right
+    carried (edits.New kind parent name ∷ later) begun nodes lines stored (s ∷ ss) all counted right here =
+        let e = edits.New kind parent name in
+        carried-row e begun (resolved.New (nodes + 1) kind (node_number n parent) name a) s ss stored refl right.0
+        (λ node file h. record { above = h.above; are_dated = h.are_dated; newest = h.newest; inserts = h.inserts; changes = h.changes; position = h.position }) (λ x. tt) (λ old new h. h) here
+        (λ mid next. carried later (begun ++ e ∷ []) (nodes + 1) lines mid ss (append_assoc begun (e ∷ []) later ∙ all) (counted ∙ ap (λ l. m + length l) (sym (none_more m begun e refl)))
+        (subst (λ ks. AreRight ks (nodes + 1) lines later ss) (sym (rows-leave begun e refl)) right.1) next)
+    carried (edits.Rename node name ∷ later) begun nodes lines stored (s ∷ ss) all counted right here =
+        let e = edits.Rename node name in
+        carried-row e begun (resolved.Rename (node_number n node) name a) s ss stored refl right.0
+        (λ node file h. record { above = h.above; are_dated = h.are_dated; newest = h.newest; inserts = h.inserts; changes = h.changes; position = h.position }) (λ x. tt) (λ old new h. h) here
+        (λ mid next. carried later (begun ++ e ∷ []) nodes lines mid ss (append_assoc begun (e ∷ []) later ∙ all) (counted ∙ ap (λ l. m + length l) (sym (none_more m begun e refl)))
+        (subst (λ ks. AreRight ks nodes lines later ss) (sym (rows-leave begun e refl)) right.1) next)
+    carried (edits.Move node parent ∷ later) begun nodes lines stored (s ∷ ss) all counted right here =
+        let e = edits.Move node parent in
+        carried-row e begun (resolved.Move (node_number n node) (node_number n parent) a) s ss stored refl right.0
+        (λ node file h. record { above = h.above; are_dated = h.are_dated; newest = h.newest; inserts = h.inserts; changes = h.changes; position = h.position }) (λ x. tt) (λ old new h. h) here
+        (λ mid next. carried later (begun ++ e ∷ []) nodes lines mid ss (append_assoc begun (e ∷ []) later ∙ all) (counted ∙ ap (λ l. m + length l) (sym (none_more m begun e refl)))
+        (subst (λ ks. AreRight ks nodes lines later ss) (sym (rows-leave begun e refl)) right.1) next)
+    carried (edits.Remove node ∷ later) begun nodes lines stored (s ∷ ss) all counted right here =
+        let e = edits.Remove node in
+        carried-row e begun (resolved.Remove (node_number n node) a) s ss stored refl right.0
+        (λ node file h. record { above = h.above; are_dated = h.are_dated; newest = h.newest; inserts = h.inserts; changes = h.changes; position = h.position }) (λ x. tt) (λ old new h. h) here
+        (λ mid next. carried later (begun ++ e ∷ []) nodes lines mid ss (append_assoc begun (e ∷ []) later ∙ all) (counted ∙ ap (λ l. m + length l) (sym (none_more m begun e refl)))
+        (subst (λ ks. AreRight ks nodes lines later ss) (sym (rows-leave begun e refl)) right.1) next)
+    carried (edits.Insert file after text ∷ later) begun nodes lines stored (s ∷ ss) all counted right here =
         let e = edits.Insert file after text in
-        let plan : EditPlan = plans.Insert (node_number n file) (line_number m after) (lines_amid history begun + 1) text a in
-        let put : ss ≡ plan ∷ right.0 = right.1 ∙ ap (λ j. plans.Insert (node_number n file) (line_number m after) (j + 1) text a ∷ right.0) counted in
-        let rest : (mid : List FilePart) → AreCarriedOut q plan stored mid → CanCarryOutAll q right.0 mid × ((after : List FilePart) → AreAllCarriedOut q right.0 mid after → AreHere es [] after) =
-        λ mid st. carried later (begun ++ e ∷ []) (made + 1) mid right.0 (append_assoc begun (e ∷ []) later ∙ all)
+        let own : s ≡ resolved.Insert (node_number n file) (line_number m after) (lines_amid history begun + 1) text a =
+        right.0 ∙ ap (λ j. resolved.Insert (node_number n file) (line_number m after) (j + 1) text a) counted in
+        subst (λ x. AreCarried (x ∷ ss) stored) (sym own)
+        (carried-first (resolved.Insert (node_number n file) (line_number m after) (lines_amid history begun + 1) text a) ss begun (begun ++ e ∷ []) stored
+        (can-insert begun later file after text all ss) (insert-next begun later file after text all ss) (subst (λ x. AreHere begun (x ∷ ss) stored) own here)
+        (λ mid next. carried later (begun ++ e ∷ []) nodes (lines + 1) mid ss (append_assoc begun (e ∷ []) later ∙ all)
         (ap (λ j. j + 1) counted ∙ sym (one_more history begun file after text))
-        (right-on (lines_at begun) (lines_at (begun ++ e ∷ [])) (insert-right begun later file after text all) (made + 1) later right.0 right.2)
-        (all-pairs (IsChangedIn (node_number n file) (IsCarriedOut q plan)) (λ x. IsHere x.node begun (e ∷ later) x.lines) (λ x. IsHere x.node (begun ++ e ∷ []) later x.lines)
-        (insert-next begun later file after text all) stored mid st here) in
-        subst (λ ss. CanCarryOutAll q ss stored × ((after : List FilePart) → AreAllCarriedOut q ss stored after → AreHere es [] after)) (sym put) (
-          (all-map (λ x. IsHere x.node begun (e ∷ later) x.lines) (CanCarryOutIn q plan) (can-insert begun later file after text all) stored here, λ mid st. (rest mid st).0),
-          λ after st. (rest st.0 st.1).1 after st.2,
-        )
-    carried (edits.Delete file line ∷ later) begun made stored ss all counted right here =
+        (resolved-by (IsRight (lines_at begun)) (IsRight (lines_at (begun ++ e ∷ []))) n m a (insert-right begun later file after text all) nodes (lines + 1) later ss right.1) next))
+    carried (edits.Delete file line ∷ later) begun nodes lines stored (s ∷ ss) all counted right here =
         let e = edits.Delete file line in
-        let vis = right.0 in
-        let plan : EditPlan = plans.Delete (node_number n file) (line_number m line) vis in
-        let rest : (mid : List FilePart) → AreCarriedOut q plan stored mid → CanCarryOutAll q right.1 mid × ((after : List FilePart) → AreAllCarriedOut q right.1 mid after → AreHere es [] after) =
-        λ mid st. carried later (begun ++ e ∷ []) made mid right.1 (append_assoc begun (e ∷ []) later ∙ all)
+        subst (λ x. AreCarried (x ∷ ss) stored) (sym right.0.1)
+        (carried-first (resolved.Delete (node_number n file) (line_number m line) right.0.0) ss begun (begun ++ e ∷ []) stored
+        (can-delete begun later file line all right.0.0 ss) (delete-next begun later file line all right.0.0 ss right.0.2) (subst (λ x. AreHere begun (x ∷ ss) stored) right.0.1 here)
+        (λ mid next. carried later (begun ++ e ∷ []) nodes lines mid ss (append_assoc begun (e ∷ []) later ∙ all)
         (counted ∙ ap (λ l. m + length l) (sym (none_more m begun e refl)))
-        (right-on (lines_at begun) (lines_at (begun ++ e ∷ [])) (delete-right begun later file line all) made later right.1 right.4)
-        (all-pairs (IsChangedIn (node_number n file) (IsCarriedOut q plan)) (λ x. IsHere x.node begun (e ∷ later) x.lines) (λ x. IsHere x.node (begun ++ e ∷ []) later x.lines)
-        (delete-next begun later file line all vis right.3) stored mid st here) in
-        subst (λ ss. CanCarryOutAll q ss stored × ((after : List FilePart) → AreAllCarriedOut q ss stored after → AreHere es [] after)) (sym right.2) (
-          (all-map (λ x. IsHere x.node begun (e ∷ later) x.lines) (CanCarryOutIn q plan) (can-delete begun later file line all) stored here, λ mid st. (rest mid st).0),
-          λ after st. (rest st.0 st.1).1 after st.2,
-        )
+        (resolved-by (IsRight (lines_at begun)) (IsRight (lines_at (begun ++ e ∷ []))) n m a (delete-right begun later file line all) nodes lines later ss right.1) next))
 
   -- the lines that edits name are made before them
   pub named-low : (most : ℕ) (later begun : List Edit) → begun ++ later ≡ es → lines_amid history es ≤ most → AllByRecursion (λ e. named_line m e ≤ most) later

@@ -3,7 +3,6 @@ use Rattle.std.proofs.Common.{◌≡◌, ℕ, ◌+◌, ◌-◌, ◌<◌, ◌≤�
 use Rattle.std.specs.List.{AllByRecursion}
 use Rattle.std.proofs.lemmas.List.{length_push, take-map, length-map, take-append-le, take_all}
 use Rattle.cov_base.proofs.CallerLemmas.{length-with_lines, all-map}
-use Rattle.cov_base.specs.declared.number.Kind.{Kind}
 use Rattle.cov_dd.specs.declared.triple.Triple.{Triple}
 use Rattle.cov_base.specs.declared.limits.TheConstants.{LIMITS}
 use Rattle.cov_expr.specs.Formula.{Formula, False, reach}
@@ -23,18 +22,17 @@ use Rattle.cov_engine.specs.declared.summary.EditSummary.{EditSummary}
 use Rattle.cov_engine.specs.declared.counts.Counts.{Counts}
 use Rattle.cov_engine.specs.declared.file_part.FilePart.{FilePart}
 use Rattle.cov_engine.specs.declared.history_index.CommitMark.{CommitMark}
-use Rattle.cov_engine.specs.declared.edit_plan.EditPlan.{EditPlan}
+use Rattle.cov_engine.specs.declared.resolved_edit.ResolvedEdit.{ResolvedEdit}
 use Rattle.cov_engine.specs.declared.sizes.Sizes.{Sizes}
 use Rattle.cov_history.specs.declared.refusal.Refusal.{Refusal}
 use Rattle.cov_history.specs.declared.refusal.Refusal.TheVariants as refusals
 use Rattle.cov_history.specs.Kept.{kept_of}
 use Rattle.cov_history.specs.Files.{file_dated}
-use Rattle.cov_engine.specs.Nodes.{HasNodesIn}
+use Rattle.cov_engine.specs.Nodes.{HasNodesIn, IsTaken}
 use Rattle.cov_engine.proofs.Dating.{dated-nodes}
 use Rattle.cov_tree.specs.declared.entry.Entry.{Entry}
-use Rattle.cov_tree.specs.Changes.{Makes}
 use Rattle.cov_tree.specs.Dated.{Dated, HasRoom as HasRowRoom, planned as entries_planned, without_room}
-use Rattle.cov_engine.specs.RowPlans.{edit_changes, made_by, made_with, kinds_made_by, IsSet}
+use Rattle.cov_engine.specs.RowPlans.{row_changes, nodes_after_all, kinds_after_all, IsSet}
 use Rattle.cov_engine.specs.Holdings.{IsFileOf, AreRowsAndLinesOf}
 use Rattle.cov_engine.specs.Parts.{part_node, count_below, files_among}
 use Rattle.cov_edit.specs.Touched.{AreRising}
@@ -45,14 +43,16 @@ use Rattle.cov_engine.specs.Overtakers.{IsOvertaker}
 use Rattle.cov_history.specs.Overtaking.{overtaken}
 use Rattle.cov_history.specs.Verdict.{IsLegal, as_overtaken, verdict, refusals_of, size_refusals}
 use Rattle.cov_history.specs.FileOfLine.{new_file_of_line}
-use Rattle.cov_engine.specs.Staging.{contents, sizes_of, new_files, AreNear, AreLow, HasRoom}
+use Rattle.cov_engine.specs.Staging.{contents, new_contents, made_files, files_of_lines, sizes_of, new_files, AreNear, AreLow, HasRoom}
 use Rattle.cov_engine.specs.Staged.{IsCommitPlan, IsStaged}
 use Rattle.cov_edit.specs.History.{is_valid_in}
 use Rattle.cov_dd.specs.Diagrams.{Extends}
 use Rattle.cov_dd.proofs.CallerLemmas.{stands_later, stands_weaker}
 use Rattle.cov_tree.specs.Entries.{nodes_of, kinds_of}
-use Rattle.cov_tree.proofs.CallerLemmas.{newest_but_room, plans_grow}
-use Rattle.cov_engine.specs.Carrying.{ArePlanned, CanCarryOutAll, AreInstalled}
+use Rattle.cov_tree.proofs.CallerLemmas.{newest_but_room}
+use Rattle.cov_engine.specs.Carrying.{CanCarryOutAll, AreInstalled}
+use Rattle.cov_engine.specs.Resolved.{HaveNumbers, AreResolved, AreResolvedIn}
+use Rattle.cov_engine.specs.declared.resolving.CommitContext.{CommitContext}
 use Rattle.cov_dd.specs.Diagrams.{value_in, Stands}
 use Rattle.cov_edit.specs.History.{edits_in}
 use Rattle.cov_engine.specs.Ready.{IsNext, IsInBounds, AreCountsWith, IsCommitReady, IsStagedReady, IsReady}
@@ -64,6 +64,7 @@ use Rattle.cov_engine.proofs.States.{legal-one, sum-one, options-append, below}
 use Rattle.cov_engine.proofs.StoredFiles.{same-nodes}
 use Rattle.cov_engine.proofs.Rising.{count-front}
 use Rattle.cov_engine.proofs.Rooms.{staged-nodes}
+use Rattle.cov_engine.proofs.Resolved.{resolved-length, resolved-files, resolved-files_of_lines}
 use Rattle.cov_engine.proofs.RowPlans.{entries-room, makes-room}
 use Rattle.cov_engine.proofs.Refused.{accepted-sizes, bytes-few, commit-good, commit-sizes, commit-verdict, declared-less, edits-few, lines-few, nodes-few}
 use Rattle.cov_engine.proofs.Ruling.{rules-same}
@@ -123,8 +124,8 @@ module _ (history : List Command) (k : Command) (base : ℕ) (choice : List Bool
     pub as-staged : (r : Addition) → IsStagedReady history ts ambition es spare commits file_of_line entries stored r → IsReady history k os ts rules spare commits file_of_line entries stored r
     as-staged (additions.Option name) h = absurd h
     as-staged (additions.Rule rule plan) h = absurd h
-    as-staged (additions.Commit mark counts plans rows) h =
-        subst (λ c. IsCommitReady history ts c spare commits file_of_line entries stored mark counts plans.items rows) (sym is) (good, h.0, h.1, h.2)
+    as-staged (additions.Commit mark counts ss rows) h =
+        subst (λ c. IsCommitReady history ts c spare commits file_of_line entries stored mark counts ss.items rows) (sym is) (good, h.0, h.1, h.2)
 
 -- what is the same but for rooms holds the same
 pub held-contents : (history : List Command) (ts : List Triple) (commits : List CommitMark) (file_of_line : List ℕ) (before after : Dated) (old now : List FilePart) → without_room after ≡ without_room before → map contents now ≡ map contents old
@@ -146,7 +147,7 @@ take-front : {X : Type 0} (n : ℕ) (xs ys : List X) → n ≡ length xs → tak
 take-front n xs ys e = take-append-le n xs ys (omega (arith, e)) ∙ take_all n xs (omega (arith, e))
 
 -- what is staged is cut off again
-pub given-up : (history : List Command) (ts : List Triple) (ambition : Formula ℕ) (es : List Edit) (counts : Counts) (commits : List CommitMark) (mark : CommitMark) (ss : List EditPlan) (plan : List Entry) (file_of_line : List ℕ) (entries : Dated) (stored : List FilePart)
+pub given-up : (history : List Command) (ts : List Triple) (ambition : Formula ℕ) (es : List Edit) (counts : Counts) (commits : List CommitMark) (mark : CommitMark) (ss : List ResolvedEdit) (plan : List Entry) (file_of_line : List ℕ) (entries : Dated) (stored : List FilePart)
     (commits' : List CommitMark) (file_of_line' : List ℕ) (entries' : Dated) (stored' : List FilePart) → AreCountsOf history counts → IsStaged history ts ambition es commits mark ss plan file_of_line entries stored
     → commits' ≡ commits → file_of_line' ≡ take counts.lines file_of_line → entries' ≡ entries → map contents stored' ≡ map contents (take (count_below counts.nodes (map part_node stored)) stored) → AreRowsAndLinesOf history ts commits' file_of_line' entries' stored'
 given-up history ts ambition es counts commits mark ss plan file_of_line entries stored commits' file_of_line' entries' stored' are staged ce he xe ee =
@@ -176,7 +177,7 @@ given-up history ts ambition es counts commits mark ss plan file_of_line entries
 
     few : count_below counts.nodes (map part_node stored) ≡ length (map contents staged.old_stored)
     few =
-        ap (count_below counts.nodes) (staged-nodes n staged.old_stored stored es staged.files)
+        ap (count_below counts.nodes) (staged-nodes staged.old_stored stored (files_made n es) staged.files)
         ∙ count-front counts.nodes (map part_node staged.old_stored) (files_made n es) low high
         ∙ length-map staged.old_stored part_node ∙ sym (length-map staged.old_stored contents)
 
@@ -229,7 +230,7 @@ first-nodes : (history : List Command) (counts : Counts) → AreCountsOf history
 first-nodes history counts are = let nodes = are.nodes in omega (arith, nodes)
 
 -- a command for which a commit is ready
-module _ (history : List Command) (names : List (List ℕ)) (ts : List Triple) (standing : Standing) (old new : Counts) (ks : ℕ) (commits : List CommitMark) (mark : CommitMark) (ss : List EditPlan) (plan : List Entry) (file_of_line : List ℕ) (entries : Dated) (stored : List FilePart)
+module _ (history : List Command) (names : List (List ℕ)) (ts : List Triple) (standing : Standing) (old new : Counts) (ks : ℕ) (commits : List CommitMark) (mark : CommitMark) (ss : List ResolvedEdit) (plan : List Entry) (file_of_line : List ℕ) (entries : Dated) (stored : List FilePart)
     (state : AreDeclarationsOf history names ts standing old) where
   abbrev IsThat : Command → Type 0
   IsThat command = IsCommitReady history ts command ks commits file_of_line entries stored mark new ss plan
@@ -299,46 +300,38 @@ module _ (history : List Command) (names : List (List ℕ)) (ts : List Triple) (
   ready-given-up (commands.Commit base choice ambition es) commits' file_of_line' entries' stored' r ce he xe ee =
       given-up history ts ambition es old commits mark ss plan file_of_line entries stored commits' file_of_line' entries' stored' state.counted r.1 ce he xe ee
 
--- the edits of an accepted command name near nodes
-pub next-near : (history : List Command) (command : Command) (counts : Counts) (edits : List Edit) → AreCountsOf history counts → verdict history command ≡ None → edits ≡ edits_in command → AreNear (counts.nodes - 1) edits
-next-near history command counts edits are accepted e = subst (AreNear (counts.nodes - 1)) (sym e) (by command accepted)
-  where
-    by : (command : Command) → verdict history command ≡ None → AreNear (counts.nodes - 1) (edits_in command)
-    by (commands.Option name) accepted = tt
-    by (commands.Constraint expr) accepted = tt
-    by (commands.Prefer expr) accepted = tt
-    by (commands.Default option on) accepted = tt
-    by (commands.Commit base choice ambition es) accepted =
-        let sized = accepted-sizes history base choice ambition es accepted in
-        subst (λ n. AreNear n es) (sym (first-nodes history counts are))
-        (edits-near history base choice es (nodes-few history es sized.0 sized.1) (edits-accepted history base choice ambition es accepted))
+-- what a state's counts are of its history
+module _ (history : List Command) (counts : Counts) (es some : List Edit) (context : CommitContext) (are : AreCountsOf history counts) (within : IsInBounds history es) (e : some ≡ es)
+    (is : context ≡ record { at = context.at; nodes = counts.nodes - 1; lines = counts.lines; ambition = context.ambition }) where
+  nodes-before : context.nodes ≡ (numbers_of history).nodes
+  nodes-before = ap (λ (k : CommitContext). k.nodes) is ∙ first-nodes history counts are
 
--- edits that are within its limits name near nodes, and make few
-module _ (history : List Command) (counts : Counts) (es some : List Edit) (before : ℕ) (are : AreCountsOf history counts) (is : before ≡ counts.nodes - 1) where
-  nodes-before : before ≡ (numbers_of history).nodes
-  nodes-before = is ∙ first-nodes history counts are
+  lines-before : context.lines ≡ line_count history
+  lines-before = ap (λ (k : CommitContext). k.lines) is ∙ are.lines
 
-  pub first-near : IsInBounds history es → some ≡ es → AreNear before some
-  first-near within e = subst (AreNear before) (sym e) (subst (λ n. AreNear n es) (sym nodes-before) within.near)
+  -- edits that are within the limits name near nodes and low lines, and what they make has numbers
+  pub first-near : AreNear context.nodes some
+  first-near = subst (AreNear context.nodes) (sym e) (subst (λ n. AreNear n es) (sym nodes-before) within.near)
 
-  pub first-few : IsInBounds history es → some ≡ es → before + nodes_made some < 2 ^ 32
-  first-few within e = let nodes = are.nodes in let few = within.nodes in let same = ap nodes_made e in omega (arith, nodes, few, same, is)
+  pub first-low : AreLow context.lines some
+  first-low = subst (AreLow context.lines) (sym e) (subst (λ m. AreLow m es) (sym lines-before) within.low)
 
-  -- the nodes that a plan has with those that they make, with or without the kinds
-  pub made-after : {X : Type 0} (item : ℕ → Kind → X) (first plan kept : List X) → some ≡ es → first ≡ kept → plan ≡ made_with item before some first → plan ≡ made_with item (numbers_of history).nodes es kept
-  made-after item first plan kept same begun listed =
-      listed
-      ∙ ap (made_with item before some) begun
-      ∙ ap (λ n. made_with item n some kept) nodes-before
-      ∙ ap (λ xs. made_with item (numbers_of history).nodes xs kept) same
+  pub first-numbers : HaveNumbers (record { nodes = context.nodes; lines = context.lines }) some
+  first-numbers =
+      let few = within.nodes in
+      let low = within.lines in
+      let nodes = nodes-before in
+      let lines = lines-before in
+      subst (HaveNumbers (record { nodes = context.nodes; lines = context.lines })) (sym e) (record { nodes = omega (arith, few, nodes); lines = omega (arith, low, lines) })
 
--- what a plan makes of a commit's edits
-pub made-changes : (history : List Command) (counts : Counts) (ts : List Triple) (entries : Dated) (es some : List Edit) (before node at : ℕ) (plan : List Entry) → AreCountsOf history counts → before ≡ counts.nodes - 1 → at ≡ node → some ≡ es
-    → Makes ts entries plan (edit_changes before before at some) → Makes ts entries plan (edit_changes (numbers_of history).nodes (numbers_of history).nodes node es)
-made-changes history counts ts entries es some before node at plan are is own same makes =
-    subst (λ a. Makes ts entries plan (edit_changes (numbers_of history).nodes (numbers_of history).nodes a es)) own
-    (subst (λ xs. Makes ts entries plan (edit_changes (numbers_of history).nodes (numbers_of history).nodes at xs)) same
-    (subst (λ n. Makes ts entries plan (edit_changes n n at some)) (nodes-before history counts es some before are is) makes))
+  -- resolved in their context, they are resolved after the history
+  pub first-resolved : (at : ℕ) (stored : List FilePart) (ts : List Triple) (ss : List ResolvedEdit) → context.at ≡ at → AreResolvedIn context stored ts some ss
+      → AreResolved at stored (numbers_of history).nodes (line_count history) context.ambition ts es ss
+  first-resolved at stored ts ss place h =
+      subst (λ x. AreResolved at stored (numbers_of history).nodes (line_count history) context.ambition ts x ss) e
+      (subst (λ m. AreResolved at stored (numbers_of history).nodes m context.ambition ts some ss) lines-before
+      (subst (λ n. AreResolved at stored n context.lines context.ambition ts some ss) nodes-before
+      (subst (λ p. AreResolved p stored context.nodes context.lines context.ambition ts some ss) place h)))
 
 -- the node of the constraints is one of each table that goes on, and names only declared options
 pub conjunction-stands : {history : List Command} {names : List (List ℕ)} {ts : List Triple} {standing : Standing} {counts : Counts} (new : List Triple) → AreDeclarationsOf history names ts standing counts → Extends ts new
@@ -352,81 +345,69 @@ pub conjunction-later : {history : List Command} {names : List (List ℕ)} {ts :
 conjunction-later new state grown c =
     grown.value _ state.rules.holds.conjunction.within c ∙ state.rules.holds.conjunction.value c ∙ ap (λ fs. is_valid fs c) state.rules.constraints
 
--- a history with edits that are within its limits
+-- a history with edits that are within its limits, which have their numbers
 module _ (history : List Command) (es : List Edit) (counts : Counts) (ts : List Triple) (commits : List CommitMark) (file_of_line : List ℕ) (entries : Dated) (stored : List FilePart)
-    (are : AreCountsOf history counts) (held : AreRowsAndLinesOf history ts commits file_of_line entries stored) (within : IsInBounds history es) where
-  nodes-are : counts.nodes - 1 ≡ (numbers_of history).nodes
-  nodes-are = first-nodes history counts are
+    (are : AreCountsOf history counts) (held : AreRowsAndLinesOf history ts commits file_of_line entries stored) (within : IsInBounds history es)
+    (ambition : Formula ℕ) (mark : CommitMark) (ss some : List ResolvedEdit) (plan : List Entry) (planned : IsCommitPlan history ts entries stored ambition es mark ss plan) (e : some ≡ ss) where
+  n : ℕ
+  n = (numbers_of history).nodes
 
-  pub held-rising : (some : List Edit) → some ≡ es → AreRising (map part_node stored ++ files_made (counts.nodes - 1) some)
-  held-rising some e =
+  files-are : made_files some ≡ files_made n es
+  files-are = ap made_files e ∙ resolved-files (IsTaken ts (length history + 1) stored mark.node) n (line_count history) mark.node n (line_count history) es ss planned.resolved
+
+  pub held-rising : AreRising (map part_node stored ++ made_files some)
+  held-rising =
       subst AreRising
-      (files-commit history 0 [] False es ∙ (λ j. sym held.parts j ++ files_made (sym nodes-are j) (sym e j)))
+      (files-commit history 0 [] False es ∙ (λ j. sym held.parts j ++ sym files-are j))
       (files-rise (history ++ commands.Commit 0 [] False es ∷ [])).0
 
-  pub held-some : 1 ≤ counts.nodes
-  held-some = let nodes = are.nodes in omega (arith, nodes)
-
-  pub held-near : (some : List Edit) → some ≡ es → AreNear (counts.nodes - 1) some
-  held-near some e = subst (AreNear (counts.nodes - 1)) (sym e) (subst (λ n. AreNear n es) (sym nodes-are) within.near)
-
-  pub held-few : (some : List Edit) → some ≡ es → counts.nodes - 1 + nodes_made some < 2 ^ 32 - 1
-  held-few some e =
-      let own = nodes-are in
-      let all = are.nodes in
-      let nodes = within.nodes in
-      let same = ap nodes_made e in
-      omega (arith, own, all, nodes, same)
+  pub held-few : length some ≤ LIMITS.edits
+  held-few =
+      let few = within.edits in
+      let same = ap length e ∙ resolved-length (IsTaken ts (length history + 1) stored mark.node) n (line_count history) mark.node n (line_count history) es ss planned.resolved in
+      omega (arith, few, same)
 
   pub held-lines : counts.lines ≡ length file_of_line
   held-lines = are.lines ∙ sym held.lines
 
-  pub held-low : (some : List Edit) → some ≡ es → AreLow counts.lines some
-  held-low some e = subst (AreLow counts.lines) (sym e) (subst (λ m. AreLow m es) (sym are.lines) within.low)
-
   -- what is staged of them is ready
-  pub is-ready : (ambition : Formula ℕ) (spare : ℕ) (mark : CommitMark) (new : Counts) (before : List Triple) (plans : List EditPlan) (plan : List Entry) (commits' : List CommitMark) (file_of_line' : List ℕ) (entries' : Dated) (stored' : List FilePart) (some : List Edit) → some ≡ es
-      → IsCommitPlan history before entries ambition es mark plan → Extends before ts
+  pub is-ready : (spare : ℕ) (new : Counts) (commits' : List CommitMark) (file_of_line' : List ℕ) (entries' : Dated) (stored' : List FilePart)
       → new ≡ record { lines = counts.lines + length (anchors_of 0 es); nodes = counts.nodes + nodes_made es; bytes = counts.bytes + text_bytes es }
-      → ArePlanned mark.position stored (counts.nodes - 1) counts.lines mark.node ts counts.lines some plans
-      → commits' ≡ commits → without_room entries' ≡ without_room entries → file_of_line' ≡ file_of_line ++ new_file_of_line (counts.nodes - 1) some
-      → map contents stored' ≡ map contents stored ++ new_files (counts.nodes - 1) some → AllByRecursion (HasRoom (counts.nodes - 1) counts.lines some) stored' → HasRowRoom plan entries' → 0 < spare
-      → IsStaged history ts ambition es commits' mark plans plan file_of_line' entries' stored' × AreCountsWith history es new × (0 < spare)
-  is-ready ambition spare mark new before plans plan commits' file_of_line' entries' stored' some e planned_before grown ne planned ce xe he ee room row_room free =
-      let nodes : counts.nodes - 1 ≡ (numbers_of history).nodes = nodes-are in (
-        record {
-          old_file_of_line = file_of_line;
-          old_stored = stored;
-          held = subst (λ cs. AreRowsAndLinesOf history ts cs file_of_line entries' stored) (sym ce) (held-contents history ts commits file_of_line entries entries' stored stored xe refl held);
-          at = planned_before.at;
-          touches = planned_before.touches;
-          file_of_line_is = he ∙ ap (λ k. file_of_line ++ new_file_of_line k some) nodes ∙ ap (λ x. file_of_line ++ new_file_of_line (numbers_of history).nodes x) e;
-          files = ee ∙ ap (λ n. map contents stored ++ new_files n some) nodes ∙ ap (λ x. map contents stored ++ new_files (numbers_of history).nodes x) e;
-          room = subst (λ x. AllByRecursion (HasRoom (numbers_of history).nodes (line_count history) x) stored') e
-              (subst (λ m. AllByRecursion (HasRoom (numbers_of history).nodes m some) stored') are.lines (subst (λ n. AllByRecursion (HasRoom n counts.lines some) stored') nodes room));
-          changes = makes-room ts entries entries' plan _ xe (plans_grow before ts entries plan _ grown planned_before.changes);
-          nodes =
-              ap (λ xs. nodes_of (entries_planned plan xs)) (newest_but_room entries entries' xe)
-              ∙ planned_before.nodes
-              ∙ ap (λ xs. made_by (numbers_of history).nodes es (nodes_of xs)) (sym (newest_but_room entries entries' xe));
-          kinds =
-              ap (λ xs. kinds_of (entries_planned plan xs)) (newest_but_room entries entries' xe)
-              ∙ planned_before.kinds
-              ∙ ap (λ xs. kinds_made_by (numbers_of history).nodes es (kinds_of xs)) (sym (newest_but_room entries entries' xe));
-          row_room = row_room;
-          stands = stands_later grown planned_before.stands;
-          planned = subst (λ x. ArePlanned (length history + 1) stored (numbers_of history).nodes (line_count history) mark.node ts (line_count history) x plans) e
-              (subst (λ m. ArePlanned (length history + 1) stored (numbers_of history).nodes m mark.node ts m some plans) are.lines
-              (subst (λ n. ArePlanned (length history + 1) stored n counts.lines mark.node ts counts.lines some plans) nodes
-              (subst (λ q. ArePlanned q stored (counts.nodes - 1) counts.lines mark.node ts counts.lines some plans) planned_before.at planned)));
-        },
-        record {
-          lines = ap (λ (k : Counts). k.lines) ne ∙ ap (λ n. n + length (anchors_of 0 es)) are.lines;
-          nodes = ap (λ (k : Counts). k.nodes) ne ∙ ap (λ n. n + nodes_made es) are.nodes;
-          bytes = ap (λ (k : Counts). k.bytes) ne ∙ ap (λ n. n + text_bytes es) are.bytes;
-        },
-        free,
-      )
+      → commits' ≡ commits → without_room entries' ≡ without_room entries → file_of_line' ≡ file_of_line ++ files_of_lines some
+      → map contents stored' ≡ map contents stored ++ map new_contents (made_files some) → AllByRecursion (HasRoom some) stored' → HasRowRoom plan entries' → 0 < spare
+      → IsStaged history ts ambition es commits' mark ss plan file_of_line' entries' stored' × AreCountsWith history es new × (0 < spare)
+  is-ready spare new commits' file_of_line' entries' stored' ne ce xe he ee room row_room free = (
+    record {
+      old_file_of_line = file_of_line;
+      old_stored = stored;
+      held = subst (λ cs. AreRowsAndLinesOf history ts cs file_of_line entries' stored) (sym ce) (held-contents history ts commits file_of_line entries entries' stored stored xe refl held);
+      at = planned.at;
+      touches = planned.touches;
+      file_of_line_is = he
+          ∙ ap (λ x. file_of_line ++ files_of_lines x) e
+          ∙ ap (λ files. file_of_line ++ files) (resolved-files_of_lines (IsTaken ts (length history + 1) stored mark.node) n (line_count history) mark.node n (line_count history) es ss planned.resolved);
+      files = ee ∙ ap (λ files. map contents stored ++ map new_contents files) files-are;
+      room = subst (λ x. AllByRecursion (HasRoom x) stored') e room;
+      changes = makes-room ts entries entries' plan _ xe planned.changes;
+      nodes =
+          ap (λ xs. nodes_of (entries_planned plan xs)) (newest_but_room entries entries' xe)
+          ∙ planned.nodes
+          ∙ ap (λ xs. nodes_after_all (row_changes ss) (nodes_of xs)) (sym (newest_but_room entries entries' xe));
+      kinds =
+          ap (λ xs. kinds_of (entries_planned plan xs)) (newest_but_room entries entries' xe)
+          ∙ planned.kinds
+          ∙ ap (λ xs. kinds_after_all (row_changes ss) (kinds_of xs)) (sym (newest_but_room entries entries' xe));
+      row_room = row_room;
+      stands = planned.stands;
+      resolved = planned.resolved;
+    },
+    record {
+      lines = ap (λ (k : Counts). k.lines) ne ∙ ap (λ n. n + length (anchors_of 0 es)) are.lines;
+      nodes = ap (λ (k : Counts). k.nodes) ne ∙ ap (λ n. n + nodes_made es) are.nodes;
+      bytes = ap (λ (k : Counts). k.bytes) ne ∙ ap (λ n. n + text_bytes es) are.bytes;
+    },
+    free,
+  )
 
 pub held-again : (history : List Command) (ts : List Triple) (commits commits' : List CommitMark) (file_of_line file_of_line' : List ℕ) (entries entries' : Dated) (stored stored' : List FilePart) → AreRowsAndLinesOf history ts commits file_of_line entries stored
     → commits' ≡ commits → file_of_line' ≡ file_of_line → without_room entries' ≡ without_room entries → map contents stored' ≡ map contents stored → AreRowsAndLinesOf history ts commits' file_of_line' entries' stored'

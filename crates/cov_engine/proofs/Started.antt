@@ -9,10 +9,9 @@ use Rattle.cov_dd.specs.Combinations.{joint_span}
 use Rattle.cov_dd.proofs.CallerLemmas.{stands_weaker}
 use Rattle.cov_expr.specs.Formula.{Formula, value}
 use Rattle.cov_edit.specs.declared.edit.Edit.{Edit}
-use Rattle.cov_edit.specs.declared.edit.Edit.TheVariants as edits
 use Rattle.cov_edit.specs.declared.command.Command.{Command}
 use Rattle.cov_edit.specs.History.{option_count}
-use Rattle.cov_edit.specs.Numbering.{node_number, line_number, numbers_of, line_count}
+use Rattle.cov_edit.specs.Numbering.{numbers_of, line_count}
 use Rattle.cov_edit.specs.Variant.{Line}
 use Rattle.cov_file.specs.Dated.{vis_of}
 use Rattle.cov_order.specs.Orders.{has_line, AreLines}
@@ -24,11 +23,12 @@ use Rattle.cov_engine.specs.Holdings.{IsFileOf}
 use Rattle.cov_history.specs.Kept.{Kept, seen_at, kept_number, kept_of, file_kept}
 use Rattle.cov_engine.specs.Nodes.{old_node, IsTaken}
 use Rattle.cov_history.specs.Sessions.{IsGood, session_of}
-use Rattle.cov_engine.specs.Carrying.{ArePlanned}
+use Rattle.cov_engine.specs.Resolved.{AreResolved}
 use Rattle.cov_history.specs.Verdict.{IsLegal}
 use Rattle.cov_engine.specs.declared.file_part.FilePart.{FilePart}
-use Rattle.cov_engine.specs.declared.edit_plan.EditPlan.{EditPlan}
+use Rattle.cov_engine.specs.declared.resolved_edit.ResolvedEdit.{ResolvedEdit}
 use Rattle.cov_engine.proofs.MidCommit.{IsRight, AreRight}
+use Rattle.cov_engine.proofs.Resolved.{resolved-by}
 use Rattle.cov_engine.proofs.Committed.{numbers-dated, in-range}
 use Rattle.cov_engine.proofs.Dating.{AreOnce, false-stands, gone, dated-numbers, node-right, node-low, node-none, IsGone}
 use Rattle.cov_history.proofs.CallerLemmas.{legal-in_files, lines-held, any-none, any-mapped}
@@ -134,13 +134,7 @@ module _ (history : List Command) (base : ℕ) (choice : List Bool) (ambition : 
           subst (λ ks. AllByRecursion (IsGone ts (option_count history) ambition q line vis) (map dated ks))
           (sym (none-kept (λ f. has_node f (files_of history) ≡ true) file (kept_of history) (legal-in_files history legal) (missing none))) tt
 
-  -- what is planned is right
-  pub planned-right : (made : ℕ) (later : List Edit) (ss : List EditPlan) → ArePlanned q stored n (line_count history) a ts made later ss → AreRight history base choice ambition es good legal ts a stands (kept_of history) made later ss
-  planned-right made [] ss h = h
-  planned-right made (edits.New kind parent name ∷ later) ss h = planned-right made later ss h
-  planned-right made (edits.Insert file after text ∷ later) ss h = (h.0, h.1, planned-right (made + 1) later h.0 h.2)
-  planned-right made (edits.Delete file line ∷ later) ss h =
-      (h.0, h.1, h.2, taken-right (node_number n file) (line_number (line_count history) line) h.0 h.3, planned-right made later h.1 h.4)
-  planned-right made (edits.Rename node name ∷ later) ss h = planned-right made later ss h
-  planned-right made (edits.Move node parent ∷ later) ss h = planned-right made later ss h
-  planned-right made (edits.Remove node ∷ later) ss h = planned-right made later ss h
+  -- what edits by numbers take out is right
+  pub resolved-right : (ss : List ResolvedEdit) → AreResolved q stored n (line_count history) a ts es ss → AreRight history base choice ambition es good legal ts a stands (kept_of history) n (line_count history) es ss
+  resolved-right ss h =
+      resolved-by (IsTaken ts q stored a) (IsRight history base choice ambition es good legal ts a stands (kept_of history)) n (line_count history) a taken-right n (line_count history) es ss h

@@ -9,10 +9,10 @@ use Rattle.std.proofs.lemmas.Bool.Decides.{nat_tests}
 use Rattle.cov_base.specs.Rows.{has_node}
 use Rattle.cov_edit.specs.Touched.{AreRising}
 use Rattle.cov_engine.specs.declared.file_part.FilePart.{FilePart}
-use Rattle.cov_engine.specs.declared.edit_plan.EditPlan.{EditPlan}
-use Rattle.cov_engine.specs.declared.edit_plan.EditPlan.TheVariants as plans
+use Rattle.cov_engine.specs.declared.resolved_edit.ResolvedEdit.{ResolvedEdit}
+use Rattle.cov_engine.specs.declared.resolved_edit.ResolvedEdit.TheVariants as resolved
 use Rattle.cov_engine.specs.Staging.{Contents, contents, new_contents}
-use Rattle.cov_engine.specs.Carrying.{plan_file, IsCarriedOut, IsChangedIn, AreCarriedOut, CanCarryOutAll, AreAllCarriedOut}
+use Rattle.cov_engine.specs.Carrying.{edited_node, IsCarriedOut, IsChangedIn, AreCarriedOut, CanCarryOutAll, AreAllCarriedOut}
 use Rattle.cov_engine.specs.Parts.{part_node}
 
 pub equal : (m n : ℕ) → nat_eq m n ≡ true → m ≡ n
@@ -53,6 +53,11 @@ module _ (file : ℕ) (P : FilePart → FilePart → Type 0) where
   one-changed (e ∷ es) (suc i) d new rising h p =
       let above : e.node < file = all-get (λ y. e.node < y) (map part_node es) i file h rising.0 in
       (same-one e (grind (arith, nat_tests, above)), one-changed es i d new rising.1 h p)
+
+-- where a change leaves a file as it was, files are paired with themselves
+pub unchanged : (file : ℕ) (P : FilePart → FilePart → Type 0) → ((e : FilePart) → P e e) → (es : List FilePart) → AllZip (IsChangedIn file P) es es
+unchanged file P same [] = tt
+unchanged file P same (e ∷ es) = (record { here = λ t. same e; elsewhere = λ t. refl }, unchanged file P same es)
 
 -- what holds of stored files holds of those that they are paired with
 pub all-pairs : (Q : FilePart → FilePart → Type 0) (A B : FilePart → Type 0) → ((e f : FilePart) → Q e f → A e → B f)
@@ -109,33 +114,37 @@ same-rising xs ys e = subst AreRising (sym (same-nodes xs ys e))
 pub node-contents : (e f : FilePart) → contents e ≡ contents f → e.node ≡ f.node
 node-contents e f h = ap (λ (s : Contents). s.node) h
 
--- a plan changes no numbers
-pub carried-node : (at : ℕ) (s : EditPlan) (old new : FilePart) → IsChangedIn (plan_file s) (IsCarriedOut at s) old new → new.node ≡ old.node
-carried-node at s old new h = by (nat_eq old.node (plan_file s)) refl
+-- an edit changes no numbers
+pub carried-node : (at : ℕ) (s : ResolvedEdit) (old new : FilePart) → IsChangedIn (edited_node s) (IsCarriedOut at s) old new → new.node ≡ old.node
+carried-node at s old new h = by (nat_eq old.node (edited_node s)) refl
   where
-    row : (s : EditPlan) → IsCarriedOut at s old new → new.node ≡ old.node
-    row (plans.Insert file anchor line text vis) p = ap (λ (r : Contents). r.node) p.row
-    row (plans.Delete file line vis) p = ap (λ (r : Contents). r.node) p.row
+    row : (s : ResolvedEdit) → IsCarriedOut at s old new → new.node ≡ old.node
+    row (resolved.New node kind parent name on) p = ap (λ (x : FilePart). x.node) p
+    row (resolved.Insert file anchor line text vis) p = ap (λ (r : Contents). r.node) p.row
+    row (resolved.Delete file line vis) p = ap (λ (r : Contents). r.node) p.row
+    row (resolved.Rename node name on) p = ap (λ (x : FilePart). x.node) p
+    row (resolved.Move node parent on) p = ap (λ (x : FilePart). x.node) p
+    row (resolved.Remove node on) p = ap (λ (x : FilePart). x.node) p
 
-    by : (b : Bool) → nat_eq old.node (plan_file s) ≡ b → new.node ≡ old.node
+    by : (b : Bool) → nat_eq old.node (edited_node s) ≡ b → new.node ≡ old.node
     by true e = row s (h.here e)
     by false e = ap (λ (x : FilePart). x.node) (h.elsewhere e)
 
-carried-nodes : (at : ℕ) (s : EditPlan) (old new : List FilePart) → AreCarriedOut at s old new → map part_node new ≡ map part_node old
+carried-nodes : (at : ℕ) (s : ResolvedEdit) (old new : List FilePart) → AreCarriedOut at s old new → map part_node new ≡ map part_node old
 carried-nodes at s [] [] pairs = refl
 carried-nodes at s [] (y ∷ new) pairs = absurd pairs
 carried-nodes at s (x ∷ old) [] pairs = absurd pairs
 carried-nodes at s (x ∷ old) (y ∷ new) pairs = ap (λ k. k ∷ map part_node new) (carried-node at s x y pairs.0) ∙ ap (λ ns. x.node ∷ ns) (carried-nodes at s old new pairs.1)
 
-pub carried-rising : (at : ℕ) (s : EditPlan) (old new : List FilePart) → AreCarriedOut at s old new → AreRising (map part_node old) → AreRising (map part_node new)
+pub carried-rising : (at : ℕ) (s : ResolvedEdit) (old new : List FilePart) → AreCarriedOut at s old new → AreRising (map part_node old) → AreRising (map part_node new)
 carried-rising at s old new pairs = subst AreRising (sym (carried-nodes at s old new pairs))
 
-pub all-carried-rising : (at : ℕ) (ss : List EditPlan) (old new : List FilePart) → AreAllCarriedOut at ss old new → AreRising (map part_node old) → AreRising (map part_node new)
+pub all-carried-rising : (at : ℕ) (ss : List ResolvedEdit) (old new : List FilePart) → AreAllCarriedOut at ss old new → AreRising (map part_node old) → AreRising (map part_node new)
 all-carried-rising at [] old new carried rising = subst (λ xs. AreRising (map part_node xs)) (sym carried) rising
 all-carried-rising at (s ∷ ss) old new carried rising = all-carried-rising at ss carried.0 new carried.2 (carried-rising at s old carried.0 carried.1 rising)
 
-module _ (at : ℕ) (s : EditPlan) (ss rest : List EditPlan) (old new : List FilePart) where
-  -- the plans after the first can be carried out after it
+module _ (at : ℕ) (s : ResolvedEdit) (ss rest : List ResolvedEdit) (old new : List FilePart) where
+  -- the edits after the first can be carried out after it
   pub can-rest : ss ≡ s ∷ rest → AreCarriedOut at s old new → CanCarryOutAll at ss old → CanCarryOutAll at rest new
   can-rest is carried can = (subst (λ l. CanCarryOutAll at l old) is can).1 new carried
 

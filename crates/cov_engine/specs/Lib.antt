@@ -9,6 +9,7 @@ pub mod Parts
 pub mod Reading
 pub mod Ready
 pub mod Refusing
+pub mod Resolved
 pub mod RowPlans
 pub mod Ruling
 pub mod Showing

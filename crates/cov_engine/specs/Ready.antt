@@ -22,7 +22,7 @@ use Rattle.cov_history.specs.Verdict.{verdict}
 use Rattle.cov_engine.specs.declared.counts.Counts.{Counts}
 use Rattle.cov_engine.specs.declared.file_part.FilePart.{FilePart}
 use Rattle.cov_engine.specs.declared.history_index.CommitMark.{CommitMark}
-use Rattle.cov_engine.specs.declared.edit_plan.EditPlan.{EditPlan}
+use Rattle.cov_engine.specs.declared.resolved_edit.ResolvedEdit.{ResolvedEdit}
 use Rattle.cov_engine.specs.declared.state.EngineState.{EngineState}
 use Rattle.cov_engine.specs.declared.addition.Addition.{Addition}
 use Rattle.cov_engine.specs.declared.addition.Addition.TheVariants as additions
@@ -52,14 +52,14 @@ pub record AreCountsWith (history : List Command) (es : List Edit) (counts : Cou
 abbrev pub IsStagedReady : List Command → List Triple → Formula ℕ → List Edit → ℕ → List CommitMark → List ℕ → Dated → List FilePart → Addition → Type 0
 IsStagedReady history ts ambition es spare commits file_of_line entries stored (additions.Option name) = ⊥
 IsStagedReady history ts ambition es spare commits file_of_line entries stored (additions.Rule rule plan) = ⊥
-IsStagedReady history ts ambition es spare commits file_of_line entries stored (additions.Commit mark counts plans rows) =
-    IsStaged history ts ambition es commits mark plans.items rows file_of_line entries stored × AreCountsWith history es counts × (0 < spare)
+IsStagedReady history ts ambition es spare commits file_of_line entries stored (additions.Commit mark counts ss rows) =
+    IsStaged history ts ambition es commits mark ss.items rows file_of_line entries stored × AreCountsWith history es counts × (0 < spare)
 
 -- a commit is staged, and there is room for it
-abbrev pub IsCommitReady : List Command → List Triple → Command → ℕ → List CommitMark → List ℕ → Dated → List FilePart → CommitMark → Counts → List EditPlan → List Entry → Type 0
-IsCommitReady history ts (commands.Commit base choice ambition es) spare commits file_of_line entries stored mark counts plans rows =
-    MayCome history (commands.Commit base choice ambition es) × IsStaged history ts ambition es commits mark plans rows file_of_line entries stored × AreCountsWith history es counts × (0 < spare)
-IsCommitReady history ts command spare commits file_of_line entries stored mark counts plans rows = ⊥
+abbrev pub IsCommitReady : List Command → List Triple → Command → ℕ → List CommitMark → List ℕ → Dated → List FilePart → CommitMark → Counts → List ResolvedEdit → List Entry → Type 0
+IsCommitReady history ts (commands.Commit base choice ambition es) spare commits file_of_line entries stored mark counts ss rows =
+    MayCome history (commands.Commit base choice ambition es) × IsStaged history ts ambition es commits mark ss rows file_of_line entries stored × AreCountsWith history es counts × (0 < spare)
+IsCommitReady history ts command spare commits file_of_line entries stored mark counts ss rows = ⊥
 
 -- what a command wants is ready: a name and room for it, a rule with its plan, or what a commit stages
 abbrev pub IsReady : List Command → Command → ℕ → List Triple → RulesValue → ℕ → List CommitMark → List ℕ → Dated → List FilePart → Addition → Type 0
@@ -67,13 +67,13 @@ IsReady history command options_spare ts rules commits_spare commits file_of_lin
     (command ≡ commands.Option name) × (0 < options_spare) × AreRowsAndLinesOf history ts commits file_of_line entries stored
 IsReady history command options_spare ts rules commits_spare commits file_of_line entries stored (additions.Rule rule plan) =
     (rule_in command ≡ Some rule) × IsPlan ts rules rule plan × AreRowsAndLinesOf history ts commits file_of_line entries stored
-IsReady history command options_spare ts rules commits_spare commits file_of_line entries stored (additions.Commit mark counts plans rows) =
-    IsCommitReady history ts command commits_spare commits file_of_line entries stored mark counts plans.items rows
+IsReady history command options_spare ts rules commits_spare commits file_of_line entries stored (additions.Commit mark counts ss rows) =
+    IsCommitReady history ts command commits_spare commits file_of_line entries stored mark counts ss.items rows
 
 -- a commit is planned in a state
-abbrev pub IsPlannedFor : EngineState → Formula ℕ → List Edit → CommitMark → List Entry → Type 0
-IsPlannedFor s ambition es mark plan =
-    IsCommitPlan (history_of s) (table_of s) s.visible.entries ambition es mark plan
+abbrev pub IsPlannedFor : EngineState → Formula ℕ → List Edit → CommitMark → List ResolvedEdit → List Entry → Type 0
+IsPlannedFor s ambition es mark ss plan =
+    IsInBounds (history_of s) es × IsCommitPlan (history_of s) (table_of s) s.visible.entries s.visible.files ambition es mark ss plan
 
 -- a state has what its history declares, and a commit is staged in it
 abbrev pub IsStagedFor : EngineState → Formula ℕ → List Edit → Addition → Type 0

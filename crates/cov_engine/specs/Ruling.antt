@@ -53,4 +53,4 @@ IsRefusalOf s rule r = (count : ℕ) → AreOptions count s rule → RefusedBy r
 abbrev pub IsRuleReady : Command → List Triple → RulesValue → Addition → Type 0
 IsRuleReady command ts standing (additions.Option name) = ⊥
 IsRuleReady command ts standing (additions.Rule rule plan) = (rule_in command ≡ Some rule) × IsPlan ts standing rule plan
-IsRuleReady command ts standing (additions.Commit mark counts plans rows) = ⊥
+IsRuleReady command ts standing (additions.Commit mark counts ss rows) = ⊥

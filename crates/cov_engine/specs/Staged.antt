@@ -16,29 +16,30 @@ use Rattle.cov_history.specs.Verdict.{RefusedBy}
 use Rattle.cov_history.specs.declared.refusal.Refusal.{Refusal}
 use Rattle.cov_engine.specs.Staging.{contents, new_files, HasRoom}
 use Rattle.cov_engine.specs.Holdings.{AreRowsAndLinesOf}
-use Rattle.cov_engine.specs.Carrying.{ArePlanned}
-use Rattle.cov_engine.specs.RowPlans.{edit_changes, made_by, kinds_made_by}
+use Rattle.cov_engine.specs.Resolved.{AreResolved}
+use Rattle.cov_engine.specs.RowPlans.{row_changes, nodes_after_all, kinds_after_all}
 use Rattle.cov_tree.specs.declared.entry.Entry.{Entry}
 use Rattle.cov_tree.specs.Changes.{Makes}
 use Rattle.cov_tree.specs.Dated.{Dated, HasRoom as HasRowRoom, nodes_in, kinds_in, nodes_with, kinds_with}
 use Rattle.cov_engine.specs.declared.file_part.FilePart.{FilePart}
 use Rattle.cov_engine.specs.declared.history_index.CommitMark.{CommitMark}
-use Rattle.cov_engine.specs.declared.edit_plan.EditPlan.{EditPlan}
+use Rattle.cov_engine.specs.declared.resolved_edit.ResolvedEdit.{ResolvedEdit}
 
 -- a commit is planned after a history: its position and what it touches are kept, its node stands for the ambition, which names
--- declared options, and a plan makes its changes of rows, with the nodes that it makes behind those before
-pub record IsCommitPlan (history : List Command) (ts : List Triple) (entries : Dated) (ambition : Formula ℕ) (es : List Edit) (mark : CommitMark) (plan : List Entry) : Type 0 where
+-- declared options, its edits have their numbers, and a plan makes its changes of rows, with the nodes that it makes behind those before
+pub record IsCommitPlan (history : List Command) (ts : List Triple) (entries : Dated) (stored : List FilePart) (ambition : Formula ℕ) (es : List Edit) (mark : CommitMark) (ss : List ResolvedEdit) (plan : List Entry) : Type 0 where
   pub at : mark.position ≡ length history + 1
   pub touches : mark.touched ≡ touched es
   pub named : reach ambition ≤ option_count history
   pub stands : Stands ts mark.node 0 (option_count history) (value ambition)
-  pub changes : Makes ts entries plan (edit_changes (numbers_of history).nodes (numbers_of history).nodes mark.node es)
-  pub nodes : nodes_with plan entries ≡ made_by (numbers_of history).nodes es (nodes_in entries)
-  pub kinds : kinds_with plan entries ≡ kinds_made_by (numbers_of history).nodes es (kinds_in entries)
+  pub resolved : AreResolved (length history + 1) stored (numbers_of history).nodes (line_count history) mark.node ts es ss
+  pub changes : Makes ts entries plan (row_changes ss)
+  pub nodes : nodes_with plan entries ≡ nodes_after_all (row_changes ss) (nodes_in entries)
+  pub kinds : kinds_with plan entries ≡ kinds_after_all (row_changes ss) (kinds_in entries)
 
 -- a commit is staged: its files and the files of its lines are kept behind those of the history, each file has room for what it
--- does to it and the entries for its changes of rows, and its ambition and the plans of its edits are ready
-pub record IsStaged (history : List Command) (ts : List Triple) (ambition : Formula ℕ) (es : List Edit) (commits : List CommitMark) (mark : CommitMark) (plans : List EditPlan) (plan : List Entry) (file_of_line : List ℕ) (entries : Dated) (stored : List FilePart) : Type 0 where
+-- does to it and the entries for its changes of rows, and its ambition and its edits by numbers are ready
+pub record IsStaged (history : List Command) (ts : List Triple) (ambition : Formula ℕ) (es : List Edit) (commits : List CommitMark) (mark : CommitMark) (ss : List ResolvedEdit) (plan : List Entry) (file_of_line : List ℕ) (entries : Dated) (stored : List FilePart) : Type 0 where
   pub old_file_of_line : List ℕ
   pub old_stored : List FilePart
   pub held : AreRowsAndLinesOf history ts commits old_file_of_line entries old_stored
@@ -46,13 +47,13 @@ pub record IsStaged (history : List Command) (ts : List Triple) (ambition : Form
   pub touches : mark.touched ≡ touched es
   pub file_of_line_is : file_of_line ≡ old_file_of_line ++ new_file_of_line (numbers_of history).nodes es
   pub files : map contents stored ≡ map contents old_stored ++ new_files (numbers_of history).nodes es
-  pub room : AllByRecursion (HasRoom (numbers_of history).nodes (line_count history) es) stored
-  pub changes : Makes ts entries plan (edit_changes (numbers_of history).nodes (numbers_of history).nodes mark.node es)
-  pub nodes : nodes_with plan entries ≡ made_by (numbers_of history).nodes es (nodes_in entries)
-  pub kinds : kinds_with plan entries ≡ kinds_made_by (numbers_of history).nodes es (kinds_in entries)
+  pub room : AllByRecursion (HasRoom ss) stored
+  pub changes : Makes ts entries plan (row_changes ss)
+  pub nodes : nodes_with plan entries ≡ nodes_after_all (row_changes ss) (nodes_in entries)
+  pub kinds : kinds_with plan entries ≡ kinds_after_all (row_changes ss) (kinds_in entries)
   pub row_room : HasRowRoom plan entries
   pub stands : Stands ts mark.node 0 (option_count history) (value ambition)
-  pub planned : ArePlanned (length history + 1) old_stored (numbers_of history).nodes (line_count history) mark.node ts (line_count history) es plans
+  pub resolved : AreResolved (length history + 1) old_stored (numbers_of history).nodes (line_count history) mark.node ts es ss
 
 -- edits within an ambition leave each variant sound, whatever session they come from
 abbrev pub LeavesSound : List Command → Formula ℕ → List Edit → Type 0

@@ -1,6 +1,6 @@
 -- What a commit adds to what is kept.
-use Rattle.std.specs.Prelude.{◌≡◌, ℕ, suc, ◌^◌, ◌<◌, ◌≤◌, Bool, true, false, ◌&&◌, ◌||◌, nat_eq, List, [], ◌∷◌, length, map, Option, None, if◌then◌else◌}
-use Rattle.std.specs.List.{AllByRecursion}
+use Rattle.std.specs.Prelude.{◌≡◌, ℕ, suc, ◌^◌, ◌<◌, ◌≤◌, Bool, true, false, ◌&&◌, ◌||◌, nat_eq, List, [], ◌∷◌, length, map, Option, Some, None, if◌then◌else◌}
+use Rattle.std.specs.List.{filter_map, AllByRecursion}
 use Rattle.cov_base.specs.declared.number.NodeRef.{NodeRef}
 use Rattle.cov_base.specs.declared.limits.TheConstants.{LIMITS}
 use Rattle.cov_file.specs.Dated.{DatedLine as FileLine, line_numbers_of}
@@ -10,11 +10,13 @@ use Rattle.cov_edit.specs.declared.edit.Edit.TheVariants as edits
 use Rattle.cov_edit.specs.History.{text_bytes}
 use Rattle.cov_edit.specs.Numbering.{node_number, line_number, nodes_made, anchors_of}
 use Rattle.cov_view.specs.Refusals.{first_of}
-use Rattle.cov_history.specs.FileNodes.{files_made}
+use Rattle.cov_history.specs.FileNodes.{if_file, files_made}
 use Rattle.cov_history.specs.Verdict.{refusals_by_size}
 use Rattle.cov_engine.specs.declared.counts.Counts.{Counts}
 use Rattle.cov_history.specs.declared.refusal.Refusal.{Refusal}
 use Rattle.cov_engine.specs.declared.file_part.FilePart.{FilePart}
+use Rattle.cov_engine.specs.declared.resolved_edit.ResolvedEdit.{ResolvedEdit}
+use Rattle.cov_engine.specs.declared.resolved_edit.ResolvedEdit.TheVariants as resolved
 use Rattle.cov_engine.specs.declared.sizes.Sizes.{Sizes}
 
 -- how many lines and nodes edits make, and how many bytes of text they insert
@@ -72,38 +74,64 @@ named_line m (edits.Remove node) = 0
 abbrev pub AreLow : ℕ → List Edit → Type 0
 AreLow m es = AllByRecursion (λ e. named_line m e < 2 ^ 32) es
 
--- how many lines edits insert into a file, n nodes having been made before
-abbrev pub inserts_into : ℕ → ℕ → List Edit → ℕ
-inserts_into n file [] = 0
-inserts_into n file (edits.New kind parent name ∷ es) = inserts_into n file es
-inserts_into n file (edits.Insert f after text ∷ es) = if nat_eq (node_number n f) file then suc (inserts_into n file es) else inserts_into n file es
-inserts_into n file (edits.Delete f line ∷ es) = inserts_into n file es
-inserts_into n file (edits.Rename node name ∷ es) = inserts_into n file es
-inserts_into n file (edits.Move node parent ∷ es) = inserts_into n file es
-inserts_into n file (edits.Remove node ∷ es) = inserts_into n file es
+-- how many lines edits insert into a file
+abbrev pub inserts_into : ℕ → List ResolvedEdit → ℕ
+inserts_into file [] = 0
+inserts_into file (resolved.New node kind parent name on ∷ ss) = inserts_into file ss
+inserts_into file (resolved.Insert f anchor line text vis ∷ ss) = if nat_eq f file then suc (inserts_into file ss) else inserts_into file ss
+inserts_into file (resolved.Delete f line vis ∷ ss) = inserts_into file ss
+inserts_into file (resolved.Rename node name on ∷ ss) = inserts_into file ss
+inserts_into file (resolved.Move node parent on ∷ ss) = inserts_into file ss
+inserts_into file (resolved.Remove node on ∷ ss) = inserts_into file ss
 
--- whether edits delete a line of a file, n nodes and m lines having been made before
-abbrev pub deletes_from : ℕ → ℕ → ℕ → ℕ → List Edit → Bool
-deletes_from n m file which [] = false
-deletes_from n m file which (edits.New kind parent name ∷ es) = deletes_from n m file which es
-deletes_from n m file which (edits.Insert f after text ∷ es) = deletes_from n m file which es
-deletes_from n m file which (edits.Delete f line ∷ es) = (nat_eq (node_number n f) file && nat_eq (line_number m line) which) || deletes_from n m file which es
-deletes_from n m file which (edits.Rename node name ∷ es) = deletes_from n m file which es
-deletes_from n m file which (edits.Move node parent ∷ es) = deletes_from n m file which es
-deletes_from n m file which (edits.Remove node ∷ es) = deletes_from n m file which es
+-- whether edits delete a line of a file
+abbrev pub deletes_from : ℕ → ℕ → List ResolvedEdit → Bool
+deletes_from file which [] = false
+deletes_from file which (resolved.New node kind parent name on ∷ ss) = deletes_from file which ss
+deletes_from file which (resolved.Insert f anchor line text vis ∷ ss) = deletes_from file which ss
+deletes_from file which (resolved.Delete f line vis ∷ ss) = (nat_eq f file && nat_eq line which) || deletes_from file which ss
+deletes_from file which (resolved.Rename node name on ∷ ss) = deletes_from file which ss
+deletes_from file which (resolved.Move node parent on ∷ ss) = deletes_from file which ss
+deletes_from file which (resolved.Remove node on ∷ ss) = deletes_from file which ss
 
--- whether edits insert into a file or delete from it, n nodes having been made before
-abbrev pub touches : ℕ → ℕ → List Edit → Bool
-touches n file [] = false
-touches n file (edits.New kind parent name ∷ es) = touches n file es
-touches n file (edits.Insert f after text ∷ es) = nat_eq (node_number n f) file || touches n file es
-touches n file (edits.Delete f line ∷ es) = nat_eq (node_number n f) file || touches n file es
-touches n file (edits.Rename node name ∷ es) = touches n file es
-touches n file (edits.Move node parent ∷ es) = touches n file es
-touches n file (edits.Remove node ∷ es) = touches n file es
+-- whether edits insert into a file or delete from it
+abbrev pub touches : ℕ → List ResolvedEdit → Bool
+touches file [] = false
+touches file (resolved.New node kind parent name on ∷ ss) = touches file ss
+touches file (resolved.Insert f anchor line text vis ∷ ss) = nat_eq f file || touches file ss
+touches file (resolved.Delete f line vis ∷ ss) = nat_eq f file || touches file ss
+touches file (resolved.Rename node name on ∷ ss) = touches file ss
+touches file (resolved.Move node parent on ∷ ss) = touches file ss
+touches file (resolved.Remove node on ∷ ss) = touches file ss
 
 -- a stored file has room for what edits do to its file, at any position
-pub record HasRoom (n m : ℕ) (es : List Edit) (e : FilePart) : Type 0 where
-  pub inserts : inserts_into n e.node es ≤ e.lines.room.inserts
-  pub changes : (line : ℕ) → deletes_from n m e.node line es ≡ true → has_line line (line_numbers_of e.lines.lines) ≡ true → has_line line e.lines.room.changes ≡ true
-  pub position : touches n e.node es ≡ true → e.lines.room.position ≡ None
+pub record HasRoom (ss : List ResolvedEdit) (e : FilePart) : Type 0 where
+  pub inserts : inserts_into e.node ss ≤ e.lines.room.inserts
+  pub changes : (line : ℕ) → deletes_from e.node line ss ≡ true → has_line line (line_numbers_of e.lines.lines) ≡ true → has_line line e.lines.room.changes ≡ true
+  pub position : touches e.node ss ≡ true → e.lines.room.position ≡ None
+
+-- the file that an edit makes, if it makes one
+abbrev pub made_file : ResolvedEdit → Option ℕ
+made_file (resolved.New node kind parent name on) = if_file kind node
+made_file (resolved.Insert file anchor line text vis) = None
+made_file (resolved.Delete file line vis) = None
+made_file (resolved.Rename node name on) = None
+made_file (resolved.Move node parent on) = None
+made_file (resolved.Remove node on) = None
+
+-- the files that edits make
+abbrev pub made_files : List ResolvedEdit → List ℕ
+made_files ss = filter_map made_file ss
+
+-- the file of the line that an edit inserts, if it inserts one
+abbrev pub file_of_new_line : ResolvedEdit → Option ℕ
+file_of_new_line (resolved.New node kind parent name on) = None
+file_of_new_line (resolved.Insert file anchor line text vis) = Some file
+file_of_new_line (resolved.Delete file line vis) = None
+file_of_new_line (resolved.Rename node name on) = None
+file_of_new_line (resolved.Move node parent on) = None
+file_of_new_line (resolved.Remove node on) = None
+
+-- the files of the lines that edits insert
+abbrev pub files_of_lines : List ResolvedEdit → List ℕ
+files_of_lines ss = filter_map file_of_new_line ss

@@ -1,24 +1,19 @@
 // What is made ready for a command.
-ghost use Rattle.std.specs.Prelude.{◌≡◌, ◌<◌, ◌≤◌, ◌+◌, ◌-◌, ◌++◌, ◌^◌, length, map, IfOk, OnOk, OnErr};
+ghost use Rattle.std.specs.Prelude.{◌≡◌, ◌<◌, ◌≤◌, ◌++◌, length, map, OnOk, OnErr};
 ghost use Rattle.std.specs.List.{AllByRecursion};
 ghost use Rattle.cov_base.specs.declared.limits.TheConstants.{LIMITS};
-ghost use Rattle.cov_edit.specs.Numbering.{nodes_made};
 ghost use Rattle.cov_edit.specs.Touched.{AreRising};
-ghost use Rattle.cov_history.specs.FileNodes.{files_made};
-ghost use Rattle.cov_history.specs.FileOfLine.{new_file_of_line};
 ghost use Rattle.cov_tree.specs.Dated.{HasRoom as HasRowRoom, without_room};
 ghost use Rattle.cov_engine.specs.Parts.{part_node};
-ghost use Rattle.cov_engine.specs.Staging.{contents, new_files, AreNear, AreLow, HasRoom};
+ghost use Rattle.cov_engine.specs.Staging.{contents, new_contents, made_files, files_of_lines, HasRoom};
 
-use crate::edit_plan::EditPlan;
 use crate::history_index::{CommitMark, HistoryIndex};
+use crate::resolved_edit::ResolvedEdit;
 use crate::staging::{stage, unstage};
 use crate::{Counts, Visible};
 use cov_base::{Memory, NodeNo, OptionName};
-use cov_edit::Edit;
 use cov_rules::{Rule, RulePlan};
 use cov_tree::EntryPlan;
-use std::collections::VecDeque;
 
 /// What is ready for a command that is accepted.
 #[derive(Drop)]
@@ -32,49 +27,48 @@ pub(crate) enum Addition {
         rule: Rule,
         plan: RulePlan,
     },
-    /// The position and ambition of the commit, the counts with it, and the plans of its edits and of its rows. What it makes is
+    /// The position and ambition of the commit, the counts with it, its edits by numbers, and the plan of its rows. What it makes is
     /// staged.
     Commit {
         mark: CommitMark,
         counts: Counts,
-        plans: VecDeque<EditPlan>,
+        edits: Vec<ResolvedEdit>,
         rows: EntryPlan,
     },
 }
 
-/// Stages what a commit's edits make, up to a last node; on `Err` nothing of it is there.
+/// Stages what a commit's edits make, up to a last node, so many lines being there before; on `Err` nothing of it is there. It
+/// touches these nodes.
 pub(crate) fn stage_commit(
     index: &mut HistoryIndex,
     visible: &mut Visible,
     rows: &EntryPlan,
-    counts: Counts,
+    lines: u32,
     last: NodeNo,
-    edits: &[Edit],
+    touched: &[NodeNo],
+    edits: &[ResolvedEdit],
 ) -> Result<(), Memory>
-    requires lines { counts.lines ≡ length index.old.file_of_line.items }
-    requires rising { AreRising (map part_node visible.old.files ++ files_made (counts.nodes - 1) edits.now) }
-    requires nodes { 1 ≤ counts.nodes }
-    requires near { AreNear (counts.nodes - 1) edits.now }
-    requires low { AreLow counts.lines edits.now }
-    requires few_edits { length edits.now ≤ LIMITS.edits }
-    requires few_nodes { counts.nodes - 1 + nodes_made edits.now < 2 ^ 32 - 1 }
+    requires lines { lines ≡ length index.old.file_of_line.items }
+    requires rising { AreRising (map part_node visible.old.files ++ made_files edits.now) }
+    requires few { length edits.now ≤ LIMITS.edits }
     ensures table { visible.new.table ≡ visible.old.table }
     ensures commits { index.new.commits.items ≡ index.old.commits.items }
     ensures entries { without_room visible.new.entries ≡ without_room visible.old.entries }
-    ensures file_of_line { OnOk result (index.new.file_of_line.items ≡ index.old.file_of_line.items ++ new_file_of_line (counts.nodes - 1) edits.now) }
-    ensures files { OnOk result (map contents visible.new.files ≡ map contents visible.old.files ++ new_files (counts.nodes - 1) edits.now) }
-    ensures room { OnOk result (AllByRecursion (HasRoom (counts.nodes - 1) counts.lines edits.now) visible.new.files) }
+    ensures file_of_line { OnOk result (index.new.file_of_line.items
+        ≡ index.old.file_of_line.items ++ files_of_lines edits.now) }
+    ensures files { OnOk result (map contents visible.new.files
+        ≡ map contents visible.old.files ++ map new_contents (made_files edits.now)) }
+    ensures room { OnOk result (AllByRecursion (HasRoom edits.now) visible.new.files) }
     ensures row_room { OnOk result (HasRowRoom rows.now visible.new.entries) }
     ensures commit_room { OnOk result (0 < index.new.commits.spare) }
     ensures same_file_of_line { OnErr result (index.new.file_of_line.items ≡ index.old.file_of_line.items) }
     ensures same_files { OnErr result (map contents visible.new.files ≡ map contents visible.old.files) }
 {
-    let before = counts.nodes - 1;
     let files = visible.files.len();
-    match stage(index, visible, rows, before, last, counts.lines, edits) {
+    match stage(index, visible, rows, last, edits) {
         Ok(()) => Ok(()),
         Err(Memory) => {
-            unstage(index, visible, files, before, counts.lines, edits);
+            unstage(index, visible, files, lines, touched);
             Err(Memory)
         }
     }

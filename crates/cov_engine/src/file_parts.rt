@@ -1,19 +1,17 @@
 // Files with their lines.
-ghost use Rattle.std.specs.Prelude.{◌≡◌, ◌<◌, ◌≤◌, ◌+◌, ◌-◌, ◌++◌, ◌^◌, [], ◌∷◌, length, map, take, slice_get, OnOk, OnErr};
+ghost use Rattle.std.specs.Prelude.{◌≡◌, ◌≤◌, ◌++◌, [], ◌∷◌, length, map, take, slice_get, OnOk, OnErr};
 ghost use Rattle.std.specs.List.{AllByRecursion};
 ghost use Rattle.std.specs.Option.{option_copied};
 ghost use Rattle.cov_base.specs.declared.limits.TheConstants.{LIMITS};
-ghost use Rattle.cov_edit.specs.Numbering.{nodes_made};
 ghost use Rattle.cov_edit.specs.Touched.{AreRising};
 ghost use Rattle.cov_engine.specs.Carrying.{CanCarryOutAll, AreAllCarriedOut};
 ghost use Rattle.cov_engine.specs.Parts.{part_node};
-ghost use Rattle.cov_engine.specs.Staging.{contents, new_files, AreNear, AreLow, HasRoom};
+ghost use Rattle.cov_engine.specs.Staging.{contents, new_contents, made_files, HasRoom};
 
 use crate::FilePart;
-use crate::edit_plan::{EditPlan, carry_out};
-use crate::file_staging::{add_room_for, expect_nothing_for, stage_file};
+use crate::file_staging::{add_room_for, expect_nothing_in, stage_file};
+use crate::resolved_edit::{ResolvedEdit, carry_out};
 use cov_base::{Memory, NodeNo, Position};
-use cov_edit::Edit;
 use std::alloc::Global;
 use std::collections::VecDeque;
 use std::marker::Model;
@@ -74,51 +72,44 @@ impl FileParts {
         self.parts.as_slice()
     }
 
-    /// Adds the files that a commit's edits make, so many nodes having been made before.
-    pub(crate) fn stage(&mut self, before: u32, edits: &[Edit]) -> Result<(), Memory>
-        requires few { before + nodes_made edits.now < 2 ^ 32 - 1 }
-        ensures ok { OnOk result (map contents self.new ≡ map contents self.old ++ new_files before edits.now) }
+    /// Adds the files that a commit's edits make.
+    pub(crate) fn stage(&mut self, edits: &[ResolvedEdit]) -> Result<(), Memory>
+        ensures ok { OnOk result (map contents self.new
+            ≡ map contents self.old ++ map new_contents (made_files edits.now)) }
         ensures front { take (length self.old) self.new ≡ self.old }
     {
-        let mut made = before;
         let mut ahead = edits;
         while let [edit, rest @ ..] = ahead {
-            made = stage_file(&mut self.parts, made, edit)?;
+            stage_file(&mut self.parts, edit)?;
             ahead = rest;
         }
         Ok(())
     }
 
-    /// Makes room in each file for what edits do to it, so many nodes and lines having been made before.
-    pub(crate) fn add_rooms(&mut self, nodes: u32, lines: u32, edits: &[Edit]) -> Result<(), Memory>
+    /// Makes room in each file for what edits do to it.
+    pub(crate) fn add_rooms(&mut self, edits: &[ResolvedEdit]) -> Result<(), Memory>
         requires rising { AreRising (map part_node self.old) }
-        requires near { AreNear nodes edits.now }
-        requires low { AreLow lines edits.now }
         requires few { length edits.now ≤ LIMITS.edits }
         ensures same { map contents self.new ≡ map contents self.old }
-        ensures room { OnOk result (AllByRecursion (HasRoom nodes lines edits.now) self.new) }
+        ensures room { OnOk result (AllByRecursion (HasRoom edits.now) self.new) }
     {
         let files = self.parts.as_mut_slice();
         let mut ahead = edits;
         while let [edit, rest @ ..] = ahead {
-            add_room_for(files, nodes, lines, edit)?;
+            add_room_for(files, edit)?;
             ahead = rest;
         }
         Ok(())
     }
 
-    /// Takes back what was expected of files for edits, so many nodes having been made before.
-    pub(crate) fn expect_nothing(&mut self, before: u32, edits: &[Edit])
+    /// What was expected of the files with these nodes is no longer, nor of those from a place on.
+    pub(crate) fn expect_nothing(&mut self, nodes: &[NodeNo], from: usize)
         requires rising { AreRising (map part_node self.old) }
-        requires near { AreNear before edits.now }
         ensures { map contents self.new ≡ map contents self.old }
     {
         let files = self.parts.as_mut_slice();
-        let mut ahead = edits;
-        while let [edit, rest @ ..] = ahead {
-            expect_nothing_for(files, before, edit);
-            ahead = rest;
-        }
+        expect_nothing_at(files, nodes);
+        expect_nothing_from(files, from);
     }
 
     /// Cuts off all but the first so many files.
@@ -128,16 +119,39 @@ impl FileParts {
         self.parts.truncate(count);
     }
 
-    /// Carries out plans in order. It takes for each at most time in the lines of its file, and no memory.
-    pub(crate) fn carry_out_all(&mut self, plans: VecDeque<EditPlan>, at: Position)
+    /// Carries out edits in order. It takes for each at most time in the lines of its file, and no memory.
+    pub(crate) fn carry_out_all(&mut self, edits: Vec<ResolvedEdit>, at: Position)
         requires rising { AreRising (map part_node self.old) }
-        requires can { CanCarryOutAll at plans.items self.old }
-        ensures { AreAllCarriedOut at plans.items self.old self.new }
+        requires can { CanCarryOutAll at edits.items self.old }
+        ensures { AreAllCarriedOut at edits.items self.old self.new }
     {
         let files = self.parts.as_mut_slice();
-        let mut plans = plans;
-        while let Some(plan) = plans.pop_front() {
-            carry_out(files, plan, at);
+        let mut ahead = VecDeque::from(edits);
+        while let Some(edit) = ahead.pop_front() {
+            carry_out(files, edit, at);
         }
+    }
+}
+
+// What was expected of the files with these nodes is no longer.
+fn expect_nothing_at(files: &mut [FilePart], nodes: &[NodeNo])
+    requires rising { AreRising (map part_node files.old) }
+    ensures { map contents files.new ≡ map contents files.old }
+{
+    let mut ahead = nodes;
+    while let [node, rest @ ..] = ahead {
+        expect_nothing_in(files, *node);
+        ahead = rest;
+    }
+}
+
+// What was expected of the files from a place on is no longer.
+fn expect_nothing_from(files: &mut [FilePart], from: usize)
+    ensures { map contents files.new ≡ map contents files.old }
+{
+    let mut at = from;
+    while at < files.len() {
+        files[at].expect_nothing();
+        at += 1;
     }
 }

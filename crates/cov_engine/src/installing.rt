@@ -1,25 +1,23 @@
 // Commands that are installed, or given up.
-ghost use Rattle.std.specs.Prelude.{◌≡◌, ◌-◌, ◌++◌, ◌≤◌, [], ◌∷◌, map, take};
+ghost use Rattle.std.specs.Prelude.{◌≡◌, ◌++◌, [], ◌∷◌, map, take};
 ghost use Rattle.cov_edit.specs.Touched.{AreRising};
 ghost use Rattle.cov_engine.specs.Parts.{part_node, count_below};
-ghost use Rattle.cov_engine.specs.Staging.{contents, AreNear};
-ghost use Rattle.cov_edit.specs.History.{edits_in};
+ghost use Rattle.cov_engine.specs.Staging.{contents};
 ghost use Rattle.cov_engine.specs.Ready.{IsPrepared};
 ghost use Rattle.cov_engine.specs.States.{history_of, table_of, receipt_number, IsKept, Keeps};
 ghost use Rattle.cov_engine.specs.declared.addition.Addition.TheVariants as additions;
 
 use crate::addition::Addition;
-use crate::edit_plan::EditPlan;
 use crate::history_index::{CommitMark, HistoryIndex};
 use crate::places::count_below;
+use crate::resolved_edit::ResolvedEdit;
 use crate::staging::{install, unstage};
 use crate::state::EngineState;
 use crate::{Counts, Visible};
 use cov_base::{NodeNo, OptionName, Position};
-use cov_edit::{Command, Edit};
+use cov_edit::Command;
 use cov_rules::{Rule, RulePlan};
 use cov_tree::EntryPlan;
-use std::collections::VecDeque;
 
 /// Adds all of a command that is ready but the command itself, and answers the number on its receipt.
 pub(crate) fn add(state: &mut EngineState, command: &Command, ready: Addition) -> u32
@@ -35,9 +33,9 @@ pub(crate) fn add(state: &mut EngineState, command: &Command, ready: Addition) -
         Addition::Commit {
             mark,
             counts,
-            plans,
+            edits,
             rows,
-        } => add_commit(state, command, mark, counts, plans, rows),
+        } => add_commit(state, command, mark, counts, edits, rows),
     }
 }
 
@@ -69,21 +67,24 @@ fn add_commit(
     command: &Command,
     mark: CommitMark,
     counts: Counts,
-    plans: VecDeque<EditPlan>,
+    edits: Vec<ResolvedEdit>,
     rows: EntryPlan,
 ) -> u32
-    requires prepared { IsPrepared state.old command.now (additions.Commit mark counts plans rows) }
+    requires prepared { IsPrepared state.old command.now (additions.Commit mark counts edits rows) }
     ensures commands { state.new.commands ≡ state.old.commands }
     ensures table { table_of state.new ≡ table_of state.old }
     ensures kept { Keeps (history_of state.old ++ command.now ∷ []) state.new }
     ensures number { result ≡ receipt_number (history_of state.old) command.now }
 {
+    let first = count_below(
+        state.visible.files.as_slice(),
+        NodeNo::new(state.counts.nodes),
+    );
     install(
         &mut state.index,
         &mut state.visible,
-        state.counts.nodes - 1,
-        edits_in(command),
-        plans,
+        first,
+        edits,
         rows,
         mark,
     );
@@ -100,20 +101,18 @@ pub(crate) fn give_up(state: &mut EngineState, command: &Command, ready: &Additi
 {
     match ready {
         Addition::Option { .. } | Addition::Rule { .. } => (),
-        Addition::Commit { .. } => cut_off(
+        Addition::Commit { mark, .. } => cut_off(
             &mut state.index,
             &mut state.visible,
             state.counts,
-            edits_in(command),
+            mark.touched.as_slice(),
         ),
     }
 }
 
-// Cuts off what is staged for the edits of a commit.
-fn cut_off(index: &mut HistoryIndex, visible: &mut Visible, counts: Counts, edits: &[Edit])
+// Cuts off what is staged for a commit that touches these nodes.
+fn cut_off(index: &mut HistoryIndex, visible: &mut Visible, counts: Counts, touched: &[NodeNo])
     requires rising { AreRising (map part_node visible.old.files) }
-    requires nodes { 1 ≤ counts.nodes }
-    requires near { AreNear (counts.nodes - 1) edits.now }
     ensures table { visible.new.table ≡ visible.old.table }
     ensures commits { index.new.commits.items ≡ index.old.commits.items }
     ensures entries { visible.new.entries ≡ visible.old.entries }
@@ -121,14 +120,5 @@ fn cut_off(index: &mut HistoryIndex, visible: &mut Visible, counts: Counts, edit
     ensures files { map contents visible.new.files ≡ map contents (take (count_below counts.nodes (map part_node visible.old.files)) visible.old.files) }
 {
     let files = count_below(visible.files.as_slice(), NodeNo::new(counts.nodes));
-    unstage(index, visible, files, counts.nodes - 1, counts.lines, edits);
-}
-
-fn edits_in(command: &Command) -> &[Edit]
-    ensures { result.now ≡ edits_in command.now }
-{
-    match command {
-        Command::Commit { edits, .. } => edits.as_slice(),
-        _ => &[],
-    }
+    unstage(index, visible, files, counts.lines, touched);
 }

@@ -1,40 +1,32 @@
 // What a commit adds to what is kept. It is added before the commit is installed, all but what it does to the lines of files,
 // for which there is room then; where the commit is given up, it is cut off again.
-ghost use Rattle.std.specs.Prelude.{◌≡◌, ◌<◌, ◌≤◌, ◌+◌, ◌-◌, ◌++◌, ◌^◌, [], ◌∷◌, length, map, take, OnOk, OnErr};
+ghost use Rattle.std.specs.Prelude.{◌≡◌, ◌<◌, ◌≤◌, ◌++◌, [], ◌∷◌, length, map, take, OnOk, OnErr};
 ghost use Rattle.std.specs.List.{AllByRecursion};
 ghost use Rattle.cov_base.specs.declared.limits.TheConstants.{LIMITS};
-ghost use Rattle.cov_edit.specs.Numbering.{nodes_made};
 ghost use Rattle.cov_edit.specs.Touched.{AreRising};
-ghost use Rattle.cov_history.specs.FileNodes.{files_made};
-ghost use Rattle.cov_history.specs.FileOfLine.{new_file_of_line};
 ghost use Rattle.cov_engine.specs.Parts.{part_node};
-ghost use Rattle.cov_engine.specs.Staging.{contents, new_files, AreNear, AreLow, HasRoom};
+ghost use Rattle.cov_engine.specs.Staging.{contents, new_contents, made_files, files_of_lines, HasRoom};
 ghost use Rattle.cov_tree.specs.Dated.{HasRoom as HasRowRoom, without_room};
 ghost use Rattle.cov_engine.specs.RowPlans.{IsSet};
 ghost use Rattle.cov_engine.specs.Carrying.{CanCarryOutAll, AreInstalled};
 
 use crate::Visible;
-use crate::edit_plan::EditPlan;
 use crate::history_index::{CommitMark, HistoryIndex};
-use crate::number::node_number;
+use crate::resolved_edit::ResolvedEdit;
 use cov_base::{Memory, NodeNo, Position};
-use cov_edit::Edit;
 use cov_tree::{Entries, EntryPlan};
-use std::collections::VecDeque;
 
-/// Adds the files of the lines that a commit's edits insert, `before` nodes having been made before.
+/// Adds the files of the lines that a commit's edits insert.
 pub(crate) fn stage_files_of_lines(
     file_of_line: &mut Vec<NodeNo>,
-    before: u32,
-    edits: &[Edit],
+    edits: &[ResolvedEdit],
 ) -> Result<(), Memory>
-    requires near { AreNear before edits.now }
-    ensures ok { OnOk result (file_of_line.new.items ≡ file_of_line.old.items ++ new_file_of_line before edits.now) }
+    ensures ok { OnOk result (file_of_line.new.items ≡ file_of_line.old.items ++ files_of_lines edits.now) }
     ensures front { take (length file_of_line.old.items) file_of_line.new.items ≡ file_of_line.old.items }
 {
     let mut ahead = edits;
     while let [edit, rest @ ..] = ahead {
-        stage_file_of_line(file_of_line, before, edit)?;
+        stage_file_of_line(file_of_line, edit)?;
         ahead = rest;
     }
     Ok(())
@@ -42,23 +34,22 @@ pub(crate) fn stage_files_of_lines(
 
 fn stage_file_of_line(
     file_of_line: &mut Vec<NodeNo>,
-    before: u32,
-    edit: &Edit,
+    edit: &ResolvedEdit,
 ) -> Result<(), Memory>
-    requires near { AreNear before (edit.now ∷ []) }
-    ensures ok { OnOk result (file_of_line.new.items ≡ file_of_line.old.items ++ new_file_of_line before (edit.now ∷ [])) }
+    ensures ok { OnOk result (file_of_line.new.items
+        ≡ file_of_line.old.items ++ files_of_lines (edit.now ∷ [])) }
     ensures err { OnErr result (file_of_line.new.items ≡ file_of_line.old.items) }
 {
     match edit {
-        Edit::Insert { file, .. } => {
-            file_of_line.push(node_number(before, file))?;
+        ResolvedEdit::Insert { file, .. } => {
+            file_of_line.push(*file)?;
             Ok(())
         }
-        Edit::New { .. }
-        | Edit::Delete { .. }
-        | Edit::Rename { .. }
-        | Edit::Move { .. }
-        | Edit::Remove { .. } => Ok(()),
+        ResolvedEdit::New { .. }
+        | ResolvedEdit::Delete { .. }
+        | ResolvedEdit::Rename { .. }
+        | ResolvedEdit::Move { .. }
+        | ResolvedEdit::Remove { .. } => Ok(()),
     }
 }
 
@@ -68,21 +59,18 @@ pub(crate) fn stage(
     index: &mut HistoryIndex,
     visible: &mut Visible,
     rows: &EntryPlan,
-    before: u32,
     last: NodeNo,
-    lines: u32,
-    edits: &[Edit],
+    edits: &[ResolvedEdit],
 ) -> Result<(), Memory>
-    requires rising { AreRising (map part_node visible.old.files ++ files_made before edits.now) }
-    requires near { AreNear before edits.now }
-    requires low { AreLow lines edits.now }
-    requires few_edits { length edits.now ≤ LIMITS.edits }
-    requires few_nodes { before + nodes_made edits.now < 2 ^ 32 - 1 }
+    requires rising { AreRising (map part_node visible.old.files ++ made_files edits.now) }
+    requires few { length edits.now ≤ LIMITS.edits }
     ensures commits { index.new.commits.items ≡ index.old.commits.items }
     ensures entries { without_room visible.new.entries ≡ without_room visible.old.entries }
-    ensures file_of_line { OnOk result (index.new.file_of_line.items ≡ index.old.file_of_line.items ++ new_file_of_line before edits.now) }
-    ensures files { OnOk result (map contents visible.new.files ≡ map contents visible.old.files ++ new_files before edits.now) }
-    ensures room { OnOk result (AllByRecursion (HasRoom before lines edits.now) visible.new.files) }
+    ensures file_of_line { OnOk result (index.new.file_of_line.items
+        ≡ index.old.file_of_line.items ++ files_of_lines edits.now) }
+    ensures files { OnOk result (map contents visible.new.files
+        ≡ map contents visible.old.files ++ map new_contents (made_files edits.now)) }
+    ensures room { OnOk result (AllByRecursion (HasRoom edits.now) visible.new.files) }
     ensures row_room { OnOk result (HasRowRoom rows.now visible.new.entries) }
     ensures commit_room { OnOk result (0 < index.new.commits.spare) }
     ensures front_file_of_line { take (length index.old.file_of_line.items) index.new.file_of_line.items ≡ index.old.file_of_line.items }
@@ -91,22 +79,20 @@ pub(crate) fn stage(
 {
     index.commits.reserve(last)?;
     visible.entries.reserve(rows)?;
-    stage_files_of_lines(&mut index.file_of_line, before, edits)?;
-    visible.files.stage(before, edits)?;
-    visible.files.add_rooms(before, lines, edits)
+    stage_files_of_lines(&mut index.file_of_line, edits)?;
+    visible.files.stage(edits)?;
+    visible.files.add_rooms(edits)
 }
 
-/// Cuts off what a commit's edits made behind so many files and lines, so many nodes having been made before.
+/// Cuts off what a commit made behind so many files and lines; it touches these nodes.
 pub(crate) fn unstage(
     index: &mut HistoryIndex,
     visible: &mut Visible,
     files: usize,
-    before: u32,
     lines: u32,
-    edits: &[Edit],
+    touched: &[NodeNo],
 )
     requires rising { AreRising (map part_node (take files visible.old.files)) }
-    requires near { AreNear before edits.now }
     ensures table { visible.new.table ≡ visible.old.table }
     ensures commits { index.new.commits.items ≡ index.old.commits.items }
     ensures entries { visible.new.entries ≡ visible.old.entries }
@@ -115,22 +101,21 @@ pub(crate) fn unstage(
 {
     index.file_of_line.truncate(lines as usize);
     visible.files.truncate(files);
-    visible.files.expect_nothing(before, edits);
+    visible.files.expect_nothing(touched, files);
 }
 
-/// Installs a commit that is staged: carries out its plans, makes its changes of rows, and keeps its mark.
+/// Installs a commit that is staged: carries out its edits, makes its changes of rows, and keeps its mark. The files that it makes
+/// stand from a place on.
 pub(crate) fn install(
     index: &mut HistoryIndex,
     visible: &mut Visible,
-    before: u32,
-    edits: &[Edit],
-    plans: VecDeque<EditPlan>,
+    first: usize,
+    edits: Vec<ResolvedEdit>,
     rows: EntryPlan,
     mark: CommitMark,
 )
     requires rising { AreRising (map part_node visible.old.files) }
-    requires near { AreNear before edits.now }
-    requires can { CanCarryOutAll mark.position plans.items visible.old.files }
+    requires can { CanCarryOutAll mark.position edits.items visible.old.files }
     requires later { visible.old.entries.from ≤ mark.position }
     requires row_room { HasRowRoom rows visible.old.entries }
     requires room { 0 < index.old.commits.spare }
@@ -138,10 +123,10 @@ pub(crate) fn install(
     ensures entries { IsSet mark.position rows visible.old.entries visible.new.entries }
     ensures file_of_line { index.new.file_of_line.items ≡ index.old.file_of_line.items }
     ensures table { visible.new.table ≡ visible.old.table }
-    ensures files { AreInstalled mark.position plans.items visible.old.files visible.new.files }
+    ensures files { AreInstalled mark.position edits.items visible.old.files visible.new.files }
 {
-    visible.files.carry_out_all(plans, mark.position);
-    visible.files.expect_nothing(before, edits);
+    visible.files.carry_out_all(edits, mark.position);
+    visible.files.expect_nothing(mark.touched.as_slice(), first);
     set_rows(&mut visible.entries, rows, mark.position);
     index.commits.push(mark);
 }

@@ -1,10 +1,9 @@
 // What an engine keeps.
-ghost use Rattle.std.specs.Prelude.{◌≡◌, ◌<◌, ◌≤◌, ◌+◌, ◌-◌, ℕ, length, None, IfOk, IfErr, OnOk, OnErr};
-ghost use Rattle.cov_dd.specs.Diagrams.{diagram_size, Extends};
-ghost use Rattle.cov_expr.specs.Formula.{Formula, reach};
+ghost use Rattle.std.specs.Prelude.{◌≡◌, ◌<◌, ◌≤◌, ◌-◌, length, None, IfOk, IfErr, OnOk, OnErr};
+ghost use Rattle.cov_dd.specs.Diagrams.{Extends};
+ghost use Rattle.cov_expr.specs.Formula.{reach};
 ghost use Rattle.cov_edit.specs.History.{edits_in, option_count};
 ghost use Rattle.cov_engine.specs.Refusing.{early_refusal};
-ghost use Rattle.cov_engine.specs.Staging.{sizes_of};
 ghost use Rattle.cov_engine.specs.Summaries.{summary_of, IsSummaryOf};
 ghost use Rattle.cov_engine.specs.States.{history_of, table_of, name_refusal, IsKept};
 ghost use Rattle.cov_engine.specs.Staged.{LeavesSound, LeavesUnsound};
@@ -17,11 +16,12 @@ use crate::evidence::refusal_left;
 use crate::history_index::{CommitMark, HistoryIndex};
 use crate::option_positions::OptionPositions;
 use crate::overtaking::overtaken;
-use crate::planning::{CommitContext, plan_edits};
 use crate::refusing::early_refusal;
+use crate::resolved_edit::ResolvedEdit;
+use crate::resolving::{CommitContext, resolve};
 use crate::row_planning::plan_rows;
 use crate::rule::rule_ready;
-use crate::sizes::{Sizes, with_sizes};
+use crate::sizes::with_sizes;
 use crate::summary::{EditSummary, summarize};
 use crate::{Counts, Refusal, Visible};
 use cov_base::{LIMITS, Memory, NodeNo, OptionName, Position};
@@ -30,7 +30,6 @@ use cov_expr::{Expr, Options};
 use cov_rules::Rules;
 use cov_tree::EntryPlan;
 use cov_vis::compile;
-use std::collections::VecDeque;
 
 /// The history with what it declares and shows. The table has the nodes of the rules too.
 #[derive(Drop)]
@@ -195,17 +194,32 @@ fn commit_ready(
     ensures refused { IfErr result (LeavesUnsound (history_of state.old) ambition.now edits.now) }
 {
     let sizes = summary.sizes;
-    let (mark, rows) = commit_planned(state, ambition, edits, summary)?;
-    Ok(commit_staged(state, mark, rows, edits, sizes)?)
+    let (mark, edits, rows) = commit_planned(state, ambition, edits, summary)?;
+    let counts = with_sizes(state.counts, sizes);
+    stage_commit(
+        &mut state.index,
+        &mut state.visible,
+        &rows,
+        state.counts.lines,
+        NodeNo::new(counts.nodes - 1),
+        mark.touched.as_slice(),
+        edits.as_slice(),
+    )?;
+    Ok(Addition::Commit {
+        mark,
+        counts,
+        edits,
+        rows,
+    })
 }
 
-// Plans the changes of rows of a commit, unless it would leave a variant unsound.
+// Resolves the edits of a commit and plans their changes of rows, unless these would leave a variant unsound.
 fn commit_planned(
     state: &mut EngineState,
     ambition: &Expr,
     edits: &Edits,
     summary: EditSummary,
-) -> Result<(CommitMark, EntryPlan), Refusal>
+) -> Result<(CommitMark, Vec<ResolvedEdit>, EntryPlan), Refusal>
     requires kept { IsKept state.old }
     requires summary { summary ≡ summary_of edits.now }
     requires reach { reach ambition.now ≤ option_count (history_of state.old) }
@@ -213,8 +227,8 @@ fn commit_planned(
     ensures commands { state.new.commands ≡ state.old.commands }
     ensures extends { Extends (table_of state.old) (table_of state.new) }
     ensures kept { IsKept state.new }
-    ensures planned { IfOk result (λ planned.
-        IsPlannedFor state.new ambition.now edits.now planned.0 planned.1) }
+    ensures planned { IfOk result (λ r.
+        IsPlannedFor state.new ambition.now edits.now r.0 r.1.items r.2) }
     ensures sound { OnOk result (LeavesSound (history_of state.old) ambition.now edits.now) }
     ensures refused { IfErr result (LeavesUnsound (history_of state.old) ambition.now edits.now) }
 {
@@ -225,13 +239,19 @@ fn commit_planned(
         touched: summary.touched,
     };
     let context = context_of(state.counts, &mark);
+    let resolved = resolve(
+        alloc,
+        &mut state.visible.table,
+        state.visible.files.as_slice(),
+        &context,
+        edits.as_slice(),
+    )?;
     let mut rows = EntryPlan::new(alloc);
     plan_rows(
         &mut state.visible.table,
         &state.visible.entries,
         &mut rows,
-        &context,
-        edits.as_slice(),
+        resolved.as_slice(),
     )?;
     match refusal_left(
         alloc,
@@ -244,11 +264,11 @@ fn commit_planned(
         summary.changes_rows,
     )? {
         Some(refusal) => Err(refusal),
-        None => Ok((mark, rows)),
+        None => Ok((mark, resolved, rows)),
     }
 }
 
-// Where a commit's edits are planned.
+// Where a commit's edits are resolved.
 fn context_of(counts: Counts, mark: &CommitMark) -> CommitContext
     requires { 1 ≤ counts.nodes }
     ensures { result ≡ record { at = mark.now.position; nodes = counts.nodes - 1; lines = counts.lines; ambition = mark.now.node } }
@@ -259,51 +279,4 @@ fn context_of(counts: Counts, mark: &CommitMark) -> CommitContext
         lines: counts.lines,
         ambition: mark.node,
     }
-}
-
-// Plans what a commit does to the lines of files, and stages it.
-fn commit_staged(
-    state: &mut EngineState,
-    mark: CommitMark,
-    rows: EntryPlan,
-    edits: &Edits,
-    sizes: Sizes,
-) -> Result<Addition, Memory>
-    requires kept { IsKept state.old }
-    requires sizes { sizes ≡ sizes_of edits.now }
-    requires fits { IsInBounds (history_of state.old) edits.now }
-    requires position { mark.position ≡ length (history_of state.old) + 1 }
-    requires node { mark.node < diagram_size (table_of state.old) }
-    ensures commands { state.new.commands ≡ state.old.commands }
-    ensures extends { Extends (table_of state.old) (table_of state.new) }
-    ensures ready { IfOk result (λ ready. (ambition : Formula ℕ) →
-        IsPlannedFor state.old ambition edits.now mark rows →
-        IsStagedFor state.new ambition edits.now ready) }
-    ensures kept { OnErr result (IsKept state.new) }
-{
-    let alloc = state.index.commits.allocator();
-    let counts = with_sizes(state.counts, sizes);
-    let context = context_of(state.counts, &mark);
-    let mut plans = VecDeque::new(alloc);
-    plan_edits(
-        &mut state.visible.table,
-        state.visible.files.as_slice(),
-        &mut plans,
-        &context,
-        edits.as_slice(),
-    )?;
-    stage_commit(
-        &mut state.index,
-        &mut state.visible,
-        &rows,
-        state.counts,
-        NodeNo::new(counts.nodes - 1),
-        edits.as_slice(),
-    )?;
-    Ok(Addition::Commit {
-        mark,
-        counts,
-        plans,
-        rows,
-    })
 }

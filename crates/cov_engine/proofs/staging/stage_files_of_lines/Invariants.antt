@@ -1,13 +1,11 @@
 use Rattle.std.proofs.Common.{◌≡◌, ◌++◌, length, take}
-use Rattle.cov_history.specs.FileOfLine.{new_file_of_line}
-use Rattle.cov_engine.specs.Staging.{AreNear}
+use Rattle.cov_engine.specs.Staging.{files_of_lines}
 use Rattle.cov_engine.proofs.staging.stage_files_of_lines.Given as goal
 
 abbrev pub invariant-loop-ahead : goal.invariant-loop-ahead
 invariant-loop-ahead l = record {
-  all : l.file_of_line.items ++ new_file_of_line l.before l.ahead ≡ l.initial.file_of_line.items ++ new_file_of_line l.before l.edits;
+  all : l.file_of_line.items ++ files_of_lines l.ahead ≡ l.initial.file_of_line.items ++ files_of_lines l.edits;
   front : take (length l.initial.file_of_line.items) l.file_of_line.items ≡ l.initial.file_of_line.items;
-  near : AreNear l.before l.ahead;
 }
 
 abbrev pub decreases-loop-ahead : goal.decreases-loop-ahead

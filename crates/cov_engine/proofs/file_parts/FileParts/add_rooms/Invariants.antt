@@ -1,6 +1,6 @@
 use Rattle.std.proofs.Common.{◌≡◌, length, map}
 use Rattle.std.specs.List.{AllByRecursion}
-use Rattle.cov_engine.specs.Staging.{contents, AreNear, AreLow}
+use Rattle.cov_engine.specs.Staging.{contents}
 use Rattle.cov_edit.specs.Touched.{AreRising}
 use Rattle.cov_engine.specs.Parts.{part_node}
 use Rattle.cov_engine.proofs.Rooms.{IsReadyBut}
@@ -10,9 +10,7 @@ abbrev pub invariant-loop-ahead : goal.invariant-loop-ahead
 invariant-loop-ahead l = record {
   same : map contents l.files ≡ map contents l.initial.files;
   rising : AreRising (map part_node l.files);
-  near : AreNear l.nodes l.ahead;
-  low : AreLow l.lines l.ahead;
-  ready : AllByRecursion (IsReadyBut l.nodes l.lines l.edits l.ahead) l.files;
+  ready : AllByRecursion (IsReadyBut l.edits l.ahead) l.files;
 }
 
 abbrev pub decreases-loop-ahead : goal.decreases-loop-ahead

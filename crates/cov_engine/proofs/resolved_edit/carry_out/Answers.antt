@@ -3,7 +3,7 @@ use Rattle.std.specs.List.{AllByRecursion}
 use Rattle.cov_engine.specs.Carrying.{CanInsert, CanDelete, IsInserted, IsChanged, CanCarryOutIn, AreCarriedOut}
 use Rattle.cov_engine.proofs.Rising.{found-place, no-place}
 use Rattle.cov_engine.proofs.StoredFiles.{get-here, one-changed, none-changed}
-use Rattle.cov_engine.proofs.edit_plan.carry_out.Goals as goal
+use Rattle.cov_engine.proofs.resolved_edit.carry_out.Goals as goal
 
 pub insert-requires : goal.insert-requires
 insert-requires c =

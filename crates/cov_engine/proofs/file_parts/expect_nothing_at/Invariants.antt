@@ -1,14 +1,13 @@
 use Rattle.std.proofs.Common.{◌≡◌, length, map}
-use Rattle.cov_engine.specs.Staging.{contents, AreNear}
+use Rattle.cov_engine.specs.Staging.{contents}
 use Rattle.cov_edit.specs.Touched.{AreRising}
 use Rattle.cov_engine.specs.Parts.{part_node}
-use Rattle.cov_engine.proofs.file_parts.FileParts.expect_nothing.Given as goal
+use Rattle.cov_engine.proofs.file_parts.expect_nothing_at.Given as goal
 
 abbrev pub invariant-loop-ahead : goal.invariant-loop-ahead
 invariant-loop-ahead l = record {
   same : map contents l.files ≡ map contents l.initial.files;
   rising : AreRising (map part_node l.files);
-  near : AreNear l.before l.ahead;
 }
 
 abbrev pub decreases-loop-ahead : goal.decreases-loop-ahead

@@ -1,8 +1,8 @@
 use Rattle.std.proofs.Common.{ap, sym, ◌∙◌, ◌≤◌, unwrap_or}
 use Rattle.cov_engine.proofs.Rising.{found-place, no-place}
 use Rattle.cov_engine.proofs.StoredFiles.{get-all, place-below}
-use Rattle.cov_engine.proofs.Planned.{old-outside, old-at}
-use Rattle.cov_engine.proofs.planning.old_node.Goals as goal
+use Rattle.cov_engine.proofs.Resolved.{old-outside, old-at}
+use Rattle.cov_engine.proofs.resolving.old_node.Goals as goal
 
 pub returns-in-Some : goal.returns-in-Some
 returns-in-Some c = λ p newest.
