@@ -22,6 +22,7 @@ pub mod NamedView
 pub mod Nodes
 pub mod Noting
 pub mod OptionPositions
+pub mod Planned
 pub mod Readied
 pub mod Refused
 pub mod Resolved

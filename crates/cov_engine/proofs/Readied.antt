@@ -43,7 +43,7 @@ use Rattle.cov_engine.specs.Overtakers.{IsOvertaker}
 use Rattle.cov_history.specs.Overtaking.{overtaken}
 use Rattle.cov_history.specs.Verdict.{IsLegal, as_overtaken, verdict, refusals_of, size_refusals}
 use Rattle.cov_history.specs.FileOfLine.{new_file_of_line}
-use Rattle.cov_engine.specs.Staging.{contents, new_contents, made_files, files_of_lines, sizes_of, new_files, AreNear, AreLow, HasRoom}
+use Rattle.cov_engine.specs.Staging.{contents, new_contents, made_files, files_of_lines, sizes_of, new_files, HasRoom}
 use Rattle.cov_engine.specs.Staged.{IsCommitPlan, IsStaged}
 use Rattle.cov_edit.specs.History.{is_valid_in}
 use Rattle.cov_dd.specs.Diagrams.{Extends}
@@ -51,8 +51,6 @@ use Rattle.cov_dd.proofs.CallerLemmas.{stands_later, stands_weaker}
 use Rattle.cov_tree.specs.Entries.{nodes_of, kinds_of}
 use Rattle.cov_tree.proofs.CallerLemmas.{newest_but_room}
 use Rattle.cov_engine.specs.Carrying.{CanCarryOutAll, AreInstalled}
-use Rattle.cov_engine.specs.Resolved.{HaveNumbers, AreResolved, AreResolvedIn}
-use Rattle.cov_engine.specs.declared.resolving.CommitContext.{CommitContext}
 use Rattle.cov_dd.specs.Diagrams.{value_in, Stands}
 use Rattle.cov_edit.specs.History.{edits_in}
 use Rattle.cov_engine.specs.Ready.{IsNext, IsInBounds, AreCountsWith, IsCommitReady, IsStagedReady, IsReady}
@@ -226,7 +224,7 @@ module _ (history : List Command) (base : ℕ) (choice : List Bool) (ambition : 
     counted = counts-with new with;
   }
 
-first-nodes : (history : List Command) (counts : Counts) → AreCountsOf history counts → counts.nodes - 1 ≡ (numbers_of history).nodes
+pub first-nodes : (history : List Command) (counts : Counts) → AreCountsOf history counts → counts.nodes - 1 ≡ (numbers_of history).nodes
 first-nodes history counts are = let nodes = are.nodes in omega (arith, nodes)
 
 -- a command for which a commit is ready
@@ -299,39 +297,6 @@ module _ (history : List Command) (names : List (List ℕ)) (ts : List Triple) (
   ready-given-up (commands.Default option on) commits' file_of_line' entries' stored' r ce he xe ee = absurd r
   ready-given-up (commands.Commit base choice ambition es) commits' file_of_line' entries' stored' r ce he xe ee =
       given-up history ts ambition es old commits mark ss plan file_of_line entries stored commits' file_of_line' entries' stored' state.counted r.1 ce he xe ee
-
--- what a state's counts are of its history
-module _ (history : List Command) (counts : Counts) (es some : List Edit) (context : CommitContext) (are : AreCountsOf history counts) (within : IsInBounds history es) (e : some ≡ es)
-    (is : context ≡ record { at = context.at; nodes = counts.nodes - 1; lines = counts.lines; ambition = context.ambition }) where
-  nodes-before : context.nodes ≡ (numbers_of history).nodes
-  nodes-before = ap (λ (k : CommitContext). k.nodes) is ∙ first-nodes history counts are
-
-  lines-before : context.lines ≡ line_count history
-  lines-before = ap (λ (k : CommitContext). k.lines) is ∙ are.lines
-
-  -- edits that are within the limits name near nodes and low lines, and what they make has numbers
-  pub first-near : AreNear context.nodes some
-  first-near = subst (AreNear context.nodes) (sym e) (subst (λ n. AreNear n es) (sym nodes-before) within.near)
-
-  pub first-low : AreLow context.lines some
-  first-low = subst (AreLow context.lines) (sym e) (subst (λ m. AreLow m es) (sym lines-before) within.low)
-
-  pub first-numbers : HaveNumbers (record { nodes = context.nodes; lines = context.lines }) some
-  first-numbers =
-      let few = within.nodes in
-      let low = within.lines in
-      let nodes = nodes-before in
-      let lines = lines-before in
-      subst (HaveNumbers (record { nodes = context.nodes; lines = context.lines })) (sym e) (record { nodes = omega (arith, few, nodes); lines = omega (arith, low, lines) })
-
-  -- resolved in their context, they are resolved after the history
-  pub first-resolved : (at : ℕ) (stored : List FilePart) (ts : List Triple) (ss : List ResolvedEdit) → context.at ≡ at → AreResolvedIn context stored ts some ss
-      → AreResolved at stored (numbers_of history).nodes (line_count history) context.ambition ts es ss
-  first-resolved at stored ts ss place h =
-      subst (λ x. AreResolved at stored (numbers_of history).nodes (line_count history) context.ambition ts x ss) e
-      (subst (λ m. AreResolved at stored (numbers_of history).nodes m context.ambition ts some ss) lines-before
-      (subst (λ n. AreResolved at stored n context.lines context.ambition ts some ss) nodes-before
-      (subst (λ p. AreResolved p stored context.nodes context.lines context.ambition ts some ss) place h)))
 
 -- the node of the constraints is one of each table that goes on, and names only declared options
 pub conjunction-stands : {history : List Command} {names : List (List ℕ)} {ts : List Triple} {standing : Standing} {counts : Counts} (new : List Triple) → AreDeclarationsOf history names ts standing counts → Extends ts new
