@@ -94,6 +94,13 @@ taken-later ts new us old a vis least x y within_old within_a s =
     (λ c. ap (λ b. b && not (value_in ts a c)) (sym (z.value old within_old c)) ∙ ap (λ b. value_in us old c && not b) (sym (z.value a within_a c)))
     (stands_later y s)
 
+-- what is left of a line that is taken out
+pub taken-left : (p : ℕ) (stored : List FilePart) (ambition : ℕ) (ts new : List Triple) (old file line vis least : ℕ) → Extends ts new → AllByRecursion (HasNodesIn ts p) stored → ambition < diagram_size ts
+    → old ≡ old_node p stored file line → Stands new vis least (joint_span ts old ambition) (λ c. value_in ts old c && not (value_in ts ambition c)) → IsTaken new p stored ambition file line vis
+taken-left p stored ambition ts new old file line vis least x nodes within is stands =
+    subst (λ k. Stands new vis 0 (joint_span new k ambition) (λ c. value_in new k c && not (value_in new ambition c))) is
+    (taken-later ts new new old ambition vis least x (extends_none new) (subst (λ k. k < diagram_size ts) (sym is) (old-within ts p file line stored nodes)) within stands)
+
 module _ (P Q : ℕ → ℕ → ℕ → Type 0) (n m on : ℕ) (f : (file line vis : ℕ) → P file line vis → Q file line vis) where
   one-by : (nodes lines : ℕ) (e : Edit) (s : ResolvedEdit) → IsResolvedBy P n m on nodes lines e s → IsResolvedBy Q n m on nodes lines e s
   one-by nodes lines (edits.New kind parent name) s h = h

@@ -120,14 +120,14 @@ impl FileParts {
     }
 
     /// Carries out edits in order. It takes for each at most time in the lines of its file, and no memory.
-    pub(crate) fn carry_out_all(&mut self, edits: Vec<ResolvedEdit>, at: Position)
+    pub(crate) fn carry_out_all(&mut self, edits: VecDeque<ResolvedEdit>, at: Position)
         requires rising { AreRising (map part_node self.old) }
         requires can { CanCarryOutAll at edits.items self.old }
         ensures { AreAllCarriedOut at edits.items self.old self.new }
     {
         let files = self.parts.as_mut_slice();
-        let mut ahead = VecDeque::from(edits);
-        while let Some(edit) = ahead.pop_front() {
+        let mut edits = edits;
+        while let Some(edit) = edits.pop_front() {
             carry_out(files, edit, at);
         }
     }

@@ -15,6 +15,7 @@ use crate::history_index::{CommitMark, HistoryIndex};
 use crate::resolved_edit::ResolvedEdit;
 use cov_base::{Memory, NodeNo, Position};
 use cov_tree::{Entries, EntryPlan};
+use std::collections::VecDeque;
 
 /// Adds the files of the lines that a commit's edits insert.
 pub(crate) fn stage_files_of_lines(
@@ -125,7 +126,7 @@ pub(crate) fn install(
     ensures table { visible.new.table ≡ visible.old.table }
     ensures files { AreInstalled mark.position edits.items visible.old.files visible.new.files }
 {
-    visible.files.carry_out_all(edits, mark.position);
+    visible.files.carry_out_all(VecDeque::from(edits), mark.position);
     visible.files.expect_nothing(mark.touched.as_slice(), first);
     set_rows(&mut visible.entries, rows, mark.position);
     index.commits.push(mark);

@@ -1,5 +1,5 @@
 use Rattle.cov_engine.proofs.Rooms.{front-rising}
 use Rattle.cov_engine.proofs.installing.cut_off.Goals as goal
 
-pub unstage-requires-clause-rising : goal.unstage-requires-clause-rising
-unstage-requires-clause-rising c = front-rising c.count_below-files.result c.args.visible.now.files c.requires.rising
+pub unstage-requires : goal.unstage-requires
+unstage-requires c = front-rising c.count_below-files.result c.args.visible.now.files c.requires.rising

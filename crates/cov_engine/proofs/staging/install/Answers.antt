@@ -1,5 +1,17 @@
+use Rattle.std.proofs.Common.{sym, subst}
+use Rattle.cov_engine.specs.Carrying.{CanCarryOutAll, AreAllCarriedOut}
 use Rattle.cov_engine.proofs.StoredFiles.{all-carried-rising}
 use Rattle.cov_engine.proofs.staging.install.Goals as goal
 
-pub expect_nothing-requires-clause-rising : goal.expect_nothing-requires-clause-rising
-expect_nothing-requires-clause-rising c = all-carried-rising c.args.mark.position c.args.edits.items c.args.visible.now.files c.carry_out_all.new.self c.carry_out_all.ensures c.requires.rising
+pub carry_out_all-requires-clause-can : goal.carry_out_all-requires-clause-can
+carry_out_all-requires-clause-can c = subst (λ ss. CanCarryOutAll c.args.mark.position ss c.args.visible.now.files) (sym c.from.ensures.0) c.requires.can
+
+pub expect_nothing-requires : goal.expect_nothing-requires
+expect_nothing-requires c = all-carried-rising c.args.mark.position c.from.result.items c.args.visible.now.files c.carry_out_all.new.self c.carry_out_all.ensures c.requires.rising
+
+pub returns-clause-files : goal.returns-clause-files
+returns-clause-files c = (
+  c.carry_out_all.new.self,
+  subst (λ ss. AreAllCarriedOut c.args.mark.position ss c.args.visible.now.files c.carry_out_all.new.self) c.from.ensures.0 c.carry_out_all.ensures,
+  c.expect_nothing.ensures,
+)

@@ -5,12 +5,12 @@ use Rattle.cov_engine.specs.Parts.{part_node}
 use Rattle.cov_engine.specs.Carrying.{CanCarryOutAll, AreAllCarriedOut}
 use Rattle.cov_engine.proofs.file_parts.FileParts.carry_out_all.Given as goal
 
-abbrev pub invariant-loop-plan : goal.invariant-loop-plan
-invariant-loop-plan l = record {
+abbrev pub invariant-loop-edit : goal.invariant-loop-edit
+invariant-loop-edit l = record {
   rising : AreRising (map part_node l.files);
-  can : CanCarryOutAll l.at l.plans.items l.files;
-  goes_on : (after : List FilePart) → AreAllCarriedOut l.at l.plans.items l.files after → AreAllCarriedOut l.at l.initial.plans.items l.initial.files after;
+  can : CanCarryOutAll l.at l.edits.items l.files;
+  goes_on : (after : List FilePart) → AreAllCarriedOut l.at l.edits.items l.files after → AreAllCarriedOut l.at l.initial.edits.items l.initial.files after;
 }
 
-abbrev pub decreases-loop-plan : goal.decreases-loop-plan
-decreases-loop-plan l = length l.plans.items
+abbrev pub decreases-loop-edit : goal.decreases-loop-edit
+decreases-loop-edit l = length l.edits.items
