@@ -314,7 +314,7 @@ conjunction-later new state grown c =
 module _ (history : List Command) (es : List Edit) (counts : Counts) (ts : List Triple) (commits : List CommitMark) (file_of_line : List ℕ) (entries : Dated) (stored : List FilePart)
     (are : AreCountsOf history counts) (held : AreRowsAndLinesOf history ts commits file_of_line entries stored) (within : IsInBounds history es)
     (ambition : Formula ℕ) (mark : CommitMark) (ss some : List ResolvedEdit) (plan : List Entry) (planned : IsCommitPlan history ts entries stored ambition es mark ss plan) (e : some ≡ ss) where
-  n : ℕ
+  abbrev n : ℕ
   n = (numbers_of history).nodes
 
   files-are : made_files some ≡ files_made n es

@@ -1,5 +1,5 @@
 -- Stored files by their nodes.
-use Rattle.std.proofs.Common.{◌≡◌, ℕ, zero, suc, ◌<◌, ◌≤◌, Bool, true, false, ◌||◌, nat_eq, List, [], ◌∷◌, ◌++◌, length, map, take, drop, get_or, set, slice_get, Some, Ok, Err, true≢false, refl, sym, ap, subst, ◌∙◌, arith}
+use Rattle.std.proofs.Common.{◌≡◌, ◌⊎◌, inl, inr, ℕ, zero, suc, ◌<◌, ◌≤◌, Bool, true, false, ◌||◌, nat_eq, List, [], ◌∷◌, ◌++◌, length, map, take, drop, get_or, set, slice_get, Some, Ok, Err, true≢false, refl, sym, ap, subst, ◌∙◌, arith}
 use Rattle.std.specs.Prelude.{Result, OnOk}
 use Rattle.std.specs.List.{AllByRecursion, AllZip}
 use Rattle.std.proofs.lemmas.Bool.{or_parts}
@@ -155,3 +155,10 @@ module _ (at : ℕ) (s : ResolvedEdit) (ss rest : List ResolvedEdit) (old new : 
 pub on_both : {A E : Type 0} (r : Result A E) (P Q R : Type 0) → (P → Q → R) → OnOk r P → OnOk r Q → OnOk r R
 on_both (Ok x) P Q R f p q = f p q
 on_both (Err e) P Q R f p q = tt
+
+-- what follows from each of four
+pub of-four : {A B C D R : Type 0} → (A → R) → (B → R) → (C → R) → (D → R) → A ⊎ (B ⊎ (C ⊎ D)) → R
+of-four f g h k (inl a) = f a
+of-four f g h k (inr (inl b)) = g b
+of-four f g h k (inr (inr (inl c))) = h c
+of-four f g h k (inr (inr (inr d))) = k d

@@ -15,21 +15,27 @@ created-requires-clause-may c = record {
 
 pub renamed-requires : goal.renamed-requires
 renamed-requires c = record {
-  within = c.requires.within;
-  once = c.requires.once;
-  ambition = (subst (λ s. AreWithin c.args.table.now (row_changes (s ∷ []))) c.in-Rename.is c.requires.on).0;
+  may = record {
+    within = c.requires.within;
+    once = c.requires.once;
+    ambition = (subst (λ s. AreWithin c.args.table.now (row_changes (s ∷ []))) c.in-Rename.is c.requires.on).0;
+  };
 }
 
 pub moved-requires : goal.moved-requires
 moved-requires c = record {
-  within = c.requires.within;
-  once = c.requires.once;
-  ambition = (subst (λ s. AreWithin c.args.table.now (row_changes (s ∷ []))) c.in-Move.is c.requires.on).0;
+  may = record {
+    within = c.requires.within;
+    once = c.requires.once;
+    ambition = (subst (λ s. AreWithin c.args.table.now (row_changes (s ∷ []))) c.in-Move.is c.requires.on).0;
+  };
 }
 
 pub removed-requires : goal.removed-requires
 removed-requires c = record {
-  within = c.requires.within;
-  once = c.requires.once;
-  ambition = (subst (λ s. AreWithin c.args.table.now (row_changes (s ∷ []))) c.in-Remove.is c.requires.on).0;
+  may = record {
+    within = c.requires.within;
+    once = c.requires.once;
+    ambition = (subst (λ s. AreWithin c.args.table.now (row_changes (s ∷ []))) c.in-Remove.is c.requires.on).0;
+  };
 }
