@@ -33,10 +33,7 @@ pub(crate) fn stage_files_of_lines(
     Ok(())
 }
 
-fn stage_file_of_line(
-    file_of_line: &mut Vec<NodeNo>,
-    edit: &ResolvedEdit,
-) -> Result<(), Memory>
+fn stage_file_of_line(file_of_line: &mut Vec<NodeNo>, edit: &ResolvedEdit) -> Result<(), Memory>
     ensures ok { OnOk result (file_of_line.new.items
         ≡ file_of_line.old.items ++ files_of_lines (edit.now ∷ [])) }
     ensures err { OnErr result (file_of_line.new.items ≡ file_of_line.old.items) }
@@ -126,7 +123,9 @@ pub(crate) fn install(
     ensures table { visible.new.table ≡ visible.old.table }
     ensures files { AreInstalled mark.position edits.items visible.old.files visible.new.files }
 {
-    visible.files.carry_out_all(VecDeque::from(edits), mark.position);
+    visible
+        .files
+        .carry_out_all(VecDeque::from(edits), mark.position);
     visible.files.expect_nothing(mark.touched.as_slice(), first);
     set_rows(&mut visible.entries, rows, mark.position);
     index.commits.push(mark);

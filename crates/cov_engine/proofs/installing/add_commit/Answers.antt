@@ -10,8 +10,8 @@ use Rattle.cov_engine.proofs.installing.add_commit.Goals as goal
 pub count_below-first-requires : goal.count_below-first-requires
 count_below-first-requires c = record {
   rising = subst (λ xs. AreRising (map part_node xs)) (sym c.as_slice.ensures)
-    (ready-rising c.args.state.now.commands.commands c.args.state.now.options.names c.args.state.now.visible.table c.args.state.now.rules.standing c.args.state.now.counts c.args.counts _
-    c.args.state.now.index.commits.items c.args.mark c.args.edits.items c.args.rows c.args.state.now.index.file_of_line.items c.args.state.now.visible.entries c.args.state.now.visible.files c.requires.prepared.1.0.0 c.args.command.now _ c.requires.prepared.0 c.requires.prepared.1.1);
+      (ready-rising c.args.state.now.commands.commands c.args.state.now.options.names c.args.state.now.visible.table c.args.state.now.rules.standing c.args.state.now.counts c.args.counts _
+      c.args.state.now.index.commits.items c.args.mark c.args.edits.items c.args.rows c.args.state.now.index.file_of_line.items c.args.state.now.visible.entries c.args.state.now.visible.files c.requires.prepared.1.0.0 c.args.command.now _ c.requires.prepared.0 c.requires.prepared.1.1);
 }
 
 pub install-requires-clause-rising : goal.install-requires-clause-rising

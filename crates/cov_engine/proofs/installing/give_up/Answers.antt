@@ -8,8 +8,8 @@ use Rattle.cov_engine.proofs.installing.give_up.Goals as goal
 pub cut_off-requires : goal.cut_off-requires
 cut_off-requires c = record {
   rising = ready-rising c.args.state.now.commands.commands c.args.state.now.options.names c.args.state.now.visible.table c.args.state.now.rules.standing c.args.state.now.counts c.in-Commit.counts _
-    c.args.state.now.index.commits.items c.in-Commit.mark c.in-Commit.edits.items c.in-Commit.rows c.args.state.now.index.file_of_line.items c.args.state.now.visible.entries c.args.state.now.visible.files c.requires.prepared.1.0.0 c.args.command.now _ c.requires.prepared.0
-    (subst (IsReady c.args.state.now.commands.commands c.args.command.now _ _ _ _ c.args.state.now.index.commits.items c.args.state.now.index.file_of_line.items c.args.state.now.visible.entries c.args.state.now.visible.files) c.in-Commit.is c.requires.prepared.1.1);
+      c.args.state.now.index.commits.items c.in-Commit.mark c.in-Commit.edits.items c.in-Commit.rows c.args.state.now.index.file_of_line.items c.args.state.now.visible.entries c.args.state.now.visible.files c.requires.prepared.1.0.0 c.args.command.now _ c.requires.prepared.0
+      (subst (IsReady c.args.state.now.commands.commands c.args.command.now _ _ _ _ c.args.state.now.index.commits.items c.args.state.now.index.file_of_line.items c.args.state.now.visible.entries c.args.state.now.visible.files) c.in-Commit.is c.requires.prepared.1.1);
 }
 
 pub returns-in-Commit-clause-kept : goal.returns-in-Commit-clause-kept

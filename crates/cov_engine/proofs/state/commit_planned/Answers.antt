@@ -58,7 +58,7 @@ pub returns-in_err-plan_rows-clause-kept : goal.returns-in_err-plan_rows-clause-
 returns-in_err-plan_rows-clause-kept c = kept-grown c.args.state.now c.plan_rows.new.table c.requires.kept (extends_trans c.args.state.now.visible.table c.resolve.new.table c.plan_rows.new.table (extends_trans c.args.state.now.visible.table c.compile.new.table c.resolve.new.table c.compile.ensures.extends c.resolve.ensures.extends) c.plan_rows.ensures.extends)
 
 pub refusal_left-requires : goal.refusal_left-requires
-refusal_left-requires c = 
+refusal_left-requires c =
     let conjunction = conjunction-stands c.plan_rows.new.table c.requires.kept.0.0 (extends_trans c.args.state.now.visible.table c.resolve.new.table c.plan_rows.new.table (extends_trans c.args.state.now.visible.table c.compile.new.table c.resolve.new.table c.compile.ensures.extends c.resolve.ensures.extends) c.plan_rows.ensures.extends) in
     can-be-tested c.args.state.now.commands.commands c.args.state.now.visible.table c.plan_rows.new.table c.args.state.now.index.commits.items c.args.state.now.index.file_of_line.items c.args.state.now.visible.entries c.args.state.now.visible.files c.requires.kept.1 (extends_trans c.args.state.now.visible.table c.resolve.new.table c.plan_rows.new.table (extends_trans c.args.state.now.visible.table c.compile.new.table c.resolve.new.table c.compile.ensures.extends c.resolve.ensures.extends) c.plan_rows.ensures.extends) c.args.ambition.now c.args.edits.now (record { position = c.new.result; node = c.in_ok-compile.field-0; touched = c.args.summary.touched }) c.in_ok-resolved.resolved.items c.plan_rows.new.plan
     (commit-plan c.args.state.now.commands.commands c.args.state.now.visible.table c.args.state.now.counts c.args.state.now.index.commits.items c.args.state.now.index.file_of_line.items c.args.state.now.visible.entries c.args.state.now.visible.files c.requires.kept.0.0.counted c.requires.kept.1 c.args.edits.now c.requires.fits (record { position = c.new.result; node = c.in_ok-compile.field-0; touched = c.args.summary.touched }) c.context_of-context.result (let a = c.new.ensures in let b = c.len.ensures in let most = c.requires.kept.0.0.most in omega (arith, a, b, most)) c.context_of-context.ensures c.resolve.new.table c.as_slice.result.now c.as_slice-2.result.now c.in_ok-resolved.resolved.items c.as_slice.ensures c.as_slice-2.ensures.items c.in_ok-resolved.ensures.resolved c.args.ambition.now c.requires.reach (ap (λ s. s.touched) c.requires.summary) (stands_weaker 0 (option_count c.args.state.now.commands.commands) (value c.args.ambition.now) (omega arith) c.requires.reach (λ d. refl) (stands_later c.resolve.ensures.extends c.in_ok-compile.ensures.stands)) c.as_slice-3.result.now c.as_slice-3.ensures.value (extends_trans c.args.state.now.visible.table c.compile.new.table c.resolve.new.table c.compile.ensures.extends c.resolve.ensures.extends) c.plan_rows.new.table c.plan_rows.ensures.extends c.new-rows.result c.plan_rows.new.plan (c.new-rows.ensures.nodes c.args.state.now.visible.entries) (c.new-rows.ensures.kinds c.args.state.now.visible.entries) (c.new-rows.ensures.makes c.resolve.new.table c.args.state.now.visible.entries (entries-now c.args.state.now.commands.commands c.args.state.now.visible.table c.resolve.new.table c.args.state.now.index.commits.items c.args.state.now.index.file_of_line.items c.args.state.now.visible.entries c.args.state.now.visible.files c.requires.kept.1 (extends_trans c.args.state.now.visible.table c.compile.new.table c.resolve.new.table c.compile.ensures.extends c.resolve.ensures.extends)).0) c.in_ok-plan_rows.ensures.makes c.in_ok-plan_rows.ensures.nodes c.in_ok-plan_rows.ensures.kinds)
@@ -105,5 +105,8 @@ returns-in-None-clause-sound c = λ base choice.
     (subst (λ (s : EditSummary). c.in_ok-refusal.field-0 ≡ cond s.changes_rows (refusal_by_plan c.plan_rows.new.table c.args.state.now.visible.entries c.plan_rows.new.plan c.conjunction.result c.in_ok-compile.field-0 c.count.result) None) c.requires.summary c.in_ok-refusal.ensures.found) c.in-None.is
 
 pub returns-in-None-clause-planned : goal.returns-in-None-clause-planned
-returns-in-None-clause-planned c = (c.requires.fits, plan-grown c.args.state.now.commands.commands c.args.state.now.visible.table c.plan_rows.new.table c.args.state.now.index.commits.items c.args.state.now.index.file_of_line.items c.args.state.now.visible.entries c.args.state.now.visible.files c.requires.kept.1 (extends_trans c.args.state.now.visible.table c.resolve.new.table c.plan_rows.new.table (extends_trans c.args.state.now.visible.table c.compile.new.table c.resolve.new.table c.compile.ensures.extends c.resolve.ensures.extends) c.plan_rows.ensures.extends) c.args.ambition.now c.args.edits.now (record { position = c.new.result; node = c.in_ok-compile.field-0; touched = c.args.summary.touched }) c.in_ok-resolved.resolved.items c.plan_rows.new.plan
-    (commit-plan c.args.state.now.commands.commands c.args.state.now.visible.table c.args.state.now.counts c.args.state.now.index.commits.items c.args.state.now.index.file_of_line.items c.args.state.now.visible.entries c.args.state.now.visible.files c.requires.kept.0.0.counted c.requires.kept.1 c.args.edits.now c.requires.fits (record { position = c.new.result; node = c.in_ok-compile.field-0; touched = c.args.summary.touched }) c.context_of-context.result (let a = c.new.ensures in let b = c.len.ensures in let most = c.requires.kept.0.0.most in omega (arith, a, b, most)) c.context_of-context.ensures c.resolve.new.table c.as_slice.result.now c.as_slice-2.result.now c.in_ok-resolved.resolved.items c.as_slice.ensures c.as_slice-2.ensures.items c.in_ok-resolved.ensures.resolved c.args.ambition.now c.requires.reach (ap (λ s. s.touched) c.requires.summary) (stands_weaker 0 (option_count c.args.state.now.commands.commands) (value c.args.ambition.now) (omega arith) c.requires.reach (λ d. refl) (stands_later c.resolve.ensures.extends c.in_ok-compile.ensures.stands)) c.as_slice-3.result.now c.as_slice-3.ensures.value (extends_trans c.args.state.now.visible.table c.compile.new.table c.resolve.new.table c.compile.ensures.extends c.resolve.ensures.extends) c.plan_rows.new.table c.plan_rows.ensures.extends c.new-rows.result c.plan_rows.new.plan (c.new-rows.ensures.nodes c.args.state.now.visible.entries) (c.new-rows.ensures.kinds c.args.state.now.visible.entries) (c.new-rows.ensures.makes c.resolve.new.table c.args.state.now.visible.entries (entries-now c.args.state.now.commands.commands c.args.state.now.visible.table c.resolve.new.table c.args.state.now.index.commits.items c.args.state.now.index.file_of_line.items c.args.state.now.visible.entries c.args.state.now.visible.files c.requires.kept.1 (extends_trans c.args.state.now.visible.table c.compile.new.table c.resolve.new.table c.compile.ensures.extends c.resolve.ensures.extends)).0) c.in_ok-plan_rows.ensures.makes c.in_ok-plan_rows.ensures.nodes c.in_ok-plan_rows.ensures.kinds) c.refusal_left.new.table c.refusal_left.ensures.extends)
+returns-in-None-clause-planned c = (
+  c.requires.fits,
+  plan-grown c.args.state.now.commands.commands c.args.state.now.visible.table c.plan_rows.new.table c.args.state.now.index.commits.items c.args.state.now.index.file_of_line.items c.args.state.now.visible.entries c.args.state.now.visible.files c.requires.kept.1 (extends_trans c.args.state.now.visible.table c.resolve.new.table c.plan_rows.new.table (extends_trans c.args.state.now.visible.table c.compile.new.table c.resolve.new.table c.compile.ensures.extends c.resolve.ensures.extends) c.plan_rows.ensures.extends) c.args.ambition.now c.args.edits.now (record { position = c.new.result; node = c.in_ok-compile.field-0; touched = c.args.summary.touched }) c.in_ok-resolved.resolved.items c.plan_rows.new.plan
+      (commit-plan c.args.state.now.commands.commands c.args.state.now.visible.table c.args.state.now.counts c.args.state.now.index.commits.items c.args.state.now.index.file_of_line.items c.args.state.now.visible.entries c.args.state.now.visible.files c.requires.kept.0.0.counted c.requires.kept.1 c.args.edits.now c.requires.fits (record { position = c.new.result; node = c.in_ok-compile.field-0; touched = c.args.summary.touched }) c.context_of-context.result (let a = c.new.ensures in let b = c.len.ensures in let most = c.requires.kept.0.0.most in omega (arith, a, b, most)) c.context_of-context.ensures c.resolve.new.table c.as_slice.result.now c.as_slice-2.result.now c.in_ok-resolved.resolved.items c.as_slice.ensures c.as_slice-2.ensures.items c.in_ok-resolved.ensures.resolved c.args.ambition.now c.requires.reach (ap (λ s. s.touched) c.requires.summary) (stands_weaker 0 (option_count c.args.state.now.commands.commands) (value c.args.ambition.now) (omega arith) c.requires.reach (λ d. refl) (stands_later c.resolve.ensures.extends c.in_ok-compile.ensures.stands)) c.as_slice-3.result.now c.as_slice-3.ensures.value (extends_trans c.args.state.now.visible.table c.compile.new.table c.resolve.new.table c.compile.ensures.extends c.resolve.ensures.extends) c.plan_rows.new.table c.plan_rows.ensures.extends c.new-rows.result c.plan_rows.new.plan (c.new-rows.ensures.nodes c.args.state.now.visible.entries) (c.new-rows.ensures.kinds c.args.state.now.visible.entries) (c.new-rows.ensures.makes c.resolve.new.table c.args.state.now.visible.entries (entries-now c.args.state.now.commands.commands c.args.state.now.visible.table c.resolve.new.table c.args.state.now.index.commits.items c.args.state.now.index.file_of_line.items c.args.state.now.visible.entries c.args.state.now.visible.files c.requires.kept.1 (extends_trans c.args.state.now.visible.table c.compile.new.table c.resolve.new.table c.compile.ensures.extends c.resolve.ensures.extends)).0) c.in_ok-plan_rows.ensures.makes c.in_ok-plan_rows.ensures.nodes c.in_ok-plan_rows.ensures.kinds) c.refusal_left.new.table c.refusal_left.ensures.extends,
+)

@@ -16,7 +16,7 @@ pub stage_commit-requires-clause-few : goal.stage_commit-requires-clause-few
 stage_commit-requires-clause-few c = held-few c.commit_planned.new.state.commands.commands c.args.edits.now c.commit_planned.new.state.counts c.commit_planned.new.state.visible.table c.commit_planned.new.state.index.commits.items c.commit_planned.new.state.index.file_of_line.items c.commit_planned.new.state.visible.entries c.commit_planned.new.state.visible.files c.commit_planned.ensures.kept.0.0.counted c.commit_planned.ensures.kept.1 c.in_ok-mark.ensures.planned.0 c.args.ambition.now c.in_ok-mark.mark c.in_ok-mark.edits.items c.as_slice-2.result.now c.in_ok-mark.rows c.in_ok-mark.ensures.planned.1 c.as_slice-2.ensures.value
 
 pub returns-in_err-stage_commit-clause-kept : goal.returns-in_err-stage_commit-clause-kept
-returns-in_err-stage_commit-clause-kept c = 
+returns-in_err-stage_commit-clause-kept c =
     on-any c.from_residual-in_err-stage_commit.result _ (
       declared-again c.commit_planned.new.state c.commit_planned.new.state.visible.table c.stage_commit.new.visible.table c.commit_planned.ensures.kept (extends_none c.commit_planned.new.state.visible.table) c.stage_commit.ensures.table,
       subst (λ ts. AreRowsAndLinesOf c.commit_planned.new.state.commands.commands ts c.stage_commit.new.index.commits.items c.stage_commit.new.index.file_of_line.items c.stage_commit.new.visible.entries c.stage_commit.new.visible.files) (sym c.stage_commit.ensures.table)
@@ -26,7 +26,7 @@ returns-in_err-stage_commit-clause-kept c =
     )
 
 pub returns-clause-ready : goal.returns-clause-ready
-returns-clause-ready c = 
+returns-clause-ready c =
     let all =
     is-ready c.commit_planned.new.state.commands.commands c.args.edits.now c.commit_planned.new.state.counts c.commit_planned.new.state.visible.table c.commit_planned.new.state.index.commits.items c.commit_planned.new.state.index.file_of_line.items c.commit_planned.new.state.visible.entries c.commit_planned.new.state.visible.files c.commit_planned.ensures.kept.0.0.counted c.commit_planned.ensures.kept.1 c.in_ok-mark.ensures.planned.0 c.args.ambition.now c.in_ok-mark.mark c.in_ok-mark.edits.items c.as_slice-2.result.now c.in_ok-mark.rows c.in_ok-mark.ensures.planned.1 c.as_slice-2.ensures.value
     _ c.with_sizes-counts.result
