@@ -1,6 +1,6 @@
 -- Faults that come from the engine.
-use Rattle.cov_engine.specs.declared.reading.FileFault.{FileFault}
-use Rattle.cov_engine.specs.declared.reading.FileFault.TheVariants as file_faults
+use Rattle.cov_visible.specs.declared.reading.FileFault.{FileFault}
+use Rattle.cov_visible.specs.declared.reading.FileFault.TheVariants as file_faults
 use Rattle.cov_alt.specs.declared.fault.AltFault.{AltFault}
 use Rattle.cov_alt.specs.declared.fault.AltFault.TheVariants as faults
 

@@ -17,7 +17,7 @@ use Rattle.cov_history.specs.Kept.{Kept, kept_address, kept_number, kept_after, 
 use Rattle.cov_history.specs.Files.{dated_number, dated, file_dated}
 use Rattle.cov_history.specs.FileNodes.{files_made}
 use Rattle.cov_history.specs.FileOfLine.{new_file_of_line}
-use Rattle.cov_engine.specs.Staging.{Contents, new_contents, new_files}
+use Rattle.cov_visible.specs.Staging.{Contents, new_contents, new_files}
 use Rattle.cov_history.proofs.CallerLemmas.{all-mapped, holding-stands, made-within, new-files_of_lines-count}
 use Rattle.cov_engine.proofs.Named.{the_file, AreInFiles}
 
@@ -53,15 +53,6 @@ pub rows-same : (q : ℕ) (within : Formula ℕ) (ns : Numbers) (t : List (List 
 rows-same q within ns t node line ks [] e is = lines-left q within ns t node line ks e is
 rows-same q within ns t node line ks (d ∷ begun) e is =
     rows-same q within ns t (node_count_after node d) (line_count_after line d) (kept_after q within ks (numbered_edit ns t node line d)) begun e is
-
--- and inserts no line
-pub no-anchor : (m : ℕ) (e : Edit) → changes_rows e ≡ true → anchors_of m (e ∷ []) ≡ []
-no-anchor m (edits.New kind parent name) is = refl
-no-anchor m (edits.Insert file after text) is = absurd (cc)
-no-anchor m (edits.Delete file line) is = absurd (cc)
-no-anchor m (edits.Rename node name) is = refl
-no-anchor m (edits.Move node parent) is = refl
-no-anchor m (edits.Remove node) is = refl
 
 -- the numbers of the lines in a file of a history
 pub in-range : (history : List Command) (file : ℕ) → AllByRecursion (λ d. (1 ≤ dated_number d) × (dated_number d ≤ length (numbers_of history).addresses)) (file_dated file (kept_of history))

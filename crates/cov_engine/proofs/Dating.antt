@@ -12,7 +12,7 @@ use Rattle.cov_order.specs.Orders.{has_line}
 use Rattle.cov_history.specs.Kept.{seen_at}
 use Rattle.cov_history.specs.Files.{DatedLine, dated_number}
 use Rattle.cov_history.specs.Deletions.{hidden_by}
-use Rattle.cov_engine.specs.Nodes.{IsDated, AreDated}
+use Rattle.cov_visible.specs.Nodes.{IsDated, AreDated}
 
 -- FALSE is false and names no option
 pub false-stands : (ts : List Triple) (count : ℕ) → Stands ts 0 0 count (λ c. false)

@@ -25,13 +25,13 @@ use Rattle.cov_view.specs.Seen.{has_row, kind_in, at_row, old_line, with_lines_b
 use Rattle.cov_view.specs.Views.{ShowsLines, line_by_number, by_number}
 use Rattle.cov_view.proofs.CallerLemmas.{lines-added, not_there}
 use Rattle.cov_base.specs.Rows.{Row}
-use Rattle.cov_engine.specs.declared.file_part.FilePart.{FilePart}
+use Rattle.cov_visible.specs.declared.file_part.FilePart.{FilePart}
 use Rattle.cov_history.specs.Kept.{kept_of}
 use Rattle.cov_history.specs.Files.{DatedLine, ShownLine, as_shown, dated_as_shown, dated_shown, is_dated_seen, file_dated}
-use Rattle.cov_engine.specs.Nodes.{AreDated}
-use Rattle.cov_engine.specs.Reading.{line_row}
-use Rattle.cov_engine.specs.Showing.{bare_row, with_lines, with_node, AreFresh}
-use Rattle.cov_engine.specs.Parts.{part_of}
+use Rattle.cov_visible.specs.Nodes.{AreDated}
+use Rattle.cov_visible.specs.Reading.{line_row}
+use Rattle.cov_visible.specs.Showing.{bare_row, with_lines, with_node, AreFresh}
+use Rattle.cov_visible.specs.Parts.{part_of}
 use Rattle.cov_engine.specs.Holdings.{IsFileOf}
 use Rattle.cov_history.proofs.CallerLemmas.{all-mapped, file-shows}
 

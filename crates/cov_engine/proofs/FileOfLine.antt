@@ -7,19 +7,18 @@ use Rattle.cov_dd.specs.declared.triple.Triple.{Triple}
 use Rattle.cov_edit.specs.declared.command.Command.{Command}
 use Rattle.cov_edit.specs.Numbering.{line_count}
 use Rattle.cov_edit.specs.Variant.{Line}
-use Rattle.cov_engine.specs.declared.file_part.FilePart.{FilePart}
+use Rattle.cov_visible.specs.declared.file_part.FilePart.{FilePart}
 use Rattle.cov_engine.specs.declared.history_index.CommitMark.{CommitMark}
 use Rattle.cov_history.specs.FileNodes.{files_of}
 use Rattle.cov_history.specs.Kept.{Kept, kept_number, kept_of, file_kept, is_kept_anchor}
 use Rattle.cov_tree.specs.Dated.{Dated}
 use Rattle.cov_engine.specs.Holdings.{IsFileOf, AreRowsAndLinesOf}
 use Rattle.cov_history.specs.Verdict.{IsLegal}
-use Rattle.cov_engine.specs.Parts.{part_of}
+use Rattle.cov_visible.specs.Parts.{part_of}
 use Rattle.cov_engine.specs.Visibility.{item_of, stored_file_of}
 use Rattle.cov_history.proofs.CallerLemmas.{anchor-case, legal-in_files, file_of_line-has}
+use Rattle.cov_visible.proofs.CallerLemmas.{equal, part-has, part-some}
 use Rattle.cov_engine.proofs.Named.{the_file}
-use Rattle.cov_engine.proofs.Rising.{part-some, part-has}
-use Rattle.cov_engine.proofs.StoredFiles.{equal}
 
 -- what is true of each line's file is so of a file with a line
 file-with : (P : ℕ → Type 0) (t : Kept Line → Bool) (file : ℕ) (ks : List (Kept Line)) → AllByRecursion (λ k. P (the_file k)) ks → list_any t (file_kept file ks) ≡ true → P file

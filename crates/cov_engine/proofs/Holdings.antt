@@ -1,36 +1,29 @@
 -- What is kept of rows and lines, and the views of it.
-use Rattle.std.proofs.Common.{◌≡◌, refl, ap, sym, subst, ◌∙◌, ℕ, zero, suc, ◌<◌, ◌≤◌, Bool, true, false, nat_le, List, [], ◌∷◌, ◌++◌, length, map, take, Option, Some, None, append-nil, append_assoc, arith}
-use Rattle.std.proofs.lemmas.List.{length_push, map-append, take-append-le, take_all}
+use Rattle.std.proofs.Common.{◌≡◌, refl, ap, sym, subst, ◌∙◌, ℕ, zero, suc, ◌<◌, ◌≤◌, Bool, true, false, nat_le, List, [], ◌∷◌, ◌++◌, length, map, take, Option, append-nil, arith}
+use Rattle.std.proofs.lemmas.List.{length_push, take-append-le, take_all}
 use Rattle.std.proofs.lemmas.Bool.Decides.{nat_tests}
 use Rattle.std.specs.List.{fold, AllByRecursion}
-use Rattle.cov_base.specs.declared.number.Kind.{Kind}
-use Rattle.cov_base.specs.declared.number.Kind.TheVariants as kinds
-use Rattle.cov_base.specs.Rows.{Row}
-use Rattle.cov_base.proofs.CallerLemmas.{all-append, all-map}
-use Rattle.cov_view.specs.Soundness.{is_old_row, AreOld, old_row}
+use Rattle.cov_base.proofs.CallerLemmas.{all-map}
 use Rattle.cov_dd.specs.declared.triple.Triple.{Triple}
 use Rattle.cov_dd.specs.Diagrams.{Extends}
 use Rattle.cov_expr.specs.Formula.{value}
-use Rattle.cov_base.specs.declared.file_row.FileRow.{FileRow}
-use Rattle.cov_file.specs.Dated.{DatedLine as FileLine, vis_at, rows_at}
+use Rattle.cov_file.specs.Dated.{DatedLine as FileLine, vis_at}
 use Rattle.cov_edit.specs.declared.command.Command.{Command}
 use Rattle.cov_edit.specs.declared.command.Command.TheVariants as commands
 use Rattle.cov_edit.specs.History.{option_count}
-use Rattle.cov_edit.specs.Numbering.{Numbers, no_numbers, numbers_of}
+use Rattle.cov_edit.specs.Numbering.{Numbers, numbers_of}
 use Rattle.cov_edit.specs.Variant.{Variant}
 use Rattle.cov_edit.specs.Replay.{replay}
-use Rattle.cov_view.specs.declared.row.ViewRow.{ViewRow}
-use Rattle.cov_view.specs.Seen.{with_file_row}
 use Rattle.cov_view.specs.Views.{row_by_number}
 use Rattle.cov_engine.specs.declared.history_index.CommitMark.{CommitMark}
-use Rattle.cov_engine.specs.declared.file_part.FilePart.{FilePart}
+use Rattle.cov_visible.specs.declared.file_part.FilePart.{FilePart}
 use Rattle.cov_history.specs.Kept.{seen_at, Holding, held_by, kept_of}
 use Rattle.cov_history.specs.Files.{DatedLine, file_dated}
 use Rattle.cov_history.specs.FileOfLine.{AreFilesOfLines}
-use Rattle.cov_engine.specs.Nodes.{AreDated}
-use Rattle.cov_engine.specs.Showing.{bare_row, with_lines, with_node}
+use Rattle.cov_visible.specs.Nodes.{AreDated}
+use Rattle.cov_visible.specs.Showing.{with_node}
 use Rattle.cov_history.specs.FileNodes.{files_from, files_of}
-use Rattle.cov_engine.specs.Parts.{part_of, files_among}
+use Rattle.cov_visible.specs.Parts.{files_among}
 use Rattle.cov_engine.specs.Holdings.{IsFileOf, AreEntriesOf, AreRowsAndLinesOf}
 use Rattle.cov_tree.specs.Carried.{AreNodesAt}
 use Rattle.cov_tree.specs.Dated.{Dated, rows_at as entry_rows, nodes_in, kinds_in}
@@ -40,52 +33,8 @@ use Rattle.cov_engine.proofs.Marking.{marks-grown, marks-declared}
 use Rattle.cov_engine.proofs.Nodes.{stands-on}
 use Rattle.cov_edit.proofs.CallerLemmas.{replay-append}
 use Rattle.cov_history.proofs.CallerLemmas.{files-append, holding-goes_on, options-grow}
-use Rattle.cov_view.proofs.CallerLemmas.{rows-same}
 use Rattle.cov_engine.proofs.States.{numbers-kept}
-
-abbrev pub no_files : List FilePart
-no_files = []
-
-module _ (ns : Numbers) (ts : List Triple) (c : List Bool) (at : ℕ) (stored : List FilePart) where
-  file-same : (file : ℕ) (rows : List ViewRow) (shown : List FileRow) → map (row_by_number ns) (fold (with_file_row file) rows shown) ≡ map (row_by_number ns) rows
-  file-same file rows [] = refl
-  file-same file rows (r ∷ shown) = file-same file (with_file_row file rows r) shown ∙ rows-same ns _ _ rows
-
-  kinds-same : (kind : Kind) (node : ℕ) (e : Option FilePart) (rows : List ViewRow) → map (row_by_number ns) (with_lines ts c at kind node e rows) ≡ map (row_by_number ns) rows
-  kinds-same kinds.File node (Some e) rows = file-same node rows (rows_at ts c at e.lines.lines)
-  kinds-same kinds.File node None rows = refl
-  kinds-same kinds.Dir node e rows = refl
-
-  pub nodes-rows : (rows : List ViewRow) (rs : List Row) → map (row_by_number ns) (fold (with_node ts c at stored) rows rs) ≡ map (row_by_number ns) rows ++ rs
-  nodes-rows rows [] = sym (append-nil (map (row_by_number ns) rows))
-  nodes-rows rows (r ∷ rs) =
-      nodes-rows (with_node ts c at stored rows r) rs
-      ∙ ap (λ xs. xs ++ rs) (kinds-same r.kind r.node (part_of stored r.node) (rows ++ bare_row r ∷ []) ∙ map-append (row_by_number ns) rows (bare_row r ∷ []))
-      ∙ append_assoc (map (row_by_number ns) rows) (r ∷ []) rs
-
--- rows without lines name nodes that a history has, and are told by their numbers
-pub rows-old : (ts : List Triple) (c : List Bool) (at : ℕ) (rows : List ViewRow) (rs : List Row) → AreOld rows → AreOld (fold (with_node ts c at no_files) rows rs)
-rows-old ts c at rows [] h = h
-rows-old ts c at rows (r ∷ rs) h =
-    rows-old ts c at (with_node ts c at no_files rows r) rs
-    (plain r.kind (all-append (λ s. is_old_row s ≡ true) rows (bare_row r ∷ []) h (refl, tt)))
-  where
-    plain : (k : Kind) → AreOld (rows ++ bare_row r ∷ []) → AreOld (with_lines ts c at k r.node None (rows ++ bare_row r ∷ []))
-    plain kinds.File all = all
-    plain kinds.Dir all = all
-
--- rows of which no file is stored are shown without lines
-pub bare-rows : (ts : List Triple) (c : List Bool) (at : ℕ) (rows : List ViewRow) (rs : List Row) → fold (with_node ts c at no_files) rows rs ≡ rows ++ map bare_row rs
-bare-rows ts c at rows [] = sym (append-nil rows)
-bare-rows ts c at rows (r ∷ rs) =
-    ap (λ ss. fold (with_node ts c at no_files) ss rs) (plain r.kind) ∙ bare-rows ts c at (rows ++ bare_row r ∷ []) rs ∙ append_assoc rows (bare_row r ∷ []) (map bare_row rs)
-  where
-    plain : (k : Kind) → with_lines ts c at k r.node None (rows ++ bare_row r ∷ []) ≡ rows ++ bare_row r ∷ []
-    plain kinds.File = refl
-    plain kinds.Dir = refl
-
-pub rows-told : (ts : List Triple) (c : List Bool) (at : ℕ) (rs : List Row) → map old_row (fold (with_node ts c at no_files) [] rs) ≡ rs
-rows-told ts c at rs = nodes-rows no_numbers ts c at no_files [] rs
+use Rattle.cov_visible.proofs.CallerLemmas.{nodes-rows}
 
 -- the rows that are shown are those of the replay
 pub view-rows : (ns : Numbers) (ts : List Triple) (c : List Bool) (at : ℕ) (history : List Command) (entries : Dated) (stored : List FilePart) → AreEntriesOf history ts entries

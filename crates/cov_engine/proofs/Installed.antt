@@ -12,15 +12,15 @@ use Rattle.cov_edit.specs.declared.command.Command.TheVariants as commands
 use Rattle.cov_edit.specs.History.{options_of, option_count}
 use Rattle.cov_edit.specs.Numbering.{Numbers, nodes_made, anchors_of, no_numbers, numbers_of, line_count, node_count}
 use Rattle.cov_engine.specs.declared.history_index.CommitMark.{CommitMark}
-use Rattle.cov_engine.specs.declared.file_part.FilePart.{FilePart}
+use Rattle.cov_visible.specs.declared.file_part.FilePart.{FilePart}
 use Rattle.cov_engine.specs.Marks.{AreMarks}
 use Rattle.cov_history.specs.Kept.{held_by, kept_of}
 use Rattle.cov_history.specs.Files.{dated, file_dated}
 use Rattle.cov_tree.specs.declared.entry.Entry.{Entry}
 use Rattle.cov_tree.specs.Dated.{Dated, nodes_in, kinds_in}
-use Rattle.cov_engine.specs.RowPlans.{IsSet}
+use Rattle.cov_visible.specs.RowPlans.{IsSet}
 use Rattle.cov_engine.specs.Holdings.{IsFileOf, AreRowsAndLinesOf}
-use Rattle.cov_engine.specs.Parts.{part_node, files_among}
+use Rattle.cov_visible.specs.Parts.{part_node, files_among}
 use Rattle.cov_edit.specs.Touched.{AreRising}
 use Rattle.cov_history.specs.FileNodes.{files_made, files_of}
 use Rattle.cov_history.specs.Sessions.{IsGood, session_of}
@@ -28,27 +28,26 @@ use Rattle.cov_edit.specs.Replay.{replay}
 use Rattle.cov_view.specs.Refusals.{first_refused}
 use Rattle.cov_history.specs.Verdict.{IsLegal, verdict}
 use Rattle.cov_history.specs.FileOfLine.{new_file_of_line, AreFilesOfLines}
-use Rattle.cov_engine.specs.Staging.{Contents, contents, new_files, AreNear, AreLow, HasRoom, named_line}
+use Rattle.cov_visible.specs.Staging.{Contents, contents, new_files, AreNear, AreLow, HasRoom, named_line}
 use Rattle.cov_engine.specs.Staged.{IsStaged}
 use Rattle.cov_history.specs.Insertions.{numbered_amid, held_amid}
-use Rattle.cov_engine.specs.Nodes.{AreDated, IsTaken}
+use Rattle.cov_visible.specs.Nodes.{AreDated, IsTaken}
 use Rattle.cov_file.specs.Dated.{DatedLine as FileLine}
 use Rattle.cov_dd.specs.declared.triple.Triple.{Triple}
-use Rattle.cov_engine.specs.Carrying.{IsChangedIn, IsCarriedOut, AreCarriedOut, CanCarryOutAll, AreAllCarriedOut, AreInstalled, edited_node, with_other_lines}
-use Rattle.cov_engine.specs.declared.resolved_edit.ResolvedEdit.{ResolvedEdit}
-use Rattle.cov_engine.specs.declared.resolved_edit.ResolvedEdit.TheVariants as resolved
+use Rattle.cov_visible.specs.Carrying.{IsChangedIn, IsCarriedOut, AreCarriedOut, CanCarryOutAll, AreAllCarriedOut, AreInstalled, edited_node, with_other_lines}
+use Rattle.cov_visible.specs.declared.resolved_edit.ResolvedEdit.{ResolvedEdit}
+use Rattle.cov_visible.specs.declared.resolved_edit.ResolvedEdit.TheVariants as resolved
 use Rattle.cov_history.proofs.CallerLemmas.{commit-lines, files-commit, files-rise, lines-edits, all-mapped, base-nodes, new-files_of_lines-count}
 use Rattle.cov_engine.proofs.FileLines.{all-unmapped}
 use Rattle.cov_edit.proofs.CallerLemmas.{numbers_from-append}
 use Rattle.cov_engine.proofs.Refused.{declared-less}
-use Rattle.cov_engine.proofs.Rooms.{staged-nodes}
-use Rattle.cov_engine.proofs.Resolved.{resolved-kinds, resolved-most}
 use Rattle.cov_engine.proofs.RowPlans.{entries-committed}
 use Rattle.cov_engine.proofs.States.{options-append}
 use Rattle.cov_engine.proofs.Marking.{marks-committed}
 use Rattle.cov_engine.proofs.Named.{edits-named, named-near, legal-files}
 use Rattle.cov_engine.proofs.MidCommit.{IsHere, AreHere, carried, line-files-along, named-low}
 use Rattle.cov_engine.proofs.Started.{resolved-right}
+use Rattle.cov_visible.proofs.CallerLemmas.{resolved-kinds, resolved-most, staged-nodes}
 use Rattle.cov_engine.proofs.Committed.{new-files-all, line-files-after, file-empty}
 
 -- the nodes that its edits name have small numbers

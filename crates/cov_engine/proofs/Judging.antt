@@ -25,10 +25,10 @@ use Rattle.cov_history.specs.Verdict.{IsLegal}
 use Rattle.cov_history.proofs.CallerLemmas.{commit-unread, lines-sound, refusal-by_rows, replay-once}
 use Rattle.cov_engine.specs.Evidence.{refusal_for}
 use Rattle.cov_engine.specs.Holdings.{AreEntriesOf}
-use Rattle.cov_engine.specs.Resolved.{AreResolved}
-use Rattle.cov_engine.specs.RowPlans.{row_changes}
-use Rattle.cov_engine.specs.declared.file_part.FilePart.{FilePart}
-use Rattle.cov_engine.specs.declared.resolved_edit.ResolvedEdit.{ResolvedEdit}
+use Rattle.cov_visible.specs.Resolved.{AreResolved}
+use Rattle.cov_visible.specs.RowPlans.{row_changes}
+use Rattle.cov_visible.specs.declared.file_part.FilePart.{FilePart}
+use Rattle.cov_visible.specs.declared.resolved_edit.ResolvedEdit.{ResolvedEdit}
 use Rattle.cov_edit.specs.Variant.{Variant}
 use Rattle.cov_engine.proofs.RowPlans.{planned-rows}
 

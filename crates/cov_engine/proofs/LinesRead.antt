@@ -9,12 +9,12 @@ use Rattle.cov_history.specs.Files.{dated, file_dated}
 use Rattle.cov_history.specs.Kept.{Kept, kept_of}
 use Rattle.cov_history.specs.Verdict.{IsLegal}
 use Rattle.cov_tree.specs.Dated.{Dated}
-use Rattle.cov_engine.specs.declared.file_part.FilePart.{FilePart}
+use Rattle.cov_visible.specs.declared.file_part.FilePart.{FilePart}
 use Rattle.cov_engine.specs.declared.history_index.CommitMark.{CommitMark}
 use Rattle.cov_engine.specs.Holdings.{AreRowsAndLinesOf}
-use Rattle.cov_engine.specs.Nodes.{AreDated}
-use Rattle.cov_engine.specs.Parts.{part_of}
-use Rattle.cov_engine.specs.Reading.{line_row, stored_rows}
+use Rattle.cov_visible.specs.Nodes.{AreDated}
+use Rattle.cov_visible.specs.Parts.{part_of}
+use Rattle.cov_visible.specs.Reading.{line_row, stored_rows}
 use Rattle.cov_engine.proofs.FileLines.{file-rows}
 use Rattle.cov_engine.proofs.FileOfLine.{stored-held, none-stored}
 

@@ -24,24 +24,23 @@ use Rattle.cov_file.proofs.CallerLemmas.{has_after}
 use Rattle.cov_order.specs.Orders.{has_line}
 use Rattle.cov_history.specs.Deletions.{Deletion, hidden_by}
 use Rattle.cov_history.specs.FileOfLine.{new_file_of_line, AreFilesOfLines}
-use Rattle.cov_engine.specs.Staging.{Contents, named_line, inserts_into, deletes_from, touches}
+use Rattle.cov_visible.specs.Staging.{Contents, named_line, inserts_into, deletes_from, touches}
 use Rattle.cov_history.specs.Files.{DatedLine, dated_number, dated, file_dated, file_order, Takes}
 use Rattle.cov_history.specs.Insertions.{Insertion, table_of, lines_amid, held_amid, numbered_amid}
 use Rattle.cov_history.specs.RowChanges.{changes_rows}
 use Rattle.cov_history.specs.Kept.{Kept, seen_at, kept_number, kept_of, held_by, file_kept, is_kept_anchor}
-use Rattle.cov_engine.specs.Nodes.{AreDated}
+use Rattle.cov_visible.specs.Nodes.{AreDated}
 use Rattle.cov_history.specs.Sessions.{IsGood, session_of}
 use Rattle.cov_history.specs.Verdict.{IsLegal}
-use Rattle.cov_engine.specs.Carrying.{CanInsert, CanDelete, CanCarryOut, IsCarriedOut, IsChangedIn, AreCarriedOut, CanCarryOutIn, CanCarryOutAll, AreAllCarriedOut, edited_node}
-use Rattle.cov_engine.specs.Resolved.{AreResolvedBy}
-use Rattle.cov_engine.specs.declared.file_part.FilePart.{FilePart}
-use Rattle.cov_engine.specs.declared.resolved_edit.ResolvedEdit.{ResolvedEdit}
-use Rattle.cov_engine.specs.declared.resolved_edit.ResolvedEdit.TheVariants as resolved
+use Rattle.cov_visible.specs.Carrying.{CanInsert, CanDelete, CanCarryOut, IsCarriedOut, IsChangedIn, AreCarriedOut, CanCarryOutIn, CanCarryOutAll, AreAllCarriedOut, edited_node}
+use Rattle.cov_visible.specs.Resolved.{AreResolvedBy}
+use Rattle.cov_visible.specs.declared.file_part.FilePart.{FilePart}
+use Rattle.cov_visible.specs.declared.resolved_edit.ResolvedEdit.{ResolvedEdit}
+use Rattle.cov_visible.specs.declared.resolved_edit.ResolvedEdit.TheVariants as resolved
 use Rattle.cov_history.proofs.CallerLemmas.{files_of_lines-stay, file_of_line-more, lines-edits, delete-dated, delete-elsewhere, delete-order, anchor-below, anchors-append, anchors-stay, anchor-known, insert-elsewhere, is_table-of, amid-within, stands-amid, any-mapped, insert-dated, order-takes, accepted-anchored, accepted-there, all-mapped}
-use Rattle.cov_engine.proofs.Committed.{numbers-dated, rows-same, no-anchor}
+use Rattle.cov_engine.proofs.Committed.{numbers-dated, rows-same}
+use Rattle.cov_visible.proofs.CallerLemmas.{all-pairs, resolved-by}
 use Rattle.cov_engine.proofs.Dating.{IsGone, gone, dated-numbers, insert-lines, delete-lines, all-after}
-use Rattle.cov_engine.proofs.Resolved.{resolved-by}
-use Rattle.cov_engine.proofs.StoredFiles.{all-pairs}
 
 alike-numbers : (ls ms : List FileLine) → AreAlike ls ms → file_numbers ls ≡ file_numbers ms
 alike-numbers [] [] h = refl

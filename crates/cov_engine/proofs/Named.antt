@@ -17,7 +17,7 @@ use Rattle.cov_view.specs.Refusals.{first_refused}
 use Rattle.cov_history.specs.Kept.{Kept, hidden, hidden_where, kept_address, new_line, kept_after, Holding, kept_of}
 use Rattle.cov_history.specs.Sessions.{has_commit}
 use Rattle.cov_edit.specs.Variant.{Line, is_line}
-use Rattle.cov_engine.specs.Staging.{IsNear, AreNear}
+use Rattle.cov_visible.specs.Staging.{IsNear, AreNear}
 use Rattle.cov_history.specs.Verdict.{verdict, IsLegal}
 use Rattle.cov_history.proofs.CallerLemmas.{commit-lines, all-mapped, no_commit-holds, the_node, AreNamed, IsNamed, made-number, nodes-replay, base-nodes, edits-accepted, further, accepted-named}
 use Rattle.cov_engine.proofs.States.{numbers-kept, along-legal}

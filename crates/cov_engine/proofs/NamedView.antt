@@ -1,78 +1,46 @@
 -- What edits are tried on refuses the same of them first as the variant does.
-use Rattle.std.proofs.Common.{◌≡◌, refl, ap, sym, ◌∙◌, ℕ, zero, suc, ◌+◌, ◌<◌, ◌≤◌, Bool, true, false, cond, ◌&&◌, nat_eq, List, [], ◌∷◌, length, map, take, Option, Some, None, option_map, arith}
+use Rattle.std.proofs.Common.{◌≡◌, refl, ap, sym, ◌∙◌, ℕ, ◌+◌, ◌≤◌, Bool, true, false, cond, ◌&&◌, List, [], ◌∷◌, length, map, take, Option, option_map, arith}
 use Rattle.std.specs.List.{list_any, AllByRecursion}
-use Rattle.std.proofs.lemmas.Bool.{or_from, or_parts}
-use Rattle.std.proofs.lemmas.Bool.Decides.{nat_tests}
 use Rattle.cov_base.specs.Addresses.{line_of, AreInOrder, IsLineOf}
-use Rattle.cov_base.specs.Rows.{Row, has_node, AreDistinct, AreOnce}
+use Rattle.cov_base.specs.Rows.{Row, AreOnce}
 use Rattle.cov_base.specs.declared.file_row.FileRow.{FileRow}
 use Rattle.cov_base.specs.declared.number.Kind.{Kind}
 use Rattle.cov_base.specs.declared.number.Kind.TheVariants as kinds
-use Rattle.cov_base.specs.declared.number.NodeRef.TheVariants as nodes
-use Rattle.cov_base.proofs.CallerLemmas.{all-both, all-map, any-map}
+use Rattle.cov_base.proofs.CallerLemmas.{all-both, all-map}
 use Rattle.cov_dd.specs.declared.triple.Triple.{Triple}
 use Rattle.cov_edit.specs.declared.command.Command.{Command}
 use Rattle.cov_edit.specs.declared.edit.Edit.{Edit}
 use Rattle.cov_edit.specs.Numbering.{Numbers, numbered_from, numbers_after, numbers_of}
 use Rattle.cov_edit.specs.Replay.{replay}
-use Rattle.cov_edit.specs.Touched.{touched, AreRising}
+use Rattle.cov_edit.specs.Touched.{touched}
 use Rattle.cov_edit.specs.Variant.{Variant, line_address, lines_of}
-use Rattle.cov_edit.proofs.CallerLemmas.{touched-rising}
 use Rattle.cov_history.specs.Naming.{NamesOnlyMade}
 use Rattle.cov_history.specs.RowChanges.{changes_rows}
 use Rattle.cov_history.specs.Verdict.{IsLegal}
 use Rattle.cov_history.proofs.CallerLemmas.{all-mapped, holding-stands, legal-named, legal-take, replay-once, replay-stands}
 use Rattle.cov_tree.specs.Dated.{among}
-use Rattle.cov_tree.proofs.CallerLemmas.{among_all, among_once}
-use Rattle.cov_view.specs.References.{is_dir_kind, is_made_line, is_made_node, is_root, same_node}
+use Rattle.cov_tree.proofs.CallerLemmas.{among_all}
+use Rattle.cov_view.specs.References.{is_dir_kind, is_made_line, is_made_node}
 use Rattle.cov_view.specs.Refusals.{first_refused, refused_from}
-use Rattle.cov_view.specs.Seen.{Seen, has_row, row_at, AreRows}
+use Rattle.cov_view.specs.Seen.{Seen}
 use Rattle.cov_view.specs.Views.{by_number, line_by_number, row_by_number, IsMade, Shows, ShowsLines}
-use Rattle.cov_view.specs.declared.row.ViewRow.{ViewRow}
-use Rattle.cov_engine.specs.declared.file_part.FilePart.{FilePart}
+use Rattle.cov_visible.specs.declared.file_part.FilePart.{FilePart}
 use Rattle.cov_engine.specs.declared.history_index.CommitMark.{CommitMark}
-use Rattle.cov_engine.specs.declared.visible.Visible.{Visible}
+use Rattle.cov_visible.specs.declared.visible.Visible.{Visible}
 use Rattle.cov_engine.specs.Holdings.{AreRowsAndLinesOf}
-use Rattle.cov_engine.specs.Parts.{part_of}
-use Rattle.cov_engine.specs.Reading.{line_row, stored_rows}
-use Rattle.cov_engine.specs.Showing.{bare_row}
-use Rattle.cov_engine.specs.Trying.{place_refused, row_lines, seen_tried, whole_row}
+use Rattle.cov_visible.specs.Parts.{part_of}
+use Rattle.cov_visible.specs.Reading.{line_row, stored_rows}
+use Rattle.cov_visible.specs.Trying.{place_refused, row_lines, seen_tried, whole_row}
 use Rattle.cov_engine.proofs.FileLines.{by-row, lines-made, pairs, row_pair}
 use Rattle.cov_engine.proofs.LinesRead.{lines-read}
-use Rattle.cov_engine.proofs.Matching.{bared}
-use Rattle.cov_engine.proofs.TouchedRows.{rows-of, tried-same}
+use Rattle.cov_engine.proofs.TouchedRows.{tried-same}
 use Rattle.cov_engine.proofs.Trying.{shown-first}
 use Rattle.cov_engine.proofs.Views.{lines-below, rows-made}
-
-pub none-any : {X : Type 0} (p : X → Bool) (xs : List X) → ((x : X) → p x ≡ false) → list_any p xs ≡ false
-none-any p [] h = refl
-none-any p (x ∷ xs) h = or_from (p x) (list_any p xs) (h x) (none-any p xs h)
+use Rattle.cov_visible.proofs.CallerLemmas.{rows-of, rows-once, whole-once}
 
 module _ (ts : List Triple) (c : List Bool) (at : ℕ) (stored : List FilePart) where
   abbrev read : ℕ → List FileRow
   read node = stored_rows ts c at (part_of stored node)
-
-  pub no-new : (f : Row → ViewRow) → ((r : Row) → (f r).node ≡ nodes.Old r.node) → (i : ℕ) (rs : List Row) → row_at (map f rs) (nodes.New i) ≡ None
-  no-new f old i [] = refl
-  no-new f old i (r ∷ rs) = ap (λ n. cond (same_node n (nodes.New i)) (Some (f r)) (row_at (map f rs) (nodes.New i))) (old r) ∙ no-new f old i rs
-
-  pub all-bared : (rs : List Row) → map bared (map bare_row rs) ≡ map bared (map (whole_row ts c at stored) rs)
-  all-bared [] = refl
-  all-bared (r ∷ rs) = ap (λ qs. bare_row r ∷ qs) (all-bared rs)
-
-  -- the whole rows stand once
-  pub whole-once : (rs : List Row) → has_node 0 (map (λ r. r.node) rs) ≡ false → AreDistinct (map (λ r. r.node) rs) → AreRows 0 (map (whole_row ts c at stored) rs)
-  whole-once [] no_root distinct = tt
-  whole-once (r ∷ rs) no_root distinct =
-      let is = or_parts (nat_eq r.node 0) (has_node 0 (map (λ q. q.node) rs)) no_root in
-      (root r.node is.0, refl, fresh rs ∙ distinct.0, whole-once rs is.1 distinct.1)
-    where
-      root : (x : ℕ) → nat_eq x 0 ≡ false → is_root (nodes.Old x) ≡ false
-      root zero h = absurd (cc)
-      root (suc x) h = refl
-
-      fresh : (qs : List Row) → has_row (map (whole_row ts c at stored) qs) (nodes.Old r.node) ≡ has_node r.node (map (λ q. q.node) qs)
-      fresh qs = any-map (λ (q : ViewRow). same_node q.node (nodes.Old r.node)) (whole_row ts c at stored) qs ∙ sym (any-map (λ n. nat_eq n r.node) (λ (q : Row). q.node) qs)
 
   module _ (numbers : Numbers) (v : Variant) (own_read : (file : ℕ) → read file ≡ map line_row (lines_of v file)) (low : AllByRecursion (λ l. line_of l.address ≤ length numbers.addresses) v.lines) where
     own-lines : (k : Kind) (x : ℕ) → is_dir_kind k ≡ false → map by_number (lines_of v x) ≡ map (line_by_number numbers) (row_lines ts c at stored k x)
@@ -108,15 +76,6 @@ module _ (ts : List Triple) (c : List Bool) (at : ℕ) (stored : List FilePart) 
         are : v.rows ≡ map (row_by_number numbers) (map (whole_row ts c at stored) v.rows)
         are = sym (told v.rows)
 
--- rising numbers stand once
-rising-once : (xs : List ℕ) → AreRising xs → AreDistinct xs
-rising-once [] rising = tt
-rising-once (x ∷ xs) rising = (above xs rising.0, rising-once xs rising.1)
-  where
-    above : (ys : List ℕ) → AllByRecursion (λ y. x < y) ys → has_node x ys ≡ false
-    above [] h = refl
-    above (y ∷ ys) h = let more = h.0 in let differs : nat_eq y x ≡ false = grind (arith, nat_tests, more) in or_from (nat_eq y x) (has_node x ys) differs (above ys h.1)
-
 -- what all rows have, those have that edits are tried on
 rows-have : (P : Row → Type 0) (es : List Edit) (rows : List Row) → AllByRecursion P rows → AllByRecursion P (rows-of es rows)
 rows-have P es rows all = by (list_any changes_rows es)
@@ -124,14 +83,6 @@ rows-have P es rows all = by (list_any changes_rows es)
     by : (b : Bool) → AllByRecursion P (cond b rows (among (touched es) rows))
     by true = all
     by false = among_all P (touched es) rows all
-
--- and they are of different nodes
-pub rows-once : (es : List Edit) (rows : List Row) → AreOnce rows → AreOnce (rows-of es rows)
-rows-once es rows once = by (list_any changes_rows es)
-  where
-    by : (b : Bool) → AreOnce (cond b rows (among (touched es) rows))
-    by true = once
-    by false = among_once (touched es) rows (rising-once (touched es) (touched-rising es).0) once
 
 -- the first edit that is refused on what edits are tried on is the first that the variant refuses
 pub tried-first : (history : List Command) (commits : List CommitMark) (file_of_line : List ℕ) (v : Visible) (c : List Bool) (at : ℕ) (es : List Edit) (found : Option ℕ) → IsLegal history

@@ -7,7 +7,7 @@ use Rattle.cov_edit.specs.declared.command.Command.TheVariants as commands
 use Rattle.cov_edit.specs.History.{options_of, option_count}
 use Rattle.cov_edit.specs.Touched.{AreRising}
 use Rattle.cov_rules.specs.declared.rules.Rule.{Rule}
-use Rattle.cov_engine.specs.Parts.{count_below}
+use Rattle.cov_visible.specs.Parts.{count_below}
 use Rattle.cov_engine.specs.Ruling.{rule_in}
 use Rattle.cov_engine.specs.States.{options_at}
 

@@ -3,8 +3,8 @@ use Rattle.std.proofs.Common.{◌≡◌, ℕ, ◌+◌, ◌-◌, ◌<◌, ◌≤�
 use Rattle.std.specs.List.{AllByRecursion}
 use Rattle.cov_base.specs.declared.limits.TheConstants.{CHOICE_WIDTH}
 use Rattle.cov_dd.specs.declared.triple.Triple.{Triple}
-use Rattle.cov_dd.specs.Diagrams.{diagram_size, span, value_in, Extends, Stands}
-use Rattle.cov_dd.proofs.CallerLemmas.{extends_trans, stands_later, stands_weaker}
+use Rattle.cov_dd.specs.Diagrams.{diagram_size, span, Extends, Stands}
+use Rattle.cov_dd.proofs.CallerLemmas.{stands_later}
 use Rattle.cov_expr.specs.Formula.{Formula, reach, value}
 use Rattle.cov_edit.specs.declared.edit.Edit.{Edit}
 use Rattle.cov_edit.specs.declared.command.Command.{Command}
@@ -20,23 +20,23 @@ use Rattle.cov_tree.specs.Dated.{Dated, nodes_in, kinds_in, nodes_with, kinds_wi
 use Rattle.cov_tree.proofs.CallerLemmas.{plans_grow}
 use Rattle.cov_engine.specs.Evidence.{CanBeTested}
 use Rattle.cov_engine.specs.Holdings.{AreRowsAndLinesOf}
-use Rattle.cov_engine.specs.Nodes.{HasNodesIn, IsTaken}
-use Rattle.cov_engine.specs.Parts.{part_node}
+use Rattle.cov_visible.specs.Nodes.{HasNodesIn, IsTaken}
+use Rattle.cov_visible.specs.Parts.{part_node}
 use Rattle.cov_engine.specs.Ready.{IsInBounds}
-use Rattle.cov_engine.specs.Resolved.{HaveNumbers, AreResolved, AreResolvedIn}
-use Rattle.cov_engine.specs.RowPlans.{row_changes, AlsoMakes, AreWithin, MakeNewNodes, nodes_after_all, kinds_after_all}
+use Rattle.cov_visible.specs.Resolved.{HaveNumbers, AreResolved, AreResolvedIn}
+use Rattle.cov_visible.specs.RowPlans.{row_changes, AlsoMakes, AreWithin, MakeNewNodes, nodes_after_all, kinds_after_all}
 use Rattle.cov_engine.specs.Staged.{IsCommitPlan}
-use Rattle.cov_engine.specs.Staging.{AreNear, AreLow}
+use Rattle.cov_visible.specs.Staging.{AreNear, AreLow}
 use Rattle.cov_engine.specs.States.{AreCountsOf}
 use Rattle.cov_engine.specs.declared.counts.Counts.{Counts}
-use Rattle.cov_engine.specs.declared.file_part.FilePart.{FilePart}
+use Rattle.cov_visible.specs.declared.file_part.FilePart.{FilePart}
 use Rattle.cov_engine.specs.declared.history_index.CommitMark.{CommitMark}
-use Rattle.cov_engine.specs.declared.resolved_edit.ResolvedEdit.{ResolvedEdit}
-use Rattle.cov_engine.specs.declared.resolving.CommitContext.{CommitContext}
+use Rattle.cov_visible.specs.declared.resolved_edit.ResolvedEdit.{ResolvedEdit}
+use Rattle.cov_visible.specs.declared.resolving.CommitContext.{CommitContext}
 use Rattle.cov_engine.proofs.Holdings.{entries-grown}
 use Rattle.cov_engine.proofs.Judging.{once-with, unread-with}
 use Rattle.cov_engine.proofs.Readied.{first-nodes, held-within}
-use Rattle.cov_engine.proofs.Resolved.{nodes-later, resolved-grown, resolved-new, resolved-within}
+use Rattle.cov_visible.proofs.CallerLemmas.{nodes-later, resolved-grown, resolved-new, resolved-within}
 use Rattle.cov_engine.proofs.RowPlans.{entries-once, up-to-made}
 
 -- a commit's mark and the context of its edits, after a history with these counts

@@ -20,21 +20,21 @@ use Rattle.cov_view.proofs.CallerLemmas.{none-when}
 use Rattle.cov_engine.specs.Summaries.{summary_of, IsSummaryOf}
 use Rattle.cov_engine.specs.declared.summary.EditSummary.{EditSummary}
 use Rattle.cov_engine.specs.declared.counts.Counts.{Counts}
-use Rattle.cov_engine.specs.declared.file_part.FilePart.{FilePart}
+use Rattle.cov_visible.specs.declared.file_part.FilePart.{FilePart}
 use Rattle.cov_engine.specs.declared.history_index.CommitMark.{CommitMark}
-use Rattle.cov_engine.specs.declared.resolved_edit.ResolvedEdit.{ResolvedEdit}
+use Rattle.cov_visible.specs.declared.resolved_edit.ResolvedEdit.{ResolvedEdit}
 use Rattle.cov_engine.specs.declared.sizes.Sizes.{Sizes}
 use Rattle.cov_history.specs.declared.refusal.Refusal.{Refusal}
 use Rattle.cov_history.specs.declared.refusal.Refusal.TheVariants as refusals
 use Rattle.cov_history.specs.Kept.{kept_of}
 use Rattle.cov_history.specs.Files.{file_dated}
-use Rattle.cov_engine.specs.Nodes.{HasNodesIn, IsTaken}
+use Rattle.cov_visible.specs.Nodes.{HasNodesIn, IsTaken}
 use Rattle.cov_engine.proofs.Dating.{dated-nodes}
 use Rattle.cov_tree.specs.declared.entry.Entry.{Entry}
 use Rattle.cov_tree.specs.Dated.{Dated, HasRoom as HasRowRoom, planned as entries_planned, without_room}
-use Rattle.cov_engine.specs.RowPlans.{row_changes, nodes_after_all, kinds_after_all, IsSet}
+use Rattle.cov_visible.specs.RowPlans.{row_changes, nodes_after_all, kinds_after_all, IsSet}
 use Rattle.cov_engine.specs.Holdings.{IsFileOf, AreRowsAndLinesOf}
-use Rattle.cov_engine.specs.Parts.{part_node, count_below, files_among}
+use Rattle.cov_visible.specs.Parts.{part_node, count_below, files_among}
 use Rattle.cov_edit.specs.Touched.{AreRising}
 use Rattle.cov_history.specs.FileNodes.{files_made, files_of}
 use Rattle.cov_history.specs.Sessions.{IsGood, session_of}
@@ -43,30 +43,28 @@ use Rattle.cov_engine.specs.Overtakers.{IsOvertaker}
 use Rattle.cov_history.specs.Overtaking.{overtaken}
 use Rattle.cov_history.specs.Verdict.{IsLegal, as_overtaken, verdict, refusals_of, size_refusals}
 use Rattle.cov_history.specs.FileOfLine.{new_file_of_line}
-use Rattle.cov_engine.specs.Staging.{contents, new_contents, made_files, files_of_lines, sizes_of, new_files, HasRoom}
+use Rattle.cov_visible.specs.Staging.{contents, new_contents, made_files, files_of_lines, new_files, HasRoom}
+use Rattle.cov_engine.specs.Sizes.{sizes_of}
 use Rattle.cov_engine.specs.Staged.{IsCommitPlan, IsStaged}
 use Rattle.cov_edit.specs.History.{is_valid_in}
 use Rattle.cov_dd.specs.Diagrams.{Extends}
 use Rattle.cov_dd.proofs.CallerLemmas.{stands_later, stands_weaker}
 use Rattle.cov_tree.specs.Entries.{nodes_of, kinds_of}
 use Rattle.cov_tree.proofs.CallerLemmas.{newest_but_room}
-use Rattle.cov_engine.specs.Carrying.{CanCarryOutAll, AreInstalled}
+use Rattle.cov_visible.specs.Carrying.{CanCarryOutAll, AreInstalled}
 use Rattle.cov_dd.specs.Diagrams.{value_in, Stands}
 use Rattle.cov_edit.specs.History.{edits_in}
 use Rattle.cov_engine.specs.Ready.{IsNext, IsInBounds, AreCountsWith, IsCommitReady, IsStagedReady, IsReady}
-use Rattle.cov_history.proofs.CallerLemmas.{files-commit, files-rise, made-within, edits-accepted, new-files_of_lines-count}
+use Rattle.cov_history.proofs.CallerLemmas.{files-commit, files-rise, made-within, new-files_of_lines-count}
 use Rattle.cov_history.specs.BadChoices.{unsound_refusal}
 use Rattle.cov_engine.specs.declared.addition.Addition.{Addition}
 use Rattle.cov_engine.specs.declared.addition.Addition.TheVariants as additions
 use Rattle.cov_engine.proofs.States.{legal-one, sum-one, options-append, below}
-use Rattle.cov_engine.proofs.StoredFiles.{same-nodes}
-use Rattle.cov_engine.proofs.Rising.{count-front}
-use Rattle.cov_engine.proofs.Rooms.{staged-nodes}
-use Rattle.cov_engine.proofs.Resolved.{resolved-length, resolved-files, resolved-files_of_lines}
 use Rattle.cov_engine.proofs.RowPlans.{entries-room, makes-room}
-use Rattle.cov_engine.proofs.Refused.{accepted-sizes, bytes-few, commit-good, commit-sizes, commit-verdict, declared-less, edits-few, lines-few, nodes-few}
+use Rattle.cov_engine.proofs.Refused.{bytes-few, commit-good, commit-sizes, commit-verdict, declared-less, edits-few, lines-few, nodes-few}
 use Rattle.cov_engine.proofs.Ruling.{rules-same}
 use Rattle.cov_engine.specs.Refusing.{choice_refusals, commit_refusals, early_refusal, edit_refusals}
+use Rattle.cov_visible.proofs.CallerLemmas.{count-front, resolved-files, resolved-files_of_lines, resolved-length, same-nodes, staged-nodes}
 use Rattle.cov_engine.proofs.Installed.{edits-near, edits-low, staged-rise, staged-plans, row-later, held-committed, files-contents}
 
 -- what is found among the commits is what overtakes in the history

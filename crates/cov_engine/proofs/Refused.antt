@@ -25,7 +25,7 @@ use Rattle.cov_history.specs.declared.refusal.Refusal.TheVariants as refusals
 use Rattle.cov_history.proofs.CallerLemmas.{legal-take, no-record, rules-low}
 use Rattle.cov_rules.specs.Installing.{reach_of}
 use Rattle.cov_engine.specs.Refusing.{base_refusals, choice_refusals, commit_refusals, early_refusal, early_refusals, edit_refusals, undeclared}
-use Rattle.cov_engine.specs.Staging.{sizes_refusal}
+use Rattle.cov_engine.specs.Sizes.{sizes_refusal}
 use Rattle.cov_engine.specs.States.{AreCountsOf}
 use Rattle.cov_engine.specs.declared.counts.Counts.{Counts}
 use Rattle.cov_engine.proofs.States.{not-below}

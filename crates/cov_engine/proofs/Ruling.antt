@@ -21,7 +21,7 @@ use Rattle.cov_rules.specs.declared.rules.Rule.TheVariants as rules
 use Rattle.cov_rules.specs.declared.rules.RuleFault.TheVariants as faults
 use Rattle.cov_rules.proofs.CallerLemmas.{holds_later, stay_below}
 use Rattle.cov_view.specs.Refusals.{when, first_of}
-use Rattle.cov_engine.specs.declared.file_part.FilePart.{FilePart}
+use Rattle.cov_visible.specs.declared.file_part.FilePart.{FilePart}
 use Rattle.cov_engine.specs.declared.history_index.CommitMark.{CommitMark}
 use Rattle.cov_engine.specs.declared.addition.Addition.{Addition}
 use Rattle.cov_engine.specs.declared.addition.Addition.TheVariants as additions

@@ -17,21 +17,21 @@ use Rattle.cov_file.specs.Dated.{vis_of}
 use Rattle.cov_order.specs.Orders.{has_line, AreLines}
 use Rattle.cov_base.specs.Rows.{has_node}
 use Rattle.cov_history.specs.FileNodes.{files_of}
-use Rattle.cov_engine.specs.Parts.{part_node}
+use Rattle.cov_visible.specs.Parts.{part_node}
 use Rattle.cov_history.specs.Files.{DatedLine, dated_number, dated, file_dated, file_order}
 use Rattle.cov_engine.specs.Holdings.{IsFileOf}
 use Rattle.cov_history.specs.Kept.{Kept, seen_at, kept_number, kept_of, file_kept}
-use Rattle.cov_engine.specs.Nodes.{old_node, IsTaken}
+use Rattle.cov_visible.specs.Nodes.{old_node, IsTaken}
 use Rattle.cov_history.specs.Sessions.{IsGood, session_of}
-use Rattle.cov_engine.specs.Resolved.{AreResolved}
+use Rattle.cov_visible.specs.Resolved.{AreResolved}
 use Rattle.cov_history.specs.Verdict.{IsLegal}
-use Rattle.cov_engine.specs.declared.file_part.FilePart.{FilePart}
-use Rattle.cov_engine.specs.declared.resolved_edit.ResolvedEdit.{ResolvedEdit}
+use Rattle.cov_visible.specs.declared.file_part.FilePart.{FilePart}
+use Rattle.cov_visible.specs.declared.resolved_edit.ResolvedEdit.{ResolvedEdit}
 use Rattle.cov_engine.proofs.MidCommit.{IsRight, AreRight}
-use Rattle.cov_engine.proofs.Resolved.{resolved-by}
 use Rattle.cov_engine.proofs.Committed.{numbers-dated, in-range}
 use Rattle.cov_engine.proofs.Dating.{AreOnce, false-stands, gone, dated-numbers, node-right, node-low, node-none, IsGone}
 use Rattle.cov_history.proofs.CallerLemmas.{legal-in_files, lines-held, any-none, any-mapped}
+use Rattle.cov_visible.proofs.CallerLemmas.{resolved-by}
 use Rattle.cov_engine.proofs.FileOfLine.{none-kept}
 
 -- lines with distinct numbers

@@ -20,6 +20,7 @@ use Rattle.cov_tree.proofs.CallerLemmas.{among_row}
 use Rattle.cov_view.specs.References.{is_head, is_known_node}
 use Rattle.cov_view.specs.Refusals.{when, first_of, shows_node, shows_line, is_dir, row_is_dir, refusal, refused_at, refused_from, first_refused}
 use Rattle.cov_view.specs.declared.fault.EditFault.TheVariants as faults
+use Rattle.cov_visible.proofs.CallerLemmas.{rows-of}
 
 module _ (kept : ℕ → Bool) where
   -- each kept node has the same row in two variants, or in neither
@@ -144,10 +145,6 @@ all-kept n es = from es (λ x h. (touched-rising es).1 x ∙ h)
     from : (fs : List Edit) → ((x : ℕ) → has_number x (filter_map touched_by fs) ≡ true → has_number x (touched es) ≡ true) → AllByRecursion (IsKept (is_kept n (touched es)) n) fs
     from [] h = tt
     from (f ∷ fs) h = (one f (λ x is. h x (first-has (touched_by f) x (filter_map touched_by fs) is)), from fs (λ x k. h x (rest-has (touched_by f) x (filter_map touched_by fs) k)))
-
--- the rows of a variant that edits are tried on
-abbrev pub rows-of : List Edit → List Row → List Row
-rows-of es rows = cond (list_any changes_rows es) rows (among (touched es) rows)
 
 -- a variant with these rows and the same lines refuses the same of them first
 pub tried-same : (ns : Numbers) (v w : Variant) (es : List Edit) → AllByRecursion (λ r. r.node ≤ ns.nodes) w.rows → v.rows ≡ rows-of es w.rows → v.lines ≡ w.lines → first_refused ns v es ≡ first_refused ns w es

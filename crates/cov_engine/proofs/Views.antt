@@ -19,21 +19,20 @@ use Rattle.cov_view.specs.Seen.{Seen}
 use Rattle.cov_view.specs.Views.{row_by_number, ShowsLines, IsMade, Shows}
 use Rattle.cov_view.specs.declared.row.ViewRow.{ViewRow}
 use Rattle.cov_engine.specs.declared.history_index.CommitMark.{CommitMark}
-use Rattle.cov_engine.specs.declared.file_part.FilePart.{FilePart}
+use Rattle.cov_visible.specs.declared.file_part.FilePart.{FilePart}
 use Rattle.cov_tree.specs.Dated.{Dated, rows_at as entry_rows}
-use Rattle.cov_engine.specs.declared.visible.Visible.{Visible}
-use Rattle.cov_engine.specs.Showing.{with_node, AreFresh}
-use Rattle.cov_engine.specs.Visible.{shown}
+use Rattle.cov_visible.specs.declared.visible.Visible.{Visible}
+use Rattle.cov_visible.specs.Showing.{with_node, AreFresh}
+use Rattle.cov_visible.specs.Visible.{shown}
 use Rattle.cov_history.specs.FileNodes.{files_from, files_of}
-use Rattle.cov_engine.specs.Parts.{part_node}
+use Rattle.cov_visible.specs.Parts.{part_node}
 use Rattle.cov_engine.specs.Holdings.{IsFileOf, AreEntriesOf, AreRowsAndLinesOf}
 use Rattle.cov_history.specs.Naming.{NamesOnlyMade}
 use Rattle.cov_history.specs.Verdict.{IsLegal}
 use Rattle.cov_history.proofs.CallerLemmas.{among-more, files-append, rows-tell, holding-stands, replay-once, replay-stands, legal-named, legal-take}
 use Rattle.cov_engine.proofs.Holdings.{view-rows}
-use Rattle.cov_engine.proofs.Fresh.{once-fresh}
+use Rattle.cov_visible.proofs.CallerLemmas.{once-fresh, part-has, part-some}
 use Rattle.cov_engine.proofs.FileLines.{all-unmapped, Shown, IsStored, stored-lines}
-use Rattle.cov_engine.proofs.Rising.{part-some, part-has}
 
 pub line-below : (t : List (List ℕ)) (a : List ℕ) → IsTable t → IsLineOf t (length t) a → line_of a ≤ length t
 line-below t a table line =

@@ -16,18 +16,18 @@ use Rattle.cov_edit.specs.Numbering.{numbers_of, line_count}
 use Rattle.cov_edit.specs.Replay.{replay}
 use Rattle.cov_edit.specs.Variant.{Variant, Line}
 use Rattle.cov_file.specs.Dated.{DatedLine as FileLine, vis_at, vis_of, all_rows}
-use Rattle.cov_engine.specs.declared.file_part.FilePart.{FilePart}
+use Rattle.cov_visible.specs.declared.file_part.FilePart.{FilePart}
 use Rattle.cov_engine.specs.declared.history_index.CommitMark.{CommitMark}
 use Rattle.cov_history.specs.Files.{DatedLine, dated, file_dated}
 use Rattle.cov_engine.specs.Holdings.{IsFileOf, AreRowsAndLinesOf}
 use Rattle.cov_history.specs.Kept.{Kept, seen_at, is_seen, kept_address, kept_number, kept_of, lines_seen, file_kept}
-use Rattle.cov_engine.specs.Nodes.{IsDated, AreDated}
+use Rattle.cov_visible.specs.Nodes.{IsDated, AreDated}
 use Rattle.cov_history.specs.Verdict.{IsLegal}
 use Rattle.cov_engine.specs.Visibility.{has_line_number, IsVisibilityOf, is_no_line, as_row, item_of, stored_file_of}
-use Rattle.cov_engine.specs.Parts.{part_of}
+use Rattle.cov_visible.specs.Parts.{part_of}
 use Rattle.cov_history.proofs.CallerLemmas.{any-seen, replay-seen, seen-cons, holding-stands}
 use Rattle.cov_tree.specs.Dated.{Dated}
-use Rattle.cov_engine.proofs.StoredFiles.{equal}
+use Rattle.cov_visible.proofs.CallerLemmas.{equal}
 use Rattle.cov_engine.proofs.FileOfLine.{stored-held, none-stored, line-stored, no-line-file}
 
 -- the first item that passes a test

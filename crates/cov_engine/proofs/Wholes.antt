@@ -14,18 +14,18 @@ use Rattle.cov_history.specs.Files.{file_dated, file_order}
 use Rattle.cov_history.specs.Kept.{Kept, kept_number, kept_of, file_kept}
 use Rattle.cov_order.specs.Orders.{has_line, AreLines}
 use Rattle.cov_tree.specs.Dated.{Dated}
-use Rattle.cov_engine.specs.declared.file_part.FilePart.{FilePart}
+use Rattle.cov_visible.specs.declared.file_part.FilePart.{FilePart}
 use Rattle.cov_engine.specs.declared.history_index.CommitMark.{CommitMark}
-use Rattle.cov_engine.specs.declared.visible.Visible.{Visible}
+use Rattle.cov_visible.specs.declared.visible.Visible.{Visible}
 use Rattle.cov_engine.specs.Holdings.{IsFileOf, AreRowsAndLinesOf}
-use Rattle.cov_engine.specs.Parts.{part_node}
-use Rattle.cov_engine.specs.Visible.{AreLineNodes, HaveNoCommonLine, HaveNoCommonLines, IsWhole}
+use Rattle.cov_visible.specs.Parts.{part_node}
+use Rattle.cov_visible.specs.Visible.{AreLineNodes, HaveNoCommonLine, HaveNoCommonLines, IsWhole}
 use Rattle.cov_history.proofs.CallerLemmas.{files-rise, holding-whole}
 use Rattle.cov_engine.proofs.Committed.{numbers-dated}
 use Rattle.cov_engine.proofs.Dating.{dated-numbers, dated-nodes}
 use Rattle.cov_engine.proofs.FileLines.{all-unmapped}
+use Rattle.cov_visible.proofs.CallerLemmas.{equal}
 use Rattle.cov_engine.proofs.RowPlans.{entries-once}
-use Rattle.cov_engine.proofs.StoredFiles.{equal}
 
 abbrev numbers : List (Kept Line) → List ℕ
 numbers ks = map kept_number ks

@@ -12,7 +12,7 @@ use Rattle.cov_edit.specs.Numbering.{nodes_made, anchors_of, numbers_of, line_co
 use Rattle.cov_tree.specs.declared.entry.Entry.{Entry}
 use Rattle.cov_tree.specs.Dated.{Dated}
 use Rattle.cov_rules.specs.Installing.{RulesValue, IsPlan}
-use Rattle.cov_engine.specs.Staging.{AreNear, AreLow}
+use Rattle.cov_visible.specs.Staging.{AreNear, AreLow}
 use Rattle.cov_engine.specs.Staged.{IsCommitPlan, IsStaged}
 use Rattle.cov_engine.specs.Holdings.{AreRowsAndLinesOf}
 use Rattle.cov_engine.specs.Ruling.{rule_in}
@@ -20,9 +20,9 @@ use Rattle.cov_engine.specs.States.{Declares, history_of, table_of}
 use Rattle.cov_history.specs.Sessions.{MayCome}
 use Rattle.cov_history.specs.Verdict.{verdict}
 use Rattle.cov_engine.specs.declared.counts.Counts.{Counts}
-use Rattle.cov_engine.specs.declared.file_part.FilePart.{FilePart}
+use Rattle.cov_visible.specs.declared.file_part.FilePart.{FilePart}
 use Rattle.cov_engine.specs.declared.history_index.CommitMark.{CommitMark}
-use Rattle.cov_engine.specs.declared.resolved_edit.ResolvedEdit.{ResolvedEdit}
+use Rattle.cov_visible.specs.declared.resolved_edit.ResolvedEdit.{ResolvedEdit}
 use Rattle.cov_engine.specs.declared.state.EngineState.{EngineState}
 use Rattle.cov_engine.specs.declared.addition.Addition.{Addition}
 use Rattle.cov_engine.specs.declared.addition.Addition.TheVariants as additions

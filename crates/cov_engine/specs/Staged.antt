@@ -14,16 +14,16 @@ use Rattle.cov_history.specs.BadChoices.{unsound_refusal}
 use Rattle.cov_history.specs.FileOfLine.{new_file_of_line}
 use Rattle.cov_history.specs.Verdict.{RefusedBy}
 use Rattle.cov_history.specs.declared.refusal.Refusal.{Refusal}
-use Rattle.cov_engine.specs.Staging.{contents, new_files, HasRoom}
+use Rattle.cov_visible.specs.Staging.{contents, new_files, HasRoom}
 use Rattle.cov_engine.specs.Holdings.{AreRowsAndLinesOf}
-use Rattle.cov_engine.specs.Resolved.{AreResolved}
-use Rattle.cov_engine.specs.RowPlans.{row_changes, nodes_after_all, kinds_after_all}
+use Rattle.cov_visible.specs.Resolved.{AreResolved}
+use Rattle.cov_visible.specs.RowPlans.{row_changes, nodes_after_all, kinds_after_all}
 use Rattle.cov_tree.specs.declared.entry.Entry.{Entry}
 use Rattle.cov_tree.specs.Changes.{Makes}
 use Rattle.cov_tree.specs.Dated.{Dated, HasRoom as HasRowRoom, nodes_in, kinds_in, nodes_with, kinds_with}
-use Rattle.cov_engine.specs.declared.file_part.FilePart.{FilePart}
+use Rattle.cov_visible.specs.declared.file_part.FilePart.{FilePart}
 use Rattle.cov_engine.specs.declared.history_index.CommitMark.{CommitMark}
-use Rattle.cov_engine.specs.declared.resolved_edit.ResolvedEdit.{ResolvedEdit}
+use Rattle.cov_visible.specs.declared.resolved_edit.ResolvedEdit.{ResolvedEdit}
 
 -- a commit is planned after a history: its position and what it touches are kept, its node stands for the ambition, which names
 -- declared options, its edits have their numbers, and a plan makes its changes of rows, with the nodes that it makes behind those before

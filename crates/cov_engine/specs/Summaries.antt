@@ -5,7 +5,7 @@ use Rattle.cov_base.specs.declared.limits.TheConstants.{LIMITS}
 use Rattle.cov_edit.specs.declared.edit.Edit.{Edit}
 use Rattle.cov_edit.specs.Touched.{touched}
 use Rattle.cov_history.specs.RowChanges.{changes_rows}
-use Rattle.cov_engine.specs.Staging.{sizes_of}
+use Rattle.cov_engine.specs.Sizes.{sizes_of}
 use Rattle.cov_engine.specs.declared.summary.EditSummary.{EditSummary}
 
 -- how much edits make, what they touch, and whether they change rows

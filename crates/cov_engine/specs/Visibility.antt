@@ -15,8 +15,8 @@ use Rattle.cov_base.specs.declared.file_row.FileRow.{FileRow}
 use Rattle.cov_history.specs.Files.{DatedLine}
 use Rattle.cov_vis.specs.Decisions.{listing_of}
 use Rattle.cov_vis.specs.Listings.{ListingValue}
-use Rattle.cov_engine.specs.Parts.{part_of}
-use Rattle.cov_engine.specs.declared.file_part.FilePart.{FilePart}
+use Rattle.cov_visible.specs.Parts.{part_of}
+use Rattle.cov_visible.specs.declared.file_part.FilePart.{FilePart}
 
 -- whether a variant has the line with a number, its file present or not
 abbrev pub has_line_number : ℕ → Variant → Bool

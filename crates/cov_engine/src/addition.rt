@@ -4,16 +4,16 @@ ghost use Rattle.std.specs.List.{AllByRecursion};
 ghost use Rattle.cov_base.specs.declared.limits.TheConstants.{LIMITS};
 ghost use Rattle.cov_edit.specs.Touched.{AreRising};
 ghost use Rattle.cov_tree.specs.Dated.{HasRoom as HasRowRoom, without_room};
-ghost use Rattle.cov_engine.specs.Parts.{part_node};
-ghost use Rattle.cov_engine.specs.Staging.{contents, new_contents, made_files, files_of_lines, HasRoom};
+ghost use Rattle.cov_visible.specs.Parts.{part_node};
+ghost use Rattle.cov_visible.specs.Staging.{contents, new_contents, made_files, files_of_lines, HasRoom};
 
 use crate::history_index::{CommitMark, HistoryIndex};
-use crate::resolved_edit::ResolvedEdit;
 use crate::staging::{stage, unstage};
 use crate::{Counts, Visible};
 use cov_base::{Memory, NodeNo, OptionName};
 use cov_rules::{Rule, RulePlan};
 use cov_tree::EntryPlan;
+use cov_visible::ResolvedEdit;
 
 /// What is ready for a command that is accepted.
 #[derive(Drop)]

@@ -13,19 +13,18 @@ ghost use Rattle.cov_vis.specs.Listings.{has_options_below, is_reduced, reads};
 ghost use Rattle.cov_history.specs.Files.{file_dated};
 ghost use Rattle.cov_history.specs.Kept.{kept_of};
 ghost use Rattle.cov_history.specs.Completing.{completed_in};
-ghost use Rattle.cov_engine.specs.Reading.{IsFileAt, line_row};
+ghost use Rattle.cov_visible.specs.Reading.{IsFileAt, line_row};
 ghost use Rattle.cov_engine.specs.States.{AreCountsOf, IsKept, history_of, table_of, receipt_number};
 ghost use Rattle.cov_history.specs.Verdict.{IsLegal, verdict, RefusedBy};
 ghost use Rattle.cov_engine.specs.Visibility.{IsVisibilityOf, as_row, has_line_number, is_no_line, is_refusal, presence_of};
-ghost use Rattle.cov_engine.specs.Visible.{IsWhole, shown};
+ghost use Rattle.cov_visible.specs.Visible.{IsWhole, shown};
 
 use crate::commits::Commits;
-use crate::history_index::{HistoryIndex, add_nodes, file_of};
+use crate::history_index::{HistoryIndex, file_of};
 use crate::installing::add;
 use crate::option_positions::OptionPositions;
-use crate::places::part_of;
 use crate::state::{EngineState, make_ready};
-use crate::{Counts, FileFault, FileParts, Prepared, Receipt, Refusal, Visible, reading};
+use crate::{Counts, FileFault, FileParts, Prepared, Receipt, Refusal, Visible};
 use cov_base::{Choice, FileRows, LineNo, Memory, MemoryOr, Name, NodeNo, Position};
 use cov_dd::{Node, Table};
 use cov_edit::{Command, Commands};
@@ -34,6 +33,7 @@ use cov_rules::{CompleteFault, Invalid, Rules};
 use cov_tree::Entries;
 use cov_view::View;
 use cov_vis::{Listing, list};
+use cov_visible::part_of;
 use std::alloc::Global;
 use std::marker::Model;
 
@@ -219,18 +219,7 @@ impl Engine {
         requires whole { IsWhole visible.now }
         ensures { IfOk result (λ view. view ≡ shown visible.now choice at) }
     {
-        let rows = visible.entries.rows_at(&visible.table, choice, at)?;
-        let files = visible.files.as_slice();
-        let mut view = View::new(alloc)?;
-        add_nodes(
-            &mut view,
-            &visible.table,
-            files,
-            rows.as_slice(),
-            choice,
-            at,
-        )?;
-        Ok(view)
+        cov_visible::view_at(alloc, visible, choice, at)
     }
 
     /// The file at a path, its names from the root on, in the variant of a choice at a position; beyond the history that is the one
@@ -239,7 +228,7 @@ impl Engine {
     pub fn file_at(&self, choice: Choice, at: Position, path: &[Name]) -> Result<NodeNo, FileFault>
         ensures { IsFileAt (replay choice (take at self.now.history)) path.now result }
     {
-        reading::file_at(&self.state.visible, choice, at, path)
+        cov_visible::file_at(&self.state.visible, choice, at, path)
     }
 
     /// The lines of a file, visible on a choice at a position, in order, whether the file is there or not; none where the number
@@ -248,14 +237,14 @@ impl Engine {
         ensures { IfOk result (λ rows. rows ≡ map line_row (lines_of (replay choice (take at self.now.history)) file)) }
     {
         let alloc = self.state.index.commits.allocator();
-        reading::lines_at(alloc, &self.state.visible, file, choice, at)
+        cov_visible::lines_at(alloc, &self.state.visible, file, choice, at)
     }
 
     /// Whether a node is in the variant of a choice at a position. It takes no memory, and time in the places of that node.
     pub fn has_node(&self, node: NodeNo, choice: Choice, at: Position) -> bool
         ensures { result ≡ is_present (replay choice (take at self.now.history)).rows node }
     {
-        reading::has_node(&self.state.visible, node, choice, at)
+        cov_visible::has_node(&self.state.visible, node, choice, at)
     }
 
     /// Makes everything ready for a command, so that its installation can't fail. A refusal, the first of the verdict on it,

@@ -10,12 +10,12 @@ ghost use Rattle.cov_tree.specs.Dated.{rows_with};
 ghost use Rattle.cov_engine.specs.Evidence.{CanBeTested, first_faulty, refusal_by_plan, refusal_for};
 
 use crate::Refusal;
-use crate::history_index::view_of_rows;
 use cov_base::{Choice, Memory, Steps, Uncounted};
 use cov_dd::{Node, Table};
 use cov_edit::Edit;
 use cov_tree::{Entries, EntryPlan};
 use cov_view::Fault;
+use cov_visible::view_of_rows;
 use std::alloc::Global;
 
 /// Whether edits change rows.

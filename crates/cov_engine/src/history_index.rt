@@ -1,28 +1,15 @@
-// The rows and lines that a history ever made.
-ghost use Rattle.std.specs.Prelude.{◌≡◌, [], map, IfOk, OnOk, None, Some};
-ghost use Rattle.cov_base.specs.Rows.{AreOnce};
-ghost use Rattle.cov_view.specs.Soundness.{AreOld, old_row};
-ghost use Rattle.std.specs.List.{fold};
+// Which file each line is in, and the commits.
+ghost use Rattle.std.specs.Prelude.{◌≡◌, map};
 ghost use Rattle.std.specs.Option.{option_copied};
-ghost use Rattle.cov_base.specs.declared.number.Kind.TheVariants.{File};
-ghost use Rattle.cov_base.specs.declared.number.NodeRef.TheVariants.{Old};
-ghost use Rattle.cov_file.specs.Dated.{rows_at as file_rows_at};
-ghost use Rattle.cov_view.specs.Seen.{kind_in, with_file_row};
-ghost use Rattle.cov_engine.specs.Showing.{bare_row, with_node, AreFresh};
 ghost use Rattle.cov_edit.specs.Touched.{AreRising};
-ghost use Rattle.cov_engine.specs.Parts.{part_node};
+ghost use Rattle.cov_visible.specs.Parts.{part_node};
 ghost use Rattle.cov_engine.specs.Visibility.{item_of, stored_file_of};
 
 use crate::commits::Commits;
-use crate::number::item_of;
-use crate::places::part_of;
 use crate::{FilePart, Visible};
-use cov_base::{Choice, Kind, LineNo, Memory, NodeNo, NodeNos, Position};
-use cov_dd::{Node, Table};
-use cov_file::FileLines;
-use cov_tree::NodeRow;
-use cov_view::View;
-use std::alloc::Global;
+use cov_base::{LineNo, NodeNo, NodeNos, Position};
+use cov_dd::Node;
+use cov_visible::part_of;
 
 /// What is kept of a commit: the position after it, the node of its ambition, and the old nodes that it touches, rising.
 #[derive(Drop)]
@@ -39,89 +26,6 @@ pub(crate) struct HistoryIndex {
     pub(crate) file_of_line: Vec<NodeNo>,
 }
 
-/// The view of rows that are of different nodes but the root, without lines.
-pub(crate) fn view_of_rows(
-    alloc: Global,
-    table: &Table,
-    choice: Choice,
-    rows: &[NodeRow],
-) -> Result<View, Memory>
-    requires { AreOnce rows.now }
-    ensures view { IfOk result (λ view. view ≡ record { rows = map bare_row rows.now; nodes_made = 0; lines_made = 0 }) }
-    ensures old { IfOk result (λ view. AreOld view.rows) }
-    ensures rows { IfOk result (λ view. map old_row view.rows ≡ rows.now) }
-{
-    let mut view = View::new(alloc)?;
-    add_nodes(&mut view, table, &[], rows, choice, Position::new(0))?;
-    Ok(view)
-}
-
-/// Adds rows with the lines that are seen.
-pub(crate) fn add_nodes(
-    view: &mut View,
-    table: &Table,
-    files: &[FilePart],
-    rows: &[NodeRow],
-    choice: Choice,
-    at: Position,
-) -> Result<(), Memory>
-    requires rising { AreRising (map part_node files.now) }
-    requires fresh { AreFresh table.now choice at files.now view.old.rows rows.now }
-    ensures rows { OnOk result (view.new.rows ≡ fold (with_node table.now choice at files.now) view.old.rows rows.now) }
-    ensures nodes { view.new.nodes_made ≡ view.old.nodes_made }
-    ensures lines { view.new.lines_made ≡ view.old.lines_made }
-{
-    let mut ahead = rows;
-    while let [row, rest @ ..] = ahead {
-        add_node(view, table, files, row, choice, at)?;
-        ahead = rest;
-    }
-    Ok(())
-}
-
-// Adds a row with the lines that are seen, if it is a file's.
-fn add_node(
-    view: &mut View,
-    table: &Table,
-    files: &[FilePart],
-    row: &NodeRow,
-    choice: Choice,
-    at: Position,
-) -> Result<(), Memory>
-    requires rising { AreRising (map part_node files.now) }
-    requires fresh { kind_in view.old.rows (Old row.now.node) ≡ None }
-    ensures rows { OnOk result (view.new.rows ≡ with_node table.now choice at files.now view.old.rows row.now) }
-    ensures nodes { view.new.nodes_made ≡ view.old.nodes_made }
-    ensures lines { view.new.lines_made ≡ view.old.lines_made }
-{
-    view.add_row(row.node, row.kind, row.parent, &row.name)?;
-    match row.kind {
-        Kind::Dir => Ok(()),
-        Kind::File => match part_of(files, row.node) {
-            Some(part) => add_lines(view, table, row.node, &part.lines, choice, at),
-            None => Ok(()),
-        },
-    }
-}
-
-/// Adds the lines of a file that are seen.
-pub(crate) fn add_lines(
-    view: &mut View,
-    table: &Table,
-    node: NodeNo,
-    file: &FileLines,
-    choice: Choice,
-    at: Position,
-) -> Result<(), Memory>
-    requires file { kind_in view.old.rows (Old node) ≡ Some File }
-    ensures rows { OnOk result (view.new.rows ≡ fold (with_file_row node) view.old.rows (file_rows_at table.now choice at file.now.lines)) }
-    ensures nodes { view.new.nodes_made ≡ view.old.nodes_made }
-    ensures lines { view.new.lines_made ≡ view.old.lines_made }
-{
-    let rows = file.lines_at(table, choice, at)?;
-    view.add_lines(node, &rows)
-}
-
 /// The file of a line.
 pub(crate) fn file_of<'a>(
     index: &HistoryIndex,
@@ -134,5 +38,15 @@ pub(crate) fn file_of<'a>(
     match item_of(&index.file_of_line, line.number() as usize) {
         Some(file) => part_of(visible.files.as_slice(), *file),
         None => None,
+    }
+}
+
+/// The item with a number, from 1.
+pub(crate) fn item_of<X>(items: &[X], number: usize) -> Option<&X>
+    ensures { option_copied result ≡ item_of items.now number }
+{
+    match number {
+        0 => None,
+        number => items.get(number - 1),
     }
 }

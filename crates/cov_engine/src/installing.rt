@@ -1,16 +1,14 @@
 // Commands that are installed, or given up.
 ghost use Rattle.std.specs.Prelude.{◌≡◌, ◌++◌, [], ◌∷◌, map, take};
 ghost use Rattle.cov_edit.specs.Touched.{AreRising};
-ghost use Rattle.cov_engine.specs.Parts.{part_node, count_below};
-ghost use Rattle.cov_engine.specs.Staging.{contents};
+ghost use Rattle.cov_visible.specs.Parts.{part_node, count_below};
+ghost use Rattle.cov_visible.specs.Staging.{contents};
 ghost use Rattle.cov_engine.specs.Ready.{IsPrepared};
 ghost use Rattle.cov_engine.specs.States.{history_of, table_of, receipt_number, IsKept, Keeps};
 ghost use Rattle.cov_engine.specs.declared.addition.Addition.TheVariants as additions;
 
 use crate::addition::Addition;
 use crate::history_index::{CommitMark, HistoryIndex};
-use crate::places::count_below;
-use crate::resolved_edit::ResolvedEdit;
 use crate::staging::{install, unstage};
 use crate::state::EngineState;
 use crate::{Counts, Visible};
@@ -18,6 +16,7 @@ use cov_base::{NodeNo, OptionName, Position};
 use cov_edit::Command;
 use cov_rules::{Rule, RulePlan};
 use cov_tree::EntryPlan;
+use cov_visible::{ResolvedEdit, count_below};
 
 /// Adds all of a command that is ready but the command itself, and answers the number on its receipt.
 pub(crate) fn add(state: &mut EngineState, command: &Command, ready: Addition) -> u32

@@ -2,7 +2,7 @@
 ghost use Rattle.std.specs.Prelude.{◌≡◌, ◌<◌, ◌++◌, [], ◌∷◌, suc, length, nat_lt, IfOk};
 ghost use Rattle.cov_base.specs.declared.limits.TheConstants.{LIMITS};
 ghost use Rattle.cov_edit.specs.Touched.{AreRising};
-ghost use Rattle.cov_engine.specs.Parts.{count_below};
+ghost use Rattle.cov_visible.specs.Parts.{count_below};
 
 use cov_base::{LIMITS, Memory, Position};
 use std::alloc::Global;

@@ -9,8 +9,7 @@ ghost use Rattle.cov_engine.specs.Overtakers.{Overtakes, Decides, IsFirstOf, Hav
 ghost use Rattle.cov_engine.specs.Visibility.{item_of};
 
 use crate::commits::Commits;
-use crate::history_index::CommitMark;
-use crate::number::item_of;
+use crate::history_index::{CommitMark, item_of};
 use cov_base::{Memory, NodeNo, Position, Steps, Uncounted};
 use cov_dd::{Node, Table};
 use cov_edit::have_common;

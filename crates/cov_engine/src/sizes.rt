@@ -5,9 +5,9 @@ ghost use Rattle.cov_base.specs.declared.limits.TheConstants.{MOST_TEXT_BYTES};
 ghost use Rattle.cov_edit.specs.EditFits.{fits_edit};
 ghost use Rattle.cov_edit.specs.History.{edit_bytes};
 ghost use Rattle.cov_edit.specs.Numbering.{nodes_made, anchors_of};
-ghost use Rattle.cov_engine.specs.Staging.{sizes_of, sizes_refusal};
+ghost use Rattle.cov_engine.specs.Sizes.{sizes_of, sizes_refusal};
 ghost use Rattle.cov_history.specs.declared.refusal.Refusal.TheVariants as refusals;
-ghost use Rattle.cov_view.specs.Refusals.{when, first_of};
+ghost use Rattle.cov_view.specs.Refusals.{first_of};
 ghost use Rattle.cov_history.specs.Verdict.{amount_refusals};
 
 use crate::{Counts, Refusal};

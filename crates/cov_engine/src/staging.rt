@@ -4,17 +4,17 @@ ghost use Rattle.std.specs.Prelude.{◌≡◌, ◌<◌, ◌≤◌, ◌++◌, [],
 ghost use Rattle.std.specs.List.{AllByRecursion};
 ghost use Rattle.cov_base.specs.declared.limits.TheConstants.{LIMITS};
 ghost use Rattle.cov_edit.specs.Touched.{AreRising};
-ghost use Rattle.cov_engine.specs.Parts.{part_node};
-ghost use Rattle.cov_engine.specs.Staging.{contents, new_contents, made_files, files_of_lines, HasRoom};
+ghost use Rattle.cov_visible.specs.Parts.{part_node};
+ghost use Rattle.cov_visible.specs.Staging.{contents, new_contents, made_files, files_of_lines, HasRoom};
 ghost use Rattle.cov_tree.specs.Dated.{HasRoom as HasRowRoom, without_room};
-ghost use Rattle.cov_engine.specs.RowPlans.{IsSet};
-ghost use Rattle.cov_engine.specs.Carrying.{CanCarryOutAll, AreInstalled};
+ghost use Rattle.cov_visible.specs.RowPlans.{IsSet};
+ghost use Rattle.cov_visible.specs.Carrying.{CanCarryOutAll, AreInstalled};
 
 use crate::Visible;
 use crate::history_index::{CommitMark, HistoryIndex};
-use crate::resolved_edit::ResolvedEdit;
 use cov_base::{Memory, NodeNo, Position};
 use cov_tree::{Entries, EntryPlan};
+use cov_visible::ResolvedEdit;
 use std::collections::VecDeque;
 
 /// Adds the files of the lines that a commit's edits insert.

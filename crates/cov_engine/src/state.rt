@@ -17,9 +17,6 @@ use crate::history_index::{CommitMark, HistoryIndex};
 use crate::option_positions::OptionPositions;
 use crate::overtaking::overtaken;
 use crate::refusing::early_refusal;
-use crate::resolved_edit::ResolvedEdit;
-use crate::resolving::{CommitContext, resolve};
-use crate::row_planning::plan_rows;
 use crate::rule::rule_ready;
 use crate::sizes::with_sizes;
 use crate::summary::{EditSummary, summarize};
@@ -30,6 +27,7 @@ use cov_expr::{Expr, Options};
 use cov_rules::Rules;
 use cov_tree::EntryPlan;
 use cov_vis::compile;
+use cov_visible::{CommitContext, ResolvedEdit, plan_rows, resolve};
 
 /// The history with what it declares and shows. The table has the nodes of the rules too.
 #[derive(Drop)]

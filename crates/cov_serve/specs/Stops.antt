@@ -18,8 +18,8 @@ use Rattle.cov_view.specs.declared.fault.ListFault.TheVariants as lists
 use Rattle.cov_view.specs.declared.fault.ReadFaultOfView.{ReadFaultOfView}
 use Rattle.cov_view.specs.declared.fault.ReadFaultOfView.TheVariants as reads
 use Rattle.cov_engine.specs.declared.engine.NoSuchLine.{NoSuchLine}
-use Rattle.cov_engine.specs.declared.reading.FileFault.{FileFault}
-use Rattle.cov_engine.specs.declared.reading.FileFault.TheVariants as files
+use Rattle.cov_visible.specs.declared.reading.FileFault.{FileFault}
+use Rattle.cov_visible.specs.declared.reading.FileFault.TheVariants as files
 use Rattle.cov_history.specs.declared.refusal.Refusal.{Refusal}
 use Rattle.cov_history.specs.declared.refusal.Refusal.TheVariants as refusals
 use Rattle.cov_rules.specs.declared.completing.CompleteFault.{CompleteFault}

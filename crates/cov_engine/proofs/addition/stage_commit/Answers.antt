@@ -1,8 +1,7 @@
 use Rattle.std.proofs.Common.{map, take, sym, subst}
 use Rattle.cov_edit.specs.Touched.{AreRising}
-use Rattle.cov_engine.specs.Parts.{part_node}
-use Rattle.cov_engine.proofs.Rising.{rising-front}
-use Rattle.cov_engine.proofs.StoredFiles.{same-rising}
+use Rattle.cov_visible.specs.Parts.{part_node}
+use Rattle.cov_visible.proofs.CallerLemmas.{rising-front, same-rising}
 use Rattle.cov_engine.proofs.addition.stage_commit.Goals as goal
 
 pub unstage-requires : goal.unstage-requires

@@ -1,6 +1,6 @@
 use Rattle.std.proofs.Common.{[], ◌∷◌, ◌++◌, map, sym, subst}
 use Rattle.cov_edit.specs.Touched.{AreRising}
-use Rattle.cov_engine.specs.Parts.{part_node}
+use Rattle.cov_visible.specs.Parts.{part_node}
 use Rattle.cov_engine.specs.Holdings.{AreRowsAndLinesOf}
 use Rattle.cov_engine.specs.States.{AreDeclarationsOf}
 use Rattle.cov_engine.proofs.OptionPositions.{positions-commit}

@@ -1,4 +1,4 @@
-use Rattle.cov_engine.proofs.Rooms.{front-rising}
+use Rattle.cov_visible.proofs.CallerLemmas.{front-rising}
 use Rattle.cov_engine.proofs.installing.cut_off.Goals as goal
 
 pub unstage-requires : goal.unstage-requires

@@ -1,6 +1,6 @@
 use Rattle.std.proofs.Common.{suc, subst, sym, ap, ◌∙◌, arith}
 use Rattle.cov_edit.specs.Touched.{AreRising}
-use Rattle.cov_engine.specs.Parts.{count_below}
+use Rattle.cov_visible.specs.Parts.{count_below}
 use Rattle.cov_engine.proofs.OptionPositions.{count-before, positions-rise}
 use Rattle.cov_engine.proofs.refusing.count_up_to.Goals as goal
 

@@ -6,10 +6,11 @@ use Rattle.cov_history.specs.declared.refusal.Refusal.TheVariants as refusals
 use Rattle.cov_history.proofs.CallerLemmas.{replay-once}
 use Rattle.cov_view.specs.Refusals.{first_of}
 use Rattle.cov_engine.specs.declared.state.EngineState.{EngineState}
+use Rattle.cov_engine.specs.declared.summary.EditSummary.{EditSummary}
 use Rattle.cov_engine.specs.Holdings.{AreRowsAndLinesOf}
 use Rattle.cov_engine.specs.Refusing.{edit_refusals}
 use Rattle.cov_engine.specs.States.{AreDeclarationsOf}
-use Rattle.cov_engine.specs.Trying.{place_refused, seen_tried}
+use Rattle.cov_visible.specs.Trying.{place_refused, seen_tried}
 use Rattle.cov_engine.proofs.NamedView.{tried-first}
 use Rattle.cov_engine.proofs.Refused.{edits-found}
 use Rattle.cov_engine.proofs.Wholes.{held-rise}
@@ -19,8 +20,11 @@ pub first_refused-requires-clause-rising : goal.first_refused-requires-clause-ri
 first_refused-requires-clause-rising c =
     let state = c.args.state.now in held-rise state.commands.commands state.visible.table state.index.commits.items state.index.file_of_line.items state.visible.entries state.visible.files c.requires.kept.1
 
-pub first_refused-requires-clause-summary : goal.first_refused-requires-clause-summary
-first_refused-requires-clause-summary c = c.requires.summary c.requires.few
+pub first_refused-requires-clause-nodes : goal.first_refused-requires-clause-nodes
+first_refused-requires-clause-nodes c = ap (λ (s : EditSummary). s.touched) (c.requires.summary c.requires.few)
+
+pub first_refused-requires-clause-changing : goal.first_refused-requires-clause-changing
+first_refused-requires-clause-changing c = ap (λ (s : EditSummary). s.changes_rows) (c.requires.summary c.requires.few)
 
 pub first_refused-requires-clause-once : goal.first_refused-requires-clause-once
 first_refused-requires-clause-once c =

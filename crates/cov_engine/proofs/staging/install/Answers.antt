@@ -1,6 +1,6 @@
 use Rattle.std.proofs.Common.{sym, subst}
-use Rattle.cov_engine.specs.Carrying.{CanCarryOutAll, AreAllCarriedOut}
-use Rattle.cov_engine.proofs.StoredFiles.{all-carried-rising}
+use Rattle.cov_visible.specs.Carrying.{CanCarryOutAll, AreAllCarriedOut}
+use Rattle.cov_visible.proofs.CallerLemmas.{all-carried-rising}
 use Rattle.cov_engine.proofs.staging.install.Goals as goal
 
 pub carry_out_all-requires-clause-can : goal.carry_out_all-requires-clause-can

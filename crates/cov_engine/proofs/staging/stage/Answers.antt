@@ -1,4 +1,4 @@
-use Rattle.cov_engine.proofs.Rooms.{front-contents, staged-rising}
+use Rattle.cov_visible.proofs.CallerLemmas.{front-contents, staged-rising}
 use Rattle.cov_engine.proofs.staging.stage.Goals as goal
 
 pub add_rooms-requires-clause-rising : goal.add_rooms-requires-clause-rising

@@ -1,5 +1,5 @@
 use Rattle.std.proofs.Common.{◌≡◌, ◌++◌, length, take}
-use Rattle.cov_engine.specs.Staging.{files_of_lines}
+use Rattle.cov_visible.specs.Staging.{files_of_lines}
 use Rattle.cov_engine.proofs.staging.stage_files_of_lines.Given as goal
 
 abbrev pub invariant-loop-ahead : goal.invariant-loop-ahead

@@ -1,5 +1,5 @@
 use Rattle.std.proofs.Common.{refl, sym, ap, subst, ◌∙◌}
-use Rattle.cov_dd.proofs.CallerLemmas.{extends_none, extends_trans}
+use Rattle.cov_dd.proofs.CallerLemmas.{extends_none}
 use Rattle.cov_engine.specs.Holdings.{AreRowsAndLinesOf}
 use Rattle.cov_engine.specs.Staged.{IsStaged}
 use Rattle.cov_engine.proofs.Keeping.{declared-again}

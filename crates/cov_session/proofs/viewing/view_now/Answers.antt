@@ -3,7 +3,7 @@ use Rattle.std.proofs.Math.Seq.{take-length}
 use Rattle.std.proofs.lemmas.Result.{IfOk-weaker}
 use Rattle.cov_edit.specs.Numbering.{numbers_of}
 use Rattle.cov_edit.specs.Replay.{replay}
-use Rattle.cov_engine.specs.Visible.{shown}
+use Rattle.cov_visible.specs.Visible.{shown}
 use Rattle.cov_view.specs.Seen.{Seen}
 use Rattle.cov_view.specs.Views.{Shows}
 use Rattle.cov_session.proofs.viewing.view_now.Goals as goal

@@ -1,6 +1,6 @@
 use Rattle.std.proofs.Common.{take, subst}
 use Rattle.cov_edit.specs.Replay.{replay}
-use Rattle.cov_engine.specs.Reading.{IsFileAmong, IsFileAt}
+use Rattle.cov_visible.specs.Reading.{IsFileAmong, IsFileAt}
 use Rattle.cov_engine.specs.States.{EngineValue}
 use Rattle.cov_engine.proofs.engine.Engine.file_at.Goals as goal
 

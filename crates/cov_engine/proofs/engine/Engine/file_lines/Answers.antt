@@ -4,7 +4,7 @@ use Rattle.std.proofs.lemmas.Result.{IfOk-weaker}
 use Rattle.cov_edit.specs.Touched.{AreRising}
 use Rattle.cov_history.specs.Files.{file_dated}
 use Rattle.cov_history.specs.Kept.{kept_of}
-use Rattle.cov_engine.specs.Parts.{part_node, part_of}
+use Rattle.cov_visible.specs.Parts.{part_node, part_of}
 use Rattle.cov_engine.specs.States.{EngineValue}
 use Rattle.cov_engine.specs.Visibility.{as_row}
 use Rattle.cov_engine.proofs.Visibilities.{all-kept, none-kept}

@@ -2,7 +2,7 @@ use Rattle.std.proofs.Common.{map, take, ap, ◌∙◌}
 use Rattle.std.proofs.lemmas.Result.{IfOk-weaker}
 use Rattle.cov_edit.specs.Replay.{replay}
 use Rattle.cov_edit.specs.Variant.{lines_of}
-use Rattle.cov_engine.specs.Reading.{line_row}
+use Rattle.cov_visible.specs.Reading.{line_row}
 use Rattle.cov_engine.specs.States.{EngineValue}
 use Rattle.cov_engine.proofs.LinesRead.{lines-read}
 use Rattle.cov_engine.proofs.Wholes.{held-rise}

@@ -1,8 +1,8 @@
 use Rattle.std.proofs.Common.{suc, nat_lt, rules, of_calls, sym, ap, subst, ◌∙◌}
 use Rattle.std.proofs.lemmas.List.Sorted.{IsPartitionPoint-from_clause}
 use Rattle.cov_edit.specs.Touched.{AreRising}
-use Rattle.cov_engine.specs.Parts.{count_below}
-use Rattle.cov_engine.proofs.Halving.{count-rising, parted-rising}
+use Rattle.cov_visible.specs.Parts.{count_below}
+use Rattle.cov_visible.proofs.CallerLemmas.{count-rising, parted-rising}
 use Rattle.cov_engine.proofs.option_positions.OptionPositions.count_up_to.Goals as goal
 
 pub returns : goal.returns

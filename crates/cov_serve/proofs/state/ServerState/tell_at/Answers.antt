@@ -2,7 +2,7 @@ use Rattle.std.proofs.Common.{◌≡◌, ◌∙◌, ap, subst, take, map, Ok}
 use Rattle.std.proofs.Math.Seq.{take-length}
 use Rattle.cov_edit.specs.Replay.{replay}
 use Rattle.cov_edit.specs.Variant.{lines_of}
-use Rattle.cov_engine.specs.Reading.{IsFileAt, line_row}
+use Rattle.cov_visible.specs.Reading.{IsFileAt, line_row}
 use Rattle.cov_serve.specs.Replies.{file_line, lines_reply}
 use Rattle.cov_serve.specs.States.{State}
 use Rattle.cov_serve.proofs.ToldFiles.{told-lines}

@@ -1,0 +1,15 @@
+pub mod CallerLemmas
+pub mod Fresh
+pub mod Halving
+pub mod Matching
+pub mod NamedRows
+pub mod Resolved
+pub mod Rising
+pub mod Rooms
+pub mod RowPlans
+pub mod Showing
+pub mod ShownRows
+pub mod StoredFiles
+pub mod Trials
+pub mod TriedRows
+pub mod Trying

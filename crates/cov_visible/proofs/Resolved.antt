@@ -1,0 +1,305 @@
+-- The nodes of lines before a commit, and its edits by numbers.
+use Rattle.std.proofs.Common.{◌≡◌, ℕ, zero, suc, ◌+◌, ◌<◌, ◌≤◌, ◌^◌, max, Bool, true, false, cond, ◌&&◌, ◌||◌, not, nat_eq, List, [], ◌∷◌, ◌++◌, length, length-append, map, get_or, slice_get, Some, unwrap_or, option_map, append-nil, append_assoc, refl, sym, ap, subst, ◌∙◌, arith}
+use Rattle.std.specs.List.{cons_option, AllByRecursion, find}
+use Rattle.std.proofs.lemmas.Bool.Decides.{nat_tests}
+use Rattle.cov_dd.specs.declared.triple.Triple.{Triple}
+use Rattle.cov_dd.specs.Diagrams.{diagram_size, span, value_in, Extends, Stands}
+use Rattle.cov_dd.specs.Combinations.{joint_span}
+use Rattle.cov_dd.proofs.CallerLemmas.{extends_none, extends_trans, stands_later, stands_weaker, some_nodes}
+use Rattle.cov_edit.specs.declared.edit.Edit.{Edit}
+use Rattle.cov_edit.specs.declared.edit.Edit.TheVariants as edits
+use Rattle.cov_edit.specs.Numbering.{node_number, line_number, node_count_after, line_count_after, nodes_made, anchors_of}
+use Rattle.cov_base.specs.Rows.{has_node}
+use Rattle.cov_base.specs.declared.number.Kind.{Kind}
+use Rattle.cov_base.specs.declared.number.Kind.TheVariants as kinds
+use Rattle.cov_base.proofs.CallerLemmas.{all-append, all-map}
+use Rattle.cov_file.specs.Dated.{DatedLine as FileLine, vis_at, vis_of}
+use Rattle.cov_edit.specs.Touched.{AreRising}
+use Rattle.cov_edit.proofs.CallerLemmas.{anchors-append, nodes-append, rest_of}
+use Rattle.cov_history.specs.FileNodes.{if_file, files_made}
+use Rattle.cov_history.specs.FileOfLine.{new_file_of_line}
+use Rattle.cov_history.proofs.CallerLemmas.{onto_both}
+use Rattle.cov_visible.specs.Parts.{part_node, files_among}
+use Rattle.cov_visible.specs.Nodes.{old_node, HasNodesIn, IsTaken}
+use Rattle.cov_visible.specs.Resolved.{made_after, HaveNumbers, IsResolvedBy, AreResolvedBy, AreResolved}
+use Rattle.cov_visible.specs.RowPlans.{row_changes, AreWithin, nodes_after_all, kinds_after_all, MakeNewNodes}
+use Rattle.cov_visible.specs.Staging.{made_files, files_of_lines}
+use Rattle.cov_visible.specs.declared.file_part.FilePart.{FilePart}
+use Rattle.cov_visible.specs.declared.resolved_edit.ResolvedEdit.{ResolvedEdit}
+use Rattle.cov_visible.specs.declared.resolving.MadeBefore.{MadeBefore}
+use Rattle.cov_visible.proofs.RowPlans.{fresh-next}
+use Rattle.cov_visible.proofs.StoredFiles.{all-get}
+
+-- a file without a stored file has no node for a line
+pub old-outside : (p file line : ℕ) (es : List FilePart) → has_node file (map part_node es) ≡ false → old_node p es file line ≡ 0
+old-outside p file line [] h = refl
+old-outside p file line (e ∷ es) h = at (nat_eq e.node file) h (old-outside p file line es)
+  where
+    at : (b : Bool) → (b || has_node file (map part_node es)) ≡ false → (has_node file (map part_node es) ≡ false → old_node p es file line ≡ 0) → cond b (unwrap_or (vis_of line p e.lines.lines) 0) (old_node p es file line) ≡ 0
+    at true k rest = absurd (cc)
+    at false k rest = rest k
+
+-- a file's node for a line is that of its stored file
+pub old-at : (p file line i : ℕ) (es : List FilePart) (d : FilePart) → AreRising (map part_node es) → slice_get (map part_node es) i ≡ Some file
+    → old_node p es file line ≡ unwrap_or (vis_of line p (get_or es i d).lines.lines) 0
+old-at p file line i [] d rising h = absurd (cc)
+old-at p file line zero (e ∷ es) d rising h =
+    let it : e.node ≡ file = cc in
+    let same : nat_eq e.node file ≡ true = grind (arith, nat_tests, it) in
+    ap (λ b. cond b (unwrap_or (vis_of line p e.lines.lines) 0) (old_node p es file line)) same
+old-at p file line (suc i) (e ∷ es) d rising h =
+    let above : e.node < file = all-get (λ y. e.node < y) (map part_node es) i file h rising.0 in
+    let differs : nat_eq e.node file ≡ false = grind (arith, nat_tests, above) in
+    ap (λ b. cond b (unwrap_or (vis_of line p e.lines.lines) 0) (old_node p es file line)) differs ∙ old-at p file line i es d rising.1 h
+
+node-within : (ts : List Triple) (p line : ℕ) (ls : List FileLine) → AllByRecursion (λ l. vis_at l.changes p < diagram_size ts) ls → unwrap_or (vis_of line p ls) 0 < diagram_size ts
+node-within ts p line [] all = let some = some_nodes ts in omega (arith, some)
+node-within ts p line (l ∷ ls) all = at (nat_eq l.line line) (node-within ts p line ls all.1)
+  where
+    at : (b : Bool) → unwrap_or (vis_of line p ls) 0 < diagram_size ts
+        → unwrap_or (option_map (λ (k : FileLine). vis_at k.changes p) (cond b (Some l) (find (λ k. nat_eq k.line line) ls))) 0 < diagram_size ts
+    at true rest = all.0
+    at false rest = rest
+
+-- it is a node of the table of which the stored files' nodes are
+pub old-within : (ts : List Triple) (p file line : ℕ) (es : List FilePart) → AllByRecursion (HasNodesIn ts p) es → old_node p es file line < diagram_size ts
+old-within ts p file line [] all = let some = some_nodes ts in omega (arith, some)
+old-within ts p file line (e ∷ es) all = at (nat_eq e.node file) (old-within ts p file line es all.1)
+  where
+    at : (b : Bool) → old_node p es file line < diagram_size ts → cond b (unwrap_or (vis_of line p e.lines.lines) 0) (old_node p es file line) < diagram_size ts
+    at true rest = node-within ts p line e.lines.lines all.0.nodes
+    at false rest = rest
+
+-- no change of a stored file is beyond the position
+pub newest-within : (ts : List Triple) (p : ℕ) (es : List FilePart) → AllByRecursion (HasNodesIn ts p) es → AllByRecursion (λ e. e.lines.newest ≤ p) es
+newest-within ts p es all = all-map (HasNodesIn ts p) (λ e. e.lines.newest ≤ p) (λ e h. h.newest) es all
+
+-- the stored files' nodes are of a longer table too
+pub nodes-later : (ts us : List Triple) (p : ℕ) (es : List FilePart) → Extends ts us → AllByRecursion (HasNodesIn ts p) es → AllByRecursion (HasNodesIn us p) es
+nodes-later ts us p es x all =
+    all-map (HasNodesIn ts p) (HasNodesIn us p)
+    (λ e h. record {
+      nodes = all-map (λ l. vis_at l.changes p < diagram_size ts) (λ l. vis_at l.changes p < diagram_size us) (λ l less. let more = x.count in omega (arith, less, more)) e.lines.lines h.nodes;
+      newest = h.newest;
+    }) es all
+
+taken-later : (ts new us : List Triple) (old a vis least : ℕ) → Extends ts new → Extends new us → old < diagram_size ts → a < diagram_size ts
+    → Stands new vis least (joint_span ts old a) (λ c. value_in ts old c && not (value_in ts a c)) → Stands us vis 0 (joint_span us old a) (λ c. value_in us old c && not (value_in us a c))
+taken-later ts new us old a vis least x y within_old within_a s =
+    let z : Extends ts us = extends_trans ts new us x y in
+    let span_old : span us old ≡ span ts old = z.most old within_old in
+    let span_a : span us a ≡ span ts a = z.most a within_a in
+    stands_weaker 0 (joint_span us old a) (λ c. value_in us old c && not (value_in us a c)) (omega arith)
+    (subst (λ m. joint_span ts old a ≤ max m (span us a)) (sym span_old) (subst (λ m. joint_span ts old a ≤ max (span ts old) m) (sym span_a) (omega arith)))
+    (λ c. ap (λ b. b && not (value_in ts a c)) (sym (z.value old within_old c)) ∙ ap (λ b. value_in us old c && not b) (sym (z.value a within_a c)))
+    (stands_later y s)
+
+-- what is left of a line that is taken out
+pub taken-left : (p : ℕ) (stored : List FilePart) (ambition : ℕ) (ts new : List Triple) (old file line vis least : ℕ) → Extends ts new → AllByRecursion (HasNodesIn ts p) stored → ambition < diagram_size ts
+    → old ≡ old_node p stored file line → Stands new vis least (joint_span ts old ambition) (λ c. value_in ts old c && not (value_in ts ambition c)) → IsTaken new p stored ambition file line vis
+taken-left p stored ambition ts new old file line vis least x nodes within is stands =
+    subst (λ k. Stands new vis 0 (joint_span new k ambition) (λ c. value_in new k c && not (value_in new ambition c))) is
+    (taken-later ts new new old ambition vis least x (extends_none new) (subst (λ k. k < diagram_size ts) (sym is) (old-within ts p file line stored nodes)) within stands)
+
+module _ (P Q : ℕ → ℕ → ℕ → Type 0) (n m on : ℕ) (f : (file line vis : ℕ) → P file line vis → Q file line vis) where
+  one-by : (nodes lines : ℕ) (e : Edit) (s : ResolvedEdit) → IsResolvedBy P n m on nodes lines e s → IsResolvedBy Q n m on nodes lines e s
+  one-by nodes lines (edits.New kind parent name) s h = h
+  one-by nodes lines (edits.Insert file after text) s h = h
+  one-by nodes lines (edits.Delete file line) s h = (h.0, h.1, f (node_number n file) (line_number m line) h.0 h.2)
+  one-by nodes lines (edits.Rename node name) s h = h
+  one-by nodes lines (edits.Move node parent) s h = h
+  one-by nodes lines (edits.Remove node) s h = h
+
+  -- edits by numbers are so whatever else is told of the nodes that are left
+  pub resolved-by : (nodes lines : ℕ) (es : List Edit) (ss : List ResolvedEdit) → AreResolvedBy P n m on nodes lines es ss → AreResolvedBy Q n m on nodes lines es ss
+  resolved-by nodes lines [] [] h = tt
+  resolved-by nodes lines [] (s ∷ ss) h = absurd h
+  resolved-by nodes lines (e ∷ es) [] h = absurd h
+  resolved-by nodes lines (e ∷ es) (s ∷ ss) h = (one-by nodes lines e s h.0, resolved-by (node_count_after nodes e) (line_count_after lines e) es ss h.1)
+
+module _ (p : ℕ) (stored : List FilePart) (ambition : ℕ) (ts us : List Triple) (grown : Extends ts us) (nodes_in : AllByRecursion (HasNodesIn ts p) stored) (within : ambition < diagram_size ts) where
+  taken-grown : (file line vis : ℕ) → IsTaken ts p stored ambition file line vis → IsTaken us p stored ambition file line vis
+  taken-grown file line vis h = taken-later ts ts us (old_node p stored file line) ambition vis 0 (extends_none ts) grown (old-within ts p file line stored nodes_in) within h
+
+  -- an edit by numbers is so in a longer table
+  pub one-grown : (n m nodes lines : ℕ) (e : Edit) (s : ResolvedEdit) → IsResolvedBy (IsTaken ts p stored ambition) n m ambition nodes lines e s → IsResolvedBy (IsTaken us p stored ambition) n m ambition nodes lines e s
+  one-grown n m = one-by (IsTaken ts p stored ambition) (IsTaken us p stored ambition) n m ambition taken-grown
+
+  -- so are all of a commit
+  pub resolved-grown : (n m : ℕ) (es : List Edit) (ss : List ResolvedEdit) → AreResolved p stored n m ambition ts es ss → AreResolved p stored n m ambition us es ss
+  resolved-grown n m es ss = resolved-by (IsTaken ts p stored ambition) (IsTaken us p stored ambition) n m ambition taken-grown n m es ss
+
+anchors-first : (e : Edit) (es : List Edit) → length (anchors_of 0 (e ∷ es)) ≡ length (anchors_of 0 (e ∷ [])) + length (anchors_of 0 es)
+anchors-first e es = ap length (anchors-append 0 (e ∷ []) es) ∙ length-append (anchors_of 0 (e ∷ [])) (anchors_of 0 es)
+
+nodes-one : (nodes : ℕ) (e : Edit) → node_count_after nodes e ≡ nodes + nodes_made (e ∷ [])
+nodes-one nodes (edits.New kind parent name) = omega arith
+nodes-one nodes (edits.Insert file after text) = omega arith
+nodes-one nodes (edits.Delete file line) = omega arith
+nodes-one nodes (edits.Rename node name) = omega arith
+nodes-one nodes (edits.Move node parent) = omega arith
+nodes-one nodes (edits.Remove node) = omega arith
+
+lines-one : (lines : ℕ) (e : Edit) → line_count_after lines e ≡ lines + length (anchors_of 0 (e ∷ []))
+lines-one lines (edits.New kind parent name) = omega arith
+lines-one lines (edits.Insert file after text) = omega arith
+lines-one lines (edits.Delete file line) = omega arith
+lines-one lines (edits.Rename node name) = omega arith
+lines-one lines (edits.Move node parent) = omega arith
+lines-one lines (edits.Remove node) = omega arith
+
+-- the numbers of the first edit, and of the others after it
+pub numbers-first : (made : MadeBefore) (e : Edit) (es : List Edit) → HaveNumbers made (e ∷ es) → HaveNumbers made (e ∷ [])
+numbers-first made e es h =
+    let nodes = nodes-append (e ∷ []) es in
+    let lines = anchors-first e es in
+    let all = h.nodes in
+    let every = h.lines in
+    record { nodes = omega (arith, nodes, all); lines = omega (arith, lines, every) }
+
+pub numbers-rest : (made next : MadeBefore) (e : Edit) (es : List Edit) → next ≡ made_after made e → HaveNumbers made (e ∷ es) → HaveNumbers next es
+numbers-rest made next e es is h =
+    let nodes = nodes-append (e ∷ []) es in
+    let lines = anchors-first e es in
+    let all = h.nodes in
+    let every = h.lines in
+    let one = nodes-one made.nodes e in
+    let line = lines-one made.lines e in
+    subst (λ k. HaveNumbers k es) (sym is) (record { nodes = omega (arith, nodes, all, one); lines = omega (arith, lines, every, line) })
+
+-- with nothing ahead, what there is are all
+pub resolved-end : (P : ℕ → ℕ → ℕ → Type 0) (n m on nodes lines : ℕ) (R : List ResolvedEdit → Type 0) (ahead : List Edit) (ss : List ResolvedEdit) → length ahead < 1
+    → ((rest : List ResolvedEdit) → AreResolvedBy P n m on nodes lines ahead rest → R (ss ++ rest)) → R ss
+resolved-end P n m on nodes lines R [] ss h all = subst R (append-nil ss) (all [] tt)
+resolved-end P n m on nodes lines R (e ∷ ahead) ss h all = absurd (omega (arith, h))
+
+-- with an edit by numbers behind the others, those of the rest complete them
+pub resolved-push : (P : ℕ → ℕ → ℕ → Type 0) (n m on : ℕ) (made next : MadeBefore) (edit : Edit) (s : ResolvedEdit) (R : List ResolvedEdit → Type 0) (ahead : List Edit) (old new rest : List ResolvedEdit)
+    → ahead ≡ edit ∷ rest_of ahead → next ≡ made_after made edit → new ≡ old ++ s ∷ [] → IsResolvedBy P n m on made.nodes made.lines edit s → AreResolvedBy P n m on next.nodes next.lines (rest_of ahead) rest
+    → ((all : List ResolvedEdit) → AreResolvedBy P n m on made.nodes made.lines ahead all → R (old ++ all)) → R (new ++ rest)
+resolved-push P n m on made next edit s R ahead old new rest parts after put own behind goes =
+    subst (λ l. R (l ++ rest)) (sym put)
+    (subst R (sym (append_assoc old (s ∷ []) rest))
+    (goes (s ∷ rest) (subst (λ es. AreResolvedBy P n m on made.nodes made.lines es (s ∷ rest)) (sym parts)
+    (own, subst (λ (k : MadeBefore). AreResolvedBy P n m on k.nodes k.lines (rest_of ahead) rest) after behind))))
+
+-- what edits by numbers tell of those that they come from
+module _ (P : ℕ → ℕ → ℕ → Type 0) (n m on : ℕ) where
+  pub resolved-length : (nodes lines : ℕ) (es : List Edit) (ss : List ResolvedEdit) → AreResolvedBy P n m on nodes lines es ss → length ss ≡ length es
+  resolved-length nodes lines [] [] h = refl
+  resolved-length nodes lines [] (s ∷ ss) h = absurd h
+  resolved-length nodes lines (e ∷ es) [] h = absurd h
+  resolved-length nodes lines (e ∷ es) (s ∷ ss) h = ap suc (resolved-length (node_count_after nodes e) (line_count_after lines e) es ss h.1)
+
+  -- the files that they make
+  pub resolved-files : (nodes lines : ℕ) (es : List Edit) (ss : List ResolvedEdit) → AreResolvedBy P n m on nodes lines es ss → made_files ss ≡ files_made nodes es
+  resolved-files nodes lines [] [] h = refl
+  resolved-files nodes lines [] (s ∷ ss) h = absurd h
+  resolved-files nodes lines (e ∷ es) [] h = absurd h
+  resolved-files nodes lines (edits.New kind parent name ∷ es) (s ∷ ss) h =
+      ap (λ x. made_files (x ∷ ss)) h.0 ∙ ap (cons_option (if_file kind (nodes + 1))) (resolved-files (nodes + 1) lines es ss h.1)
+  resolved-files nodes lines (edits.Insert file after text ∷ es) (s ∷ ss) h = ap (λ x. made_files (x ∷ ss)) h.0 ∙ resolved-files nodes (lines + 1) es ss h.1
+  resolved-files nodes lines (edits.Delete file line ∷ es) (s ∷ ss) h = ap (λ x. made_files (x ∷ ss)) h.0.1 ∙ resolved-files nodes lines es ss h.1
+  resolved-files nodes lines (edits.Rename node name ∷ es) (s ∷ ss) h = ap (λ x. made_files (x ∷ ss)) h.0 ∙ resolved-files nodes lines es ss h.1
+  resolved-files nodes lines (edits.Move node parent ∷ es) (s ∷ ss) h = ap (λ x. made_files (x ∷ ss)) h.0 ∙ resolved-files nodes lines es ss h.1
+  resolved-files nodes lines (edits.Remove node ∷ es) (s ∷ ss) h = ap (λ x. made_files (x ∷ ss)) h.0 ∙ resolved-files nodes lines es ss h.1
+
+  -- the files of the lines that they insert
+  pub resolved-files_of_lines : (nodes lines : ℕ) (es : List Edit) (ss : List ResolvedEdit) → AreResolvedBy P n m on nodes lines es ss → files_of_lines ss ≡ new_file_of_line n es
+  resolved-files_of_lines nodes lines [] [] h = refl
+  resolved-files_of_lines nodes lines [] (s ∷ ss) h = absurd h
+  resolved-files_of_lines nodes lines (e ∷ es) [] h = absurd h
+  resolved-files_of_lines nodes lines (edits.New kind parent name ∷ es) (s ∷ ss) h = ap (λ x. files_of_lines (x ∷ ss)) h.0 ∙ resolved-files_of_lines (nodes + 1) lines es ss h.1
+  resolved-files_of_lines nodes lines (edits.Insert file after text ∷ es) (s ∷ ss) h =
+      ap (λ x. files_of_lines (x ∷ ss)) h.0 ∙ ap (λ l. node_number n file ∷ l) (resolved-files_of_lines nodes (lines + 1) es ss h.1)
+  resolved-files_of_lines nodes lines (edits.Delete file line ∷ es) (s ∷ ss) h = ap (λ x. files_of_lines (x ∷ ss)) h.0.1 ∙ resolved-files_of_lines nodes lines es ss h.1
+  resolved-files_of_lines nodes lines (edits.Rename node name ∷ es) (s ∷ ss) h = ap (λ x. files_of_lines (x ∷ ss)) h.0 ∙ resolved-files_of_lines nodes lines es ss h.1
+  resolved-files_of_lines nodes lines (edits.Move node parent ∷ es) (s ∷ ss) h = ap (λ x. files_of_lines (x ∷ ss)) h.0 ∙ resolved-files_of_lines nodes lines es ss h.1
+  resolved-files_of_lines nodes lines (edits.Remove node ∷ es) (s ∷ ss) h = ap (λ x. files_of_lines (x ∷ ss)) h.0 ∙ resolved-files_of_lines nodes lines es ss h.1
+
+  -- their changes of rows apply in the table of the commit's node
+  pub resolved-within : (ts : List Triple) (nodes lines : ℕ) (es : List Edit) (ss : List ResolvedEdit) → on < diagram_size ts → AreResolvedBy P n m on nodes lines es ss → AreWithin ts (row_changes ss)
+  resolved-within ts nodes lines [] [] low h = tt
+  resolved-within ts nodes lines [] (s ∷ ss) low h = absurd h
+  resolved-within ts nodes lines (e ∷ es) [] low h = absurd h
+  resolved-within ts nodes lines (edits.New kind parent name ∷ es) (s ∷ ss) low h =
+      subst (λ x. AreWithin ts (row_changes (x ∷ ss))) (sym h.0) (low, resolved-within ts (nodes + 1) lines es ss low h.1)
+  resolved-within ts nodes lines (edits.Insert file after text ∷ es) (s ∷ ss) low h =
+      subst (λ x. AreWithin ts (row_changes (x ∷ ss))) (sym h.0) (resolved-within ts nodes (lines + 1) es ss low h.1)
+  resolved-within ts nodes lines (edits.Delete file line ∷ es) (s ∷ ss) low h =
+      subst (λ x. AreWithin ts (row_changes (x ∷ ss))) (sym h.0.1) (resolved-within ts nodes lines es ss low h.1)
+  resolved-within ts nodes lines (edits.Rename node name ∷ es) (s ∷ ss) low h =
+      subst (λ x. AreWithin ts (row_changes (x ∷ ss))) (sym h.0) (low, resolved-within ts nodes lines es ss low h.1)
+  resolved-within ts nodes lines (edits.Move node parent ∷ es) (s ∷ ss) low h =
+      subst (λ x. AreWithin ts (row_changes (x ∷ ss))) (sym h.0) (low, resolved-within ts nodes lines es ss low h.1)
+  resolved-within ts nodes lines (edits.Remove node ∷ es) (s ∷ ss) low h =
+      subst (λ x. AreWithin ts (row_changes (x ∷ ss))) (sym h.0) (low, resolved-within ts nodes lines es ss low h.1)
+
+  -- a node's number is above those before, and not above the next
+  next-most : (nodes : ℕ) (ns : List ℕ) → AllByRecursion (λ k. k ≤ nodes) ns → AllByRecursion (λ k. k ≤ nodes + 1) (ns ++ (nodes + 1) ∷ [])
+  next-most nodes ns most =
+      all-append (λ k. k ≤ nodes + 1) ns ((nodes + 1) ∷ []) (all-map (λ k. k ≤ nodes) (λ k. k ≤ nodes + 1) (λ k low. omega (arith, low)) ns most) (omega arith, tt)
+
+  -- the nodes that they make are new
+  pub resolved-new : (nodes lines : ℕ) (es : List Edit) (ss : List ResolvedEdit) (ns : List ℕ) → AllByRecursion (λ k. k ≤ nodes) ns → AreResolvedBy P n m on nodes lines es ss → MakeNewNodes ns (row_changes ss)
+  resolved-new nodes lines [] [] ns most h = tt
+  resolved-new nodes lines [] (s ∷ ss) ns most h = absurd h
+  resolved-new nodes lines (e ∷ es) [] ns most h = absurd h
+  resolved-new nodes lines (edits.New kind parent name ∷ es) (s ∷ ss) ns most h =
+      subst (λ x. MakeNewNodes ns (row_changes (x ∷ ss))) (sym h.0)
+      (fresh-next nodes (nodes + 1) ns refl most, resolved-new (nodes + 1) lines es ss (ns ++ (nodes + 1) ∷ []) (next-most nodes ns most) h.1)
+  resolved-new nodes lines (edits.Insert file after text ∷ es) (s ∷ ss) ns most h =
+      subst (λ x. MakeNewNodes ns (row_changes (x ∷ ss))) (sym h.0) (resolved-new nodes (lines + 1) es ss ns most h.1)
+  resolved-new nodes lines (edits.Delete file line ∷ es) (s ∷ ss) ns most h =
+      subst (λ x. MakeNewNodes ns (row_changes (x ∷ ss))) (sym h.0.1) (resolved-new nodes lines es ss ns most h.1)
+  resolved-new nodes lines (edits.Rename node name ∷ es) (s ∷ ss) ns most h =
+      subst (λ x. MakeNewNodes ns (row_changes (x ∷ ss))) (sym h.0) (tt, resolved-new nodes lines es ss ns most h.1)
+  resolved-new nodes lines (edits.Move node parent ∷ es) (s ∷ ss) ns most h =
+      subst (λ x. MakeNewNodes ns (row_changes (x ∷ ss))) (sym h.0) (tt, resolved-new nodes lines es ss ns most h.1)
+  resolved-new nodes lines (edits.Remove node ∷ es) (s ∷ ss) ns most h =
+      subst (λ x. MakeNewNodes ns (row_changes (x ∷ ss))) (sym h.0) (tt, resolved-new nodes lines es ss ns most h.1)
+
+  -- with them, all nodes have numbers up to how many there are then
+  pub resolved-most : (most nodes lines : ℕ) (es : List Edit) (ss : List ResolvedEdit) (ns : List ℕ) → nodes + nodes_made es ≤ most → AllByRecursion (λ k. k ≤ nodes) ns → AreResolvedBy P n m on nodes lines es ss
+      → AllByRecursion (λ k. k ≤ most) (nodes_after_all (row_changes ss) ns)
+  resolved-most most nodes lines [] [] ns few low h = all-map (λ k. k ≤ nodes) (λ k. k ≤ most) (λ k le. omega (arith, le, few)) ns low
+  resolved-most most nodes lines [] (s ∷ ss) ns few low h = absurd h
+  resolved-most most nodes lines (e ∷ es) [] ns few low h = absurd h
+  resolved-most most nodes lines (edits.New kind parent name ∷ es) (s ∷ ss) ns few low h =
+      subst (λ x. AllByRecursion (λ k. k ≤ most) (nodes_after_all (row_changes (x ∷ ss)) ns)) (sym h.0)
+      (resolved-most most (nodes + 1) lines es ss (ns ++ (nodes + 1) ∷ []) (omega (arith, few)) (next-most nodes ns low) h.1)
+  resolved-most most nodes lines (edits.Insert file after text ∷ es) (s ∷ ss) ns few low h =
+      subst (λ x. AllByRecursion (λ k. k ≤ most) (nodes_after_all (row_changes (x ∷ ss)) ns)) (sym h.0) (resolved-most most nodes (lines + 1) es ss ns few low h.1)
+  resolved-most most nodes lines (edits.Delete file line ∷ es) (s ∷ ss) ns few low h =
+      subst (λ x. AllByRecursion (λ k. k ≤ most) (nodes_after_all (row_changes (x ∷ ss)) ns)) (sym h.0.1) (resolved-most most nodes lines es ss ns few low h.1)
+  resolved-most most nodes lines (edits.Rename node name ∷ es) (s ∷ ss) ns few low h =
+      subst (λ x. AllByRecursion (λ k. k ≤ most) (nodes_after_all (row_changes (x ∷ ss)) ns)) (sym h.0) (resolved-most most nodes lines es ss ns few low h.1)
+  resolved-most most nodes lines (edits.Move node parent ∷ es) (s ∷ ss) ns few low h =
+      subst (λ x. AllByRecursion (λ k. k ≤ most) (nodes_after_all (row_changes (x ∷ ss)) ns)) (sym h.0) (resolved-most most nodes lines es ss ns few low h.1)
+  resolved-most most nodes lines (edits.Remove node ∷ es) (s ∷ ss) ns few low h =
+      subst (λ x. AllByRecursion (λ k. k ≤ most) (nodes_after_all (row_changes (x ∷ ss)) ns)) (sym h.0) (resolved-most most nodes lines es ss ns few low h.1)
+
+  -- the files among all nodes are those before and those that they make
+  pub resolved-kinds : (nodes lines : ℕ) (es : List Edit) (ss : List ResolvedEdit) (ks : List (ℕ × Kind)) → AreResolvedBy P n m on nodes lines es ss → files_among (kinds_after_all (row_changes ss) ks) ≡ files_among ks ++ files_made nodes es
+  resolved-kinds nodes lines [] [] ks h = sym (append-nil (files_among ks))
+  resolved-kinds nodes lines [] (s ∷ ss) ks h = absurd h
+  resolved-kinds nodes lines (e ∷ es) [] ks h = absurd h
+  resolved-kinds nodes lines (edits.New kind parent name ∷ es) (s ∷ ss) ks h =
+      ap (λ x. files_among (kinds_after_all (row_changes (x ∷ ss)) ks)) h.0
+      ∙ resolved-kinds (nodes + 1) lines es ss (ks ++ (nodes + 1, kind) ∷ []) h.1
+      ∙ ap (λ files. files ++ files_made (nodes + 1) es) (behind ks)
+      ∙ append_assoc (files_among ks) (cons_option (if_file kind (nodes + 1)) []) (files_made (nodes + 1) es)
+      ∙ ap (λ files. files_among ks ++ files) (first kind)
+    where
+      behind : (ks : List (ℕ × Kind)) → files_among (ks ++ (nodes + 1, kind) ∷ []) ≡ files_among ks ++ cons_option (if_file kind (nodes + 1)) []
+      behind [] = refl
+      behind (k ∷ ks) = ap (cons_option (if_file k.1 k.0)) (behind ks) ∙ onto_both (if_file k.1 k.0) (files_among ks) (cons_option (if_file kind (nodes + 1)) [])
+
+      first : (of : Kind) → cons_option (if_file of (nodes + 1)) [] ++ files_made (nodes + 1) es ≡ cons_option (if_file of (nodes + 1)) (files_made (nodes + 1) es)
+      first kinds.File = refl
+      first kinds.Dir = refl
+  resolved-kinds nodes lines (edits.Insert file after text ∷ es) (s ∷ ss) ks h = ap (λ x. files_among (kinds_after_all (row_changes (x ∷ ss)) ks)) h.0 ∙ resolved-kinds nodes (lines + 1) es ss ks h.1
+  resolved-kinds nodes lines (edits.Delete file line ∷ es) (s ∷ ss) ks h = ap (λ x. files_among (kinds_after_all (row_changes (x ∷ ss)) ks)) h.0.1 ∙ resolved-kinds nodes lines es ss ks h.1
+  resolved-kinds nodes lines (edits.Rename node name ∷ es) (s ∷ ss) ks h = ap (λ x. files_among (kinds_after_all (row_changes (x ∷ ss)) ks)) h.0 ∙ resolved-kinds nodes lines es ss ks h.1
+  resolved-kinds nodes lines (edits.Move node parent ∷ es) (s ∷ ss) ks h = ap (λ x. files_among (kinds_after_all (row_changes (x ∷ ss)) ks)) h.0 ∙ resolved-kinds nodes lines es ss ks h.1
+  resolved-kinds nodes lines (edits.Remove node ∷ es) (s ∷ ss) ks h = ap (λ x. files_among (kinds_after_all (row_changes (x ∷ ss)) ks)) h.0 ∙ resolved-kinds nodes lines es ss ks h.1

@@ -1,0 +1,11 @@
+pub mod Carrying
+pub mod Nodes
+pub mod Parts
+pub mod Reading
+pub mod Resolved
+pub mod RowPlans
+pub mod Showing
+pub mod Staging
+pub mod TriedRows
+pub mod Trying
+pub mod Visible
