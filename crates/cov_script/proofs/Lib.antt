@@ -1,4 +1,5 @@
 pub mod Checking
+mod DemonstrationExamples
 mod Examples
 pub mod Joining
 pub mod Keywords
@@ -8,6 +9,7 @@ pub mod Mistaken
 pub mod Numbers
 pub mod Places
 pub mod Refused
+pub mod Repeating
 mod ReplyExamples
 pub mod Spelling
 pub mod Unspelling
