@@ -1,5 +1,6 @@
 pub mod Checking
 mod DemonstrationExamples
+pub mod Drawing
 mod Examples
 pub mod Joining
 pub mod Keywords
