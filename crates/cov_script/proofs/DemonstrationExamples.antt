@@ -1,5 +1,5 @@
 -- Worked lines of the generated script.
-use Rattle.std.proofs.Common.{◌≡◌, ℕ, zero, suc, ◌+◌, ◌∷◌, ◌++◌, [], List, map, length, get_or, refl}
+use Rattle.std.proofs.Common.{◌≡◌, ℕ, suc, ◌∷◌, ◌++◌, [], List, map, length, get_or, refl}
 use Rattle.std.specs.Prelude.{codes}
 use Rattle.std.specs.Fmt.{digits}
 use Rattle.cov_script.specs.Commits.{each_below, plan_of, opening_line, drawn_line, insert_line, delete_line, commit_lines, after_commits}

@@ -1,5 +1,5 @@
 -- What is drawn of a commit of the generated script.
-use Rattle.std.proofs.Common.{◌≡◌, ℕ, ◌+◌, ◌%◌, refl, sym, ap, ◌∙◌}
+use Rattle.std.proofs.Common.{◌≡◌, ℕ, ◌+◌, ◌%◌, ap, ◌∙◌}
 use Rattle.cov_script.specs.Commits.{ambition_of, kind_of, plan_of}
 use Rattle.cov_script.specs.Draws.{next_state, drawn, state_after}
 

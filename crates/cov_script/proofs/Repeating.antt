@@ -1,5 +1,5 @@
 -- Lines that are appended for one number after another.
-use Rattle.std.proofs.Common.{◌≡◌, ℕ, zero, suc, ◌+◌, ◌%◌, List, [], ◌++◌, ap, sym, ◌∙◌, append_assoc, subst, refl, arith}
+use Rattle.std.proofs.Common.{◌≡◌, ℕ, suc, ◌+◌, ◌%◌, List, ◌++◌, ap, sym, ◌∙◌, append_assoc, subst, refl, arith}
 use Rattle.std.proofs.lemmas.List.{append-nil}
 use Rattle.cov_script.specs.Commits.{each_below, insert_line, drawn_line, after_commit, after_commits}
 use Rattle.cov_script.specs.Draws.{next_state, drawn, state_after}

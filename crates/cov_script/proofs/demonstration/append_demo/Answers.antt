@@ -1,4 +1,4 @@
-use Rattle.std.proofs.Common.{◌++◌, ◌∙◌}
+use Rattle.std.proofs.Common.{◌++◌}
 use Rattle.std.proofs.lemmas.Result.{on_ok_weaker}
 use Rattle.cov_script.specs.Commits.{each_below}
 use Rattle.cov_script.specs.Demonstration.{option_line, rule_lines, default_line, first_commit_lines, each_commit, checkout_line, demo_text}

@@ -1,4 +1,4 @@
-use Rattle.std.proofs.Common.{◌≡◌, ◌∙◌}
+use Rattle.std.proofs.Common.{◌∙◌}
 use Rattle.cov_script.specs.Demonstration.{row_line}
 use Rattle.cov_script.proofs.Repeating.{none_below, one_more_below}
 use Rattle.cov_script.proofs.demonstration.append_each.Goals as goal

@@ -1,4 +1,4 @@
-use Rattle.std.proofs.Common.{◌≡◌, ◌+◌, ap, ◌∙◌}
+use Rattle.std.proofs.Common.{◌+◌, ap, ◌∙◌}
 use Rattle.cov_script.specs.Commits.{ambition_of}
 use Rattle.cov_script.specs.declared.plan.Ambition.{Ambition}
 use Rattle.cov_script.specs.declared.plan.Plan.{Plan}
