@@ -5,6 +5,7 @@ mod Examples
 pub mod Joining
 pub mod Keywords
 pub mod KindLemmas
+pub mod Lengths
 mod MistakeExamples
 pub mod Mistaken
 pub mod Numbers

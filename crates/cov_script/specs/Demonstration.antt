@@ -48,12 +48,19 @@ first_commit_lines =
 abbrev pub each_commit : ℕ → List ℕ
 each_commit n = each_below 400 (λ index. commit_lines (suc index) (after_commits index n))
 
--- the script that a number stands for
-unfoldable pub demo_text : ℕ → List ℕ
-demo_text n =
+-- what comes before the checkouts
+abbrev pub made_lines : ℕ → List ℕ
+made_lines n =
     each_below 64 option_line
     ++ rule_lines
     ++ each_below 64 default_line
     ++ first_commit_lines
     ++ each_commit n
-    ++ each_below 8 checkout_line
+
+-- the checkouts
+abbrev pub checkout_lines : List ℕ
+checkout_lines = each_below 8 checkout_line
+
+-- the script that a number stands for
+unfoldable pub demo_text : ℕ → List ℕ
+demo_text n = made_lines n ++ checkout_lines

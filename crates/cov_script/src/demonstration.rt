@@ -1,7 +1,7 @@
 // The script that a number stands for.
-ghost use Rattle.std.specs.Prelude.{◌≡◌, ◌<◌, ◌++◌, IfOk, OnOk};
+ghost use Rattle.std.specs.Prelude.{◌≡◌, ◌<◌, ◌++◌, IfOk, OnOk, length};
 ghost use Rattle.cov_script.specs.Commits.{each_below, commit_lines, after_commits};
-ghost use Rattle.cov_script.specs.Demonstration.{demo_text, option_line, default_line, dir_line, file_line, checkout_line, each_commit, first_commit_lines, row_line};
+ghost use Rattle.cov_script.specs.Demonstration.{demo_text, option_line, default_line, dir_line, file_line, checkout_line, each_commit, first_commit_lines, made_lines, row_line};
 
 use crate::commits::{Commits, append_path};
 use crate::word::append_numbered;
@@ -23,9 +23,11 @@ enum Row {
     Checkout,
 }
 
-/// The script that a number stands for: options, rules, four hundred commits and one, and eight checkouts. It is made in one pass.
+/// The script that a number stands for: options, rules, a commit of directories and files, four hundred commits of lines, and eight
+/// checkouts. It is made in one pass.
 pub fn demo(alloc: Global, number: u64) -> Result<Text, Memory>
-    ensures { IfOk result (λ text. text ≡ demo_text number) }
+    ensures script { IfOk result (λ text. text ≡ demo_text number) }
+    ensures short { IfOk result (λ text. length text < 2000000) }
 {
     let mut text = Text::new(alloc);
     append_demo(number, &mut text)?;
@@ -35,12 +37,19 @@ pub fn demo(alloc: Global, number: u64) -> Result<Text, Memory>
 fn append_demo(number: u64, text: &mut Text) -> Result<(), Memory>
     ensures { OnOk result (text.new ≡ text.old ++ demo_text number) }
 {
+    append_made(number, text)?;
+    append_each(Row::Checkout, 8, text)
+}
+
+// Appends what comes before the checkouts.
+fn append_made(number: u64, text: &mut Text) -> Result<(), Memory>
+    ensures { OnOk result (text.new ≡ text.old ++ made_lines number) }
+{
     append_each(Row::Option, 64, text)?;
     text.append(b"constraint !(o0 & o1)\nconstraint !o2 | o3\nprefer o4 | o5\n")?;
     append_each(Row::Default, 64, text)?;
     append_first_commit(text)?;
-    append_commits(number, text)?;
-    append_each(Row::Checkout, 8, text)
+    append_commits(number, text)
 }
 
 // Appends the commit that makes the directories and the files.
