@@ -24,6 +24,7 @@ pub use demonstration::demo;
 pub use grouped::{Declaration, EditLine, GroupedLine, Question, SessionLine};
 pub use laws::{lines_read_as_spelt, mistakes_are_placed};
 pub use line::{Line, LineField, LineSyntax};
+pub use number::read_long_number;
 pub use read::read_line;
 pub use reply::{
     alt_line, append_cat_line, cat_line, list_line, reply_checkout, reply_commit, reply_complete,
