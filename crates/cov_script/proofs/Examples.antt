@@ -1,9 +1,10 @@
 -- Worked lines.
-use Rattle.std.proofs.Common.{◌≡◌, ℕ, true, false, [], ◌∷◌, ◌++◌, map, replicate, Result, Ok, Err, refl}
+use Rattle.std.proofs.Common.{◌≡◌, ℕ, true, false, [], ◌∷◌, ◌++◌, map, replicate, Some, None, Result, Ok, Err, refl}
 use Rattle.std.specs.Prelude.{codes}
 use Rattle.std.specs.Str.{is_utf8, chars}
 use lib.Utf8.{encode}
 use Rattle.cov_expr.specs.Formula.{On, And, Or, Not}
+use Rattle.cov_script.specs.Fields.{long_number_of}
 use Rattle.cov_script.specs.Lines.{form_of}
 use Rattle.cov_script.specs.declared.line.Line.{Line}
 use Rattle.cov_script.specs.declared.line.Line.TheVariants as lines
@@ -55,3 +56,8 @@ texts = refl
 too_long : map form_of ((codes "constraint " ++ replicate 256 33 ++ codes "a") ∷ (codes "constraint " ++ replicate 256 33 ++ codes "$") ∷ [])
     ≡ Err TooLong ∷ at 267 ∷ []
 too_long = refl
+
+-- numbers of 64 bits, the greatest among them; no number at all, one with a leading zero, with a sign, and one of more bits
+numbers : map long_number_of (codes "0" ∷ codes "7" ∷ codes "18446744073709551615" ∷ [] ∷ codes "07" ∷ codes "+1" ∷ codes "-1" ∷ codes "18446744073709551616" ∷ [])
+    ≡ Some 0 ∷ Some 7 ∷ Some 18446744073709551615 ∷ None ∷ None ∷ None ∷ None ∷ None ∷ []
+numbers = refl

@@ -123,6 +123,19 @@ within_word n = if nat_lt n (2 ^ 32) then Some n else None
 abbrev pub number_of : List ℕ → Option ℕ
 number_of bytes = if is_plain bytes then within_word (digits_onto 0 bytes) else None
 
+-- what is left of a number where only one of 32 bits is taken
+abbrev pub narrowed : Option ℕ → Option ℕ
+narrowed None = None
+narrowed (Some n) = within_word n
+
+-- a number, if it is one of 64 bits
+abbrev pub within_long : ℕ → Option ℕ
+within_long n = if nat_lt n (2 ^ 64) then Some n else None
+
+-- a decimal number of 64 bits
+abbrev pub long_number_of : List ℕ → Option ℕ
+long_number_of bytes = if is_plain bytes then within_long (digits_onto 0 bytes) else None
+
 -- a line by its number in the store
 abbrev pub as_number : Option ℕ → Option LineField
 as_number None = None

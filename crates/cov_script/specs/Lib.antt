@@ -1,3 +1,6 @@
+pub mod Commits
+pub mod Demonstration
+pub mod Draws
 pub mod Fields
 pub mod Forms
 pub mod Grouping

@@ -2,6 +2,9 @@
 #![tactic(auto)]
 
 mod code;
+mod commits;
+mod demonstration;
+mod draws;
 mod field;
 mod form;
 mod grouped;
@@ -9,6 +12,7 @@ mod keyword;
 mod laws;
 mod line;
 mod number;
+mod plan;
 mod read;
 mod reply;
 mod target;
@@ -16,9 +20,11 @@ mod unread;
 mod word;
 
 pub use code::{Code, code_text};
+pub use demonstration::demo;
 pub use grouped::{Declaration, EditLine, GroupedLine, Question, SessionLine};
 pub use laws::{lines_read_as_spelt, mistakes_are_placed};
 pub use line::{Line, LineField, LineSyntax};
+pub use number::read_long_number;
 pub use read::read_line;
 pub use reply::{
     alt_line, append_cat_line, cat_line, list_line, reply_checkout, reply_commit, reply_complete,

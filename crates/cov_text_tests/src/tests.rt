@@ -1,4 +1,5 @@
 mod choices;
+mod demonstration;
 mod devices;
 mod expressions;
 mod naming;
