@@ -27,26 +27,38 @@ pub fn serve_line<V: LineServer, K: Sink, D: Disk, T: Trees>(
 ) -> Result<Answer, Ending>
     requires gate { IfSome (D.contents disk.old) (V.gate server.old) }
     ensures served { IfOk result (IsServed (V.step server.old line.now) server.new) }
-    ensures all { OnOk result (AppendsAll (V.step server.old line.now).reply (K.written out.old) (K.written out.new)) }
-    ensures some { OnErr result (AppendsSome (V.step server.old line.now).reply (K.written out.old) (K.written out.new)) }
-    ensures rows_all { OnOk result (AppendsAll (V.step server.old line.now).rows (T.rows trees.old) (T.rows trees.new)) }
-    ensures rows_some { OnErr result (AppendsSome (V.step server.old line.now).rows (T.rows trees.old) (T.rows trees.new)) }
-    ensures rows_first { OnErr result (AppendsAll (V.step server.old line.now).rows (T.rows trees.old) (T.rows trees.new) ⊎ (out.new ≡ out.old)) }
+    ensures all { OnOk result
+        (AppendsAll (V.step server.old line.now).reply (K.written out.old) (K.written out.new)) }
+    ensures some { OnErr result
+        (AppendsSome (V.step server.old line.now).reply (K.written out.old) (K.written out.new)) }
+    ensures rows_all { OnOk result
+        (AppendsAll (V.step server.old line.now).rows (T.rows trees.old) (T.rows trees.new)) }
+    ensures rows_some { OnErr result
+        (AppendsSome (V.step server.old line.now).rows (T.rows trees.old) (T.rows trees.new)) }
+    ensures rows_first { OnErr result
+        (AppendsAll (V.step server.old line.now).rows (T.rows trees.old) (T.rows trees.new)
+        ⊎ (out.new ≡ out.old)) }
 
     // What a read of the disk gives is stored for the state after the line, if it was for that before.
     ensures gate { OnOk result (IfSome (D.contents disk.new) (V.gate server.new)) }
-    ensures stored { IfSome (D.contents disk.old) (V.stored server.old) → OnOk result (IfSome (D.contents disk.new) (V.stored server.new)) }
+    ensures stored { IfSome (D.contents disk.old) (V.stored server.old) →
+        OnOk result (IfSome (D.contents disk.new) (V.stored server.new)) }
 
     // A crash at any moment leaves what is stored for the state before the line or after it, and once the whole reply is written, after
     // it.
     ensures any_moment { AreAll (V.stored server.old) (D.images disk.old) →
-        LeavesOnly D.moment D.images_since disk.old disk.new (IsEither (V.stored server.old) (V.stored (V.step server.old line.now).state)) }
-    ensures durable { AreAll (V.stored server.old) (D.images disk.old) → OnOk result (AreAll (V.stored server.new) (D.images disk.new)) }
+        LeavesOnly D.moment D.images_since disk.old disk.new
+        (IsEither (V.stored server.old) (V.stored (V.step server.old line.now).state)) }
+    ensures durable { AreAll (V.stored server.old) (D.images disk.old) →
+        OnOk result (AreAll (V.stored server.new) (D.images disk.new)) }
     ensures acknowledged { (before : List ℕ) → AreAll (V.stored server.old) (D.images disk.old) →
-        K.written out.old ≡ Some before → K.written out.new ≡ Some (before ++ (V.step server.old line.now).reply) →
+        K.written out.old ≡ Some before →
+        K.written out.new ≡ Some (before ++ (V.step server.old line.now).reply) →
         AreAll (V.stored (V.step server.old line.now).state) (D.images disk.new) }
 
-    ensures stopped { IfErr result (λ ending. StopsLine ending (K.faults out.old) (K.faults out.new) (D.faults disk.old) (D.faults disk.new) (T.faults trees.old) (T.faults trees.new)) }
+    ensures stopped { IfErr result (λ ending.
+        StopsLine ending (K.faults out.old) (K.faults out.new)
+        (D.faults disk.old) (D.faults disk.new) (T.faults trees.old) (T.faults trees.new)) }
     ensures later { K.faults out.old ≤ K.faults out.new }
     ensures disk_later { D.faults disk.old ≤ D.faults disk.new }
     ensures trees_later { T.faults trees.old ≤ T.faults trees.new }
@@ -85,17 +97,25 @@ pub(crate) fn serve_long<V: LineServer, K: Sink, T: Trees>(
     ensures served { (line : List ℕ) → MOST_SCRIPT_LINE_BYTES < length line →
         IfOk result (IsServed (V.step server.old line) server.new) }
     ensures all { (line : List ℕ) → MOST_SCRIPT_LINE_BYTES < length line →
-        OnOk result (AppendsAll (V.step server.old line).reply (K.written out.old) (K.written out.new)) }
+        OnOk result
+        (AppendsAll (V.step server.old line).reply (K.written out.old) (K.written out.new)) }
     ensures some { (line : List ℕ) → MOST_SCRIPT_LINE_BYTES < length line →
-        OnErr result (AppendsSome (V.step server.old line).reply (K.written out.old) (K.written out.new)) }
+        OnErr result
+        (AppendsSome (V.step server.old line).reply (K.written out.old) (K.written out.new)) }
     ensures rows_all { (line : List ℕ) → MOST_SCRIPT_LINE_BYTES < length line →
-        OnOk result (AppendsAll (V.step server.old line).rows (T.rows trees.old) (T.rows trees.new)) }
+        OnOk result
+        (AppendsAll (V.step server.old line).rows (T.rows trees.old) (T.rows trees.new)) }
     ensures rows_some { (line : List ℕ) → MOST_SCRIPT_LINE_BYTES < length line →
-        OnErr result (AppendsSome (V.step server.old line).rows (T.rows trees.old) (T.rows trees.new)) }
+        OnErr result
+        (AppendsSome (V.step server.old line).rows (T.rows trees.old) (T.rows trees.new)) }
     ensures rows_first { (line : List ℕ) → MOST_SCRIPT_LINE_BYTES < length line →
-        OnErr result (AppendsAll (V.step server.old line).rows (T.rows trees.old) (T.rows trees.new) ⊎ (out.new ≡ out.old)) }
+        OnErr result
+        (AppendsAll (V.step server.old line).rows (T.rows trees.old) (T.rows trees.new)
+        ⊎ (out.new ≡ out.old)) }
     ensures same { OnOk result (server.new ≡ server.old) }
-    ensures stopped { (disk disk' : ℕ) → IfErr result (λ ending. StopsLine ending (K.faults out.old) (K.faults out.new) disk disk' (T.faults trees.old) (T.faults trees.new)) }
+    ensures stopped { (disk disk' : ℕ) → IfErr result (λ ending.
+        StopsLine ending (K.faults out.old) (K.faults out.new)
+        disk disk' (T.faults trees.old) (T.faults trees.new)) }
     ensures later { K.faults out.old ≤ K.faults out.new }
     ensures trees_later { T.faults trees.old ≤ T.faults trees.new }
 {
@@ -109,11 +129,17 @@ pub(crate) fn serve_long<V: LineServer, K: Sink, T: Trees>(
 fn put_reply<K: Sink, T: Trees>(reply: &Reply, out: &mut K, trees: &mut T) -> Result<Answer, Ending>
     ensures served { IfOk result (λ answer. answer ≡ reply.now.answer) }
     ensures all { OnOk result (AppendsAll reply.now.text (K.written out.old) (K.written out.new)) }
-    ensures some { OnErr result (AppendsSome reply.now.text (K.written out.old) (K.written out.new)) }
-    ensures rows_all { OnOk result (AppendsAll reply.now.rows (T.rows trees.old) (T.rows trees.new)) }
-    ensures rows_some { OnErr result (AppendsSome reply.now.rows (T.rows trees.old) (T.rows trees.new)) }
-    ensures rows_first { OnErr result (AppendsAll reply.now.rows (T.rows trees.old) (T.rows trees.new) ⊎ (out.new ≡ out.old)) }
-    ensures stopped { (disk disk' : ℕ) → IfErr result (λ ending. StopsLine ending (K.faults out.old) (K.faults out.new) disk disk' (T.faults trees.old) (T.faults trees.new)) }
+    ensures some { OnErr result
+        (AppendsSome reply.now.text (K.written out.old) (K.written out.new)) }
+    ensures rows_all { OnOk result
+        (AppendsAll reply.now.rows (T.rows trees.old) (T.rows trees.new)) }
+    ensures rows_some { OnErr result
+        (AppendsSome reply.now.rows (T.rows trees.old) (T.rows trees.new)) }
+    ensures rows_first { OnErr result
+        (AppendsAll reply.now.rows (T.rows trees.old) (T.rows trees.new) ⊎ (out.new ≡ out.old)) }
+    ensures stopped { (disk disk' : ℕ) → IfErr result (λ ending.
+        StopsLine ending (K.faults out.old) (K.faults out.new)
+        disk disk' (T.faults trees.old) (T.faults trees.new)) }
     ensures later { K.faults out.old ≤ K.faults out.new }
     ensures trees_later { T.faults trees.old ≤ T.faults trees.new }
 {
@@ -127,8 +153,10 @@ fn put_reply<K: Sink, T: Trees>(reply: &Reply, out: &mut K, trees: &mut T) -> Re
 fn put_answer<K: Sink>(reply: &Reply, out: &mut K) -> Result<Answer, Ending>
     ensures served { IfOk result (λ answer. answer ≡ reply.now.answer) }
     ensures all { OnOk result (AppendsAll reply.now.text (K.written out.old) (K.written out.new)) }
-    ensures some { OnErr result (AppendsSome reply.now.text (K.written out.old) (K.written out.new)) }
-    ensures stopped { (disk disk' trees trees' : ℕ) → IfErr result (λ ending. StopsLine ending (K.faults out.old) (K.faults out.new) disk disk' trees trees') }
+    ensures some { OnErr result
+        (AppendsSome reply.now.text (K.written out.old) (K.written out.new)) }
+    ensures stopped { (disk disk' trees trees' : ℕ) → IfErr result (λ ending.
+        StopsLine ending (K.faults out.old) (K.faults out.new) disk disk' trees trees') }
     ensures later { K.faults out.old ≤ K.faults out.new }
 {
     match put_text(reply.text.as_slice(), out) {

@@ -32,36 +32,47 @@ pub trait LineServer: Sized {
         requires { IfSome (D.contents disk.old) (gate self.old) }
         ensures gives { IfOk result (Gives (step self.old line.now) self.new) }
         ensures gate { OnOk result (IfSome (D.contents disk.new) (gate self.new)) }
-        ensures stored { IfSome (D.contents disk.old) (stored self.old) → OnOk result (IfSome (D.contents disk.new) (stored self.new)) }
+        ensures stored { IfSome (D.contents disk.old) (stored self.old) →
+            OnOk result (IfSome (D.contents disk.new) (stored self.new)) }
         ensures any_moment { AreAll (stored self.old) (D.images disk.old) →
-            LeavesOnly D.moment D.images_since disk.old disk.new (IsEither (stored self.old) (stored (step self.old line.now).state)) }
-        ensures durable { AreAll (stored self.old) (D.images disk.old) → OnOk result (AreAll (stored self.new) (D.images disk.new)) }
-        ensures stopped { IfErr result (λ ending. StopsAnswer ending (D.faults disk.old) (D.faults disk.new)) }
+            LeavesOnly D.moment D.images_since disk.old disk.new
+            (IsEither (stored self.old) (stored (step self.old line.now).state)) }
+        ensures durable { AreAll (stored self.old) (D.images disk.old) →
+            OnOk result (AreAll (stored self.new) (D.images disk.new)) }
+        ensures stopped { IfErr result (λ ending.
+            StopsAnswer ending (D.faults disk.old) (D.faults disk.new)) }
         ensures later { D.faults disk.old ≤ D.faults disk.new };
 
     /// The answer to a line of more than `MOST_SCRIPT_LINE_BYTES`, which was skipped: whatever it holds, the answer is one.
     fn answer_long(&mut self) -> Result<Reply, Memory>
-        ensures { (line : List ℕ) → MOST_SCRIPT_LINE_BYTES < length line → IfOk result (Gives (step self.old line) self.new) };
+        ensures { (line : List ℕ) → MOST_SCRIPT_LINE_BYTES < length line →
+            IfOk result (Gives (step self.old line) self.new) };
 
     /// A line that is refused has a reply.
-    ghost refusal_told: { (state : Self) (line : List ℕ) → (step state line).is_refused ≡ true → (step state line).reply ≢ [] };
+    ghost refusal_told: { (state : Self) (line : List ℕ) → (step state line).is_refused ≡ true →
+        (step state line).reply ≢ [] };
 
     /// A line without a reply writes no row.
-    ghost rows_told: { (state : Self) (line : List ℕ) → (step state line).reply ≡ [] → (step state line).rows ≡ [] };
+    ghost rows_told: { (state : Self) (line : List ℕ) → (step state line).reply ≡ [] →
+        (step state line).rows ≡ [] };
 
     /// A line of more than `MOST_SCRIPT_LINE_BYTES` changes nothing.
-    ghost long_kept: { (state : Self) (line : List ℕ) → MOST_SCRIPT_LINE_BYTES < length line → (step state line).state ≡ state };
+    ghost long_kept: { (state : Self) (line : List ℕ) → MOST_SCRIPT_LINE_BYTES < length line →
+        (step state line).state ≡ state };
 
     /// An empty line or a comment does nothing, unless it has more than `MOST_SCRIPT_LINE_BYTES`.
     ghost silent_kept: { (state : Self) (line : List ℕ) →
         is_passed_over line ≡ true → step state line ≡ unchanged state };
 
     /// A line without a reply adds no command.
-    ghost commands_told: { (state : Self) (line : List ℕ) → (step state line).reply ≡ [] → count (step state line).state ≤ count state };
+    ghost commands_told: { (state : Self) (line : List ℕ) → (step state line).reply ≡ [] →
+        count (step state line).state ≤ count state };
 
     /// What is stored stays so after a line without a reply.
-    ghost stored_told: { (state : Self) (line bytes : List ℕ) → (step state line).reply ≡ [] → stored state bytes → stored (step state line).state bytes };
+    ghost stored_told: { (state : Self) (line bytes : List ℕ) → (step state line).reply ≡ [] →
+        stored state bytes → stored (step state line).state bytes };
 
     /// No line takes a command away.
-    ghost counts_rise: { (state : Self) (line : List ℕ) → count state ≤ count (step state line).state };
+    ghost counts_rise: { (state : Self) (line : List ℕ) →
+        count state ≤ count (step state line).state };
 }

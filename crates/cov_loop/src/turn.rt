@@ -39,22 +39,36 @@ fn serve_next<V: LineServer, S: Source, K: Sink, D: Disk, T: Trees>(
     requires gate { IfSome (D.contents disk.old) (V.gate server.old) }
     ensures told { (text : List ℕ) → ahead_of lines.old (S.left script.old) ≡ Some text →
         Turns V.step server.old text server.new (ahead_of lines.new (S.left script.new))
-        (output (K.written out.old) (T.rows trees.old)) (output (K.written out.new) (T.rows trees.new)) result }
+        (output (K.written out.old) (T.rows trees.old))
+        (output (K.written out.new) (T.rows trees.new)) result }
     ensures gate { OnOk result (IfSome (D.contents disk.new) (V.gate server.new)) }
-    ensures stored { IfSome (D.contents disk.old) (V.stored server.old) → OnOk result (IfSome (D.contents disk.new) (V.stored server.new)) }
-    ensures any_moment { (text : List ℕ) → ahead_of lines.old (S.left script.old) ≡ Some text → AreAll (V.stored server.old) (D.images disk.old) →
-        LeavesOnly D.moment D.images_since disk.old disk.new (Reaches V.step V.stored server.old (lines_of text)) }
-    ensures durable { AreAll (V.stored server.old) (D.images disk.old) → OnOk result (AreAll (V.stored server.new) (D.images disk.new)) }
-    ensures acknowledged { (text before bytes : List ℕ) → ahead_of lines.old (S.left script.old) ≡ Some text → AreAll (V.stored server.old) (D.images disk.old) →
+    ensures stored { IfSome (D.contents disk.old) (V.stored server.old) →
+        OnOk result (IfSome (D.contents disk.new) (V.stored server.new)) }
+    ensures any_moment { (text : List ℕ) → ahead_of lines.old (S.left script.old) ≡ Some text →
+        AreAll (V.stored server.old) (D.images disk.old) →
+        LeavesOnly D.moment D.images_since disk.old disk.new
+        (Reaches V.step V.stored server.old (lines_of text)) }
+    ensures durable { AreAll (V.stored server.old) (D.images disk.old) →
+        OnOk result (AreAll (V.stored server.new) (D.images disk.new)) }
+    ensures acknowledged { (text before bytes : List ℕ) →
+        ahead_of lines.old (S.left script.old) ≡ Some text →
+        AreAll (V.stored server.old) (D.images disk.old) →
         K.written out.old ≡ Some before → K.written out.new ≡ Some (before ++ bytes) →
-        OnErr result (AreAll (KeepsAnswered V.step V.stored V.count server.old (lines_of text) bytes) (D.images disk.new)) }
+        OnErr result
+        (AreAll (KeepsAnswered V.step V.stored V.count server.old (lines_of text) bytes)
+        (D.images disk.new)) }
     ensures counted { Counted lines.old lines.new
-        (counts (S.faults script.old) (K.faults out.old) (D.faults disk.old) (T.faults trees.old) (S.given script.old) (S.ends script.old))
-        (counts (S.faults script.new) (K.faults out.new) (D.faults disk.new) (T.faults trees.new) (S.given script.new) (S.ends script.new)) }
-    ensures left { CountsGiven (S.left script.old) (S.left script.new) (S.given script.old) (S.given script.new) }
+        (counts (S.faults script.old) (K.faults out.old) (D.faults disk.old) (T.faults trees.old)
+        (S.given script.old) (S.ends script.old))
+        (counts (S.faults script.new) (K.faults out.new) (D.faults disk.new) (T.faults trees.new)
+        (S.given script.new) (S.ends script.new)) }
+    ensures left { CountsGiven (S.left script.old) (S.left script.new)
+        (S.given script.old) (S.given script.new) }
     ensures stopped { IfErr result (λ ending. StopsTurn ending lines.new
-        (counts (S.faults script.old) (K.faults out.old) (D.faults disk.old) (T.faults trees.old) (S.given script.old) (S.ends script.old))
-        (counts (S.faults script.new) (K.faults out.new) (D.faults disk.new) (T.faults trees.new) (S.given script.new) (S.ends script.new))) }
+        (counts (S.faults script.old) (K.faults out.old) (D.faults disk.old) (T.faults trees.old)
+        (S.given script.old) (S.ends script.old))
+        (counts (S.faults script.new) (K.faults out.new) (D.faults disk.new) (T.faults trees.new)
+        (S.given script.new) (S.ends script.new))) }
     ensures falls { IfOk result (Falls lines.old lines.new) }
 {
     match lines.next(script) {
@@ -103,7 +117,8 @@ pub fn serve_all<V: LineServer, S: Source, K: Sink, D: Disk, T: Trees>(
         WritesFront before (answers V.step server.old (lines_of text)).reply (K.written out.new) }
     ensures whole { (text before : List ℕ) →
         ahead_of lines.old (S.left script.old) ≡ Some text → K.written out.old ≡ Some before →
-        IsWhole result (answers V.step server.old (lines_of text)) before (S.left script.new) (K.written out.new) }
+        IsWhole result (answers V.step server.old (lines_of text)) before
+        (S.left script.new) (K.written out.new) }
     ensures rows_prefix { (text : List ℕ) (before : List OutRow) →
         ahead_of lines.old (S.left script.old) ≡ Some text → T.rows trees.old ≡ Some before →
         WritesFront before (answers V.step server.old (lines_of text)).rows (T.rows trees.new) }
@@ -111,31 +126,44 @@ pub fn serve_all<V: LineServer, S: Source, K: Sink, D: Disk, T: Trees>(
         ahead_of lines.old (S.left script.old) ≡ Some text → T.rows trees.old ≡ Some before →
         HasRows result (answers V.step server.old (lines_of text)) before (T.rows trees.new) }
     ensures rows_first { (text before : List ℕ) (rows : List OutRow) →
-        ahead_of lines.old (S.left script.old) ≡ Some text → K.written out.old ≡ Some before → T.rows trees.old ≡ Some rows →
-        RowsComeFirst V.step server.old (lines_of text) before rows (K.written out.new) (T.rows trees.new) }
+        ahead_of lines.old (S.left script.old) ≡ Some text → K.written out.old ≡ Some before →
+        T.rows trees.old ≡ Some rows →
+        RowsComeFirst V.step server.old (lines_of text) before rows
+        (K.written out.new) (T.rows trees.new) }
 
     // At the end of the script, what a read of the disk gives is stored for the state that the whole script gives.
     ensures stored { (text : List ℕ) →
-        ahead_of lines.old (S.left script.old) ≡ Some text → IfSome (D.contents disk.old) (V.stored server.old) →
-        HasStored result V.stored (answers V.step server.old (lines_of text)) (D.contents disk.new) }
+        ahead_of lines.old (S.left script.old) ≡ Some text →
+        IfSome (D.contents disk.old) (V.stored server.old) →
+        HasStored result V.stored (answers V.step server.old (lines_of text))
+        (D.contents disk.new) }
 
     // A crash at any moment leaves what is stored for the state after the first few lines, and at the return these have each command
     // whose whole reply is written.
     ensures any_moment { (text : List ℕ) →
-        ahead_of lines.old (S.left script.old) ≡ Some text → AreAll (V.stored server.old) (D.images disk.old) →
-        LeavesOnly D.moment D.images_since disk.old disk.new (Reaches V.step V.stored server.old (lines_of text)) }
+        ahead_of lines.old (S.left script.old) ≡ Some text →
+        AreAll (V.stored server.old) (D.images disk.old) →
+        LeavesOnly D.moment D.images_since disk.old disk.new
+        (Reaches V.step V.stored server.old (lines_of text)) }
     ensures acknowledged { (text before bytes : List ℕ) →
-        ahead_of lines.old (S.left script.old) ≡ Some text → AreAll (V.stored server.old) (D.images disk.old) →
+        ahead_of lines.old (S.left script.old) ≡ Some text →
+        AreAll (V.stored server.old) (D.images disk.old) →
         K.written out.old ≡ Some before → K.written out.new ≡ Some (before ++ bytes) →
-        AreAll (KeepsAnswered V.step V.stored V.count server.old (lines_of text) bytes) (D.images disk.new) }
+        AreAll (KeepsAnswered V.step V.stored V.count server.old (lines_of text) bytes)
+        (D.images disk.new) }
 
     ensures later { Later
-        (counts (S.faults script.old) (K.faults out.old) (D.faults disk.old) (T.faults trees.old) (S.given script.old) (S.ends script.old))
-        (counts (S.faults script.new) (K.faults out.new) (D.faults disk.new) (T.faults trees.new) (S.given script.new) (S.ends script.new)) }
-    ensures left { CountsGiven (S.left script.old) (S.left script.new) (S.given script.old) (S.given script.new) }
+        (counts (S.faults script.old) (K.faults out.old) (D.faults disk.old) (T.faults trees.old)
+        (S.given script.old) (S.ends script.old))
+        (counts (S.faults script.new) (K.faults out.new) (D.faults disk.new) (T.faults trees.new)
+        (S.given script.new) (S.ends script.new)) }
+    ensures left { CountsGiven (S.left script.old) (S.left script.new)
+        (S.given script.old) (S.given script.new) }
     ensures stopped { StopsScript result lines.old
-        (counts (S.faults script.old) (K.faults out.old) (D.faults disk.old) (T.faults trees.old) (S.given script.old) (S.ends script.old))
-        (counts (S.faults script.new) (K.faults out.new) (D.faults disk.new) (T.faults trees.new) (S.given script.new) (S.ends script.new)) }
+        (counts (S.faults script.old) (K.faults out.old) (D.faults disk.old) (T.faults trees.old)
+        (S.given script.old) (S.ends script.old))
+        (counts (S.faults script.new) (K.faults out.new) (D.faults disk.new) (T.faults trees.new)
+        (S.given script.new) (S.ends script.new)) }
 {
     let mut refused = false;
     'turns: loop {

@@ -11,16 +11,16 @@ use Rattle.cov_edit.specs.History.{options_of}
 use Rattle.cov_history.specs.Completing.{completed_in}
 use Rattle.cov_history.specs.Laws.{OpenOptionsAreDeclared}
 use Rattle.cov_serve.specs.Acting.{Handles, Stops}
-use Rattle.cov_serve.specs.Codes.{bind_code}
+use Rattle.cov_codes.specs.Codes.{bind_code}
 use Rattle.cov_serve.specs.Finding.{Found, ◌>>=◌, as_found, by_code, completed_choice, found_partial}
 use Rattle.cov_serve.specs.States.{State}
 use Rattle.cov_serve.specs.Step.{Done}
-use Rattle.cov_serve.specs.Stops.{bind_stop, complete_stop}
+use Rattle.cov_codes.specs.Stops.{bind_stop, complete_stop}
 use Rattle.cov_serve.proofs.Declared.{repeated_below}
 use Rattle.cov_serve.specs.declared.handled.Handled.{Handled}
 use Rattle.cov_serve.specs.declared.handled.Handled.TheVariants as handled
-use Rattle.cov_serve.specs.declared.stop.Stop.{Stop}
-use Rattle.cov_serve.specs.declared.stop.Stop.TheVariants as stops
+use Rattle.cov_codes.specs.declared.stop.Stop.{Stop}
+use Rattle.cov_codes.specs.declared.stop.Stop.TheVariants as stops
 
 -- what holds of a stop holds of the refusal by `?` that hands it on
 pub stopped : {X : Type 0} (P : Result X Stop → Type 0) (result : Result X Stop) (stop : Stop) → IsErrAnd result (λ e. e ≡ stop) → P (Err stop) → P result

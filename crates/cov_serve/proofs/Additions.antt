@@ -16,15 +16,15 @@ use Rattle.cov_script.specs.declared.code.Code.{Code}
 use Rattle.cov_session.specs.Named.{named}
 use Rattle.cov_serve.specs.Acting.{CanBeTold, IsDone, IsPlain, Refuses, Stops}
 use Rattle.cov_serve.specs.Adding.{HasReceipt, command_added, ended_by, confirmed}
-use Rattle.cov_serve.specs.Codes.{refusal_code}
+use Rattle.cov_codes.specs.Codes.{refusal_code}
 use Rattle.cov_serve.specs.Finding.{Found, ◌>>=◌}
 use Rattle.cov_session.specs.Faults.{unless}
 use Rattle.cov_serve.specs.States.{State, with_command}
 use Rattle.cov_serve.specs.Step.{Act, acted, appended, as_outcome, plainly, refused, step}
 use Rattle.cov_serve.specs.Storing.{grown, unless_refused}
 use Rattle.cov_serve.specs.declared.handled.Addition.{Addition}
-use Rattle.cov_serve.specs.declared.stop.Stop.{Stop}
-use Rattle.cov_serve.specs.declared.stop.Stop.TheVariants as stops
+use Rattle.cov_codes.specs.declared.stop.Stop.{Stop}
+use Rattle.cov_codes.specs.declared.stop.Stop.TheVariants as stops
 
 module _ (st : State) (k : Command) where
   -- a command that is accepted is appended

@@ -1,15 +1,21 @@
 -- What the appending of a command comes to.
-use Rattle.std.proofs.Common.{◌≡◌, refl, sym, ap, subst, ℕ, ◌+◌, List, [], ◌∷◌, ◌++◌, length, None, Result, Ok, Err}
+use Rattle.std.proofs.Common.{◌≡◌, refl, sym, ap, subst, ℕ, ◌+◌, List, [], ◌∷◌, ◌++◌, length, None, option_map, Result, Ok, Err}
 use Rattle.std.specs.Prelude.{IfErr, IfOk, OnOk}
 use Rattle.cov_base.specs.Causes.{Rose}
+use Rattle.cov_codes.proofs.CallerLemmas.{refusal-code}
+use Rattle.cov_codes.specs.Codes.{refusal_code}
+use Rattle.cov_codes.specs.Stops.{refusal_stop}
 use Rattle.cov_disk.specs.Images.{LeavesOnly}
 use Rattle.cov_edit.specs.declared.command.Command.{Command}
 use Rattle.cov_engine.specs.States.{receipt_number}
 use Rattle.cov_engine.specs.declared.prepared.Receipt.{Receipt}
-use Rattle.cov_history.specs.Verdict.{verdict}
+use Rattle.cov_history.specs.Verdict.{RefusedBy, verdict}
+use Rattle.cov_history.specs.declared.refusal.Refusal.{Refusal}
+use Rattle.cov_history.specs.declared.refusal.Refusal.TheVariants as refusals
 use Rattle.cov_loop.specs.Answers.{StopsAnswer}
 use Rattle.cov_loop.specs.Keeping.{AreAll, IsEither}
 use Rattle.cov_session.specs.Calls.{AreOpen}
+use Rattle.cov_session.specs.Faults.{unless}
 use Rattle.cov_session.specs.Laws.{OpenSessionsStay}
 use Rattle.cov_session.specs.Open.{SessionValue}
 use Rattle.cov_store.specs.Appending.{IsAppendFaultOf, LeavesHistory, OnRefusal, OnWriteFault}
@@ -18,14 +24,21 @@ use Rattle.cov_store.specs.declared.appending.AppendFault.{AppendFault}
 use Rattle.cov_store.specs.declared.appending.AppendFault.TheVariants as faults
 use Rattle.cov_serve.specs.Acting.{Changes, Stops}
 use Rattle.cov_serve.specs.Adding.{HasReceipt, added_as}
-use Rattle.cov_serve.specs.States.{State}
+use Rattle.cov_serve.specs.States.{State, with_command}
 use Rattle.cov_serve.specs.Step.{appended}
-use Rattle.cov_serve.specs.Stops.{refusal_stop}
 use Rattle.cov_serve.specs.Storing.{grown, stored}
 use Rattle.cov_serve.proofs.Additions.{appended-as}
 use Rattle.cov_serve.proofs.Growing.{stay-open}
 use Rattle.cov_serve.proofs.Leaving.{leaves-grown, leaves-same}
-use Rattle.cov_serve.proofs.RefusalCodes.{refusal-stops}
+
+-- a command that is refused changes nothing
+refusal-stops : (st : State) (k : Command) (r : Refusal) → RefusedBy r (verdict st.history k) → Stops (appended st k) st st (refusal_stop r)
+refusal-stops st k refusals.Memory h = refl
+refusal-stops st k r h = record {
+  is = ap (λ o. unless (option_map refusal_code o) (with_command st k)) h;
+  same = refl;
+  told = refusal-code st.history k r h;
+}
 
 -- the state with another history
 abbrev pub with_history : State → List Command → State

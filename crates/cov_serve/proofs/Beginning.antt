@@ -34,7 +34,7 @@ use Rattle.cov_session.specs.Opening.{opened_on}
 use Rattle.cov_session.specs.Refreshing.{as_lost, rebased, refreshed_on}
 use Rattle.cov_session.specs.declared.fault.SessionFault.TheVariants as faults
 use Rattle.cov_session.specs.declared.sessions.TheConstants.{MOST_SESSIONS}
-use Rattle.cov_serve.specs.Codes.{session_code, syntax_code}
+use Rattle.cov_codes.specs.Codes.{session_code, syntax_code}
 use Rattle.cov_serve.specs.Finding.{Found, ◌>>=◌, by_code, found_expression, found_partial}
 use Rattle.cov_serve.specs.Isolation.{HasSession, SessionsBeginNow, begins, has_form, is_start}
 use Rattle.cov_serve.specs.States.{State, with_sessions}

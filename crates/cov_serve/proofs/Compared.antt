@@ -5,12 +5,12 @@ use Rattle.cov_alt.specs.declared.fault.AltFault.{AltFault}
 use Rattle.cov_alt.specs.declared.fault.AltFault.TheVariants as faults
 use Rattle.cov_alt.specs.declared.line.AltLine.{AltLine}
 use Rattle.cov_serve.specs.Acting.{Stops}
-use Rattle.cov_serve.specs.Codes.{alt_code}
+use Rattle.cov_codes.specs.Codes.{alt_code}
 use Rattle.cov_serve.specs.Finding.{◌>>=◌, by_code, completed_choice, found_option, found_partial}
 use Rattle.cov_serve.specs.Replies.{lines_reply, marked_line}
 use Rattle.cov_serve.specs.States.{State}
 use Rattle.cov_serve.specs.Step.{Act, compared}
-use Rattle.cov_serve.specs.Stops.{alt_stop}
+use Rattle.cov_codes.specs.Stops.{alt_stop}
 
 module _ (st : State) (token : List ℕ) (path : List (List ℕ)) where
   abbrev on-sides : Result (List AltLine) AltFault → Act

@@ -7,12 +7,13 @@ use Rattle.cov_edit.specs.declared.command.Command.{Command}
 use Rattle.cov_loop.specs.Keeping.{KeepsAnswered, Reaches}
 use Rattle.cov_loop.specs.Outcome.{answers}
 use Rattle.cov_loop.proofs.CallerLemmas.{nothing_first, nothing_next}
-use Rattle.cov_serve.specs.Crashing.{StandsBetween, StandsForAnswered}
 use Rattle.cov_serve.specs.Growth.{step_grows}
+use Rattle.cov_serve.specs.Jobs.{StandsForFront, StandsForTold, Turn, history_after, line_turns, replies}
 use Rattle.cov_serve.specs.States.{State, starting}
-use Rattle.cov_serve.specs.Step.{model, step}
+use Rattle.cov_serve.specs.Step.{step}
 use Rattle.cov_serve.specs.Storing.{count, stored}
 use Rattle.cov_store.specs.Stands.{IsStored, StandsFor}
+use Rattle.cov_serve.proofs.Turns.{history_as, last_is, to_turns}
 
 -- one line keeps the history, or adds a command and has a reply
 abbrev Grows : State → List ℕ → Type 0
@@ -50,6 +51,13 @@ pub stands_for : (image : List ℕ) (history : List Command) → IsStored image 
 stands_for image history is = record { legal = is.legal; fits = is.fits; holds = inr is.written }
 
 module _ (history : List Command) (text : List ℕ) where
+  abbrev turns : List Turn
+  turns = line_turns (starting history) (lines_of text)
+
+  -- the history after all of the lines
+  abbrev last : List Command
+  last = history_after history turns
+
   -- the history after the first few of the lines
   abbrev reached : List (List ℕ) → List Command
   reached ls = (answers step (starting history) ls).state.history
@@ -57,54 +65,49 @@ module _ (history : List Command) (text : List ℕ) where
   least : (ls : List (List ℕ)) → length history ≤ length (reached ls)
   least ls = let on = grown_by (starting history) ls in omega (arith, ap length on.1, length-append history on.0)
 
-  further : (ls ms : List (List ℕ)) → lines_of text ≡ ls ++ ms → GoesOn (reached ls) (model history text).state.history
-  further ls ms e = subst (λ all. GoesOn (reached ls) (reached all)) (sym e) (goes_further (starting history) ls ms)
+  further : (ls ms : List (List ℕ)) → lines_of text ≡ ls ++ ms → GoesOn (reached ls) last
+  further ls ms e = subst (GoesOn (reached ls)) (sym (last_is history text)) (subst (λ all. GoesOn (reached ls) (reached all)) (sym e) (goes_further (starting history) ls ms))
 
-  most : (ls ms : List (List ℕ)) → lines_of text ≡ ls ++ ms → length (reached ls) ≤ length (model history text).state.history
+  most : (ls ms : List (List ℕ)) → lines_of text ≡ ls ++ ms → length (reached ls) ≤ length last
   most ls ms e = let on = further ls ms e in omega (arith, ap length on.1, length-append (reached ls) on.0)
 
-  taken : (ls ms : List (List ℕ)) → lines_of text ≡ ls ++ ms → take (length (reached ls)) (model history text).state.history ≡ reached ls
+  taken : (ls ms : List (List ℕ)) → lines_of text ≡ ls ++ ms → take (length (reached ls)) last ≡ reached ls
   taken ls ms e = let on = further ls ms e in ap (take (length (reached ls))) on.1 ∙ take-append_seam (reached ls) on.0
 
-  stands_after : (ls ms : List (List ℕ)) → lines_of text ≡ ls ++ ms → (image : List ℕ) → StandsFor image (reached ls) → StandsFor image (take (length (reached ls)) (model history text).state.history)
-  stands_after ls ms e image stands = subst (StandsFor image) (sym (taken ls ms e)) stands
+  -- an image that stands for the history after the first few of the lines
+  abbrev front_at : (ls ms : List (List ℕ)) → lines_of text ≡ ls ++ ms → (image : List ℕ) → StandsFor image (reached ls) → StandsForFront history turns image
+  front_at ls ms e image stands = record {
+    count = length (reached ls);
+    least = least ls;
+    most = most ls ms e;
+    stands = subst (StandsFor image) (sym (taken ls ms e)) stands;
+  }
 
   -- before the first line
-  pub between_start : (image : List ℕ) → StandsFor image history → StandsBetween history text image
-  between_start image stands = record {
-    count = length history;
-    least = omega arith;
-    most = most [] (lines_of text) refl;
-    stands = stands_after [] (lines_of text) refl image stands;
-  }
+  pub front_first : (image : List ℕ) → StandsFor image history → StandsForFront history turns image
+  front_first image stands = front_at [] (lines_of text) refl image stands
 
   -- after some lines
-  pub between : (image : List ℕ) → Reaches step stored (starting history) (lines_of text) image → StandsBetween history text image
-  between image on = record {
-    count = length (reached on.first);
-    least = least on.first;
-    most = most on.first on.rest on.front;
-    stands = stands_after on.first on.rest on.front image (stands_for image (reached on.first) on.stands);
-  }
+  pub front_reached : (image : List ℕ) → Reaches step stored (starting history) (lines_of text) image → StandsForFront history turns image
+  front_reached image on = front_at on.first on.rest on.front image (stands_for image (reached on.first) on.stands)
+
+  -- what holds of the lines whose replies are written holds of the turns
+  all_told : (size few : ℕ) → ((ls ms : List (List ℕ)) → lines_of text ≡ ls ++ ms → length (answers step (starting history) ls).reply ≤ size → length (reached ls) ≤ few)
+      → (ts us : List Turn) → turns ≡ ts ++ us → length (replies ts) ≤ size → length (history_after history ts) ≤ few
+  all_told size few = to_turns history text (λ ts. length (history_after history ts)) (λ ls. length (reached ls)) (λ ls. ap length (history_as (starting history) ls)) size few
 
   -- nothing is written
-  pub answered_none : (image : List ℕ) → StandsFor image history → StandsForAnswered history text [] image
-  answered_none image stands = record {
-    count = length history;
-    least = omega arith;
-    most = most [] (lines_of text) refl;
-    stands = stands_after [] (lines_of text) refl image stands;
-    answered = λ ls ms e short.
+  pub told_none : (image : List ℕ) → StandsFor image history → StandsForTold history turns [] image
+  told_none image stands = record {
+    front = front_at [] (lines_of text) refl image stands;
+    told = all_told 0 (length history) (λ ls ms e short.
         let same : reached ls ≡ history = quiet (starting history) ls (nil_from_length (answers step (starting history) ls).reply (omega (arith, short))) in
-        omega (arith, ap length same);
+        omega (arith, ap length same));
   }
 
   -- some replies are written
-  pub answered : (bytes image : List ℕ) → KeepsAnswered step stored count (starting history) (lines_of text) bytes image → StandsForAnswered history text bytes image
-  answered bytes image on = record {
-    count = length (reached on.first);
-    least = least on.first;
-    most = most on.first on.rest on.front;
-    stands = stands_after on.first on.rest on.front image (stands_for image (reached on.first) on.stands);
-    answered = on.answered;
+  pub told_reached : (bytes image : List ℕ) → KeepsAnswered step stored count (starting history) (lines_of text) bytes image → StandsForTold history turns bytes image
+  told_reached bytes image on = record {
+    front = front_at on.first on.rest on.front image (stands_for image (reached on.first) on.stands);
+    told = all_told (length bytes) (length (reached on.first)) on.answered;
   }

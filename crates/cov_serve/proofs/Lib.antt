@@ -22,7 +22,6 @@ pub mod OwnActs
 pub mod OwnLines
 pub mod References
 pub mod Turns
-pub mod RefusalCodes
 pub mod Runs
 pub mod SessionFaults
 pub mod Spoken

@@ -19,7 +19,7 @@ use Rattle.cov_session.specs.Refreshing.{rebased, refreshed_on}
 use Rattle.cov_session.specs.declared.fault.SessionFault.{SessionFault}
 use Rattle.cov_session.specs.declared.fault.SessionFault.TheVariants as faults
 use Rattle.cov_session.specs.declared.sessions.TheConstants.{MOST_SESSIONS}
-use Rattle.cov_serve.specs.Codes.{session_code}
+use Rattle.cov_codes.specs.Codes.{session_code}
 use Rattle.cov_serve.specs.Finding.{by_code, ◌>>=◌, found_partial, found_expression}
 use Rattle.cov_serve.specs.States.{State, with_sessions}
 use Rattle.cov_serve.specs.Step.{Act, opened as opened_by_line}

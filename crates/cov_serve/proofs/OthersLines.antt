@@ -37,7 +37,7 @@ use Rattle.cov_session.specs.Open.{NamedSession}
 use Rattle.cov_session.specs.declared.fault.SessionFault.{SessionFault}
 use Rattle.cov_engine.specs.Visibility.{is_no_line}
 use Rattle.cov_alt.specs.Sides.{sides_at}
-use Rattle.cov_serve.specs.Codes.{alt_code, refusal_code, session_code, syntax_code}
+use Rattle.cov_codes.specs.Codes.{alt_code, refusal_code, session_code, syntax_code}
 use Rattle.cov_serve.specs.Editing.{directory_of}
 use Rattle.cov_serve.specs.Finding.{Found, ◌>>=◌, by_code, completed_choice, found_choice, found_expression, found_option, found_partial}
 use Rattle.cov_serve.specs.Isolation.{HasSession, begins_or_ends, has_form, is_boundary, is_own, is_turn, works_in}

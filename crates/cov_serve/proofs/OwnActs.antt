@@ -23,7 +23,7 @@ use Rattle.cov_session.specs.Named.{with_session}
 use Rattle.cov_session.specs.Open.{NamedSession}
 use Rattle.cov_session.specs.declared.fault.SessionFault.{SessionFault}
 use Rattle.cov_session.specs.declared.fault.SessionFault.TheVariants as faults
-use Rattle.cov_serve.specs.Codes.{edit_code, session_code}
+use Rattle.cov_codes.specs.Codes.{edit_code, session_code}
 use Rattle.cov_serve.specs.Finding.{Found, ◌>>=◌, by_code}
 use Rattle.cov_serve.specs.Isolation.{HasSession}
 use Rattle.cov_serve.specs.States.{State, with_sessions}

@@ -32,7 +32,7 @@ use Rattle.cov_session.specs.Faults.{unless}
 use Rattle.cov_session.specs.Named.{with_session}
 use Rattle.cov_session.specs.Open.{NamedSession}
 use Rattle.cov_session.specs.declared.fault.SessionFault.{SessionFault}
-use Rattle.cov_serve.specs.Codes.{session_code, syntax_code}
+use Rattle.cov_codes.specs.Codes.{session_code, syntax_code}
 use Rattle.cov_serve.specs.Editing.{directory_of, last_name, line_ref, node_ref}
 use Rattle.cov_serve.specs.Finding.{Found, ◌>>=◌, by_code}
 use Rattle.cov_serve.specs.Isolation.{HasSession, SeeAlike, asks_in, has_form, is_own, works_in}

@@ -33,13 +33,4 @@ module _ (source sink disk trees given ends : ℕ) where
   -- the disk may have failed before
   pub serving_later : (disk1 : ℕ) (new : Counts) (status : Status) → disk ≤ disk1 → StopsServing (counts source sink disk1 trees given ends) new status → StopsServing (counts source sink disk trees given ends) new status
   serving_later disk1 new statuses.DiskFault le h = omega (arith, le, h)
-  serving_later disk1 new statuses.NotAStore le h = h
-  serving_later disk1 new (statuses.Damaged number cause) le h = h
-  serving_later disk1 new statuses.Done le h = h
-  serving_later disk1 new statuses.SomeRefused le h = h
-  serving_later disk1 new statuses.Usage le h = h
-  serving_later disk1 new statuses.NoMemory le h = h
-  serving_later disk1 new statuses.ReadFault le h = h
-  serving_later disk1 new statuses.WriteFault le h = h
-  serving_later disk1 new statuses.TreesFault le h = h
-  serving_later disk1 new statuses.TooMuch le h = h
+  serving_later disk1 new status le h = h

@@ -15,11 +15,11 @@ use Rattle.cov_session.specs.Opening.{NamesDeclared}
 use Rattle.cov_session.specs.declared.fault.SessionFault.{SessionFault}
 use Rattle.cov_session.specs.declared.fault.SessionFault.TheVariants as faults
 use Rattle.cov_serve.specs.Acting.{Stops}
-use Rattle.cov_serve.specs.Codes.{session_code}
+use Rattle.cov_codes.specs.Codes.{session_code}
 use Rattle.cov_serve.specs.Finding.{by_code}
 use Rattle.cov_serve.specs.States.{State, with_sessions}
 use Rattle.cov_serve.specs.Step.{added}
-use Rattle.cov_serve.specs.Stops.{session_stop}
+use Rattle.cov_codes.specs.Stops.{session_stop}
 use Rattle.cov_serve.proofs.Acted.{stops-later}
 
 -- a session's refusal is the line's

@@ -23,7 +23,7 @@ use Rattle.cov_serve.specs.Acting.{Stops}
 use Rattle.cov_serve.specs.Finding.{◌>>=◌}
 use Rattle.cov_serve.specs.Seeing.{IsNodeAt}
 use Rattle.cov_serve.specs.Step.{file_told, listed_at, listed_in, shown, shown_in, told_in}
-use Rattle.cov_serve.specs.Stops.{list_stop, read_stop}
+use Rattle.cov_codes.specs.Stops.{list_stop, read_stop}
 use Rattle.cov_session.specs.Open.{NamedSession, table_of}
 use Rattle.cov_visible.specs.Reading.{IsFileAt, line_row}
 use Rattle.cov_base.specs.declared.file_row.FileRow.{FileRow}

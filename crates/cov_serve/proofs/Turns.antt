@@ -6,7 +6,6 @@ use Rattle.cov_edit.specs.declared.command.Command.{Command}
 use Rattle.cov_loop.specs.Outcome.{answers}
 use Rattle.cov_loop.specs.Turns.{RowsComeFirst, WritesFront}
 use Rattle.cov_out.specs.declared.row.OutRow.{OutRow}
-use Rattle.cov_serve.specs.Crashing.{StandsBetween, StandsForAnswered}
 use Rattle.cov_serve.specs.Jobs.{Turn, RowsPrecede, StandsForFront, StandsForTold, history_after, line_turn, line_turns, replies, rows_of, told_line}
 use Rattle.cov_serve.specs.States.{State, starting}
 use Rattle.cov_serve.specs.Step.{model, step}
@@ -79,30 +78,6 @@ module _ (history : List Command) (text : List ℕ) where
         (length on.bytes) (length on.rows) on.first;
   }
 
-  -- what an image stands for
-  pub front_stands : (image : List ℕ) → StandsBetween history text image → StandsForFront history turns image
-  front_stands image on = record {
-    count = on.count;
-    least = on.least;
-    most = subst (λ h. on.count ≤ length h) (sym last_is) on.most;
-    stands = subst (λ h. StandsFor image (take on.count h)) (sym last_is) on.stands;
-  }
-
-  abbrev stored_by : List Turn → ℕ
-  stored_by ts = length (history_after history ts)
-
-  abbrev stored_after : List (List ℕ) → ℕ
-  stored_after ls = length (answers step (starting history) ls).state.history
-
-  pub told_stands : (bytes image : List ℕ) → StandsForAnswered history text bytes image → StandsForTold history turns bytes image
-  told_stands bytes image on = record {
-    count = on.count;
-    least = on.least;
-    most = subst (λ h. on.count ≤ length h) (sym last_is) on.most;
-    stands = subst (λ h. StandsFor image (take on.count h)) (sym last_is) on.stands;
-    told = to_turns stored_by stored_after (λ ls. ap length (history_as (starting history) ls)) (length bytes) on.count on.answered;
-  }
-
   -- what is written
   pub front_served : (before : List ℕ) (written : Option (List ℕ)) → WritesFront before (model history text).reply written → WritesFront before (replies turns) written
   front_served before written h = subst (λ r. WritesFront before r written) (sym (replies_as (starting history) (lines_of text))) h
@@ -149,19 +124,19 @@ module _ (status : Status) (line : List ℕ) (history : List Command) where
   whole_history : take (length history) history ≡ history
   whole_history = ap (take (length history)) (sym (append-nil history)) ∙ take-append_seam history []
 
-  pub front_stands_told : (image : List ℕ) → StandsFor image history → StandsForFront history turns_told image
-  front_stands_told image h = record {
+  abbrev front_whole : (image : List ℕ) → StandsFor image history → StandsForFront history turns_told image
+  front_whole image h = record {
     count = length history;
     least = omega arith;
     most = omega arith;
     stands = subst (StandsFor image) (sym whole_history) h;
   }
 
+  pub front_stands_told : (image : List ℕ) → StandsFor image history → StandsForFront history turns_told image
+  front_stands_told image h = front_whole image h
+
   pub told_stands_told : (bytes image : List ℕ) → StandsFor image history → StandsForTold history turns_told bytes image
   told_stands_told bytes image h = record {
-    count = length history;
-    least = omega arith;
-    most = omega arith;
-    stands = subst (StandsFor image) (sym whole_history) h;
+    front = front_whole image h;
     told = λ ts us e short. subst (λ (hs : List Command). length hs ≤ length history) (sym (stays ts us e)) (omega arith);
   }

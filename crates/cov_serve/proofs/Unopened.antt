@@ -1,6 +1,8 @@
 -- How it is told that a store isn't opened, and other lines that end a run.
-use Rattle.std.proofs.Common.{◌≡◌, ◌≢◌, ◌∙◌, ◌⊎◌, inl, inr, refl, sym, ap, subst, ℕ, List, [], ◌++◌, append-nil, length, Option, Some, None, IfSome, Err}
+use Rattle.std.proofs.Common.{◌≡◌, ◌∙◌, ◌⊎◌, inl, inr, refl, sym, ap, subst, ℕ, List, [], ◌++◌, append-nil, length, Option, Some, None, IfSome, Err}
 use Rattle.cov_base.specs.Causes.{Rose}
+use Rattle.cov_codes.proofs.CallerLemmas.{refusal-code}
+use Rattle.cov_codes.specs.Codes.{refusal_code}
 use Rattle.cov_edit.specs.History.{options_of}
 use Rattle.cov_edit.specs.declared.command.Command.{Command}
 use Rattle.cov_io.specs.Devices.{AppendsAll, AppendsSome}
@@ -10,9 +12,8 @@ use Rattle.cov_loop.specs.Counts.{Counts}
 use Rattle.cov_loop.specs.Turns.{WritesFront}
 use Rattle.cov_out.specs.declared.row.OutRow.{OutRow}
 use Rattle.cov_script.specs.Replies.{IsCodeOf}
-use Rattle.cov_serve.specs.Codes.{refusal_code}
-use Rattle.cov_serve.specs.Jobs.{EndsAs, IsCaused, JobOutcome, OnEnd, RowsPrecede, TellsUnopened, replies, rows_of, told_line}
-use Rattle.cov_serve.specs.Program.{DamageCanBeTold, EndsTold, EndsWithLine, OnUnopened, PutsLast, ReadsAs, StopsOpening, TellsFault, damaged_line, not_a_store_line}
+use Rattle.cov_serve.specs.Jobs.{EndsAs, IsCaused, JobOutcome, OnEnd, RowsPrecede, TellsUnopened, replies, rows_of, told_line, told_of_none}
+use Rattle.cov_serve.specs.Program.{DamageCanBeTold, EndsServed, EndsWithLine, OnUnopened, PutsLast, ReadsAs, TellsFault, damaged_line, not_a_store_line}
 use Rattle.cov_serve.specs.States.{State}
 use Rattle.cov_serve.specs.declared.job.Job.{Job}
 use Rattle.cov_serve.specs.declared.job.Job.TheVariants.{OnStore}
@@ -26,7 +27,6 @@ use Rattle.cov_store.specs.declared.damage.StoreDamage.{StoreDamage}
 use Rattle.cov_store.specs.declared.damage.StoreDamage.TheVariants as damages
 use Rattle.cov_store.specs.declared.damage.StoreFault.{StoreFault}
 use Rattle.cov_store.specs.declared.damage.StoreFault.TheVariants as faults
-use Rattle.cov_serve.proofs.RefusalCodes.{refusal-code}
 use Rattle.cov_serve.proofs.Turns.{front_told, rows_precede_told}
 
 -- what holds of a disk that stands for a history, if it tells its bytes
@@ -65,59 +65,52 @@ pub writes_all : (before line : List ℕ) (old new : Option (List ℕ)) → Appe
 writes_all before line None new h is = absurd (cc)
 writes_all before line (Some old) new h is = let same : old ≡ before = cc in h ∙ ap (λ b. Some (b ++ line)) same
 
--- what holds of each status, and of those of a run that came to its end
-pub on_any_end : (status : Status) (P : Type 0) → P → OnEnd status P
+-- what holds of each status holds of that of a run that came to its end
+on_any_end : (status : Status) (P : Type 0) → P → OnEnd status P
 on_any_end statuses.Done P h = h
 on_any_end statuses.SomeRefused P h = h
 on_any_end statuses.Usage P h = h
 on_any_end statuses.NotAStore P h = h
 on_any_end (statuses.Damaged number cause) P h = h
-on_any_end statuses.NoMemory P h = tt
-on_any_end statuses.ReadFault P h = tt
-on_any_end statuses.WriteFault P h = tt
-on_any_end statuses.DiskFault P h = tt
-on_any_end statuses.TreesFault P h = tt
-on_any_end statuses.TooMuch P h = tt
+on_any_end status P h = tt
 
-pub on_end : (status : Status) (P Q : Type 0) → (P → Q) → OnEnd status P → OnEnd status Q
-on_end statuses.Done P Q to h = to h
-on_end statuses.SomeRefused P Q to h = to h
-on_end statuses.Usage P Q to h = to h
-on_end statuses.NotAStore P Q to h = to h
-on_end (statuses.Damaged number cause) P Q to h = to h
-on_end statuses.NoMemory P Q to h = tt
-on_end statuses.ReadFault P Q to h = tt
-on_end statuses.WriteFault P Q to h = tt
-on_end statuses.DiskFault P Q to h = tt
-on_end statuses.TreesFault P Q to h = tt
-on_end statuses.TooMuch P Q to h = tt
-
-pub on_unopened : (status : Status) (P : Type 0) → P → OnUnopened status P
-on_unopened statuses.Done P h = tt
-on_unopened statuses.SomeRefused P h = tt
-on_unopened statuses.Usage P h = tt
+on_unopened : (status : Status) (P : Type 0) → P → OnUnopened status P
 on_unopened statuses.NotAStore P h = h
 on_unopened (statuses.Damaged number cause) P h = h
-on_unopened statuses.NoMemory P h = tt
-on_unopened statuses.ReadFault P h = tt
-on_unopened statuses.WriteFault P h = tt
-on_unopened statuses.DiskFault P h = tt
-on_unopened statuses.TreesFault P h = tt
-on_unopened statuses.TooMuch P h = tt
+on_unopened status P h = tt
 
--- a disk that stands for a history isn't opened
-pub opening_end : (disk disk' : ℕ) (status : Status) (P : Type 0) → StopsOpening disk disk' status → OnEnd status P
-opening_end disk disk' statuses.Done P h = absurd h
-opening_end disk disk' statuses.SomeRefused P h = absurd h
-opening_end disk disk' statuses.Usage P h = absurd h
-opening_end disk disk' statuses.NotAStore P h = absurd h
-opening_end disk disk' (statuses.Damaged number cause) P h = absurd h
-opening_end disk disk' statuses.NoMemory P h = tt
-opening_end disk disk' statuses.ReadFault P h = absurd h
-opening_end disk disk' statuses.WriteFault P h = absurd h
-opening_end disk disk' statuses.DiskFault P h = tt
-opening_end disk disk' statuses.TreesFault P h = absurd h
-opening_end disk disk' statuses.TooMuch P h = absurd h
+-- a run is cut short: memory is wanting, or the sink or the disk failed
+abbrev pub IsCut : ℕ → ℕ → ℕ → ℕ → Status → Type 0
+IsCut sink sink' disk disk' statuses.NoMemory = Unit {0}
+IsCut sink sink' disk disk' statuses.WriteFault = Rose sink sink'
+IsCut sink sink' disk disk' statuses.DiskFault = Rose disk disk'
+IsCut sink sink' disk disk' status = ⊥
+
+module _ (sink sink' disk disk' : ℕ) where
+  -- such a run doesn't come to its end
+  pub cut_end : (status : Status) (P : Type 0) → IsCut sink sink' disk disk' status → OnEnd status P
+  cut_end statuses.NoMemory P h = tt
+  cut_end statuses.WriteFault P h = tt
+  cut_end statuses.DiskFault P h = tt
+  cut_end status P h = absurd h
+
+  pub cut_unserved : (status : Status) → IsCut sink sink' disk disk' status → EndsServed status → ⊥
+  cut_unserved statuses.Done h e = h
+  cut_unserved statuses.SomeRefused h e = h
+  cut_unserved status h e = e
+
+  -- where neither sink nor disk fails, memory is wanting
+  pub cut_unless : (status : Status) → IsCut sink sink' disk disk' status → (Rose sink sink' → ⊥) → (Rose disk disk' → ⊥) → status ≡ statuses.NoMemory
+  cut_unless statuses.NoMemory h no_sink no_disk = refl
+  cut_unless statuses.WriteFault h no_sink no_disk = absurd (no_sink h)
+  cut_unless statuses.DiskFault h no_sink no_disk = absurd (no_disk h)
+  cut_unless status h no_sink no_disk = absurd h
+
+  -- a line ends a run with its status, or the run is cut short
+  line_ends : (wanted status : Status) → EndsWithLine wanted sink sink' status → (status ≡ wanted) ⊎ IsCut sink sink' disk disk' status
+  line_ends wanted statuses.NoMemory e = inr tt
+  line_ends wanted statuses.WriteFault e = inr e
+  line_ends wanted status e = inl e
 
 -- one line is told, and ends a run
 pub record Tells (all : JobOutcome) (sink sink' disk disk' : ℕ) (old new : Option (List ℕ)) (status : Status) : Type 0 where
@@ -125,103 +118,44 @@ pub record Tells (all : JobOutcome) (sink sink' disk disk' : ℕ) (old new : Opt
   pub line : List ℕ
   pub history : List Command
   pub is : all ≡ told_line wanted line history
-  pub ends : EndsTold wanted sink sink' disk disk' status
+  pub ends : (status ≡ wanted) ⊎ IsCut sink sink' disk disk' status
   pub front : AppendsSome line old new
   pub whole : status ≡ wanted → AppendsAll line old new
 
--- with the status of the line, or by a fault
-told_end : (wanted : Status) (sink sink' disk disk' : ℕ) (status : Status) → EndsTold wanted sink sink' disk disk' status → OnEnd status (status ≡ wanted)
-told_end wanted sink sink' disk disk' statuses.Done e = e
-told_end wanted sink sink' disk disk' statuses.SomeRefused e = e
-told_end wanted sink sink' disk disk' statuses.Usage e = e
-told_end wanted sink sink' disk disk' statuses.NotAStore e = e
-told_end wanted sink sink' disk disk' (statuses.Damaged number cause) e = e
-told_end wanted sink sink' disk disk' statuses.NoMemory e = tt
-told_end wanted sink sink' disk disk' statuses.ReadFault e = tt
-told_end wanted sink sink' disk disk' statuses.WriteFault e = tt
-told_end wanted sink sink' disk disk' statuses.DiskFault e = tt
-told_end wanted sink sink' disk disk' statuses.TreesFault e = tt
-told_end wanted sink sink' disk disk' statuses.TooMuch e = tt
-
-pub ends_told : (wanted : Status) (sink sink' : ℕ) (status : Status) (disk disk' : ℕ) → wanted ≢ statuses.DiskFault → EndsWithLine wanted sink sink' status → EndsTold wanted sink sink' disk disk' status
-ends_told wanted sink sink' statuses.Done disk disk' other e = e
-ends_told wanted sink sink' statuses.SomeRefused disk disk' other e = e
-ends_told wanted sink sink' statuses.Usage disk disk' other e = e
-ends_told wanted sink sink' statuses.NotAStore disk disk' other e = e
-ends_told wanted sink sink' (statuses.Damaged number cause) disk disk' other e = e
-ends_told wanted sink sink' statuses.NoMemory disk disk' other e = tt
-ends_told wanted sink sink' statuses.ReadFault disk disk' other e = e
-ends_told wanted sink sink' statuses.WriteFault disk disk' other e = e
-ends_told wanted sink sink' statuses.DiskFault disk disk' other e = absurd (other (sym e))
-ends_told wanted sink sink' statuses.TreesFault disk disk' other e = e
-ends_told wanted sink sink' statuses.TooMuch disk disk' other e = e
-
--- where neither sink nor disk fails, the status is the one wanted, unless memory is wanting
-told_unless : (wanted : Status) (sink sink' disk disk' : ℕ) (status : Status) → EndsTold wanted sink sink' disk disk' status → (Rose sink sink' → ⊥) → (Rose disk disk' → ⊥)
-    → (status ≡ wanted) ⊎ (status ≡ statuses.NoMemory)
-told_unless wanted sink sink' disk disk' statuses.Done e no_sink no_disk = inl e
-told_unless wanted sink sink' disk disk' statuses.SomeRefused e no_sink no_disk = inl e
-told_unless wanted sink sink' disk disk' statuses.Usage e no_sink no_disk = inl e
-told_unless wanted sink sink' disk disk' statuses.NotAStore e no_sink no_disk = inl e
-told_unless wanted sink sink' disk disk' (statuses.Damaged number cause) e no_sink no_disk = inl e
-told_unless wanted sink sink' disk disk' statuses.NoMemory e no_sink no_disk = inr refl
-told_unless wanted sink sink' disk disk' statuses.ReadFault e no_sink no_disk = inl e
-told_unless wanted sink sink' disk disk' statuses.WriteFault e no_sink no_disk = absurd (no_sink e)
-told_unless wanted sink sink' disk disk' statuses.DiskFault e no_sink no_disk = absurd (no_disk e)
-told_unless wanted sink sink' disk disk' statuses.TreesFault e no_sink no_disk = inl e
-told_unless wanted sink sink' disk disk' statuses.TooMuch e no_sink no_disk = inl e
-
+-- where the sink doesn't fail, the status is that of the line, unless memory is wanting
 pub line_unless : (wanted : Status) (sink sink' : ℕ) (status : Status) → EndsWithLine wanted sink sink' status → (Rose sink sink' → ⊥) → (status ≡ wanted) ⊎ (status ≡ statuses.NoMemory)
-line_unless wanted sink sink' statuses.Done e no_sink = inl e
-line_unless wanted sink sink' statuses.SomeRefused e no_sink = inl e
-line_unless wanted sink sink' statuses.Usage e no_sink = inl e
-line_unless wanted sink sink' statuses.NotAStore e no_sink = inl e
-line_unless wanted sink sink' (statuses.Damaged number cause) e no_sink = inl e
 line_unless wanted sink sink' statuses.NoMemory e no_sink = inr refl
-line_unless wanted sink sink' statuses.ReadFault e no_sink = inl e
 line_unless wanted sink sink' statuses.WriteFault e no_sink = absurd (no_sink e)
-line_unless wanted sink sink' statuses.DiskFault e no_sink = inl e
-line_unless wanted sink sink' statuses.TreesFault e no_sink = inl e
-line_unless wanted sink sink' statuses.TooMuch e no_sink = inl e
+line_unless wanted sink sink' status e no_sink = inl e
 
 -- the cause of a line's status is that of the line
 pub line_caused : (job : Job) (contents : Option (List ℕ)) (old new : Counts) (wanted status : Status) → IsCaused job contents old new wanted
     → EndsWithLine wanted old.sink new.sink status → IsCaused job contents old new status
-line_caused job contents old new wanted statuses.Done h e = subst (IsCaused job contents old new) (sym e) h
-line_caused job contents old new wanted statuses.SomeRefused h e = subst (IsCaused job contents old new) (sym e) h
-line_caused job contents old new wanted statuses.Usage h e = subst (IsCaused job contents old new) (sym e) h
-line_caused job contents old new wanted statuses.NotAStore h e = subst (IsCaused job contents old new) (sym e) h
-line_caused job contents old new wanted (statuses.Damaged number cause) h e = subst (IsCaused job contents old new) (sym e) h
 line_caused job contents old new wanted statuses.NoMemory h e = tt
-line_caused job contents old new wanted statuses.ReadFault h e = subst (IsCaused job contents old new) (sym e) h
 line_caused job contents old new wanted statuses.WriteFault h e = e
-line_caused job contents old new wanted statuses.DiskFault h e = subst (IsCaused job contents old new) (sym e) h
-line_caused job contents old new wanted statuses.TreesFault h e = subst (IsCaused job contents old new) (sym e) h
-line_caused job contents old new wanted statuses.TooMuch h e = subst (IsCaused job contents old new) (sym e) h
+line_caused job contents old new wanted status h e = subst (IsCaused job contents old new) (sym e) h
 
 -- no line but that of a disk that isn't opened ends a run with its status
 pub line_kept : (wanted status : Status) (sink sink' : ℕ) (P : Type 0) → OnUnopened wanted P → EndsWithLine wanted sink sink' status → OnUnopened status P
-line_kept wanted statuses.Done sink sink' P h e = tt
-line_kept wanted statuses.SomeRefused sink sink' P h e = tt
-line_kept wanted statuses.Usage sink sink' P h e = tt
-line_kept wanted statuses.NotAStore sink sink' P h e = subst (λ s. OnUnopened s P) (sym e) h
-line_kept wanted (statuses.Damaged number cause) sink sink' P h e = subst (λ s. OnUnopened s P) (sym e) h
 line_kept wanted statuses.NoMemory sink sink' P h e = tt
-line_kept wanted statuses.ReadFault sink sink' P h e = tt
 line_kept wanted statuses.WriteFault sink sink' P h e = tt
-line_kept wanted statuses.DiskFault sink sink' P h e = tt
-line_kept wanted statuses.TreesFault sink sink' P h e = tt
-line_kept wanted statuses.TooMuch sink sink' P h e = tt
+line_kept wanted status sink sink' P h e = subst (λ s. OnUnopened s P) (sym e) h
 
 -- no byte more is written, and no row
 pub none_written : {X : Type 0} (before all : List X) (written : Option (List X)) → written ≡ Some before → WritesFront before all written
 none_written before all written e = record { first = []; rest = all; front = refl; is = e ∙ ap Some (sym (append-nil before)) }
 
 module _ {all : JobOutcome} {sink sink' disk disk' : ℕ} {old new : Option (List ℕ)} {status : Status} (t : Tells all sink sink' disk disk' old new status) where
+  -- at the end, the status is that of the line
+  told_end : (P : Type 0) → (status ≡ t.wanted → P) → OnEnd status P
+  told_end P to = at t.ends
+    where
+      at : (status ≡ t.wanted) ⊎ IsCut sink sink' disk disk' status → OnEnd status P
+      at (inl e) = on_any_end status P (to e)
+      at (inr cut) = cut_end sink sink' disk disk' status P cut
+
   pub tells_ends : (left : Option (List ℕ)) → OnEnd status (EndsAs all status left)
-  tells_ends left =
-      on_end status (status ≡ t.wanted) (EndsAs all status left)
-      (λ e. subst (λ o. EndsAs o status left) (sym t.is) (record { status_is = e; read = tt })) (told_end t.wanted sink sink' disk disk' status t.ends)
+  tells_ends left = told_end (EndsAs all status left) (λ e. subst (λ o. EndsAs o status left) (sym t.is) (record { status_is = e; read = tt }))
 
   pub tells_front : (before : List ℕ) → old ≡ Some before → WritesFront before (replies all.turns) new
   tells_front before wrote =
@@ -229,9 +163,8 @@ module _ {all : JobOutcome} {sink sink' disk disk' : ℕ} {old new : Option (Lis
 
   pub tells_whole : (before : List ℕ) → old ≡ Some before → OnEnd status (new ≡ Some (before ++ replies all.turns))
   tells_whole before wrote =
-      on_end status (status ≡ t.wanted) (new ≡ Some (before ++ replies all.turns))
+      told_end (new ≡ Some (before ++ replies all.turns))
       (λ e. subst (λ o. new ≡ Some (before ++ replies o.turns)) (sym t.is) (writes_all before t.line old new (t.whole e) wrote ∙ ap (λ r. Some (before ++ r)) (sym (append-nil t.line))))
-      (told_end t.wanted sink sink' disk disk' status t.ends)
 
   pub tells_rows : (before : List OutRow) (grown : Option (List OutRow)) → grown ≡ Some before → OnEnd status (grown ≡ Some (before ++ rows_of all.turns))
   tells_rows before grown grew =
@@ -243,18 +176,21 @@ module _ {all : JobOutcome} {sink sink' disk disk' : ℕ} {old new : Option (Lis
       (rows_precede_told t.wanted t.line t.history before rows new grown (writes_some before t.line old new t.front wrote) grew)
 
   pub tells_unless : (Rose sink sink' → ⊥) → (Rose disk disk' → ⊥) → (status ≡ all.status) ⊎ (status ≡ statuses.NoMemory)
-  tells_unless no_sink no_disk =
-      subst (λ o. (status ≡ o.status) ⊎ (status ≡ statuses.NoMemory)) (sym t.is) (told_unless t.wanted sink sink' disk disk' status t.ends no_sink no_disk)
+  tells_unless no_sink no_disk = subst (λ o. (status ≡ o.status) ⊎ (status ≡ statuses.NoMemory)) (sym t.is) (at t.ends)
+    where
+      at : (status ≡ t.wanted) ⊎ IsCut sink sink' disk disk' status → (status ≡ t.wanted) ⊎ (status ≡ statuses.NoMemory)
+      at (inl e) = inl e
+      at (inr cut) = inr (cut_unless sink sink' disk disk' status cut no_sink no_disk)
 
 -- what is put last is told
 pub put_tells : {all : JobOutcome} {sink sink' : ℕ} {old new : Option (List ℕ)} {status : Status} (disk disk' : ℕ) (wanted : Status) (line : List ℕ) (history : List Command)
-    → all ≡ told_line wanted line history → wanted ≢ statuses.DiskFault → PutsLast wanted line old new sink sink' status → Tells all sink sink' disk disk' old new status
-put_tells {all} {sink} {sink'} {old} {new} {status} disk disk' wanted line history is other puts = record {
+    → all ≡ told_line wanted line history → PutsLast wanted line old new sink sink' status → Tells all sink sink' disk disk' old new status
+put_tells {all} {sink} {sink'} {old} {new} {status} disk disk' wanted line history is puts = record {
   wanted = wanted;
   line = line;
   history = history;
   is = is;
-  ends = ends_told wanted sink sink' status disk disk' other puts.ends;
+  ends = line_ends sink sink' disk disk' wanted status puts.ends;
   front = puts.front;
   whole = puts.whole;
 }
@@ -274,32 +210,32 @@ not_unopened (Some image) all no_store damage (inr (number, cause, of, is)) = da
 
 module _ (all : JobOutcome) (sink sink' disk disk' : ℕ) (old new : Option (List ℕ)) (status : Status) where
   -- the opening stopped before a line was told
-  stopped_tells : (wanted : Status) (line : List ℕ) → all ≡ told_line wanted line [] → EndsTold wanted sink sink' disk disk' status → new ≡ old → (status ≡ wanted → ⊥)
+  stopped_tells : (wanted : Status) (line : List ℕ) → all ≡ told_of_none wanted line → IsCut sink sink' disk disk' status → new ≡ old → (status ≡ wanted → ⊥)
       → Tells all sink sink' disk disk' old new status
-  stopped_tells wanted line is ends same other = record {
+  stopped_tells wanted line is cut same other = record {
     wanted = wanted;
     line = line;
     history = [];
     is = is;
-    ends = ends;
+    ends = inr cut;
     front = appends_none line old new same;
     whole = λ e. absurd (other e);
   }
 
   no_store_tells : (fault : StoreFault) → TellsNoStore {S = State} disk disk' (Err fault) → TellsFault fault old new sink sink' status
-      → all ≡ told_line statuses.NotAStore not_a_store_line [] → Tells all sink sink' disk disk' old new status
-  no_store_tells faults.NotAStore h t is = put_tells disk disk' statuses.NotAStore not_a_store_line [] is (λ e. absurd (cc)) t
+      → all ≡ told_of_none statuses.NotAStore not_a_store_line → Tells all sink sink' disk disk' old new status
+  no_store_tells faults.NotAStore h t is = put_tells disk disk' statuses.NotAStore not_a_store_line [] is t
   no_store_tells (faults.Damaged number cause options) h t is = absurd h
   no_store_tells faults.DiskFault h t is =
-      stopped_tells statuses.NotAStore not_a_store_line is (subst (EndsTold statuses.NotAStore sink sink' disk disk') (sym t.is) h) t.same
+      stopped_tells statuses.NotAStore not_a_store_line is (subst (IsCut sink sink' disk disk') (sym t.is) h) t.same
       (λ e. let other : statuses.DiskFault ≡ statuses.NotAStore = sym t.is ∙ e in absurd (cc))
   no_store_tells faults.Memory h t is =
-      stopped_tells statuses.NotAStore not_a_store_line is (subst (EndsTold statuses.NotAStore sink sink' disk disk') (sym t.is) tt) t.same
+      stopped_tells statuses.NotAStore not_a_store_line is (subst (IsCut sink sink' disk disk') (sym t.is) tt) t.same
       (λ e. let other : statuses.NoMemory ≡ statuses.NotAStore = sym t.is ∙ e in absurd (cc))
 
   module _ (history : List Command) (number : ℕ) (cause : StoreDamage) where
     abbrev told : List (List ℕ) → ℕ → StoreDamage → JobOutcome
-    told names k what = told_line (statuses.Damaged k what) (damaged_line names k what) []
+    told names k what = told_of_none (statuses.Damaged k what) (damaged_line names k what)
 
     damage_tells : (fault : StoreFault) → TellsDamage {S = State} history number cause disk disk' (Err fault) → TellsFault fault old new sink sink' status
         → all ≡ told (options_of history) number cause → Tells all sink sink' disk disk' old new status
@@ -307,12 +243,12 @@ module _ (all : JobOutcome) (sink sink' disk disk' : ℕ) (old new : Option (Lis
     damage_tells (faults.Damaged k what options) (k_is, what_is, names_are) t is =
         let same : told options.names k what ≡ told (options_of history) number cause =
         ap (λ names. told names k what) names_are ∙ ap (λ n. told (options_of history) n what) k_is ∙ ap (told (options_of history) number) what_is in
-        put_tells disk disk' (statuses.Damaged k what) (damaged_line options.names k what) [] (is ∙ sym same) (λ e. absurd (cc)) t
+        put_tells disk disk' (statuses.Damaged k what) (damaged_line options.names k what) [] (is ∙ sym same) t
     damage_tells faults.DiskFault h t is =
-        stopped_tells (statuses.Damaged number cause) (damaged_line (options_of history) number cause) is (subst (EndsTold (statuses.Damaged number cause) sink sink' disk disk') (sym t.is) h) t.same
+        stopped_tells (statuses.Damaged number cause) (damaged_line (options_of history) number cause) is (subst (IsCut sink sink' disk disk') (sym t.is) h) t.same
         (λ e. let other : statuses.DiskFault ≡ statuses.Damaged number cause = sym t.is ∙ e in absurd (cc))
     damage_tells faults.Memory h t is =
-        stopped_tells (statuses.Damaged number cause) (damaged_line (options_of history) number cause) is (subst (EndsTold (statuses.Damaged number cause) sink sink' disk disk') (sym t.is) tt) t.same
+        stopped_tells (statuses.Damaged number cause) (damaged_line (options_of history) number cause) is (subst (IsCut sink sink' disk disk') (sym t.is) tt) t.same
         (λ e. let other : statuses.NoMemory ≡ statuses.Damaged number cause = sym t.is ∙ e in absurd (cc))
 
   module _ (fault : StoreFault) (t : TellsFault fault old new sink sink' status) where
@@ -323,14 +259,14 @@ module _ (all : JobOutcome) (sink sink' disk disk' : ℕ) (old new : Option (Lis
     unopened_tells (Some image) fails (inr (number, cause, damage, is)) = damage_tells damage.history number cause fault (fails.damage number cause damage) t is
 
     -- a disk that stands for a history
-    pub fails_stops : (contents : Option (List ℕ)) (history : List Command) → Fails contents disk disk' fault → ReadsAs contents history → StopsOpening disk disk' status × (new ≡ old)
+    pub fails_stops : (contents : Option (List ℕ)) (history : List Command) → Fails contents disk disk' fault → ReadsAs contents history → IsCut sink sink' disk disk' status × (new ≡ old)
     fails_stops contents history fails reads = at fault (reads_gives contents history (MayStop disk disk' fault) reads (fails.stands history)) t
       where
-        at : (fault : StoreFault) → MayStop disk disk' fault → TellsFault fault old new sink sink' status → StopsOpening disk disk' status × (new ≡ old)
+        at : (fault : StoreFault) → MayStop disk disk' fault → TellsFault fault old new sink sink' status → IsCut sink sink' disk disk' status × (new ≡ old)
         at faults.NotAStore h t = absurd h
         at (faults.Damaged number cause options) h t = absurd h
-        at faults.DiskFault h t = (subst (StopsOpening disk disk') (sym t.is) h, t.same)
-        at faults.Memory h t = (subst (StopsOpening disk disk') (sym t.is) tt, t.same)
+        at faults.DiskFault h t = (subst (IsCut sink sink' disk disk') (sym t.is) h, t.same)
+        at faults.Memory h t = (subst (IsCut sink sink' disk disk') (sym t.is) tt, t.same)
 
     -- the disk is as before where it is refused for what it holds
     pub fault_kept : (contents contents' : Option (List ℕ)) → IfSome contents (λ image. OnImageRefused fault (contents' ≡ contents)) → OnUnopened status (IfSome contents (λ image. contents' ≡ Some image))

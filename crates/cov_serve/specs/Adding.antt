@@ -11,8 +11,8 @@ use Rattle.cov_store.specs.declared.appending.AppendFault.TheVariants as faults
 use Rattle.cov_serve.specs.Finding.{◌>>=◌}
 use Rattle.cov_serve.specs.States.{State}
 use Rattle.cov_serve.specs.Step.{Act, appended, ended}
-use Rattle.cov_serve.specs.Stops.{refusal_stop}
-use Rattle.cov_serve.specs.declared.stop.Stop.{Stop}
+use Rattle.cov_codes.specs.Stops.{refusal_stop}
+use Rattle.cov_codes.specs.declared.stop.Stop.{Stop}
 use Rattle.cov_serve.specs.declared.handled.Addition.{Addition}
 use Rattle.cov_serve.specs.declared.handled.Confirmation.{Confirmation}
 use Rattle.cov_serve.specs.declared.handled.Confirmation.TheVariants as confirmations

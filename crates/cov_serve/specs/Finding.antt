@@ -11,7 +11,7 @@ use Rattle.cov_script.specs.declared.code.Code.TheVariants as codes
 use Rattle.cov_edit.specs.declared.command.Command.{Command}
 use Rattle.cov_edit.specs.History.{options_of}
 use Rattle.cov_history.specs.Completing.{completed_in}
-use Rattle.cov_serve.specs.Codes.{name_code, bind_code}
+use Rattle.cov_codes.specs.Codes.{name_code, bind_code}
 
 -- what is found, or the code by which the line is refused
 abbrev pub Found : Type 0 → Type 0

@@ -102,7 +102,7 @@ served_script history text = record {
   writes = true;
 }
 
--- one line is told, over a history that stays
+-- one line is told, and the history stays as it is
 abbrev pub told_line : Status → List ℕ → List Command → JobOutcome
 told_line status line history = record {
   turns = record { reply = line; rows = []; history = history } ∷ [];
@@ -111,13 +111,17 @@ told_line status line history = record {
   writes = false;
 }
 
+-- one line is told of a disk that holds no history: there is none that its turn could leave
+abbrev pub told_of_none : Status → List ℕ → JobOutcome
+told_of_none status line = told_line status line []
+
 -- what a job comes to over a history and the text of the source
 abbrev pub outcome : Job → List Command → List ℕ → JobOutcome
 outcome (OnStore Run) history text = served_script history text
 outcome (OnStore Check) history text = told_line statuses.Done (check_line history) history
 outcome Unknown history text = told_line statuses.Usage usage_line history
 
--- what a job asks of its devices gives this history and this text
+-- a job begins with this history, if it opens the disk, and with this text, if it reads the source; what it doesn't touch may be any
 abbrev pub StartsFrom : Job → Option (List ℕ) → Option (List ℕ) → List Command → List ℕ → Type 0
 StartsFrom (OnStore Run) contents left history text = ReadsAs contents history × (left ≡ Some text)
 StartsFrom (OnStore Check) contents left history text = ReadsAs contents history
@@ -126,9 +130,9 @@ StartsFrom Unknown contents left history text = Unit {0}
 -- an image is no store, or damaged, and this is told
 abbrev pub TellsImage : List ℕ → JobOutcome → Type 0
 TellsImage image all =
-    (IsNoStore image × (all ≡ told_line statuses.NotAStore not_a_store_line []))
+    (IsNoStore image × (all ≡ told_of_none statuses.NotAStore not_a_store_line))
     ⊎ ((number : ℕ) × (cause : StoreDamage) × (damage : HasDamage image number cause)
-    × (all ≡ told_line (statuses.Damaged number cause) (damaged_line (options_of damage.history) number cause) []))
+    × (all ≡ told_of_none (statuses.Damaged number cause) (damaged_line (options_of damage.history) number cause)))
 
 -- the same of what a read of the disk gives
 abbrev pub TellsUnopened : Option (List ℕ) → JobOutcome → Type 0
@@ -175,7 +179,8 @@ pub record RowsPrecede (turns : List Turn) (bytes_before : List ℕ) (rows_befor
   pub first : (ts us : List Turn) → turns ≡ ts ++ us
       → length (replies ts) ≤ length bytes → length (rows_of ts) ≤ length rows
 
--- a read of the disk gives the outcome's history: at the end of a script, and at every return of a job that adds nothing
+-- a status with which the disk is known to have the whole history that a job leaves: that of a script served to its end, and any of
+-- a job that adds nothing
 abbrev pub IsSettled : Job → Status → Type 0
 IsSettled (OnStore Run) status = EndsServed status
 IsSettled (OnStore Check) status = Unit {0}
@@ -188,14 +193,11 @@ pub record StandsForFront (history : List Command) (turns : List Turn) (image : 
   pub most : count ≤ length (history_after history turns)
   pub stands : StandsFor image (take count (history_after history turns))
 
--- and these are all of the turns whose whole replies are among so many bytes
+-- and at least with the commands of the first few turns, wherever the whole replies of these are among so many bytes
 pub record StandsForTold (history : List Command) (turns : List Turn) (bytes image : List ℕ) : Type 0 where
-  pub count : ℕ
-  pub least : length history ≤ count
-  pub most : count ≤ length (history_after history turns)
-  pub stands : StandsFor image (take count (history_after history turns))
+  pub front : StandsForFront history turns image
   pub told : (ts us : List Turn) → turns ≡ ts ++ us
-      → length (replies ts) ≤ length bytes → length (history_after history ts) ≤ count
+      → length (replies ts) ≤ length bytes → length (history_after history ts) ≤ front.count
 
 -- the cause of each status, whatever the disk holds
 abbrev pub IsCaused : Job → Option (List ℕ) → Counts → Counts → Status → Type 0

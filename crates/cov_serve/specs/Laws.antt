@@ -9,10 +9,11 @@ use Rattle.cov_script.specs.Lines.{form_of, spoken}
 use Rattle.cov_script.specs.declared.code.Code.TheVariants.{Long}
 use Rattle.cov_script.specs.declared.line.Line.TheVariants as lines
 use Rattle.cov_loop.specs.Answers.{is_silent, is_passed_over}
-use Rattle.cov_loop.specs.Outcome.{Outcome, unchanged}
-use Rattle.cov_serve.specs.Codes.{syntax_code}
+use Rattle.cov_loop.specs.Outcome.{Outcome, answers, unchanged}
+use Rattle.cov_codes.specs.Codes.{syntax_code}
 use Rattle.cov_serve.specs.Finding.{Found, ◌>>=◌, by_code}
 use Rattle.cov_serve.specs.Growth.{no_reply, nothing_served, without_reply}
+use Rattle.cov_serve.specs.Jobs.{history_after, line_turns, replies, rows_of}
 use Rattle.cov_serve.specs.States.{State}
 use Rattle.cov_serve.specs.Step.{Done, acted, as_outcome, refused, served, step}
 
@@ -60,3 +61,9 @@ silent_kept st line passed =
 -- a line of each form but that of the empty line and the comment has a reply
 abbrev pub FormsAreAnswered : Type 0
 FormsAreAnswered = (st : State) (line : List ℕ) → form_of line ≢ Ok lines.Nothing → (step st line).reply ≢ []
+
+-- the turns of lines are what these are answered: the replies and the rows in order, and the history after them
+abbrev pub TurnsAreAnswers : Type 0
+TurnsAreAnswers = (st : State) (ls : List (List ℕ)) → (replies (line_turns st ls) ≡ (answers step st ls).reply)
+    × (rows_of (line_turns st ls) ≡ (answers step st ls).rows)
+    × (history_after st.history (line_turns st ls) ≡ (answers step st ls).state.history)

@@ -1,7 +1,5 @@
 pub mod Acting
 pub mod Adding
-pub mod Codes
-pub mod Crashing
 pub mod Editing
 pub mod Finding
 pub mod Growth
@@ -15,7 +13,6 @@ pub mod Seeing
 pub mod States
 pub mod Statuses
 pub mod Step
-pub mod Stops
 pub mod Storing
 pub mod Texts
 pub mod Written

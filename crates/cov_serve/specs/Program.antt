@@ -9,7 +9,7 @@ use Rattle.cov_io.specs.Progress.{Progress}
 use Rattle.cov_loop.specs.Counts.{Counts}
 use Rattle.cov_loop.specs.Turns.{TooMuchSince}
 use Rattle.cov_script.specs.Replies.{code_text, IsCodeOf}
-use Rattle.cov_serve.specs.Codes.{refusal_code}
+use Rattle.cov_codes.specs.Codes.{refusal_code}
 use Rattle.cov_serve.specs.declared.status.Status.{Status}
 use Rattle.cov_serve.specs.declared.status.Status.TheVariants as statuses
 use Rattle.cov_store.specs.Stands.{StandsFor}
@@ -107,19 +107,6 @@ IsCauseOf count cause = Unit {0}
 abbrev pub DamageCanBeTold : StoreFault → Type 0
 DamageCanBeTold (faults.Damaged number cause options) = IsCauseOf (length options.names) cause
 DamageCanBeTold fault = Unit {0}
-
--- or unless the disk fails, too
-abbrev pub EndsTold : Status → ℕ → ℕ → ℕ → ℕ → Status → Type 0
-EndsTold wanted sink sink' disk disk' statuses.NoMemory = Unit {0}
-EndsTold wanted sink sink' disk disk' statuses.WriteFault = Rose sink sink'
-EndsTold wanted sink sink' disk disk' statuses.DiskFault = Rose disk disk'
-EndsTold wanted sink sink' disk disk' status = status ≡ wanted
-
--- why a disk that stands for a history isn't opened
-abbrev pub StopsOpening : ℕ → ℕ → Status → Type 0
-StopsOpening disk disk' statuses.NoMemory = Unit {0}
-StopsOpening disk disk' statuses.DiskFault = Rose disk disk'
-StopsOpening disk disk' status = ⊥
 
 -- why the run of a script over a disk that stands for a history ends as it does
 abbrev pub StopsServing : Counts → Counts → Status → Type 0

@@ -50,7 +50,7 @@ use Rattle.cov_session.specs.Counting.{line_made, own_lines}
 use Rattle.cov_session.specs.Named.{named, with_session, without}
 use Rattle.cov_session.specs.Open.{NamedSession}
 use Rattle.cov_loop.specs.Outcome.{Outcome, answers}
-use Rattle.cov_serve.specs.Codes.{alt_code, syntax_code, refusal_code, session_code}
+use Rattle.cov_codes.specs.Codes.{alt_code, syntax_code, refusal_code, session_code}
 use Rattle.cov_serve.specs.Editing.{directory_of, last_name, ref_in, line_ref}
 use Rattle.cov_session.specs.Faults.{unless}
 use Rattle.cov_serve.specs.Finding.{Found, by_code, ◌>>=◌, completed_choice, found_option, found_expression, found_partial, found_choice}

@@ -13,8 +13,8 @@ ghost use Rattle.cov_store.specs.Stands.{IsStored};
 use crate::handled::Confirmation;
 use crate::server::Server;
 use crate::state::ServerState;
-use crate::stop::Stop;
 use cov_base::{Memory, Name, Text};
+use cov_codes::Stop;
 use cov_disk::Disk;
 use cov_edit::Command;
 use cov_engine::Receipt;
@@ -37,11 +37,16 @@ impl Server {
         ensures changes { IfOk result (Changes (appended self.old command) self.old self.new) }
         ensures receipt { IfOk result (λ added. IfOk added (HasReceipt self.old.history command)) }
         ensures gate { OnOk result (IfSome (D.contents disk.new) (gated self.new)) }
-        ensures stored { IfSome (D.contents disk.old) (stored self.old) → OnOk result (IfSome (D.contents disk.new) (stored self.new)) }
+        ensures stored { IfSome (D.contents disk.old) (stored self.old) →
+            OnOk result (IfSome (D.contents disk.new) (stored self.new)) }
         ensures any_moment { AreAll (stored self.old) (D.images disk.old) →
-            LeavesOnly D.moment D.images_since disk.old disk.new (IsEither (stored self.old) (λ image. IsStored image (grown self.old.history command))) }
-        ensures durable { AreAll (stored self.old) (D.images disk.old) → OnOk result (AreAll (stored self.new) (D.images disk.new)) }
-        ensures stopped { IfErr result (λ ending. StopsAnswer ending (D.faults disk.old) (D.faults disk.new)) }
+            LeavesOnly D.moment D.images_since disk.old disk.new
+            (IsEither (stored self.old)
+            (λ image. IsStored image (grown self.old.history command))) }
+        ensures durable { AreAll (stored self.old) (D.images disk.old) →
+            OnOk result (AreAll (stored self.new) (D.images disk.new)) }
+        ensures stopped { IfErr result (λ ending.
+            StopsAnswer ending (D.faults disk.old) (D.faults disk.new)) }
         ensures later { D.faults disk.old ≤ D.faults disk.new }
     {
         open_sessions_stay();
@@ -83,7 +88,8 @@ pub(crate) fn confirm(
     confirmation: Confirmation,
     receipt: &Receipt,
 ) -> Result<Text, Memory>
-    ensures { IfOk result (λ text. text ≡ confirmed confirmation receipt.now.number receipt.now.position) }
+    ensures { IfOk result (λ text.
+        text ≡ confirmed confirmation receipt.now.number receipt.now.position) }
 {
     match confirmation {
         Confirmation::Known(text) => Ok(text),

@@ -15,8 +15,8 @@ ghost use Rattle.cov_store.specs.Stands.{IsStored};
 use crate::adding::confirm;
 use crate::handled::{Addition, Confirmation, Handled};
 use crate::server::Server;
-use crate::stop::Stop;
 use cov_base::{Memory, Name};
+use cov_codes::Stop;
 use cov_disk::Disk;
 use cov_engine::Receipt;
 use cov_loop::{Ending, LineServer, Reply};
@@ -75,14 +75,21 @@ impl Server {
     // Adds a command, ends the session that ends with it, and makes the reply.
     fn add<D: Disk>(&mut self, addition: Addition, disk: &mut D) -> Result<Reply, Ending>
         requires gate { IfSome (D.contents disk.old) (gated self.old) }
-        requires there { IfSome addition.ends (λ name. is_some (named self.old.sessions name) ≡ true) }
-        ensures gives { IfOk result (Gives (as_outcome self.old (plainly (command_added self.old addition))) self.new) }
+        requires there { IfSome addition.ends (λ name.
+            is_some (named self.old.sessions name) ≡ true) }
+        ensures gives { IfOk result
+            (Gives (as_outcome self.old (plainly (command_added self.old addition))) self.new) }
         ensures gate { OnOk result (IfSome (D.contents disk.new) (gated self.new)) }
-        ensures stored { IfSome (D.contents disk.old) (stored self.old) → OnOk result (IfSome (D.contents disk.new) (stored self.new)) }
+        ensures stored { IfSome (D.contents disk.old) (stored self.old) →
+            OnOk result (IfSome (D.contents disk.new) (stored self.new)) }
         ensures any_moment { AreAll (stored self.old) (D.images disk.old) →
-            LeavesOnly D.moment D.images_since disk.old disk.new (IsEither (stored self.old) (λ image. IsStored image (grown self.old.history addition.command))) }
-        ensures durable { AreAll (stored self.old) (D.images disk.old) → OnOk result (AreAll (stored self.new) (D.images disk.new)) }
-        ensures stopped { IfErr result (λ ending. StopsAnswer ending (D.faults disk.old) (D.faults disk.new)) }
+            LeavesOnly D.moment D.images_since disk.old disk.new
+            (IsEither (stored self.old)
+            (λ image. IsStored image (grown self.old.history addition.command))) }
+        ensures durable { AreAll (stored self.old) (D.images disk.old) →
+            OnOk result (AreAll (stored self.new) (D.images disk.new)) }
+        ensures stopped { IfErr result (λ ending.
+            StopsAnswer ending (D.faults disk.old) (D.faults disk.new)) }
         ensures later { D.faults disk.old ≤ D.faults disk.new }
     {
         let Addition {
@@ -108,8 +115,10 @@ impl Server {
     ) -> Result<Reply, Ending>
         requires { IfSome ends.now (λ name. is_some (named self.old.sessions name) ≡ true) }
         ensures ended { self.new ≡ ended_by self.old ends.now }
-        ensures gives { IfOk result (IsPlain (confirmed confirmation receipt.now.number receipt.now.position)) }
-        ensures stopped { (disk disk' : ℕ) → IfErr result (λ ending. StopsAnswer ending disk disk') }
+        ensures gives { IfOk result
+            (IsPlain (confirmed confirmation receipt.now.number receipt.now.position)) }
+        ensures stopped { (disk disk' : ℕ) →
+            IfErr result (λ ending. StopsAnswer ending disk disk') }
     {
         let alloc = self.state.alloc;
         self.state.end(ends);
@@ -123,7 +132,8 @@ impl Server {
     fn stop(&self, stop: &Stop) -> Result<Reply, Ending>
         requires { CanBeTold self.now stop.now }
         ensures gives { Refuses self.now stop.now result }
-        ensures stopped { (disk disk' : ℕ) → IfErr result (λ ending. StopsAnswer ending disk disk') }
+        ensures stopped { (disk disk' : ℕ) →
+            IfErr result (λ ending. StopsAnswer ending disk disk') }
     {
         match stop {
             Stop::Refused(code) => self.refuse(code),
@@ -135,7 +145,8 @@ impl Server {
     fn refuse(&self, code: &Code) -> Result<Reply, Ending>
         requires { IsCodeOf (option_count self.now.history) code.now }
         ensures gives { IfOk result (Gives (refused self.now code.now) self.now) }
-        ensures stopped { (disk disk' : ℕ) → IfErr result (λ ending. StopsAnswer ending disk disk') }
+        ensures stopped { (disk disk' : ℕ) →
+            IfErr result (λ ending. StopsAnswer ending disk disk') }
     {
         match self.state.refuse(code) {
             Ok(reply) => Ok(reply),

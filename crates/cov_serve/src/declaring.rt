@@ -4,8 +4,8 @@ ghost use Rattle.cov_serve.specs.Step.{plainly, declared, constrained, preferred
 
 use crate::handled::{Confirmation, Handled};
 use crate::state::ServerState;
-use crate::stop::Stop;
 use cov_base::{OptionId, OptionName, Text};
+use cov_codes::Stop;
 use cov_edit::Command;
 use cov_expr::RawExpr;
 use cov_script::reply_option;

@@ -9,8 +9,8 @@ ghost use Rattle.cov_serve.specs.Editing.{line_ref};
 ghost use Rattle.cov_serve.specs.Step.{deleted, edited, exchanged, inserted, made, made_in, moved, removed, renamed, replaced};
 
 use crate::state::ServerState;
-use crate::stop::Stop;
 use cov_base::{Kind, LineNo, LineRef, Name, NodeRef, Path, Text};
+use cov_codes::Stop;
 use cov_edit::Edit;
 use cov_script::{LineField, reply_new_line, reply_plain};
 
@@ -34,7 +34,8 @@ impl ServerState {
         directory: &[Name],
         own: &Name,
     ) -> Result<Text, Stop>
-        ensures { Acts (made_in self.old kind name.now directory.now own.now) self.old self.new result }
+        ensures { Acts (made_in self.old kind name.now directory.now own.now)
+            self.old self.new result }
     {
         let (_, parent) = self.node_at(name, directory)?;
         let own = own.copy()?;

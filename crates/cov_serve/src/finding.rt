@@ -7,8 +7,8 @@ ghost use Rattle.cov_serve.specs.Acting.{Finds};
 ghost use Rattle.cov_serve.specs.Finding.{completed_choice, found_choice, found_expression, found_option, found_partial};
 
 use crate::state::ServerState;
-use crate::stop::Stop;
 use cov_base::{Choice, OptionId, Text};
+use cov_codes::Stop;
 use cov_expr::{Expr, Partial, RawChoice, RawExpr};
 use cov_history::laws::open_options_are_declared;
 use cov_script::Code;
@@ -36,7 +36,8 @@ impl ServerState {
     /// The partial choice that bindings are.
     pub(crate) fn find_partial(&self, choice: &RawChoice) -> Result<Partial, Stop>
         ensures found { Finds (found_partial self.now.history choice.now) self.now result }
-        ensures within { IfOk result (λ partial. list_all (λ b. nat_lt b.0 (option_count self.now.history)) partial ≡ true) }
+        ensures within { IfOk result (λ partial.
+            list_all (λ b. nat_lt b.0 (option_count self.now.history)) partial ≡ true) }
     {
         Ok(choice.bind(self.alloc, self.engine.options())?)
     }

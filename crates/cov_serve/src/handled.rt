@@ -42,7 +42,8 @@ pub(crate) enum Confirmation {
 impl Handled {
     /// A command that declares something, with which no session ends, is added.
     pub(crate) fn to_declare(command: Command, confirmation: Confirmation) -> Handled
-        ensures { result ≡ Adds (record { command = command; ends = None; confirmation = confirmation }) }
+        ensures { result ≡ Adds
+            (record { command = command; ends = None; confirmation = confirmation }) }
     {
         Handled::Adds(Addition {
             command,

@@ -2,13 +2,13 @@
 ghost use Rattle.std.specs.Prelude.{◌≡◌, ◌≢◌, ◌≤◌, ◌++◌, List, ℕ, IfOk, OnOk, codes, length};
 ghost use Rattle.cov_edit.specs.declared.command.Command.{Command};
 ghost use Rattle.cov_script.specs.Replies.{code_text, IsCodeOf};
-ghost use Rattle.cov_serve.specs.Codes.{refusal_code};
+ghost use Rattle.cov_codes.specs.Codes.{refusal_code};
 ghost use Rattle.cov_serve.specs.Program.{cause_text, check_line, damaged_line, DamageCanBeTold, IsCauseOf, PutsLast, TellsFault};
 ghost use Rattle.cov_serve.specs.declared.status.Status.TheVariants.{Damaged, WriteFault};
 
 use crate::status::Status;
-use crate::stop::Stop;
 use cov_base::{Failed, Memory, Position, Text};
+use cov_codes::Stop;
 use cov_engine::Refusal;
 use cov_expr::Options;
 use cov_io::Sink;

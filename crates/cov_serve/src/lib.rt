@@ -20,7 +20,6 @@ mod serving;
 mod session_lines;
 mod state;
 mod status;
-mod stop;
 mod telling;
 mod tree_names;
 mod writing;

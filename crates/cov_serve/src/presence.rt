@@ -6,8 +6,8 @@ ghost use Rattle.cov_serve.specs.Replies.{entry_line, presence_reply, target_of}
 ghost use Rattle.cov_serve.specs.Step.{presence_told};
 
 use crate::state::ServerState;
-use crate::stop::Stop;
 use cov_base::{LineNo, Memory, Text, Texts};
+use cov_codes::Stop;
 use cov_expr::Options;
 use cov_script::{Target, reply_where, where_line, whole};
 use cov_vis::{Child, Listing, ListingEntry};

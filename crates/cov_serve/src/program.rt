@@ -9,8 +9,7 @@ ghost use Rattle.cov_loop.specs.Counts.{Later, counts};
 ghost use Rattle.cov_loop.specs.Keeping.{AreAll};
 ghost use Rattle.cov_loop.specs.Turns.{RowsComeFirst, WritesFront};
 ghost use Rattle.cov_out.specs.declared.row.OutRow.{OutRow};
-ghost use Rattle.cov_serve.specs.Crashing.{StandsBetween, StandsForAnswered};
-ghost use Rattle.cov_serve.specs.Jobs.{ComesTo, EndsAs, IsCaused, IsSettled, IsShort, JobOutcome, NoneRose, OnEnd, RowsPrecede, StandsForFront, StandsForTold, StartsFrom, TellsUnopened, history_after, job_of, opens_disk, outcome, reads_source, replies, rows_of, writes_trees};
+ghost use Rattle.cov_serve.specs.Jobs.{ComesTo, EndsAs, IsCaused, IsSettled, IsShort, JobOutcome, NoneRose, OnEnd, RowsPrecede, StandsForFront, StandsForTold, StartsFrom, TellsUnopened, history_after, job_of, opens_disk, outcome, reads_source, replies, rows_of, served_script, writes_trees};
 ghost use Rattle.cov_serve.specs.Program.{OnServed, OnUnopened, PutsLast, ReadsAs, StopsServing, check_line};
 ghost use Rattle.cov_serve.specs.States.{starting};
 ghost use Rattle.cov_serve.specs.Step.{model, step};
@@ -82,8 +81,8 @@ pub fn run<S: Source, K: Sink, D: Disk, T: Trees>(
     ensures kept { OnUnopened result
         (IfSome (D.contents disk.old) (λ image. D.contents disk.new ≡ Some image)) }
 
-    // A crash at any moment leaves the history with the first few of the commands that the job adds; at the return, these are all
-    // of the turns whose whole replies are among the bytes written.
+    // A crash at any moment leaves the history with the first few of the commands that the job adds; at the return, with at
+    // least those of the turns whose whole replies are among the bytes written.
     ensures any_moment { (history : List Command) (text : List ℕ) →
         AreAll (λ image. StandsFor image history) (D.images disk.old) →
         StartsFrom (job_of words.now) (D.contents disk.old) (S.left script.old) history text →
@@ -161,7 +160,8 @@ fn serve_opened<S: Source, K: Sink, D: Disk, T: Trees>(
     ensures whole { (history : List Command) (text before : List ℕ) →
         server ≡ starting history → S.left script.old ≡ Some text →
         K.written out.old ≡ Some before →
-        OnServed result (λ refused. K.written out.new ≡ Some (before ++ (model history text).reply)) }
+        OnServed result (λ refused.
+        K.written out.new ≡ Some (before ++ (model history text).reply)) }
     ensures stands { (history : List Command) (text : List ℕ) →
         server ≡ starting history → S.left script.old ≡ Some text →
         IfSome (D.contents disk.old) (λ image. IsStored image history) →
@@ -183,12 +183,14 @@ fn serve_opened<S: Source, K: Sink, D: Disk, T: Trees>(
     ensures any_moment { (history : List Command) (text : List ℕ) →
         server ≡ starting history → S.left script.old ≡ Some text →
         AreAll (λ image. IsStored image history) (D.images disk.old) →
-        LeavesOnly D.moment D.images_since disk.old disk.new (StandsBetween history text) }
+        LeavesOnly D.moment D.images_since disk.old disk.new
+        (StandsForFront history (served_script history text).turns) }
     ensures acknowledged { (history : List Command) (text before bytes : List ℕ) →
         server ≡ starting history → S.left script.old ≡ Some text →
         AreAll (λ image. IsStored image history) (D.images disk.old) →
         K.written out.old ≡ Some before → K.written out.new ≡ Some (before ++ bytes) →
-        AreAll (StandsForAnswered history text bytes) (D.images disk.new) }
+        AreAll (StandsForTold history (served_script history text).turns bytes)
+        (D.images disk.new) }
     ensures later { Later
         (counts (S.faults script.old) (K.faults out.old) (D.faults disk.old) (T.faults trees.old)
         (S.given script.old) (S.ends script.old))

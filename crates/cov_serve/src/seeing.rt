@@ -7,8 +7,8 @@ ghost use Rattle.cov_session.specs.Named.{named};
 ghost use Rattle.cov_serve.specs.Step.{node_at};
 
 use crate::state::ServerState;
-use crate::stop::Stop;
 use cov_base::{Name, NodeRef};
+use cov_codes::Stop;
 use cov_script::Code;
 use cov_view::View;
 
@@ -16,7 +16,8 @@ impl ServerState {
     // What the session of a name sees.
     fn view_of(&self, name: &Name) -> Result<&View, Stop>
         ensures found { IfOk result (λ view. IsNamed self.now name.now view.now) }
-        ensures stopped { IfErr result (Stops (ok_or (named self.now.sessions name.now) NoSession) self.now self.now) }
+        ensures stopped { IfErr result
+            (Stops (ok_or (named self.now.sessions name.now) NoSession) self.now self.now) }
     {
         Ok(self.sessions.view(name)?)
     }
@@ -24,8 +25,10 @@ impl ServerState {
     /// What the session of a name sees, and the node in it where names lead from the root.
     #[tactic(auto, unfolding(crate::specs::Step::node_at))]
     pub(crate) fn node_at(&self, name: &Name, path: &[Name]) -> Result<(&View, NodeRef), Stop>
-        ensures found { IfOk result (λ found. IsNodeAt self.now name.now path.now found.0.now found.1) }
-        ensures stopped { IfErr result (Stops (node_at self.now name.now path.now) self.now self.now) }
+        ensures found { IfOk result (λ found.
+            IsNodeAt self.now name.now path.now found.0.now found.1) }
+        ensures stopped { IfErr result
+            (Stops (node_at self.now name.now path.now) self.now self.now) }
     {
         let view = self.view_of(name)?;
         match view.follow(path) {

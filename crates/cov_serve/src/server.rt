@@ -44,25 +44,38 @@ impl Model for Server {
 impl Server {
     /// Opens the store of a disk, as `Store::open` does. The run begins with its history, no session and no name of a tree.
     pub fn open<D: Disk>(alloc: Global, disk: &mut D) -> Result<Server, StoreFault>
-        ensures stands { (history : List Command) → IfSome (D.contents disk.old) (λ image. StandsFor image history →
+        ensures stands { (history : List Command) →
+            IfSome (D.contents disk.old) (λ image. StandsFor image history →
             BeginsWith history (D.faults disk.old) (D.faults disk.new) result) }
-        ensures damage { (number : ℕ) (cause : StoreDamage) → IfSome (D.contents disk.old) (λ image. (damage : HasDamage image number cause) →
-            TellsDamage damage.history number cause (D.faults disk.old) (D.faults disk.new) result) }
+        ensures damage { (number : ℕ) (cause : StoreDamage) →
+            IfSome (D.contents disk.old) (λ image. (damage : HasDamage image number cause) →
+            TellsDamage damage.history number cause
+            (D.faults disk.old) (D.faults disk.new) result) }
         ensures no_store { IfSome (D.contents disk.old) (λ image. IsNoStore image →
             TellsNoStore (D.faults disk.old) (D.faults disk.new) result) }
         ensures begins { IfOk result (λ server. server ≡ starting server.history) }
-        ensures opened { IfOk result (λ server. IfSome (D.contents disk.old) (λ image. StandsFor image server.history)) }
-        ensures faulty { IfErr result (λ fault. IfSome (D.contents disk.old) (λ image. IsImageFaultOf image fault)) }
+        ensures opened { IfOk result (λ server.
+            IfSome (D.contents disk.old) (λ image. StandsFor image server.history)) }
+        ensures faulty { IfErr result (λ fault.
+            IfSome (D.contents disk.old) (λ image. IsImageFaultOf image fault)) }
         ensures cause { IfErr result (HasReason (D.faults disk.old) (D.faults disk.new)) }
         ensures verdict { IfErr result IsOfVerdict }
-        ensures written { IfOk result (λ server. IfSome (D.contents disk.new) (λ image. IsStored image server.history)) }
-        ensures gate { IfOk result (λ server. HasGate (D.contents disk.new) (gate_of server.history)) }
-        ensures kept { IfErr result (λ fault. IfSome (D.contents disk.old) (λ image. OnImageRefused fault (D.contents disk.new ≡ D.contents disk.old))) }
-        ensures stays { (history : List Command) → IfSome (D.contents disk.old) (λ image. StandsFor image history →
+        ensures written { IfOk result (λ server.
+            IfSome (D.contents disk.new) (λ image. IsStored image server.history)) }
+        ensures gate { IfOk result (λ server.
+            HasGate (D.contents disk.new) (gate_of server.history)) }
+        ensures kept { IfErr result (λ fault.
+            IfSome (D.contents disk.old) (λ image.
+            OnImageRefused fault (D.contents disk.new ≡ D.contents disk.old))) }
+        ensures stays { (history : List Command) →
+            IfSome (D.contents disk.old) (λ image. StandsFor image history →
             IfSome (D.contents disk.new) (λ now. StandsFor now history)) }
-        ensures stored { IfOk result (λ server. (image : List ℕ) → D.images disk.new image → IsStored image server.history) }
-        ensures any_moment { (history : List Command) → ((image : List ℕ) → D.images disk.old image → StandsFor image history) →
-            LeavesOnly D.moment D.images_since disk.old disk.new (λ image. StandsFor image history) }
+        ensures stored { IfOk result (λ server. (image : List ℕ) → D.images disk.new image →
+            IsStored image server.history) }
+        ensures any_moment { (history : List Command) →
+            ((image : List ℕ) → D.images disk.old image → StandsFor image history) →
+            LeavesOnly D.moment D.images_since disk.old disk.new
+            (λ image. StandsFor image history) }
         ensures later { D.faults disk.old ≤ D.faults disk.new }
     {
         match Store::open(alloc, disk) {

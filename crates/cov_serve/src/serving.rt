@@ -11,8 +11,8 @@ ghost use Rattle.cov_serve.specs.Texts.{EditHasParts, HasParts};
 
 use crate::handled::Handled;
 use crate::state::ServerState;
-use crate::stop::Stop;
 use cov_base::{Kind, LineNo, MOST_SCRIPT_LINE_BYTES, Memory, Name, Text};
+use cov_codes::Stop;
 use cov_loop::{Answer, Reply};
 use cov_out::OutRows;
 use cov_script::{
@@ -67,7 +67,8 @@ impl ServerState {
 
     #[tactic(auto, unfolding(crate::specs::Step::served_declaration))]
     fn serve_declaration(&self, declaration: Declaration) -> Result<Handled, Stop>
-        ensures { Handles (plainly (served_declaration self.now declaration)) self.now self.now result }
+        ensures { Handles (plainly (served_declaration self.now declaration))
+            self.now self.now result }
     {
         match declaration {
             Declaration::Option { token } => self.declare(&token),

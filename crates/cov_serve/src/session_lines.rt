@@ -5,8 +5,8 @@ ghost use Rattle.cov_serve.specs.Step.{committed, dropped, opened, plainly, refr
 
 use crate::handled::{Addition, Confirmation, Handled};
 use crate::state::ServerState;
-use crate::stop::Stop;
 use cov_base::{Name, Text};
+use cov_codes::Stop;
 use cov_expr::{RawChoice, RawExpr};
 use cov_script::{reply_open, reply_plain, reply_refresh};
 

@@ -5,9 +5,9 @@ ghost use Rattle.cov_serve.specs.Step.{compared, completed, file_told, listed_at
 
 use crate::reply::lines_reply;
 use crate::state::ServerState;
-use crate::stop::Stop;
 use cov_alt::alt;
 use cov_base::{Choice, Name, Path, Text};
+use cov_codes::Stop;
 use cov_expr::RawChoice;
 use cov_script::reply_complete;
 
@@ -32,7 +32,8 @@ impl ServerState {
 
     #[tactic(auto, unfolding(crate::specs::Step::file_told))]
     fn tell_at(&self, choice: Choice, path: &Path) -> Result<Text, Stop>
-        ensures { Acts (file_told self.now (replay choice self.now.history) path.now) self.now self.now result }
+        ensures { Acts (file_told self.now (replay choice self.now.history) path.now)
+            self.now self.now result }
     {
         let at = self.engine.position();
         let file = self.engine.file_at(choice, at, path.as_slice())?;

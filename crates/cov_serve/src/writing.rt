@@ -8,8 +8,8 @@ ghost use Rattle.cov_serve.specs.Written.{TellsTree, bytes_if_file, row_in, rows
 
 use crate::handled::Handled;
 use crate::state::ServerState;
-use crate::stop::Stop;
 use cov_base::{Choice, Kind, Memory, Name, Text};
+use cov_codes::Stop;
 use cov_engine::Engine;
 use cov_expr::RawChoice;
 use cov_loop::{Answer, Reply};

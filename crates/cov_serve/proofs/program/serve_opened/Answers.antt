@@ -6,14 +6,14 @@ use Rattle.cov_loop.specs.Keeping.{KeepsAnswered, Reaches}
 use Rattle.cov_loop.specs.Outcome.{answers}
 use Rattle.cov_loop.specs.Turns.{HasRows, HasStored, IsWhole, ReadsOut, output}
 use Rattle.cov_loop.proofs.CallerLemmas.{fault_turn}
-use Rattle.cov_serve.specs.Crashing.{StandsBetween, StandsForAnswered}
+use Rattle.cov_serve.specs.Jobs.{StandsForFront, StandsForTold, served_script}
 use Rattle.cov_serve.specs.Laws.{rows_told}
 use Rattle.cov_serve.specs.Program.{OnServed}
 use Rattle.cov_serve.specs.States.{starting}
 use Rattle.cov_serve.specs.Step.{model, step}
 use Rattle.cov_serve.specs.Storing.{count, stored}
 use Rattle.cov_store.specs.Stands.{IsStored, StandsFor}
-use Rattle.cov_serve.proofs.Crashing.{answered, answered_none, between, between_start, stands_for}
+use Rattle.cov_serve.proofs.Crashing.{front_first, front_reached, stands_for, told_none, told_reached}
 use Rattle.cov_serve.proofs.Endings.{ended_status, rows_status, stored_status, whole_status}
 use Rattle.cov_serve.proofs.Runs.{ahead_first, leaves_weaker, none_more}
 use Rattle.cov_serve.proofs.program.serve_opened.Goals as goal
@@ -61,15 +61,15 @@ returns-in-Ok-clause-rows_whole g c history text before begins left grew =
 pub returns-in-Ok-clause-any_moment : goal.returns-in-Ok-clause-any_moment
 returns-in-Ok-clause-any_moment g c history text begins left all =
     let ahead = ahead_first c.in-Ok.lines (g.S.Source.left c.args.script.now) text c.in-Ok.ensures left in
-    leaves_weaker g.D.Disk.moment g.D.Disk.images_since c.args.disk.now c.serve_all-ending.new.disk (Reaches step stored (starting history) (lines_of text)) (StandsBetween history text)
-    (between history text)
+    leaves_weaker g.D.Disk.moment g.D.Disk.images_since c.args.disk.now c.serve_all-ending.new.disk (Reaches step stored (starting history) (lines_of text)) (StandsForFront history (served_script history text).turns)
+    (front_reached history text)
     (subst (λ s. LeavesOnly g.D.Disk.moment g.D.Disk.images_since c.args.disk.now c.serve_all-ending.new.disk (Reaches step stored s (lines_of text))) begins
     (c.serve_all-ending.ensures.any_moment text ahead (λ image now. subst (λ s. stored s image) (sym begins) (all image now))))
 
 pub returns-in-Ok-clause-acknowledged : goal.returns-in-Ok-clause-acknowledged
 returns-in-Ok-clause-acknowledged g c history text before bytes begins left all wrote writes image now =
     let ahead = ahead_first c.in-Ok.lines (g.S.Source.left c.args.script.now) text c.in-Ok.ensures left in
-    answered history text bytes image
+    told_reached history text bytes image
     (subst (λ s. KeepsAnswered step stored count s (lines_of text) bytes image) begins
     (c.serve_all-ending.ensures.acknowledged text before bytes ahead (λ i was. subst (λ s. stored s i) (sym begins) (all i was)) wrote writes image now))
 
@@ -79,11 +79,11 @@ returns-in-Err-clause-rows_first g c history text before rows begins left wrote 
 
 pub returns-in-Err-clause-any_moment : goal.returns-in-Err-clause-any_moment
 returns-in-Err-clause-any_moment g c history text begins left all =
-    started g.D.Disk.moment g.D.Disk.images_since c.args.disk.now (StandsBetween history text)
-    (λ image since. between_start history text image (stands_for image history (all image (g.met.D.Disk.only_now c.args.disk.now image since))))
+    started g.D.Disk.moment g.D.Disk.images_since c.args.disk.now (StandsForFront history (served_script history text).turns)
+    (λ image since. front_first history text image (stands_for image history (all image (g.met.D.Disk.only_now c.args.disk.now image since))))
 
 pub returns-in-Err-clause-acknowledged : goal.returns-in-Err-clause-acknowledged
 returns-in-Err-clause-acknowledged g c history text before bytes begins left all wrote writes image now =
     let written = g.K.Sink.written c.args.out.now in
-    subst (λ b. StandsForAnswered history text b image) (sym (none_more before bytes written written refl wrote writes))
-    (answered_none history text image (stands_for image history (all image now)))
+    subst (λ b. StandsForTold history (served_script history text).turns b image) (sym (none_more before bytes written written refl wrote writes))
+    (told_none history text image (stands_for image history (all image now)))

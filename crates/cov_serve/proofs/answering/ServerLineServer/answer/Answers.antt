@@ -8,7 +8,7 @@ use Rattle.cov_serve.specs.States.{State}
 use Rattle.cov_serve.specs.Step.{acted, as_outcome, plainly, refused, step}
 use Rattle.cov_serve.specs.Storing.{grown, stored}
 use Rattle.cov_serve.specs.declared.handled.Handled.{Handled}
-use Rattle.cov_serve.specs.declared.stop.Stop.{Stop}
+use Rattle.cov_codes.specs.declared.stop.Stop.{Stop}
 use Rattle.cov_serve.proofs.Additions.{done-gives, refused-step, replied, step-added, step-grown}
 use Rattle.cov_serve.proofs.Leaving.{leaves-for}
 use Rattle.cov_serve.proofs.answering.ServerLineServer.answer.Goals as goal

@@ -5,7 +5,7 @@ use Rattle.cov_store.specs.Stands.{IsStored, gate_of}
 use Rattle.cov_serve.specs.Acting.{Changes}
 use Rattle.cov_serve.specs.Adding.{HasReceipt}
 use Rattle.cov_serve.specs.Step.{appended}
-use Rattle.cov_serve.specs.declared.stop.Stop.{Stop}
+use Rattle.cov_codes.specs.declared.stop.Stop.{Stop}
 use Rattle.cov_serve.proofs.Additions.{finish-gives, finish-has, replied, stop-gives, stop-told, there-kept}
 use Rattle.cov_serve.proofs.server.Server.add.Goals as goal
 

@@ -6,7 +6,7 @@ use Rattle.cov_session.specs.Open.{as_named}
 use Rattle.cov_serve.specs.Acting.{Acts}
 use Rattle.cov_serve.specs.States.{State}
 use Rattle.cov_serve.specs.Step.{added, exchanged}
-use Rattle.cov_serve.specs.Stops.{session_stop}
+use Rattle.cov_codes.specs.Stops.{session_stop}
 use Rattle.cov_serve.proofs.Acted.{stopped, stops-later}
 use Rattle.cov_serve.proofs.SessionFaults.{edit-stops}
 use Rattle.cov_serve.proofs.state.ServerState.exchange.Goals as goal

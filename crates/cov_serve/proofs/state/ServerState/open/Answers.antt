@@ -4,11 +4,11 @@ use Rattle.cov_session.specs.Calls.{IsSessionFaultOf, opened_among}
 use Rattle.cov_session.specs.Open.{as_named}
 use Rattle.cov_session.specs.Opening.{NamesDeclared}
 use Rattle.cov_serve.specs.Acting.{Acts, Stops}
-use Rattle.cov_serve.specs.Codes.{session_code}
+use Rattle.cov_codes.specs.Codes.{session_code}
 use Rattle.cov_serve.specs.Finding.{by_code}
 use Rattle.cov_serve.specs.States.{State}
 use Rattle.cov_serve.specs.Step.{opened}
-use Rattle.cov_serve.specs.Stops.{session_stop}
+use Rattle.cov_codes.specs.Stops.{session_stop}
 use Rattle.cov_serve.proofs.Acted.{stopped, stops-later}
 use Rattle.cov_serve.proofs.Opened.{among-whole, opened-as, with_opened}
 use Rattle.cov_serve.proofs.SessionFaults.{fault-stops}

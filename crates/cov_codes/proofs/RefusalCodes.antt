@@ -1,5 +1,5 @@
--- How refusals of commands are told.
-use Rattle.std.proofs.Common.{◌≡◌, ℕ, Bool, true, false, List, [], ◌∷◌, length, Option, Some, None, option_map, refl, ap, subst, arith}
+-- The refusal of a command can be told.
+use Rattle.std.proofs.Common.{◌≡◌, ℕ, Bool, true, false, List, [], ◌∷◌, length, Option, Some, None, option_map, refl, subst, arith}
 use Rattle.std.specs.List.{AllByRecursion}
 use Rattle.cov_base.specs.Faults.{Fault, Clash, Orphan, Loop}
 use Rattle.cov_expr.specs.Formula.{Formula}
@@ -10,16 +10,11 @@ use Rattle.cov_view.specs.Refusals.{when, first_of}
 use Rattle.cov_view.specs.declared.fault.EditFault.{EditFault}
 use Rattle.cov_history.proofs.CallerLemmas.{bad-is}
 use Rattle.cov_history.specs.BadChoices.{as_unsound, bad_choice, fault_after, fault_refusal, unsound_refusal}
-use Rattle.cov_history.specs.Verdict.{RefusedBy, as_bad_record, as_invalid, as_overtaken, refusals_of, verdict, when_full}
+use Rattle.cov_history.specs.Verdict.{as_bad_record, as_invalid, as_overtaken, refusals_of, verdict, when_full}
 use Rattle.cov_history.specs.declared.refusal.Refusal.{Refusal}
 use Rattle.cov_history.specs.declared.refusal.Refusal.TheVariants as refusals
 use Rattle.cov_script.specs.Replies.{IsCodeOf}
-use Rattle.cov_serve.specs.Acting.{Stops}
-use Rattle.cov_serve.specs.Codes.{refusal_code}
-use Rattle.cov_session.specs.Faults.{unless}
-use Rattle.cov_serve.specs.States.{State, with_command}
-use Rattle.cov_serve.specs.Step.{appended}
-use Rattle.cov_serve.specs.Stops.{refusal_stop}
+use Rattle.cov_codes.specs.Codes.{refusal_code}
 
 module _ (n : ℕ) where
   -- a refusal, if there is one, names no option beyond so many
@@ -76,12 +71,3 @@ refusal-told history k = told-first (option_count history) (when_full history �
 -- a verdict's refusal names no option beyond those declared
 pub refusal-code : (history : List Command) (k : Command) (r : Refusal) → verdict history k ≡ Some r → IsCodeOf (option_count history) (refusal_code r)
 refusal-code history k r h = subst (Told (option_count history)) h (refusal-told history k)
-
--- a command that is refused changes nothing
-pub refusal-stops : (st : State) (k : Command) (r : Refusal) → RefusedBy r (verdict st.history k) → Stops (appended st k) st st (refusal_stop r)
-refusal-stops st k refusals.Memory h = refl
-refusal-stops st k r h = record {
-  is = ap (λ o. unless (option_map refusal_code o) (with_command st k)) h;
-  same = refl;
-  told = subst (Told (option_count st.history)) h (refusal-told st.history k);
-}

@@ -27,9 +27,9 @@ use Rattle.cov_rules.specs.declared.completing.CompleteFault.TheVariants as comp
 use Rattle.cov_session.specs.declared.fault.SessionFault.{SessionFault}
 use Rattle.cov_session.specs.declared.fault.SessionFault.TheVariants as sessions
 use Rattle.cov_session.specs.declared.fault.NoSession.{NoSession}
-use Rattle.cov_serve.specs.Codes.{alt_code, bind_code, edit_code, name_code, refusal_code, session_code, syntax_code}
-use Rattle.cov_serve.specs.declared.stop.Stop.{Stop}
-use Rattle.cov_serve.specs.declared.stop.Stop.TheVariants as stops
+use Rattle.cov_codes.specs.Codes.{alt_code, bind_code, edit_code, name_code, refusal_code, session_code, syntax_code}
+use Rattle.cov_codes.specs.declared.stop.Stop.{Stop}
+use Rattle.cov_codes.specs.declared.stop.Stop.TheVariants as stops
 
 -- a line without a form
 abbrev pub syntax_stop : LineSyntax → Stop

@@ -1,6 +1,6 @@
 // Why a line isn't done.
 ghost use Rattle.std.specs.Prelude.{◌≡◌};
-ghost use Rattle.cov_serve.specs.Stops.{alt_stop, file_stop, no_line_stop, syntax_stop, bad_name_stop, name_stop, bind_stop, complete_stop, read_stop, list_stop, edit_stop, session_stop, no_session_stop, command_stop, refusal_stop};
+ghost use Rattle.cov_codes.specs.Stops.{alt_stop, file_stop, no_line_stop, syntax_stop, bad_name_stop, name_stop, bind_stop, complete_stop, read_stop, list_stop, edit_stop, session_stop, no_session_stop, command_stop, refusal_stop};
 
 use cov_alt::AltFault;
 use cov_base::{BadName, Memory, MemoryOr};
@@ -19,7 +19,7 @@ pub enum Stop {
 }
 
 impl From<Memory> for Stop {
-    ghost use Rattle.cov_serve.specs.declared.stop.Stop.TheVariants.{Memory as wanting};
+    ghost use Rattle.cov_codes.specs.declared.stop.Stop.TheVariants.{Memory as wanting};
 
     ghost from_gives = { λ _ stop. stop ≡ wanting };
 

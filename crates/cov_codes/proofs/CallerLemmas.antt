@@ -1,0 +1,2 @@
+-- What a caller cites.
+pub use Rattle.cov_codes.proofs.RefusalCodes.{refusal-code}
