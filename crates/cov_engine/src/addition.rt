@@ -61,8 +61,10 @@ pub(crate) fn stage_commit(
     ensures room { OnOk result (AllByRecursion (HasRoom edits.now) visible.new.files) }
     ensures row_room { OnOk result (HasRowRoom rows.now visible.new.entries) }
     ensures commit_room { OnOk result (0 < index.new.commits.spare) }
-    ensures same_file_of_line { OnErr result (index.new.file_of_line.items ≡ index.old.file_of_line.items) }
-    ensures same_files { OnErr result (map contents visible.new.files ≡ map contents visible.old.files) }
+    ensures same_file_of_line { OnErr result (index.new.file_of_line.items ≡
+        index.old.file_of_line.items) }
+    ensures same_files { OnErr result (map contents visible.new.files ≡
+        map contents visible.old.files) }
 {
     let files = visible.files.len();
     match stage(index, visible, rows, last, edits) {

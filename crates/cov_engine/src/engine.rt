@@ -153,8 +153,10 @@ impl Engine {
     pub fn presence(&self, line: LineNo) -> Result<Listing, MemoryOr<NoSuchLine>>
         ensures listing { IfOk result (λ listing. listing ≡ presence_of self.now.history line) }
         ensures reduced { IfOk result (λ listing. is_reduced listing ≡ true) }
-        ensures options { IfOk result (λ listing. has_options_below (option_count self.now.history) listing ≡ true) }
-        ensures reads { IfOk result (λ listing. (c : List Bool) → reads listing c ≡ has_line_number line (replay c self.now.history)) }
+        ensures options { IfOk result (λ listing.
+            has_options_below (option_count self.now.history) listing ≡ true) }
+        ensures reads { IfOk result (λ listing. (c : List Bool) → reads listing c ≡
+            has_line_number line (replay c self.now.history)) }
         ensures none { is_refusal result ≡ is_no_line self.now.history line }
     {
         match self.vis(line) {
@@ -165,7 +167,8 @@ impl Engine {
 
     /// All lines ever inserted into a file, in order; none where the number isn't a file's. It takes time in their number.
     pub fn file_lines(&self, file: NodeNo) -> Result<FileRows, Memory>
-        ensures { IfOk result (λ rows. rows ≡ map as_row (file_dated file (kept_of self.now.history))) }
+        ensures { IfOk result (λ rows. rows ≡
+            map as_row (file_dated file (kept_of self.now.history))) }
     {
         match part_of(self.state.visible.files.as_slice(), file) {
             Some(part) => part.lines.all(),
@@ -177,7 +180,8 @@ impl Engine {
     pub fn valid(&self, choice: Choice) -> Result<(), Invalid>
         requires { option_count self.now.history ≤ length choice }
         ensures ok { OnOk result (first_false_in self.now.history choice ≡ None) }
-        ensures err { IfErr result (λ invalid. first_false_in self.now.history choice ≡ Some invalid.rule) }
+        ensures err { IfErr result (λ invalid. first_false_in self.now.history choice ≡
+            Some invalid.rule) }
     {
         self.state.rules.valid(choice, self.position())
     }
@@ -188,8 +192,11 @@ impl Engine {
         requires { list_all (λ b. nat_lt b.0 (option_count self.old.history)) partial.now ≡ true }
         ensures same { self.new.history ≡ self.old.history }
         ensures extends { Extends self.old.table self.new.table }
-        ensures complete { IfOk result (λ choice. completed_in self.old.history partial.now ≡ Complete choice) }
-        ensures answer { IfOk result (IsCompletion (option_count self.old.history) (constraints_of self.old.history) partial.now) }
+        ensures complete { IfOk result (λ choice. completed_in self.old.history partial.now ≡
+            Complete choice) }
+        ensures answer { IfOk result
+            (IsCompletion (option_count self.old.history) (constraints_of self.old.history)
+            partial.now) }
         ensures refused { IfErr result (IsRefusalBy (completed_in self.old.history partial.now)) }
     {
         let count = self.state.options.count();
@@ -203,7 +210,10 @@ impl Engine {
     pub fn visible(&self) -> &Visible
         ensures whole { IsWhole result.now }
         ensures table { result.now.table ≡ self.now.table }
-        ensures shows { (at : ℕ) (choice : List Bool) → Shows (numbers_of (take at self.now.history)) (numbers_of (take at self.now.history)).addresses (shown result.now choice at) (replay choice (take at self.now.history)) }
+        ensures shows { (at : ℕ) (choice : List Bool) →
+            Shows (numbers_of (take at self.now.history))
+            (numbers_of (take at self.now.history)).addresses (shown result.now choice at)
+            (replay choice (take at self.now.history)) }
     {
         &self.state.visible
     }
@@ -234,7 +244,8 @@ impl Engine {
     /// The lines of a file, visible on a choice at a position, in order, whether the file is there or not; none where the number
     /// isn't a file's. It takes time in the lines ever inserted into that file.
     pub fn lines_at(&self, file: NodeNo, choice: Choice, at: Position) -> Result<FileRows, Memory>
-        ensures { IfOk result (λ rows. rows ≡ map line_row (lines_of (replay choice (take at self.now.history)) file)) }
+        ensures { IfOk result (λ rows. rows ≡
+            map line_row (lines_of (replay choice (take at self.now.history)) file)) }
     {
         let alloc = self.state.index.commits.allocator();
         cov_visible::lines_at(alloc, &self.state.visible, file, choice, at)
@@ -251,12 +262,14 @@ impl Engine {
     /// hands the engine back. Every node keeps its value, refused or not. A commit takes time in all rows, and for each edit at
     /// most in the lines of its file; where a commit after its base touched a node that it touches, it looks at all of these.
     pub fn prepare(self, command: Command) -> Result<Prepared, (Engine, Refusal)>
-        ensures prepared { IfOk result (λ prepared. (prepared.history ≡ self.history) × (prepared.command ≡ command)) }
+        ensures prepared { IfOk result (λ prepared. (prepared.history ≡ self.history) ×
+            (prepared.command ≡ command)) }
         ensures accepted { OnOk result (verdict self.history command ≡ None) }
         ensures extends { IfOk result (λ prepared. Extends self.table prepared.table) }
         ensures back { IfErr result (λ refused. refused.0.history ≡ self.history) }
         ensures extends_back { IfErr result (λ refused. Extends self.table refused.0.table) }
-        ensures refused { IfErr result (λ refused. RefusedBy refused.1 (verdict self.history command)) }
+        ensures refused { IfErr result (λ refused.
+            RefusedBy refused.1 (verdict self.history command)) }
     {
         let Engine { mut state } = self;
         match make_ready(&mut state, &command) {
@@ -271,10 +284,12 @@ impl Engine {
         ensures appended { OnOk result (self.new.history ≡ self.old.history ++ command ∷ []) }
         ensures accepted { OnOk result (verdict self.old.history command ≡ None) }
         ensures position { IfOk result (λ receipt. receipt.position ≡ length self.old.history + 1) }
-        ensures number { IfOk result (λ receipt. receipt.number ≡ receipt_number self.old.history command) }
+        ensures number { IfOk result (λ receipt. receipt.number ≡
+            receipt_number self.old.history command) }
         ensures same { OnErr result (self.new.history ≡ self.old.history) }
         ensures extends { Extends self.old.table self.new.table }
-        ensures refused { IfErr result (λ refusal. RefusedBy refusal (verdict self.old.history command)) }
+        ensures refused { IfErr result (λ refusal.
+            RefusedBy refusal (verdict self.old.history command)) }
     {
         command.bounds_are_kept();
         let ready = match make_ready(&mut self.state, &command) {

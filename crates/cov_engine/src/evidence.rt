@@ -70,7 +70,8 @@ fn fault_left(
 ) -> Result<Option<Refusal>, Memory>
     requires { CanBeTested table.old entries.now plan.now valid ambition count }
     ensures extends { Extends table.old table.new }
-    ensures found { IfOk result (λ found. found ≡ refusal_by_plan table.old entries.now plan.now valid ambition count) }
+    ensures found { IfOk result (λ found. found ≡
+        refusal_by_plan table.old entries.now plan.now valid ambition count) }
 {
     match first_faulty(table, entries, plan, valid, ambition, count)? {
         Some(choice) => refusal_on(alloc, table, entries, plan, choice),
@@ -89,7 +90,8 @@ fn first_faulty(
 ) -> Result<Option<Choice>, Memory>
     requires { CanBeTested table.old entries.now plan.now valid ambition count }
     ensures extends { Extends table.old table.new }
-    ensures first { IfOk result (λ found. found ≡ first_faulty table.old entries.now plan.now valid ambition count) }
+    ensures first { IfOk result (λ found. found ≡
+        first_faulty table.old entries.now plan.now valid ambition count) }
 {
     let within = table.and(valid, ambition, &mut Steps::<Uncounted>::new())?;
     let node = entries.unsound(plan, table, within)?;
@@ -105,7 +107,9 @@ fn refusal_on(
     choice: Choice,
 ) -> Result<Option<Refusal>, Memory>
     requires once { AreOnceWith table.now plan.now entries.now }
-    ensures { IfOk result (λ found. found ≡ option_map (fault_refusal choice) (fault_of (rows_with table.now choice plan.now entries.now))) }
+    ensures { IfOk result (λ found. found ≡
+        option_map (fault_refusal choice)
+        (fault_of (rows_with table.now choice plan.now entries.now))) }
 {
     let rows = entries.rows_with(plan, table, choice)?;
     let view = view_of_rows(alloc, table, choice, rows.as_slice())?;

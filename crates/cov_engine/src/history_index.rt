@@ -33,7 +33,8 @@ pub(crate) fn file_of<'a>(
     line: LineNo,
 ) -> Option<&'a FilePart>
     requires rising { AreRising (map part_node visible.now.files) }
-    ensures { option_copied result ≡ stored_file_of visible.now.files (item_of index.now.file_of_line.items line) }
+    ensures { option_copied result ≡
+        stored_file_of visible.now.files (item_of index.now.file_of_line.items line) }
 {
     match item_of(&index.file_of_line, line.number() as usize) {
         Some(file) => part_of(visible.files.as_slice(), *file),

@@ -115,8 +115,11 @@ fn cut_off(index: &mut HistoryIndex, visible: &mut Visible, counts: Counts, touc
     ensures table { visible.new.table ≡ visible.old.table }
     ensures commits { index.new.commits.items ≡ index.old.commits.items }
     ensures entries { visible.new.entries ≡ visible.old.entries }
-    ensures file_of_line { index.new.file_of_line.items ≡ take counts.lines index.old.file_of_line.items }
-    ensures files { map contents visible.new.files ≡ map contents (take (count_below counts.nodes (map part_node visible.old.files)) visible.old.files) }
+    ensures file_of_line { index.new.file_of_line.items ≡
+        take counts.lines index.old.file_of_line.items }
+    ensures files { map contents visible.new.files ≡
+        map contents (take (count_below counts.nodes (map part_node visible.old.files))
+        visible.old.files) }
 {
     let files = count_below(visible.files.as_slice(), NodeNo::new(counts.nodes));
     unstage(index, visible, files, counts.lines, touched);

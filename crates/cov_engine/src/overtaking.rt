@@ -107,7 +107,8 @@ fn overtakes(
     requires rising { AreRising mark.now.touched }
     requires own { AreRising touched.now }
     ensures extends { Extends table.old table.new }
-    ensures decides { IfOk result (λ b. Decides b (Overtakes table.old base within touched.now mark.now)) }
+    ensures decides { IfOk result (λ b.
+        Decides b (Overtakes table.old base within touched.now mark.now)) }
 {
     if mark.position <= base {
         return Ok(false);
@@ -123,7 +124,8 @@ fn share_choice(table: &mut Table, a: Node, b: Node) -> Result<bool, Memory>
     requires a { a < diagram_size table.old }
     requires b { b < diagram_size table.old }
     ensures extends { Extends table.old table.new }
-    ensures decides { IfOk result (λ shared. Decides shared (HaveNoCommonChoice table.old a b → ⊥)) }
+    ensures decides { IfOk result (λ shared. Decides shared (HaveNoCommonChoice table.old a b →
+        ⊥)) }
 {
     let both = table.and(a, b, &mut Steps::<Uncounted>::new())?;
     Ok(!table.is_false(both))

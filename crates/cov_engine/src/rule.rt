@@ -27,8 +27,10 @@ pub(crate) fn rule_ready(
     ensures extends { Extends table.old table.new }
     ensures same { rules.new.standing ≡ rules.old.standing }
     ensures ready { IfOk result (IsRuleReady command.now table.new rules.new) }
-    ensures accepted { OnOk result ((rule : AnyRule) → rule_in command.now ≡ Some rule → IsAccepted rules.old.standing rule) }
-    ensures refused { IfErr result (λ refusal. (rule : AnyRule) → rule_in command.now ≡ Some rule → IsRefusalOf rules.old.standing rule refusal) }
+    ensures accepted { OnOk result ((rule : AnyRule) → rule_in command.now ≡ Some rule →
+        IsAccepted rules.old.standing rule) }
+    ensures refused { IfErr result (λ refusal. (rule : AnyRule) → rule_in command.now ≡ Some rule →
+        IsRefusalOf rules.old.standing rule refusal) }
 {
     match copied_rule(alloc, command) {
         Ok(rule) => planned(rules, table, rule),
@@ -54,7 +56,8 @@ fn planned(rules: &mut Rules, table: &mut Table, rule: Rule) -> Result<Addition,
     requires holds { Holds table.old rules.old.standing }
     ensures extends { Extends table.old table.new }
     ensures same { rules.new.standing ≡ rules.old.standing }
-    ensures ready { (command : AnyCommand) → rule_in command ≡ Some rule → IfOk result (IsRuleReady command table.new rules.new) }
+    ensures ready { (command : AnyCommand) → rule_in command ≡ Some rule →
+        IfOk result (IsRuleReady command table.new rules.new) }
     ensures accepted { OnOk result (IsAccepted rules.old.standing rule) }
     ensures refused { IfErr result (IsRefusalOf rules.old.standing rule) }
 {

@@ -43,7 +43,8 @@ pub(crate) fn measure(edits: &[Edit]) -> Sizes
 
 // The sizes with those of an edit more.
 fn with_edit(sizes: Sizes, edit: &Edit) -> Sizes
-    requires few { (sizes.lines ≤ LIMITS.edits) × (sizes.nodes ≤ LIMITS.edits) × (sizes.bytes ≤ LIMITS.edits * MOST_TEXT_BYTES) }
+    requires few { (sizes.lines ≤ LIMITS.edits) × (sizes.nodes ≤ LIMITS.edits) ×
+        (sizes.bytes ≤ LIMITS.edits * MOST_TEXT_BYTES) }
     requires fits { fits_edit edit.now ≡ true }
     ensures lines { result.lines ≡ sizes.lines + length (anchors_of 0 (edit.now ∷ [])) }
     ensures nodes { result.nodes ≡ sizes.nodes + nodes_made (edit.now ∷ []) }
@@ -76,7 +77,9 @@ pub(crate) fn refusal(counts: Counts, edits: &Edits, sizes: Sizes) -> Option<Ref
 }
 
 fn refusal_of_sizes(counts: Counts, sizes: Sizes) -> Option<Refusal>
-    ensures { result ≡ first_of (amount_refusals LIMITS (counts.lines + sizes.lines) (counts.nodes + sizes.nodes) sizes.bytes (counts.bytes + sizes.bytes)) }
+    ensures { result ≡
+        first_of (amount_refusals LIMITS (counts.lines + sizes.lines) (counts.nodes +
+        sizes.nodes) sizes.bytes (counts.bytes + sizes.bytes)) }
 {
     if u64::from(counts.lines) + u64::from(sizes.lines) > LIMITS.lines {
         return Some(Refusal::TooManyLines);
@@ -95,7 +98,12 @@ pub(crate) fn with_sizes(counts: Counts, sizes: Sizes) -> Counts
     requires lines { counts.lines + sizes.lines < 2 ^ 32 }
     requires nodes { counts.nodes + sizes.nodes < 2 ^ 32 }
     requires bytes { counts.bytes + sizes.bytes < 2 ^ 64 }
-    ensures { result ≡ record { lines = counts.lines + sizes.lines; nodes = counts.nodes + sizes.nodes; bytes = counts.bytes + sizes.bytes } }
+    ensures { result ≡
+        record {
+          lines = counts.lines + sizes.lines;
+          nodes = counts.nodes + sizes.nodes;
+          bytes = counts.bytes + sizes.bytes;
+        } }
 {
     Counts {
         lines: counts.lines + sizes.lines,

@@ -22,8 +22,10 @@ pub(crate) fn stage_files_of_lines(
     file_of_line: &mut Vec<NodeNo>,
     edits: &[ResolvedEdit],
 ) -> Result<(), Memory>
-    ensures ok { OnOk result (file_of_line.new.items ≡ file_of_line.old.items ++ files_of_lines edits.now) }
-    ensures front { take (length file_of_line.old.items) file_of_line.new.items ≡ file_of_line.old.items }
+    ensures ok { OnOk result (file_of_line.new.items ≡
+        file_of_line.old.items ++ files_of_lines edits.now) }
+    ensures front { take (length file_of_line.old.items) file_of_line.new.items ≡
+        file_of_line.old.items }
 {
     let mut ahead = edits;
     while let [edit, rest @ ..] = ahead {
@@ -71,9 +73,11 @@ pub(crate) fn stage(
     ensures room { OnOk result (AllByRecursion (HasRoom edits.now) visible.new.files) }
     ensures row_room { OnOk result (HasRowRoom rows.now visible.new.entries) }
     ensures commit_room { OnOk result (0 < index.new.commits.spare) }
-    ensures front_file_of_line { take (length index.old.file_of_line.items) index.new.file_of_line.items ≡ index.old.file_of_line.items }
+    ensures front_file_of_line { take (length index.old.file_of_line.items)
+        index.new.file_of_line.items ≡ index.old.file_of_line.items }
     ensures table { visible.new.table ≡ visible.old.table }
-    ensures front_files { map contents (take (length visible.old.files) visible.new.files) ≡ map contents visible.old.files }
+    ensures front_files { map contents (take (length visible.old.files) visible.new.files) ≡
+        map contents visible.old.files }
 {
     index.commits.reserve(last)?;
     visible.entries.reserve(rows)?;

@@ -140,7 +140,8 @@ fn option_ready(options: &mut Options, name: &OptionName) -> Result<Addition, Re
     ensures room { OnOk result (0 < options.new.spare) }
     ensures accepted { OnOk result (name_refusal options.old.names name.now ≡ None) }
     ensures ready { IfOk result (λ r. r ≡ additions.Option name.now) }
-    ensures refused { IfErr result (λ refusal. RefusedBy refusal (name_refusal options.old.names name.now)) }
+    ensures refused { IfErr result (λ refusal.
+        RefusedBy refusal (name_refusal options.old.names name.now)) }
 {
     match name_refusal(options, name.as_slice()) {
         Some(refusal) => Err(refusal),
@@ -269,7 +270,12 @@ fn commit_planned(
 // Where a commit's edits are resolved.
 fn context_of(counts: Counts, mark: &CommitMark) -> CommitContext
     requires { 1 ≤ counts.nodes }
-    ensures { result ≡ record { at = mark.now.position; nodes = counts.nodes - 1; lines = counts.lines; ambition = mark.now.node } }
+    ensures { result ≡ record {
+      at = mark.now.position;
+      nodes = counts.nodes - 1;
+      lines = counts.lines;
+      ambition = mark.now.node;
+    } }
 {
     CommitContext {
         at: mark.position,

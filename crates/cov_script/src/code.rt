@@ -213,7 +213,8 @@ fn append_clash(
     choice: Choice,
 ) -> Result<(), Memory>
     requires { length choice ≤ length options.now.names }
-    ensures { OnOk result (text.new ≡ text.old ++ codes " " ++ decimal nodes.0 ++ place_text options.now.names nodes.1 choice) }
+    ensures { OnOk result (text.new ≡
+        text.old ++ codes " " ++ decimal nodes.0 ++ place_text options.now.names nodes.1 choice) }
 {
     append_number(alloc, text, nodes.0.number() as u64)?;
     append_place(alloc, text, options, nodes.1, choice)
@@ -238,7 +239,8 @@ fn append_place(
 
 // Appends a side of an option and the number of a constraint.
 fn append_side(alloc: Global, text: &mut Text, on: bool, rule: u32) -> Result<(), Memory>
-    ensures { OnOk result (text.new ≡ text.old ++ codes " " ++ side_word on ++ codes " " ++ decimal rule) }
+    ensures { OnOk result (text.new ≡
+        text.old ++ codes " " ++ side_word on ++ codes " " ++ decimal rule) }
 {
     append_word(text, side_word(on))?;
     append_number(alloc, text, rule as u64)

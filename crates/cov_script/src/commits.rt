@@ -49,7 +49,8 @@ fn append_planned(
     commit: u32,
     text: &mut Text,
 ) -> Result<(), Memory>
-    ensures lines { OnOk result (text.new ≡ text.old ++ planned_lines commit plan.now draws.old mark) }
+    ensures lines { OnOk result (text.new ≡
+        text.old ++ planned_lines commit plan.now draws.old mark) }
     ensures draws { OnOk result (draws.new ≡ state_after 99 draws.old) }
 {
     plan.append_opening(text)?;

@@ -1,6 +1,6 @@
 // The script that a number stands for.
 ghost use Rattle.std.specs.Prelude.{◌≡◌, ◌<◌, ◌++◌, IfOk, OnOk, length};
-ghost use Rattle.cov_script.specs.Commits.{each_below, commit_lines, after_commits};
+ghost use Rattle.cov_script.specs.Commits.{each_below};
 ghost use Rattle.cov_script.specs.Demonstration.{demo_text, option_line, default_line, dir_line, file_line, checkout_line, each_commit, first_commit_lines, made_lines, row_line};
 
 use crate::commits::{Commits, append_path};

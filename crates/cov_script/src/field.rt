@@ -3,8 +3,7 @@ ghost use Rattle.std.specs.Prelude.{◌≡◌, ℕ, List, Option, codes, Ok, IfO
 ghost use Rattle.cov_base.specs.Answers.{IsOrMemory};
 ghost use Rattle.cov_base.specs.Spelling.{path_of, is_line_text};
 ghost use Rattle.cov_expr.specs.ChoiceText.{bindings_of, switch_of};
-ghost use Rattle.cov_expr.specs.Reading.{parsed};
-ghost use Rattle.cov_script.specs.Fields.{Rest, field, expression, text, token_of, name_of, new_path_of, word_of, number_of, line_field_of, is_memory};
+ghost use Rattle.cov_script.specs.Fields.{field, expression, text, token_of, name_of, new_path_of, word_of, number_of, line_field_of, is_memory};
 
 use crate::number::read_number;
 use crate::unread::Unread;
@@ -40,7 +39,8 @@ pub(crate) fn read_field<'a, T: Field>(alloc: Global, unread: Unread<'a>) -> Got
 
 // What is read, None where it is refused.
 fn unless_refused<T: Drop, E: Drop>(read: Result<T, MemoryOr<E>>) -> Result<Option<T>, Memory>
-    ensures { IfOk result (λ found. MatchOption found ((e : E) × IsErrOf read (MemoryOr.Refused e)) (λ value. read ≡ Ok value)) }
+    ensures { IfOk result (λ found. MatchOption found ((e : E) ×
+        IsErrOf read (MemoryOr.Refused e)) (λ value. read ≡ Ok value)) }
 {
     match read {
         Ok(value) => Ok(Some(value)),

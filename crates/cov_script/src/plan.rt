@@ -52,7 +52,8 @@ impl Plan {
 
     /// Appends the line that opens its session.
     pub(crate) fn append_opening(&self, text: &mut Text) -> Result<(), Memory>
-        ensures { OnOk result (text.new ≡ text.old ++ opening_line self.now.on self.now.other self.now.ambition) }
+        ensures { OnOk result (text.new ≡
+            text.old ++ opening_line self.now.on self.now.other self.now.ambition) }
     {
         append_numbered(text, b"open s o", self.on)?;
         match self.ambition {

@@ -92,7 +92,8 @@ fn accept_next<D: Disk>(
     reader: Reader,
 ) -> Result<Step, Halt>
     requires behind { StandsBehind (D.contents disk.old) reader engine.old.history }
-    ensures steps { IfOk result (Steps (D.contents disk.old) engine.old.history engine.new.history) }
+    ensures steps { IfOk result
+        (Steps (D.contents disk.old) engine.old.history engine.new.history) }
     ensures halts { IfErr result (HaltsFor (D.contents disk.old) engine.new.history) }
     ensures reason { IfErr result (HaltsBy (D.faults disk.old) (D.faults disk.new)) }
     ensures same { D.contents disk.new ≡ D.contents disk.old }
@@ -124,8 +125,10 @@ fn read(alloc: Global, engine: &mut Engine, payload: &[u8]) -> Result<(), Halt>
 
 // Accepts a command, or tells its refusal.
 fn accept(engine: &mut Engine, command: Command) -> Result<(), Halt>
-    ensures accepted { (payload : List ℕ) → IsRecordOf payload command → OnOk result (IsAccepted engine.old.history payload engine.new.history) }
-    ensures unread { (payload : List ℕ) → IsRecordOf payload command → IfErr result (IsUnread engine.old.history payload) }
+    ensures accepted { (payload : List ℕ) → IsRecordOf payload command →
+        OnOk result (IsAccepted engine.old.history payload engine.new.history) }
+    ensures unread { (payload : List ℕ) → IsRecordOf payload command →
+        IfErr result (IsUnread engine.old.history payload) }
     ensures same { IfErr result (λ _. engine.new.history ≡ engine.old.history) }
 {
     match engine.append(command) {

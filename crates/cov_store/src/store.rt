@@ -4,7 +4,6 @@ ghost use Rattle.cov_base.specs.Causes.{Rose};
 ghost use Rattle.cov_dd.specs.Diagrams.{Extends};
 ghost use Rattle.cov_disk.specs.Images.{LeavesOnly};
 ghost use Rattle.cov_edit.specs.declared.command.Command.{Command};
-ghost use Rattle.cov_edit.specs.History.{options_of};
 ghost use Rattle.cov_engine.specs.States.{receipt_number};
 ghost use Rattle.cov_history.specs.Verdict.{verdict};
 ghost use Rattle.cov_journal.specs.Gates.{HasGate};

@@ -20,9 +20,12 @@ impl FilePart {
     /// Makes room for one line more.
     pub(crate) fn expect_insert(&mut self) -> Result<(), Memory>
         ensures same { contents self.new ≡ contents self.old }
-        ensures inserts { (count : ℕ) → count ≤ self.old.lines.coming.inserts + 1 → count < 2 ^ 32 - 1 → count ≤ self.new.lines.coming.inserts }
+        ensures inserts { (count : ℕ) → count ≤ self.old.lines.coming.inserts + 1 →
+            count < 2 ^ 32 - 1 → count ≤ self.new.lines.coming.inserts }
         ensures deletes { self.new.lines.coming.deletes ≡ self.old.lines.coming.deletes }
-        ensures room { OnOk result (IsMade self.new.lines.room (line_numbers_of self.new.lines.lines) self.new.lines.coming.inserts self.new.lines.coming.deletes) }
+        ensures room { OnOk result
+            (IsMade self.new.lines.room (line_numbers_of self.new.lines.lines)
+            self.new.lines.coming.inserts self.new.lines.coming.deletes) }
     {
         self.lines.expect_insert()
     }
@@ -31,8 +34,11 @@ impl FilePart {
     pub(crate) fn expect_delete(&mut self, line: LineNo) -> Result<(), Memory>
         ensures same { contents self.new ≡ contents self.old }
         ensures inserts { self.new.lines.coming.inserts ≡ self.old.lines.coming.inserts }
-        ensures deletes { OnOk result (self.new.lines.coming.deletes ≡ self.old.lines.coming.deletes ++ line ∷ []) }
-        ensures room { OnOk result (IsMade self.new.lines.room (line_numbers_of self.new.lines.lines) self.new.lines.coming.inserts self.new.lines.coming.deletes) }
+        ensures deletes { OnOk result (self.new.lines.coming.deletes ≡
+            self.old.lines.coming.deletes ++ line ∷ []) }
+        ensures room { OnOk result
+            (IsMade self.new.lines.room (line_numbers_of self.new.lines.lines)
+            self.new.lines.coming.inserts self.new.lines.coming.deletes) }
     {
         self.lines.expect_delete(line)
     }

@@ -31,7 +31,8 @@ pub(crate) fn stage_file(files: &mut Vec<FilePart>, edit: &ResolvedEdit) -> Resu
 
 // Adds a node without lines, if it is a file.
 fn add_file(files: &mut Vec<FilePart>, node: NodeNo, kind: Kind) -> Result<(), Memory>
-    ensures ok { OnOk result (map contents files.new.items ≡ map contents files.old.items ++ map new_contents (cons_option (if_file kind node) [])) }
+    ensures ok { OnOk result (map contents files.new.items ≡
+        map contents files.old.items ++ map new_contents (cons_option (if_file kind node) [])) }
     ensures front { take (length files.old.items) files.new.items ≡ files.old.items }
 {
     match kind {

@@ -31,7 +31,8 @@ pub fn file_at(
     at: Position,
     path: &[Name],
 ) -> Result<NodeNo, FileFault>
-    ensures { IsFileAmong (rows_at visible.now.table choice at visible.now.entries) path.now result }
+    ensures { IsFileAmong (rows_at visible.now.table choice at visible.now.entries) path.now
+        result }
 {
     match node_at(visible, choice, at, path) {
         Some(node) => match is_dir(visible, choice, at, node) {
@@ -44,7 +45,8 @@ pub fn file_at(
 
 // The node to which names lead from the root.
 fn node_at(visible: &Visible, choice: Choice, at: Position, path: &[Name]) -> Option<NodeNo>
-    ensures { result ≡ path_node (rows_at visible.now.table choice at visible.now.entries) 0 path.now }
+    ensures { result ≡
+        path_node (rows_at visible.now.table choice at visible.now.entries) 0 path.now }
 {
     let mut node = NodeNo::new(0);
     let mut ahead = path;
@@ -66,7 +68,8 @@ fn child(
     dir: NodeNo,
     name: &Name,
 ) -> Option<NodeNo>
-    ensures { result ≡ child_node (rows_at visible.now.table choice at visible.now.entries) dir name.now }
+    ensures { result ≡
+        child_node (rows_at visible.now.table choice at visible.now.entries) dir name.now }
 {
     visible
         .entries
@@ -104,7 +107,8 @@ pub fn lines_at(
     at: Position,
 ) -> Result<FileRows, Memory>
     requires rising { AreRising (map part_node visible.now.files) }
-    ensures { IfOk result (λ rows. rows ≡ stored_rows visible.now.table choice at (part_of visible.now.files file)) }
+    ensures { IfOk result (λ rows. rows ≡
+        stored_rows visible.now.table choice at (part_of visible.now.files file)) }
 {
     match part_of(visible.files.as_slice(), file) {
         Some(part) => part.lines.lines_at(&visible.table, choice, at),
@@ -120,7 +124,9 @@ pub fn has_node(visible: &Visible, node: NodeNo, choice: Choice, at: Position) -
 }
 
 fn has_row(visible: &Visible, node: NodeNo, choice: Choice, at: Position) -> bool
-    ensures { result ≡ list_any (λ r. nat_eq r.node node) (rows_at visible.now.table choice at visible.now.entries) }
+    ensures { result ≡
+        list_any (λ r.
+        nat_eq r.node node) (rows_at visible.now.table choice at visible.now.entries) }
 {
     visible
         .entries

@@ -49,7 +49,10 @@ pub fn resolve(
     requires ambition { context.now.ambition < diagram_size table.old }
     requires near { AreNear context.now.nodes edits.now }
     requires low { AreLow context.now.lines edits.now }
-    requires few { HaveNumbers (record { nodes = context.now.nodes; lines = context.now.lines }) edits.now }
+    requires few { HaveNumbers (record {
+      nodes = context.now.nodes;
+      lines = context.now.lines;
+    }) edits.now }
     ensures extends { Extends table.old table.new }
     ensures resolved { IfOk result (λ r.
         AreResolvedIn context.now files.now table.new edits.now r.items) }
@@ -74,7 +77,10 @@ fn resolve_onto(
     requires ambition { context.now.ambition < diagram_size table.old }
     requires near { AreNear context.now.nodes edits.now }
     requires low { AreLow context.now.lines edits.now }
-    requires few { HaveNumbers (record { nodes = context.now.nodes; lines = context.now.lines }) edits.now }
+    requires few { HaveNumbers (record {
+      nodes = context.now.nodes;
+      lines = context.now.lines;
+    }) edits.now }
     ensures extends { Extends table.old table.new }
     ensures resolved { OnOk result (resolved.old.items ≡ [] →
         AreResolvedIn context.now files.now table.new edits.now resolved.new.items) }
@@ -157,7 +163,8 @@ fn resolve_edit(
 // The newest node of a line in a file, FALSE where the file has no such line.
 fn old_node(files: &[FilePart], file: NodeNo, line: LineNo) -> Node
     requires rising { AreRising (map part_node files.now) }
-    ensures { (p : ℕ) → AllByRecursion (λ e. e.lines.newest ≤ p) files.now → result ≡ old_node p files.now file line }
+    ensures { (p : ℕ) → AllByRecursion (λ e. e.lines.newest ≤ p) files.now → result ≡
+        old_node p files.now file line }
 {
     match index_of(files, file) {
         Some(index) => files[index].lines.vis(line).unwrap_or(FALSE),

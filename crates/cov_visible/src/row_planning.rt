@@ -22,7 +22,8 @@ pub fn plan_rows(
     requires new { MakeNewNodes (nodes_with plan.old entries.now) (row_changes edits.now) }
     requires on { AreWithin table.old (row_changes edits.now) }
     ensures extends { Extends table.old table.new }
-    ensures makes { OnOk result (AlsoMakes table.old table.new entries.now plan.old plan.new (row_changes edits.now)) }
+    ensures makes { OnOk result (AlsoMakes table.old table.new entries.now plan.old plan.new
+        (row_changes edits.now)) }
     ensures nodes { OnOk result (nodes_with plan.new entries.now
         ≡ nodes_after_all (row_changes edits.now) (nodes_with plan.old entries.now)) }
     ensures kinds { OnOk result (kinds_with plan.new entries.now
@@ -50,7 +51,8 @@ fn plan_row(
     ensures extends { Extends table.old table.new }
     ensures within { AreNodesWith table.new plan.new entries.now }
     ensures once { AreOnceWith table.new plan.new entries.now }
-    ensures makes { OnOk result (AlsoMakes table.old table.new entries.now plan.old plan.new (row_changes (edit.now ∷ []))) }
+    ensures makes { OnOk result (AlsoMakes table.old table.new entries.now plan.old plan.new
+        (row_changes (edit.now ∷ []))) }
     ensures nodes { OnOk result (nodes_with plan.new entries.now
         ≡ nodes_after_all (row_changes (edit.now ∷ [])) (nodes_with plan.old entries.now)) }
     ensures kinds { OnOk result (kinds_with plan.new entries.now

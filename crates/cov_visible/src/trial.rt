@@ -39,7 +39,8 @@ pub fn first_refused(
     requires rising { AreRising (map part_node visible.now.files) }
     requires once { AreOnce (rows_at visible.now.table choice at visible.now.entries) }
     requires few { length edits.now ≤ LIMITS.edits }
-    ensures { IfOk result (λ found. found ≡ place_refused 0 (seen_tried visible.now choice at edits.now) edits.now) }
+    ensures { IfOk result (λ found. found ≡
+        place_refused 0 (seen_tried visible.now choice at edits.now) edits.now) }
 {
     let rows = rows_tried(visible, choice, at, nodes, changing)?;
     let mut trial = Trial {
@@ -85,7 +86,9 @@ impl Sight<'_> {
     // Whether a file shows a line.
     fn shows(&self, file: NodeNo, line: LineNo) -> bool
         requires { AreRising (map part_node self.now.visible.now.files) }
-        ensures { result ≡ file_shows self.now.visible.now.table self.now.choice self.now.at self.now.visible.now.files file line }
+        ensures { result ≡
+            file_shows self.now.visible.now.table self.now.choice self.now.at
+            self.now.visible.now.files file line }
     {
         match part_of(self.visible.files.as_slice(), file) {
             Some(part) => part
@@ -127,7 +130,9 @@ impl Trial {
         requires few { length edits.now ≤ LIMITS.edits }
         requires nodes { self.old.rows.nodes_made ≡ 0 }
         requires lines { self.old.rows.lines_made ≡ 0 }
-        ensures { IfOk result (λ found. found ≡ place_tried (file_shows sight.now.visible.now.table sight.now.choice sight.now.at sight.now.visible.now.files) 0 self.old edits.now) }
+        ensures { IfOk result (λ found. found ≡
+            place_tried (file_shows sight.now.visible.now.table sight.now.choice sight.now.at
+            sight.now.visible.now.files) 0 self.old edits.now) }
     {
         let mut index = 0;
         let mut ahead = edits;
@@ -147,8 +152,11 @@ impl Trial {
         requires rising { AreRising (map part_node sight.now.visible.now.files) }
         requires nodes { self.old.rows.nodes_made < 2 ^ 32 - 1 }
         requires lines { self.old.rows.lines_made < 2 ^ 32 - 1 }
-        ensures taken { IfOk result (λ taken. taken ≡ takes (file_shows sight.now.visible.now.table sight.now.choice sight.now.at sight.now.visible.now.files) self.old edit.now) }
-        ensures done { IfOk result (λ taken. taken ≡ true → self.new ≡ tried_after self.old edit.now) }
+        ensures taken { IfOk result (λ taken. taken ≡
+            takes (file_shows sight.now.visible.now.table sight.now.choice sight.now.at
+            sight.now.visible.now.files) self.old edit.now) }
+        ensures done { IfOk result (λ taken. taken ≡ true → self.new ≡
+            tried_after self.old edit.now) }
     {
         match edit {
             Edit::Insert { file, after, .. } => {
@@ -184,7 +192,9 @@ impl Trial {
     // Whether a file has a line after the edits so far.
     fn has(&self, sight: &Sight<'_>, file: &NodeRef, line: &LineRef) -> bool
         requires rising { AreRising (map part_node sight.now.visible.now.files) }
-        ensures { result ≡ has_tried (file_shows sight.now.visible.now.table sight.now.choice sight.now.at sight.now.visible.now.files) self.now file.now line.now }
+        ensures { result ≡
+            has_tried (file_shows sight.now.visible.now.table sight.now.choice sight.now.at
+            sight.now.visible.now.files) self.now file.now line.now }
     {
         match (file, line) {
             (NodeRef::Old(file), LineRef::Old(line)) => {
@@ -227,8 +237,10 @@ impl Trial {
     fn takes_rows(&mut self, sight: &Sight<'_>, edit: &Edit) -> Result<bool, Memory>
         requires nodes { self.old.rows.nodes_made < 2 ^ 32 - 1 }
         requires lines { self.old.rows.lines_made < 2 ^ 32 - 1 }
-        ensures taken { IfOk result (λ taken. taken ≡ takes_rows (seen_fault self.old.rows.rows edit.now)) }
-        ensures done { IfOk result (λ taken. taken ≡ true → self.new ≡ rows_changed self.old edit.now) }
+        ensures taken { IfOk result (λ taken. taken ≡
+            takes_rows (seen_fault self.old.rows.rows edit.now)) }
+        ensures done { IfOk result (λ taken. taken ≡ true → self.new ≡
+            rows_changed self.old edit.now) }
     {
         let alloc = *self.made.allocator();
         let table = &sight.visible.table;
@@ -241,7 +253,8 @@ impl Trial {
 
 // An edit with a fault isn't taken, unless memory is wanting.
 fn not_taken(fault: EditFault) -> Result<bool, Memory>
-    ensures told { IfOk result (λ taken. (refused : Option EditFault) → FaultBy fault refused → taken ≡ takes_rows refused) }
+    ensures told { IfOk result (λ taken. (refused : Option EditFault) → FaultBy fault refused →
+        taken ≡ takes_rows refused) }
     ensures not { IfOk result (λ taken. taken ≡ false) }
 {
     match fault {

@@ -52,7 +52,11 @@ impl TriedRows {
         rows: NodeRows,
     ) -> Result<TriedRows, Memory>
         requires { AreOnce rows }
-        ensures { IfOk result (λ tried. tried ≡ record { rows = map bare_row rows; nodes_made = 0; lines_made = 0 }) }
+        ensures { IfOk result (λ tried. tried ≡ record {
+          rows = map bare_row rows;
+          nodes_made = 0;
+          lines_made = 0;
+        }) }
     {
         if rows.len() <= FEW_ROWS {
             let rows = FewOrMany::Few(rows);

@@ -54,7 +54,8 @@ pub fn view_of_rows(
     rows: &[NodeRow],
 ) -> Result<View, Memory>
     requires { AreOnce rows.now }
-    ensures view { IfOk result (λ view. view ≡ record { rows = map bare_row rows.now; nodes_made = 0; lines_made = 0 }) }
+    ensures view { IfOk result (λ view. view ≡
+        record { rows = map bare_row rows.now; nodes_made = 0; lines_made = 0 }) }
     ensures old { IfOk result (λ view. AreOld view.rows) }
     ensures rows { IfOk result (λ view. map old_row view.rows ≡ rows.now) }
 {
@@ -74,7 +75,8 @@ fn add_nodes(
 ) -> Result<(), Memory>
     requires rising { AreRising (map part_node files.now) }
     requires fresh { AreFresh table.now choice at files.now view.old.rows rows.now }
-    ensures rows { OnOk result (view.new.rows ≡ fold (with_node table.now choice at files.now) view.old.rows rows.now) }
+    ensures rows { OnOk result (view.new.rows ≡
+        fold (with_node table.now choice at files.now) view.old.rows rows.now) }
     ensures nodes { view.new.nodes_made ≡ view.old.nodes_made }
     ensures lines { view.new.lines_made ≡ view.old.lines_made }
 {
@@ -97,7 +99,8 @@ fn add_node(
 ) -> Result<(), Memory>
     requires rising { AreRising (map part_node files.now) }
     requires fresh { kind_in view.old.rows (Old row.now.node) ≡ None }
-    ensures rows { OnOk result (view.new.rows ≡ with_node table.now choice at files.now view.old.rows row.now) }
+    ensures rows { OnOk result (view.new.rows ≡
+        with_node table.now choice at files.now view.old.rows row.now) }
     ensures nodes { view.new.nodes_made ≡ view.old.nodes_made }
     ensures lines { view.new.lines_made ≡ view.old.lines_made }
 {
@@ -121,7 +124,8 @@ fn add_lines(
     at: Position,
 ) -> Result<(), Memory>
     requires file { kind_in view.old.rows (Old node) ≡ Some File }
-    ensures rows { OnOk result (view.new.rows ≡ fold (with_file_row node) view.old.rows (file_rows_at table.now choice at file.now.lines)) }
+    ensures rows { OnOk result (view.new.rows ≡
+        fold (with_file_row node) view.old.rows (file_rows_at table.now choice at file.now.lines)) }
     ensures nodes { view.new.nodes_made ≡ view.old.nodes_made }
     ensures lines { view.new.lines_made ≡ view.old.lines_made }
 {

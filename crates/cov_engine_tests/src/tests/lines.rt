@@ -83,7 +83,8 @@ pub(crate) fn insert(
     text: &[u8],
 ) -> Result<(), Fail>
     requires text { is_line_text text.now ≡ true }
-    ensures { OnOk result (engine.new.history ≡ engine.old.history ++ commit_in base choice within (line_after after text.now) ∷ []) }
+    ensures { OnOk result (engine.new.history ≡
+        engine.old.history ++ commit_in base choice within (line_after after text.now) ∷ []) }
 {
     let edit = insertion(alloc, NodeRef::Old(NodeNo::new(1)), after, text)?;
     let edits = one(alloc, edit)?;
@@ -98,7 +99,8 @@ fn delete(
     within: Option<OptionId>,
     line: u32,
 ) -> Result<(), Fail>
-    ensures { OnOk result (engine.new.history ≡ engine.old.history ++ commit_in base (true ∷ []) within (without line) ∷ []) }
+    ensures { OnOk result (engine.new.history ≡
+        engine.old.history ++ commit_in base (true ∷ []) within (without line) ∷ []) }
 {
     let edit = Edit::Delete {
         file: NodeRef::Old(NodeNo::new(1)),

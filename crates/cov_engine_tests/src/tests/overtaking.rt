@@ -1,6 +1,6 @@
 //! Lines that are put into a file on older bases, beside commits of another file.
 ghost use Rattle.std.specs.Prelude.{◌≡◌, [], ◌∷◌, false, codes, IfOk, OnOk};
-ghost use Rattle.cov_engine_tests.specs.Lines.{file_n, line_after, with_X, with_Y};
+ghost use Rattle.cov_engine_tests.specs.Lines.{file_n, with_X, with_Y};
 
 use crate::tests::lines::{insert, insert_lines, insertion, one};
 use crate::tests::steps::{close, command, commit};

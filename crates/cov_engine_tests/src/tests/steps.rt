@@ -72,7 +72,8 @@ pub(crate) fn commit(
     within: Option<OptionId>,
     edits: Edits,
 ) -> Result<(), Fail>
-    ensures { OnOk result (engine.new.history ≡ engine.old.history ++ commit_in base choice within edits ∷ []) }
+    ensures { OnOk result (engine.new.history ≡
+        engine.old.history ++ commit_in base choice within edits ∷ []) }
 {
     let command = command(base, choice, within, edits)?;
     append(engine, command)?;

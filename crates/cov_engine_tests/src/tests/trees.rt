@@ -4,7 +4,7 @@ ghost use Rattle.cov_base.specs.Spelling.{is_line_text};
 ghost use Rattle.cov_base.specs.declared.number.NodeRef.TheVariants as nodes;
 ghost use Rattle.cov_edit.specs.EditFits.{has_line_text};
 ghost use Rattle.cov_edit.specs.declared.edit.Edit.TheVariants as edits;
-ghost use Rattle.cov_engine_tests.specs.Trees.{commit_in, of_option, file_in_root, dir_in_root, line_of, renaming, moving, removing, of_both, begun, renamed, grown, file_for_d, directories};
+ghost use Rattle.cov_engine_tests.specs.Trees.{commit_in, of_option, file_in_root, dir_in_root, line_of, renaming, moving, removing, begun, renamed, grown, file_for_d, directories};
 
 use crate::tests::steps::{append, close, command, commit};
 use cov_base::{
@@ -280,7 +280,8 @@ fn make_for_d(alloc: Global, engine: &mut Engine) -> Result<(), Fail>
 
 // The file x once more, for all variants, from the variant that doesn't have it.
 fn second_file(alloc: Global) -> Result<Command, Fail>
-    ensures { IfOk result (λ command. command ≡ commit_in 2 (false ∷ []) None (file_in_root (codes "x") ∷ [])) }
+    ensures { IfOk result (λ command. command ≡
+        commit_in 2 (false ∷ []) None (file_in_root (codes "x") ∷ [])) }
 {
     let file = making(alloc, Kind::File, 0, b"x")?;
     let edits = one(alloc, file)?;
@@ -371,7 +372,8 @@ fn with_directory(alloc: Global, edits: Edits, name: &[u8]) -> Result<Edits, Fai
 
 // The directories a, b and c.
 fn three_directories(alloc: Global) -> Result<Edits, Fail>
-    ensures { IfOk result (λ all. all ≡ dir_in_root (codes "a") ∷ dir_in_root (codes "b") ∷ dir_in_root (codes "c") ∷ []) }
+    ensures { IfOk result (λ all. all ≡
+        dir_in_root (codes "a") ∷ dir_in_root (codes "b") ∷ dir_in_root (codes "c") ∷ []) }
 {
     let a = with_directory(alloc, Edits::new(alloc), b"a")?;
     let a_and_b = with_directory(alloc, a, b"b")?;

@@ -37,9 +37,11 @@ impl OpenSession {
         ensures history { engine.new.history ≡ engine.old.history }
         ensures extends { Extends engine.old.table engine.new.table }
         ensures name { self.new.name ≡ self.old.name }
-        ensures refreshed { OnOk result (refreshed engine.old.history self.old.session ≡ Ok self.new.session) }
+        ensures refreshed { OnOk result
+            (refreshed engine.old.history self.old.session ≡ Ok self.new.session) }
         ensures open { OnOk result (IsOpen engine.old.history self.new) }
-        ensures refused { IfErr result (IsSessionFaultOf (refreshed engine.old.history self.old.session)) }
+        ensures refused { IfErr result
+            (IsSessionFaultOf (refreshed engine.old.history self.old.session)) }
         ensures declared { IfErr result (NamesDeclared (option_count engine.old.history)) }
         ensures same { OnErr result (self.new ≡ self.old) }
     {
@@ -56,11 +58,14 @@ impl OpenSession {
         requires open { IsOpen engine.old.history self.now }
         ensures history { engine.new.history ≡ engine.old.history }
         ensures extends { Extends engine.old.table engine.new.table }
-        ensures completed { IfOk result (λ choice. completed_in engine.old.history (enumerate_from 0 self.now.session.choice) ≡ Complete choice) }
+        ensures completed { IfOk result (λ choice.
+            completed_in engine.old.history (enumerate_from 0 self.now.session.choice)
+            ≡ Complete choice) }
         ensures count { IfOk result (λ choice. length choice ≡ option_count engine.old.history) }
         ensures valid { IfOk result (λ choice. first_false_in engine.old.history choice ≡ None) }
         ensures inside { IfOk result (λ choice. value self.now.session.ambition choice ≡ true) }
-        ensures refused { IfErr result (IsSessionFaultOf (refreshed engine.old.history self.now.session)) }
+        ensures refused { IfErr result
+            (IsSessionFaultOf (refreshed engine.old.history self.now.session)) }
         ensures declared { IfErr result (NamesDeclared (option_count engine.old.history)) }
     {
         open_options_are_declared();
@@ -74,8 +79,15 @@ impl OpenSession {
         requires ambition { reach self.now.session.ambition ≤ option_count engine.now.history }
         requires valid { first_false_in engine.now.history choice ≡ None }
         requires inside { value self.now.session.ambition choice ≡ true }
-        ensures open { IfOk result (λ view. IsOpen engine.now.history (record { name = self.now.name; session = rebased self.now.session (length engine.now.history) choice; view = view })) }
-        ensures refused { IfErr result (λ fault. IsAdditionFault fault (first_lost engine.now.history (rebased self.now.session (length engine.now.history) choice) self.now.session.edits)) }
+        ensures open { IfOk result (λ view. IsOpen engine.now.history (record {
+          name = self.now.name;
+          session = rebased self.now.session (length engine.now.history) choice;
+          view = view;
+        })) }
+        ensures refused { IfErr result (λ fault. IsAdditionFault fault
+            (first_lost engine.now.history
+            (rebased self.now.session (length engine.now.history) choice)
+            self.now.session.edits)) }
     {
         let mut view = view_now(alloc, engine, choice)?;
         apply_all(&mut view, self.edits.as_slice())?;
@@ -88,8 +100,12 @@ fn apply_all(view: &mut View, edits: &[Edit]) -> Result<(), SessionFault>
     requires few { length edits.now ≤ LIMITS.edits }
     requires nodes { view.old.nodes_made ≡ 0 }
     requires lines { view.old.lines_made ≡ 0 }
-    ensures open { OnOk result ((history : List AnyCommand) (s : SessionValue) → IsOpen history (with_work s [] view.old) → IsOpen history (with_work s edits.now view.new)) }
-    ensures refused { IfErr result (λ fault. (history : List AnyCommand) (s : SessionValue) → IsOpen history (with_work s [] view.old) → IsAdditionFault fault (first_lost history s.session edits.now)) }
+    ensures open { OnOk result ((history : List AnyCommand) (s : SessionValue) →
+        IsOpen history (with_work s [] view.old) →
+        IsOpen history (with_work s edits.now view.new)) }
+    ensures refused { IfErr result (λ fault. (history : List AnyCommand) (s : SessionValue) →
+        IsOpen history (with_work s [] view.old) →
+        IsAdditionFault fault (first_lost history s.session edits.now)) }
 {
     holding_stands();
     replay_stands();
