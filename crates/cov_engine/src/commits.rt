@@ -36,7 +36,10 @@ impl Model for Commits {
 
     ghost coded = { Prim.hlevel (codes, row.the_row.coded) };
 
-    ghost view = { λ c. record { items = c.marks.items; spare = vec_capacity c.marks - vec_len c.marks } };
+    ghost view = { λ c. record {
+      items = c.marks.items;
+      spare = vec_capacity c.marks - vec_len c.marks;
+    } };
 
     ghost invariant = { λ c. AreNoted (noted c.notes) c.marks.items };
 }

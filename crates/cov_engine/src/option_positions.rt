@@ -22,7 +22,8 @@ impl Model for OptionPositions {
 
     ghost view = { λ p. p.positions.items };
 
-    ghost invariant = { λ p. (length p.positions.items ≤ LIMITS.options) × (LIMITS.options ≤ vec_capacity p.positions) };
+    ghost invariant = { λ p. (length p.positions.items ≤ LIMITS.options)
+        × (LIMITS.options ≤ vec_capacity p.positions) };
 }
 
 impl OptionPositions {

@@ -3,7 +3,7 @@ ghost use Rattle.std.specs.Prelude.{◌≡◌, ◌<◌, ◌≤◌, ℕ, List, Bo
 ghost use Rattle.std.specs.List.{list_all, range_with_len};
 ghost use Rattle.cov_base.specs.declared.limits.TheConstants.{CHOICE_WIDTH};
 ghost use Rattle.cov_expr.specs.Partials.{bound_value, partial_of};
-ghost use Rattle.cov_expr.specs.Binding.{numbered, first_undeclared, first_repeated, bound, IsBindFaultOf, IsUnknown, IsRepetition};
+ghost use Rattle.cov_expr.specs.Binding.{numbered, first_undeclared, first_repeated, bound, IsUnknown, IsRepetition};
 
 use crate::{Options, Partial, RawChoice};
 use cov_base::{Memory, OptionId, Text};

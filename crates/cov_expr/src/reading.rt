@@ -1,7 +1,7 @@
 // Reading the tokens of an expression one after another, without recursion.
 ghost use Rattle.std.specs.Prelude.{◌≡◌, ◌+◌, ◌<◌, ◌^◌, IfOk, List, ℕ, Option, Some, None, reverse};
 ghost use Rattle.std.specs.Option.{option_map};
-ghost use Rattle.cov_expr.specs.Reading.{ParserState, start, next, after_token, after_and, after_or, with_nots, settled, finished};
+ghost use Rattle.cov_expr.specs.Reading.{start, next, after_token, after_and, after_or, with_nots, settled, finished};
 ghost use Rattle.cov_expr.specs.Readings.{state_of};
 
 use crate::token::Token;

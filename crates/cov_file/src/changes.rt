@@ -162,7 +162,8 @@ impl Changes {
         requires { first + length self.old.nodes ≤ length from.now }
         ensures next { result ≡ first + length self.old.nodes }
         ensures nodes { self.new.nodes ≡ take (length self.old.nodes) (drop first from.now) }
-        ensures lists { AreRenumberedLists self.old.nodes self.new.nodes self.old.lists self.new.lists }
+        ensures lists { AreRenumberedLists self.old.nodes self.new.nodes
+            self.old.lists self.new.lists }
         ensures all { AreAllListed self.old.nodes self.old.lists }
         ensures dates { map dates_of self.new.lists ≡ map dates_of self.old.lists }
         ensures newest { self.new.newest ≡ self.old.newest }

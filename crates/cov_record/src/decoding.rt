@@ -1,7 +1,7 @@
 // Commands from bytes.
 ghost use Rattle.std.specs.Prelude.{◌≡◌, IfOk, IsErrOf};
 ghost use Rattle.cov_record.specs.Laws.{IsRecordOf, IsNoRecord};
-ghost use Rattle.cov_record.specs.Reading.{Takes, Gives, GivesAlone, OnlyIf, front_option, front_constraint, front_prefer, front_default, front_rest, front_ambition, front_commit, front_command, front_counted, front_expression};
+ghost use Rattle.cov_record.specs.Reading.{Gives, GivesAlone, OnlyIf, front_option, front_constraint, front_prefer, front_default, front_rest, front_ambition, front_commit, front_command, front_counted};
 
 use crate::ahead::Ahead;
 use crate::choices::{take_bit, take_choice};

@@ -2,7 +2,7 @@
 ghost use Rattle.std.specs.Prelude.{◌≡◌, ◌≤◌, true, length, drop, IfOk};
 ghost use Rattle.cov_base.specs.Spelling.{is_line_text};
 ghost use Rattle.cov_edit.specs.EditFits.{has_line_text};
-ghost use Rattle.cov_record.specs.Reading.{Takes, Gives, front_kind, front_node, front_line, front_name, front_option_name, front_text, front_new, front_insert, front_delete, front_rename, front_move, front_remove, front_edit, front_edits, front_counted, EndsReading, Puts, joined};
+ghost use Rattle.cov_record.specs.Reading.{Takes, Gives, front_kind, front_node, front_line, front_name, front_option_name, front_text, front_new, front_insert, front_delete, front_rename, front_move, front_remove, front_edit, front_edits, EndsReading, Puts, joined};
 
 use crate::ahead::Ahead;
 use crate::fault::{Fault, NotARecord};

@@ -2,7 +2,7 @@
 ghost use Rattle.std.specs.Prelude.{◌≡◌, ◌≤◌, ◌<◌, ◌+◌, [], OnOk, OnErr, IfOk, IfSome, IsErrOf, reverse, Option, Some, None, List, ℕ};
 ghost use Rattle.cov_base.specs.declared.limits.TheConstants.{MOST_PARTS};
 ghost use Rattle.cov_expr.specs.Formula.{Formula, Not, And, Or, part_count};
-ghost use Rattle.cov_record.specs.Reading.{Takes, Gives, EndsParts, front_named, front_sign, front_forest, front_expression, width, taken, pushed, onto, lone, first};
+ghost use Rattle.cov_record.specs.Reading.{Takes, Gives, EndsParts, front_named, front_sign, front_forest, front_expression, width, taken, pushed, first};
 
 use crate::ahead::Ahead;
 use crate::fault::{Fault, NotARecord};
@@ -207,7 +207,8 @@ fn bounded(tree: Tree) -> Result<Expr, Fault>
 
 // The expression that a part is by itself, None where it stands over others.
 fn alone(sign: Sign) -> Option<Tree>
-    ensures { IfSome result (λ tree. (bytes rest : List ℕ) → front_sign bytes ≡ Some (sign, rest) → front_expression bytes ≡ Some (tree, rest)) }
+    ensures { IfSome result (λ tree. (bytes rest : List ℕ) →
+        front_sign bytes ≡ Some (sign, rest) → front_expression bytes ≡ Some (tree, rest)) }
 {
     match sign {
         Sign::Never => Some(Tree { part: Part::False }),

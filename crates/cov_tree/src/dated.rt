@@ -1,6 +1,5 @@
 // A node with its own changes.
 ghost use Rattle.std.specs.Prelude.{◌≡◌, ◌<◌, ◌≤◌, ◌+◌, ◌++◌, [], length, take, drop, IfOk, OnOk, OnErr};
-ghost use Rattle.cov_base.specs.Older.{value_at};
 ghost use Rattle.cov_tree.specs.Dated.{entry_at, newest_entry, with_no_room};
 ghost use Rattle.cov_tree.specs.Installing.{IsChanged};
 ghost use Rattle.cov_tree.specs.Renumbered.{entry_visibilities, entry_without_vis, Gets};
@@ -85,7 +84,8 @@ impl DatedEntry {
     pub(crate) fn renumber(&mut self, alloc: Global, from: &[Node], first: u64) -> u64
         requires { first + length (entry_visibilities self.old) ≤ length from.now }
         ensures next { result ≡ first + length (entry_visibilities self.old) }
-        ensures entry { Gets entry_visibilities entry_without_vis self.old self.new (drop first from.now) }
+        ensures entry { Gets entry_visibilities entry_without_vis self.old self.new
+            (drop first from.now) }
     {
         let second = self.places.renumber(from, first);
         renumber_lists(&mut self.older, alloc, from, second)

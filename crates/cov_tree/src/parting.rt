@@ -2,7 +2,7 @@
 ghost use Rattle.std.specs.Prelude.{◌≡◌, ◌<◌, ◌≤◌, ◌++◌, ◌&&◌, [], ◌∷◌, ℕ, List, Bool, true, length, IfOk, OnOk, if◌then◌else◌};
 ghost use Rattle.cov_dd.specs.Diagrams.{diagram_size, value_in, Extends};
 ghost use Rattle.cov_tree.specs.Entries.{rows_of, AreWithin};
-ghost use Rattle.cov_tree.specs.Shifts.{place_at, shifted, Puts, Adds};
+ghost use Rattle.cov_tree.specs.Shifts.{place_at, shifted, Adds};
 
 use crate::entry::{Place, Places};
 use cov_base::{Memory, Name, NodeNo, Steps, Uncounted};

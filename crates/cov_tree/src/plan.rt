@@ -1,6 +1,6 @@
 // Changes of the nodes of a store that are to come.
 ghost use Rattle.std.specs.Prelude.{◌≡◌, ◌<◌, ◌≤◌, ◌++◌, ◌∷◌, ℕ, List, Bool, [], Some, false, nat_eq, length, position, IfSome, IfOk, OnOk, OnErr};
-ghost use Rattle.cov_base.specs.Rows.{Created, Renamed, Moved, Removed, has_node, AreDistinct, AreOnce};
+ghost use Rattle.cov_base.specs.Rows.{Created, Renamed, Moved, Removed, has_node, AreDistinct};
 ghost use Rattle.cov_dd.specs.declared.triple.Triple.{Triple};
 ghost use Rattle.cov_dd.specs.Diagrams.{diagram_size, Extends};
 ghost use Rattle.cov_tree.specs.Entries.{nodes_of};

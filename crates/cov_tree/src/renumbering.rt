@@ -55,9 +55,12 @@ pub(crate) fn renumber_lists(
     from: &[Node],
     first: u64,
 ) -> u64
-    requires { first + length (all_numbers list_visibilities (reverse older.old.lists)) ≤ length from.now }
-    ensures next { result ≡ first + length (all_numbers list_visibilities (reverse older.old.lists)) }
-    ensures lists { AllGet list_visibilities list_without_vis (reverse older.old.lists) (reverse older.new.lists) (drop first from.now) }
+    requires { first + length (all_numbers list_visibilities (reverse older.old.lists)) ≤
+        length from.now }
+    ensures next { result ≡
+        first + length (all_numbers list_visibilities (reverse older.old.lists)) }
+    ensures lists { AllGet list_visibilities list_without_vis (reverse older.old.lists)
+        (reverse older.new.lists) (drop first from.now) }
     ensures room { older.new.room ≡ older.old.room }
 {
     let mut next = first;

@@ -18,7 +18,8 @@ impl Model for NodeRow {
 
     ghost view = { λ r. record { node = r.node; kind = r.kind; parent = r.parent; name = r.name } };
 
-    ghost inverse = { λ v. record { node = v.node; kind = v.kind; parent = v.parent; name = v.name } };
+    ghost inverse = { λ v.
+        record { node = v.node; kind = v.kind; parent = v.parent; name = v.name } };
 }
 
 /// The nodes of a variant but the root, in the order in which they were made.

@@ -113,7 +113,8 @@ fn make(
     requires within { AreNodesWith table.old plan.old entries.now }
     requires once { AreOnceWith table.old plan.old entries.now }
     requires inner { 2 ≤ diagram_size table.old }
-    ensures nodes { OnOk result (nodes_with plan.new entries.now ≡ nodes_with plan.old entries.now ++ node ∷ []) }
+    ensures nodes { OnOk result (nodes_with plan.new entries.now ≡
+        nodes_with plan.old entries.now ++ node ∷ []) }
     ensures within { AreNodesWith table.new plan.new entries.now }
     ensures once { AreOnceWith table.new plan.new entries.now }
     ensures inner { 2 ≤ diagram_size table.new }

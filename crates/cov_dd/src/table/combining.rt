@@ -1,6 +1,5 @@
 // Boolean operations on nodes. Each goes down both nodes option by option, and no deeper than there are options.
 ghost use Rattle.std.specs.Prelude.{◌≡◌, ◌<◌, ◌≤◌, ◌+◌, ◌-◌, ◌*◌, ℕ, Bool, min, max, not, ◌&&◌, ◌||◌, IfOk, IfSome, IfNone, OnOk, OnErr};
-ghost use Rattle.cov_base.specs.Choices.{is_on};
 ghost use Rattle.cov_dd.specs.declared.operation.Operation.{Operation};
 ghost use Rattle.cov_dd.specs.Diagrams.{diagram_size, top, span, value_in, Extends, Stands};
 ghost use Rattle.cov_dd.specs.Memos.{IsKey};
@@ -26,7 +25,9 @@ impl Table {
         requires a { a < diagram_size self.old }
         requires b { b < diagram_size self.old }
         ensures extends { Extends self.old self.new }
-        ensures stands { IfOk result (λ r. Stands self.new r (first_option self.old a b) (joint_span self.old a b) (λ c. value_in self.old a c && value_in self.old b c)) }
+        ensures stands { IfOk result (λ r.
+            Stands self.new r (first_option self.old a b) (joint_span self.old a b)
+            (λ c. value_in self.old a c && value_in self.old b c)) }
         ensures rising { steps.old ≤ steps.new }
         ensures bound { steps.new - steps.old ≤ size self.old a * size self.old b }
         ensures entries { diagram_size self.new ≤ diagram_size self.old + (steps.new - steps.old) }
@@ -51,7 +52,9 @@ impl Table {
         requires a { a < diagram_size self.old }
         requires b { b < diagram_size self.old }
         ensures extends { Extends self.old self.new }
-        ensures stands { IfOk result (λ r. Stands self.new r (first_option self.old a b) (joint_span self.old a b) (λ c. value_in self.old a c || value_in self.old b c)) }
+        ensures stands { IfOk result (λ r.
+            Stands self.new r (first_option self.old a b) (joint_span self.old a b)
+            (λ c. value_in self.old a c || value_in self.old b c)) }
     {
         let steps = &mut Steps::<Uncounted>::new();
         self.combine(Operation::Or, a, b, &mut Tally::new(), steps)
@@ -62,7 +65,9 @@ impl Table {
         requires a { a < diagram_size self.old }
         requires b { b < diagram_size self.old }
         ensures extends { Extends self.old self.new }
-        ensures stands { IfOk result (λ r. Stands self.new r (first_option self.old a b) (joint_span self.old a b) (λ c. value_in self.old a c && not (value_in self.old b c))) }
+        ensures stands { IfOk result (λ r.
+            Stands self.new r (first_option self.old a b) (joint_span self.old a b)
+            (λ c. value_in self.old a c && not (value_in self.old b c))) }
     {
         let steps = &mut Steps::<Uncounted>::new();
         self.combine(Operation::Without, a, b, &mut Tally::new(), steps)
@@ -72,7 +77,9 @@ impl Table {
     pub fn not(&mut self, a: Node) -> Result<Node, Memory>
         requires { a < diagram_size self.old }
         ensures extends { Extends self.old self.new }
-        ensures stands { IfOk result (λ r. Stands self.new r (top self.old a) (span self.old a) (λ c. not (value_in self.old a c))) }
+        ensures stands { IfOk result (λ r.
+            Stands self.new r (top self.old a) (span self.old a)
+            (λ c. not (value_in self.old a c))) }
     {
         // Reading a field brings the table's invariant into the proof.
         let _ = &self.entries;
@@ -107,7 +114,9 @@ impl Table {
         requires a { a < diagram_size self.old }
         requires b { b < diagram_size self.old }
         ensures extends { Extends self.old self.new }
-        ensures stands { IfOk result (λ r. Stands self.new r (first_option self.old a b) (joint_span self.old a b) (both_in operation self.old a b)) }
+        ensures stands { IfOk result (λ r.
+            Stands self.new r (first_option self.old a b) (joint_span self.old a b)
+            (both_in operation self.old a b)) }
         ensures rising { steps.old ≤ steps.new }
         ensures bound { steps.new - steps.old ≤ size self.old a * size self.old b }
         ensures entries { diagram_size self.new ≤ diagram_size self.old + (steps.new - steps.old) }
@@ -130,9 +139,12 @@ impl Table {
         requires a { a < diagram_size self.old }
         requires b { b < diagram_size self.old }
         requires right { AreRight operation self.old memo.old.made }
-        ensures runs { Runs operation self.old self.new a b memo.old.made memo.new.made steps.old steps.new }
+        ensures runs { Runs operation self.old self.new a b
+            memo.old.made memo.new.made steps.old steps.new }
         ensures ticks { steps.new + makes.old.number ≡ steps.old + makes.new.number }
-        ensures stands { IfOk result (λ r. Stands self.new r (first_option self.old a b) (joint_span self.old a b) (both_in operation self.old a b)) }
+        ensures stands { IfOk result (λ r.
+            Stands self.new r (first_option self.old a b) (joint_span self.old a b)
+            (both_in operation self.old a b)) }
     {
         if let Some(node) = self.settled(operation, a, b) {
             return Ok(node);
@@ -159,7 +171,9 @@ impl Table {
     fn settled(&self, operation: Operation, a: Node, b: Node) -> Option<Node>
         requires a { a < diagram_size self.now }
         requires b { b < diagram_size self.now }
-        ensures some { IfSome result (λ r. Stands self.now r (first_option self.now a b) (joint_span self.now a b) (both_in operation self.now a b)) }
+        ensures some { IfSome result (λ r.
+            Stands self.now r (first_option self.now a b) (joint_span self.now a b)
+            (both_in operation self.now a b)) }
         ensures none { IfNone result (1 < b) }
     {
         // Reading a field brings the table's invariant into the proof.
@@ -181,8 +195,10 @@ impl Table {
         requires off_above { triple.option < top self.old triple.off }
         requires on_above { triple.option < top self.old triple.on }
         requires fresh { IsKey memo.old.made pair → ⊥ }
-        ensures ok { IfOk result (Joins self.old self.new pair triple memo.old.made memo.new.made steps.old steps.new) }
-        ensures err { OnErr result (Rests self.old self.new memo.old.made memo.new.made steps.old steps.new) }
+        ensures ok { IfOk result (Joins self.old self.new pair triple
+            memo.old.made memo.new.made steps.old steps.new) }
+        ensures err { OnErr result (Rests self.old self.new
+            memo.old.made memo.new.made steps.old steps.new) }
         ensures ticks { steps.new + makes.old.number ≡ steps.old + makes.new.number }
     {
         memo.reserve()?;

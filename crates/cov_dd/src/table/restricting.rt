@@ -15,7 +15,8 @@ impl Table {
     pub fn restrict(&mut self, a: Node, option: OptionId, on: bool) -> Result<Node, Memory>
         requires { a < diagram_size self.old }
         ensures extends { Extends self.old self.new }
-        ensures stands { IfOk result (λ r. Stands self.new r (top self.old a) (span self.old a) (cofactor self.old a option on)) }
+        ensures stands { IfOk result (λ r.
+            Stands self.new r (top self.old a) (span self.old a) (cofactor self.old a option on)) }
         ensures entries { diagram_size self.new ≤ diagram_size self.old + size self.old a }
     {
         let mut memo = Memo::new(*self.entries.allocator());
@@ -33,7 +34,8 @@ impl Table {
         requires a { a < diagram_size self.old }
         requires right { AreCofactors option on self.old memo.old.made }
         ensures restricts { Restricts option on self.old self.new a memo.old.made memo.new.made }
-        ensures stands { IfOk result (λ r. Stands self.new r (top self.old a) (span self.old a) (cofactor self.old a option on)) }
+        ensures stands { IfOk result (λ r.
+            Stands self.new r (top self.old a) (span self.old a) (cofactor self.old a option on)) }
     {
         if let Some(node) = self.restricted(a, option, on) {
             return Ok(node);
@@ -67,7 +69,8 @@ impl Table {
     // The cofactor where it needs no new entry. Else the node's own option comes before the one that is set.
     fn restricted(&self, a: Node, option: OptionId, on: bool) -> Option<Node>
         requires { a < diagram_size self.now }
-        ensures some { IfSome result (λ r. Stands self.now r (top self.now a) (span self.now a) (cofactor self.now a option on)) }
+        ensures some { IfSome result (λ r.
+            Stands self.now r (top self.now a) (span self.now a) (cofactor self.now a option on)) }
         ensures none { IfNone result (top self.now a < option) }
     {
         // Reading a field brings the table's invariant into the proof.
@@ -87,7 +90,8 @@ impl Table {
     fn side(&self, a: Node, option: OptionId, on: bool) -> Node
         requires a { a < diagram_size self.now }
         requires own { top self.now a ≡ option }
-        ensures { Stands self.now result (top self.now a) (span self.now a) (cofactor self.now a option on) }
+        ensures { Stands self.now result (top self.now a) (span self.now a)
+            (cofactor self.now a option on) }
     {
         // Reading a field brings the table's invariant into the proof.
         let _ = &self.entries;

@@ -160,7 +160,8 @@ impl Kept {
     fn add(&mut self, triple: Triple, is_kept: bool) -> Result<(), Memory>
         requires off { triple.off < length self.old.numbers }
         requires on { triple.on < length self.old.numbers }
-        ensures numbers { OnOk result (self.new.numbers ≡ self.old.numbers ++ diagram_size self.old.entries ∷ []) }
+        ensures numbers { OnOk result (self.new.numbers ≡
+            self.old.numbers ++ diagram_size self.old.entries ∷ []) }
         ensures kept { IsTrue is_kept → OnOk result (HasKept self.old self.new triple) }
         ensures left { IsFalse is_kept → OnOk result (self.new.entries ≡ self.old.entries) }
     {

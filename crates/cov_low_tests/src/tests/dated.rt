@@ -20,10 +20,12 @@ const SHOWN: [(u32, u32); 2] = [(20_001, 20_001), (40_001, 40_001)];
 
 // Puts a line in after the one before it.
 fn add_after(alloc: Global, file: &mut FileLines, anchor: u32) -> Result<(), Memory>
-    requires numbers { (n : ℕ) → has_line n (line_numbers_of file.old.lines) ≡ (nat_lt 0 n && nat_le n anchor) }
+    requires numbers { (n : ℕ) → has_line n (line_numbers_of file.old.lines) ≡
+        (nat_lt 0 n && nat_le n anchor) }
     requires newest { file.old.newest ≤ 1 }
     requires few { anchor < 2 ^ 32 - 1 }
-    ensures numbers { OnOk result ((n : ℕ) → has_line n (line_numbers_of file.new.lines) ≡ (nat_lt 0 n && nat_le n (anchor + 1))) }
+    ensures numbers { OnOk result ((n : ℕ) → has_line n (line_numbers_of file.new.lines) ≡
+        (nat_lt 0 n && nat_le n (anchor + 1))) }
     ensures newest { file.new.newest ≤ 1 }
 {
     file.prepare(1, &LineNos::new(alloc))?;
@@ -36,7 +38,8 @@ fn add_after(alloc: Global, file: &mut FileLines, anchor: u32) -> Result<(), Mem
 fn add_lines(alloc: Global, file: &mut FileLines) -> Result<(), Memory>
     requires lines { file.old.lines ≡ [] }
     requires newest { file.old.newest ≤ 1 }
-    ensures numbers { OnOk result ((n : ℕ) → has_line n (line_numbers_of file.new.lines) ≡ (nat_lt 0 n && nat_le n 65536)) }
+    ensures numbers { OnOk result ((n : ℕ) → has_line n (line_numbers_of file.new.lines) ≡
+        (nat_lt 0 n && nat_le n 65536)) }
     ensures newest { file.new.newest ≤ 1 }
 {
     let mut count = 0;
@@ -63,7 +66,8 @@ fn hide(alloc: Global, file: &mut FileLines, line: u32) -> Result<(), Memory>
 }
 
 fn hide_lines(alloc: Global, file: &mut FileLines) -> Result<(), Memory>
-    requires numbers { (n : ℕ) → has_line n (line_numbers_of file.old.lines) ≡ (nat_lt 0 n && nat_le n 65536) }
+    requires numbers { (n : ℕ) → has_line n (line_numbers_of file.old.lines) ≡
+        (nat_lt 0 n && nat_le n 65536) }
     requires newest { file.old.newest ≤ 1 }
 {
     let mut count = 0;

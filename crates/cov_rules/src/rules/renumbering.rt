@@ -37,7 +37,8 @@ impl Rules {
     pub fn renumber(&mut self, from: &Nodes, first: u64) -> u64
         requires { first + length (nodes_of self.old.standing) ≤ length from.now }
         ensures next { result ≡ first + length (nodes_of self.old.standing) }
-        ensures nodes { nodes_of self.new.standing ≡ take (length (nodes_of self.old.standing)) (drop first from.now) }
+        ensures nodes { nodes_of self.new.standing ≡
+            take (length (nodes_of self.old.standing)) (drop first from.now) }
         ensures same { without_nodes self.new.standing ≡ without_nodes self.old.standing }
         ensures holds { HoldRenumbered self.old.standing self.new.standing }
         ensures spare { self.new.spare ≡ self.old.spare }

@@ -28,7 +28,8 @@ impl Entries {
     pub fn renumber(&mut self, from: &Nodes, first: u64) -> u64
         requires { first + length (visibilities self.old) ≤ length from.now }
         ensures next { result ≡ first + length (visibilities self.old) }
-        ensures nodes { visibilities self.new ≡ take (length (visibilities self.old)) (drop first from.now) }
+        ensures nodes { visibilities self.new ≡
+            take (length (visibilities self.old)) (drop first from.now) }
         ensures same { without_visibilities self.new ≡ without_visibilities self.old }
         ensures rows { KeepsRows self.old self.new }
     {
@@ -53,7 +54,8 @@ fn append(entries: &[DatedEntry], into: &mut Nodes) -> Result<(), Memory>
 fn renumber_all(entries: &mut Vec<DatedEntry>, from: &[Node], first: u64) -> u64
     requires { first + length (all_numbers entry_visibilities entries.old.items) ≤ length from.now }
     ensures next { result ≡ first + length (all_numbers entry_visibilities entries.old.items) }
-    ensures entries { AllGet entry_visibilities entry_without_vis entries.old.items entries.new.items (drop first from.now) }
+    ensures entries { AllGet entry_visibilities entry_without_vis
+        entries.old.items entries.new.items (drop first from.now) }
     ensures capacity { vec_capacity entries.new ≡ vec_capacity entries.old }
     ensures len { vec_len entries.new ≡ vec_len entries.old }
 {
