@@ -5,7 +5,7 @@ use Rattle.std.proofs.lemmas.Bool.Decides.{nat_tests}
 use Rattle.std.specs.List.{fold, AllByRecursion}
 use Rattle.cov_base.proofs.CallerLemmas.{all-map}
 use Rattle.cov_dd.specs.declared.triple.Triple.{Triple}
-use Rattle.cov_dd.specs.Diagrams.{Extends}
+use Rattle.cov_dd.specs.Diagrams.{diagram_size, Extends}
 use Rattle.cov_expr.specs.Formula.{value}
 use Rattle.cov_file.specs.Dated.{DatedLine as FileLine, vis_at}
 use Rattle.cov_edit.specs.declared.command.Command.{Command}
@@ -27,6 +27,7 @@ use Rattle.cov_visible.specs.Parts.{files_among}
 use Rattle.cov_engine.specs.Holdings.{IsFileOf, AreEntriesOf, AreRowsAndLinesOf}
 use Rattle.cov_tree.specs.Carried.{AreNodesAt}
 use Rattle.cov_tree.specs.Dated.{Dated, rows_at as entry_rows, nodes_in, kinds_in}
+use Rattle.cov_tree.specs.Renumbered.{visibilities, AreNodes}
 use Rattle.cov_tree.proofs.CallerLemmas.{nodes_stay, rows_stay}
 use Rattle.cov_history.specs.Sessions.{has_commit}
 use Rattle.cov_engine.proofs.Marking.{marks-grown, marks-declared}
@@ -78,11 +79,16 @@ dated-on old new count more (d ∷ ds) (l ∷ ls) grown few h = (
 pub itself : (ts : List Triple) → Extends ts ts
 itself ts = record { more = []; is = refl; count = omega arith; least = λ a within. refl; most = λ a within. refl; value = λ a within c. refl }
 
+-- nodes of a table are nodes of one that has more entries
+pub nodes-grown : (old new : List Triple) → Extends old new → (ns : List ℕ) → AreNodes old ns → AreNodes new ns
+nodes-grown old new grown ns h = all-map (λ n. n < diagram_size old) (λ n. n < diagram_size new) (λ n low. let more = grown.count in omega (arith, low, more)) ns h
+
 -- the entries are so with a table that has more entries
 pub entries-grown : (history : List Command) (old new : List Triple) (entries : Dated) → AreEntriesOf history old entries → Extends old new → AreEntriesOf history new entries
 entries-grown history old new entries held grown = record {
   rows = λ c p. rows_stay.at old new entries grown held.within c p ∙ held.rows c p;
   within = nodes_stay.at old new entries grown held.within;
+  kept = nodes-grown old new grown (visibilities entries) held.kept;
   from = held.from;
 }
 
@@ -98,6 +104,7 @@ held-grown history old new commits file_of_line entries stored held grown = reco
       (λ e h. record {
         lines = dated-on old new (option_count history) (option_count history) (file_dated e.node (kept_of history)) e.lines.lines grown (omega arith) h.lines;
         newest = h.newest;
+        nodes = nodes-grown old new grown e.lines.nodes h.nodes;
       })
       stored held.files;
   lines = held.lines;
@@ -147,6 +154,7 @@ held-declared history longer k ts commits file_of_line entries stored held h e =
   of_entries = record {
     rows = λ c p. held.of_entries.rows c p ∙ sym (ap (λ (v : Variant). v.rows) (rows-declared c p history k h));
     within = held.of_entries.within;
+    kept = held.of_entries.kept;
     from = let one = length_push history k in let from = held.of_entries.from in omega (arith, one, from);
   };
   below = subst (λ (ns : Numbers). AllByRecursion (λ node. node ≤ ns.nodes) (nodes_in entries)) (sym (numbers-kept history k h)) held.below;
@@ -157,6 +165,7 @@ held-declared history longer k ts commits file_of_line entries stored held h e =
         lines = subst (λ (held : Holding). AreDated ts (option_count (history ++ k ∷ [])) (file_dated stored.node held.lines) stored.lines.lines) (sym (held-same history k h))
             (dated-on ts ts (option_count history) (option_count (history ++ k ∷ [])) (file_dated stored.node (kept_of history)) stored.lines.lines (itself ts) (options-grow history (k ∷ [])) file.lines);
         newest = let one = length_push history k in let newest = file.newest in omega (arith, one, newest);
+        nodes = file.nodes;
       })
       stored held.files;
   lines = held.lines ∙ ap (λ ns. length ns.addresses) (sym (numbers-kept history k h));
@@ -176,12 +185,13 @@ take-none (suc p) = refl
 -- before any command nothing is held
 pub held-none : (history : List Command) (ts : List Triple) (commits : List CommitMark) (file_of_line : List ℕ) (entries : Dated) (stored : List FilePart) → history ≡ [] → commits ≡ [] → file_of_line ≡ [] → stored ≡ []
     → entries.from ≡ 0 → ((table : List Triple) (c : List Bool) (p : ℕ) → entry_rows table c p entries ≡ []) → nodes_in entries ≡ [] → kinds_in entries ≡ [] → ((table : List Triple) → AreNodesAt table entries)
-    → AreRowsAndLinesOf history ts commits file_of_line entries stored
-held-none history ts commits file_of_line entries stored he ce le ee from none nodes kinds within =
+    → visibilities entries ≡ [] → AreRowsAndLinesOf history ts commits file_of_line entries stored
+held-none history ts commits file_of_line entries stored he ce le ee from none nodes kinds within kept =
     rw (he, ce, le, ee) (record {
       of_entries = record {
         rows = λ c p. none ts c p ∙ ap (λ h. (replay c h).rows) (sym (take-none p));
         within = within ts;
+        kept = subst (AreNodes ts) (sym kept) tt;
         from = omega (arith, from);
       };
       below = subst (AllByRecursion (λ node. node ≤ 0)) (sym nodes) tt;

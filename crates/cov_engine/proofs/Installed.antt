@@ -18,6 +18,7 @@ use Rattle.cov_history.specs.Kept.{held_by, kept_of}
 use Rattle.cov_history.specs.Files.{dated, file_dated}
 use Rattle.cov_tree.specs.declared.entry.Entry.{Entry}
 use Rattle.cov_tree.specs.Dated.{Dated, nodes_in, kinds_in}
+use Rattle.cov_tree.specs.Renumbered.{AreNodes}
 use Rattle.cov_visible.specs.RowPlans.{IsSet}
 use Rattle.cov_engine.specs.Holdings.{IsFileOf, AreRowsAndLinesOf}
 use Rattle.cov_visible.specs.Parts.{part_node, files_among}
@@ -67,22 +68,22 @@ edits-low history base choice ambition es few good legal =
 -- stored files that are the same but for their room have the same files
 pub files-contents : (history : List Command) (ts : List Triple) (old now : List FilePart) → map contents now ≡ map contents old → AllByRecursion (IsFileOf history ts) old → AllByRecursion (IsFileOf history ts) now
 files-contents history ts old now same files =
-    all-map (λ e. HasFile (contents e)) (IsFileOf history ts) (λ e h. record { lines = h.0; newest = h.1 }) now
-    (all-unmapped HasFile contents now (subst (AllByRecursion HasFile) (sym same) (all-mapped (IsFileOf history ts) HasFile contents (λ e h. (h.lines, h.newest)) old files)))
+    all-map (λ e. HasFile (contents e)) (IsFileOf history ts) (λ e h. record { lines = h.0; newest = h.1; nodes = h.2 }) now
+    (all-unmapped HasFile contents now (subst (AllByRecursion HasFile) (sym same) (all-mapped (IsFileOf history ts) HasFile contents (λ e h. (h.lines, h.newest, h.nodes)) old files)))
   where
     HasFile : Contents → Type 0
-    HasFile s = AreDated ts (option_count history) (file_dated s.node (kept_of history)) s.lines × (s.newest ≤ length history)
+    HasFile s = AreDated ts (option_count history) (file_dated s.node (kept_of history)) s.lines × (s.newest ≤ length history) × AreNodes ts s.nodes
 
 -- stored files before and after an edit are of the same rows
 module _ {X : Type 0} (row : FilePart → X) (same : (e f : FilePart) → contents e ≡ contents f → row e ≡ row f)
-    (kept : (e : FilePart) (ls : List FileLine) (newest : ℕ) (f : FilePart) → contents f ≡ with_other_lines e ls newest → row f ≡ row e) where
+    (kept : (e : FilePart) (ls : List FileLine) (newest : ℕ) (ns : List ℕ) (f : FilePart) → contents f ≡ with_other_lines e ls newest ns → row f ≡ row e) where
   plan-row : (q : ℕ) (s : ResolvedEdit) (e f : FilePart) → IsChangedIn (edited_node s) (IsCarriedOut q s) e f → row f ≡ row e
   plan-row q s e f h = by (nat_eq e.node (edited_node s)) refl
     where
       own : (s : ResolvedEdit) → IsCarriedOut q s e f → row f ≡ row e
       own (resolved.New node kind parent name on) k = ap row k
-      own (resolved.Insert file anchor line text vis) k = kept e f.lines.lines q f k.row
-      own (resolved.Delete file line vis) k = kept e f.lines.lines q f k.row
+      own (resolved.Insert file anchor line text vis) k = kept e f.lines.lines q f.lines.nodes f k.row
+      own (resolved.Delete file line vis) k = kept e f.lines.lines q f.lines.nodes f k.row
       own (resolved.Rename node name on) k = ap row k
       own (resolved.Move node parent on) k = ap row k
       own (resolved.Remove node on) k = ap row k
@@ -145,15 +146,15 @@ module _ (history : List Command) (base : ℕ) (choice : List Bool) (ambition : 
   staged-rise = subst AreRising (sym staged-files) (files-rise (history ++ commit ∷ [])).0
 
   abbrev IsKeptFile : Contents → Type 0
-  IsKeptFile s = AreDated ts (option_count history) (file_dated s.node (kept_of history)) s.lines × (s.newest ≤ q)
+  IsKeptFile s = AreDated ts (option_count history) (file_dated s.node (kept_of history)) s.lines × (s.newest ≤ q) × AreNodes ts s.nodes
 
   kept-files : AllByRecursion IsKeptFile (map contents stored)
   kept-files =
       subst (AllByRecursion IsKeptFile) (sym staged.files)
       (all-append IsKeptFile (map contents staged.old_stored) (new_files n es)
-      (all-mapped (IsFileOf history ts) IsKeptFile contents (λ e h. (h.lines, let low = h.newest in omega (arith, low))) staged.old_stored staged.held.files)
+      (all-mapped (IsFileOf history ts) IsKeptFile contents (λ e h. (h.lines, let low = h.newest in omega (arith, low), h.nodes)) staged.old_stored staged.held.files)
       (new-files-all IsKeptFile n es (λ node h.
-      (subst (λ ks. AreDated ts (option_count history) (map dated ks) []) (sym (file-empty n node (kept_of history) h (legal-files history legal))) tt, omega arith))))
+      (subst (λ ks. AreDated ts (option_count history) (map dated ks) []) (sym (file-empty n node (kept_of history) h (legal-files history legal))) tt, omega arith, tt))))
 
   above-zero : AllByRecursion (λ (e : FilePart). 0 < e.node) stored
   above-zero =
@@ -171,6 +172,7 @@ module _ (history : List Command) (base : ℕ) (choice : List Bool) (ambition : 
         above = h.0;
         are_dated = file.0;
         newest = file.1;
+        nodes = file.2;
         inserts = h.1.inserts;
         changes = h.1.changes;
         position = λ t. any-position q e.lines.room.position (h.1.position t);
@@ -209,7 +211,7 @@ module _ (history : List Command) (base : ℕ) (choice : List Bool) (ambition : 
   pub held-committed : (later : Dated) (after : List FilePart) → IsSet q plan entries later → AreInstalled q ss stored after → AreRowsAndLinesOf (history ++ commit ∷ []) ts all_commits file_of_line later after
   held-committed later after set installed =
       let same : map part_node after ≡ map part_node stored =
-      installed-rows part_node (λ e f same. ap (λ (s : Contents). s.node) same) (λ e ls newest f same. ap (λ (s : Contents). s.node) same) q ss stored after installed in
+      installed-rows part_node (λ e f same. ap (λ (s : Contents). s.node) same) (λ e ls newest ns f same. ap (λ (s : Contents). s.node) same) q ss stored after installed in
       let one = length_push commits mark in
       let longer = length_push history commit in
       let count : length commits + 1 ≡ length all_commits = sym one in
@@ -225,6 +227,7 @@ module _ (history : List Command) (base : ℕ) (choice : List Bool) (ambition : 
               lines = subst (λ ks. AreDated ts (option_count (history ++ commit ∷ [])) (file_dated e.node ks) e.lines.lines) lines-now
                   (subst (λ c. AreDated ts c (file_dated e.node (held_amid history ambition es es).lines) e.lines.lines) (sym options-now) h.are_dated);
               newest = let low = h.newest in omega (arith, low, longer);
+              nodes = h.nodes;
             }) installed.0 (all-carried.1 installed.0 installed.1));
         lines = ap length staged.file_of_line_is ∙ line-files-after history base choice ambition es staged.old_file_of_line n staged.held.lines;
         in_files = subst (AreFilesOfLines (kept_of (history ++ commit ∷ [])) 0) (sym staged.file_of_line_is)

@@ -9,7 +9,7 @@ use Rattle.cov_base.proofs.CallerLemmas.{all-map}
 use Rattle.cov_base.specs.declared.number.NodeRef.{NodeRef}
 use Rattle.cov_base.specs.declared.number.LineRef.{LineRef}
 use Rattle.cov_dd.specs.declared.triple.Triple.{Triple}
-use Rattle.cov_dd.specs.Diagrams.{Stands}
+use Rattle.cov_dd.specs.Diagrams.{diagram_size, Stands}
 use Rattle.cov_dd.proofs.CallerLemmas.{stands_weaker}
 use Rattle.cov_expr.specs.Formula.{Formula, Not, And, value}
 use Rattle.cov_edit.specs.declared.edit.Edit.{Edit}
@@ -20,8 +20,10 @@ use Rattle.cov_edit.specs.Numbering.{node_number, line_number, anchors_of, numbe
 use Rattle.cov_edit.specs.Variant.{Line}
 use Rattle.cov_file.specs.Dated.{DatedLine as FileLine, line_numbers_of as file_numbers, new_line, with_line, with_change, AreAlike}
 use Rattle.cov_file.specs.Rooms.{DatedFile, is_room_at, IsLeft}
-use Rattle.cov_file.proofs.CallerLemmas.{has_after}
+use Rattle.cov_file.specs.Renumbered.{AddsNode}
+use Rattle.cov_file.proofs.CallerLemmas.{added_below, has_after}
 use Rattle.cov_order.specs.Orders.{has_line}
+use Rattle.cov_tree.specs.Renumbered.{AreNodes}
 use Rattle.cov_history.specs.Deletions.{Deletion, hidden_by}
 use Rattle.cov_history.specs.FileOfLine.{new_file_of_line, AreFilesOfLines}
 use Rattle.cov_visible.specs.Staging.{Contents, named_line, inserts_into, deletes_from, touches}
@@ -197,6 +199,7 @@ module _ (history : List Command) (base : ℕ) (choice : List Bool) (ambition : 
       pub above : 0 < node
       pub are_dated : AreDated ts count (file_dated node (lines_at begun)) file.lines
       pub newest : file.newest ≤ q
+      pub nodes : AreNodes ts file.nodes
       pub inserts : inserts_into node left ≤ file.room.inserts
       pub changes : (line : ℕ) → deletes_from node line left ≡ true → has_line line (file_numbers file.lines) ≡ true → has_line line file.room.changes ≡ true
       pub position : touches node left ≡ true → is_room_at q file.room ≡ true
@@ -205,6 +208,7 @@ module _ (history : List Command) (base : ℕ) (choice : List Bool) (ambition : 
     pub record IsRight (ks : List (Kept Line)) (file line vis : ℕ) : Type 0 where
       pub taken : 0 < file → AllByRecursion (IsGone ts count ambition q line vis) (file_dated file ks)
       pub fresh : m < line → Stands ts vis 0 count (λ c. false)
+      pub within : vis < diagram_size ts
 
     -- edits by numbers, so many nodes and lines having been made before these
     abbrev pub AreRight : List (Kept Line) → ℕ → ℕ → List Edit → List ResolvedEdit → Type 0
@@ -241,7 +245,7 @@ module _ (history : List Command) (base : ℕ) (choice : List Bool) (ambition : 
     -- what is right stays so when a line is put in
     insert-right : (begun later : List Edit) (file : NodeRef) (after : LineRef) (text : List ℕ) (all : begun ++ edits.Insert file after text ∷ later ≡ es) (other line vis : ℕ)
         → IsRight (lines_at begun) other line vis → IsRight (lines_at (begun ++ edits.Insert file after text ∷ [])) other line vis
-    insert-right begun later file after text all other line vis h = record { taken = λ above. by above (nat_eq (node_number n file) other) refl; fresh = h.fresh }
+    insert-right begun later file after text all other line vis h = record { taken = λ above. by above (nat_eq (node_number n file) other) refl; fresh = h.fresh; within = h.within }
       where
         by : 0 < other → (b : Bool) → nat_eq (node_number n file) other ≡ b → AllByRecursion (IsGone ts count ambition q line vis) (file_dated other (lines_at (begun ++ edits.Insert file after text ∷ [])))
         by above true is =
@@ -256,7 +260,7 @@ module _ (history : List Command) (base : ℕ) (choice : List Bool) (ambition : 
     -- and when a line is taken out
     delete-right : (begun later : List Edit) (file : NodeRef) (gone : LineRef) (all : begun ++ edits.Delete file gone ∷ later ≡ es) (other line vis : ℕ)
         → IsRight (lines_at begun) other line vis → IsRight (lines_at (begun ++ edits.Delete file gone ∷ [])) other line vis
-    delete-right begun later file which all other line vis h = record { taken = λ above. by above (nat_eq (node_number n file) other) refl; fresh = h.fresh }
+    delete-right begun later file which all other line vis h = record { taken = λ above. by above (nat_eq (node_number n file) other) refl; fresh = h.fresh; within = h.within }
       where
         by : 0 < other → (b : Bool) → nat_eq (node_number n file) other ≡ b → AllByRecursion (IsGone ts count ambition q line vis) (file_dated other (lines_at (begun ++ edits.Delete file which ∷ [])))
         by above true is =
@@ -307,8 +311,8 @@ module _ (history : List Command) (base : ℕ) (choice : List Bool) (ambition : 
 
       -- and has it then
       inserted-here : (old new : DatedFile) → IsHere f begun (put ∷ left) old → AreAlike new.lines (with_line anchor (new_line (had + 1) text a q) old.lines)
-          → IsLeft old.room new.room q 1 → has_line (had + 1) new.room.changes ≡ true → new.newest ≡ q → IsHere f (begun ++ edits.Insert file after text ∷ []) left new
-      inserted-here old new h alike fewer own at =
+          → IsLeft old.room new.room q 1 → has_line (had + 1) new.room.changes ≡ true → new.newest ≡ q → AddsNode a old.nodes new.nodes → IsHere f (begun ++ edits.Insert file after text ∷ []) left new
+      inserted-here old new h alike fewer own at adds =
           let some : suc (inserts_into f left) ≤ old.room.inserts =
           subst (λ b. cond b (suc (inserts_into f left)) (inserts_into f left) ≤ old.room.inserts) touched h.inserts in
           let less = fewer.inserts in
@@ -317,6 +321,7 @@ module _ (history : List Command) (base : ℕ) (choice : List Bool) (ambition : 
             are_dated = subst (λ ds. AreDated ts count ds new.lines) (sym (insert-here begun later file after text all))
                 (insert-lines ts count q anchor (had + 1) a text ambition (file_dated f (lines_at begun)) old.lines new.lines stands h.are_dated alike);
             newest = omega (arith, at);
+            nodes = added_below (diagram_size ts) a old.nodes new.nodes adds h.nodes stands.within;
             inserts = omega (arith, some, less);
             changes = λ line gone there. by line gone (nat_eq (had + 1) line) refl (sym (has_new line) ∙ there);
             position = λ t. fewer.position;
@@ -341,13 +346,14 @@ module _ (history : List Command) (base : ℕ) (choice : List Bool) (ambition : 
               let same : e.node ≡ f = grind (arith, nat_tests, is) in
               let it = changed.here is in
               subst (λ k. IsHere k (begun ++ edits.Insert file after text ∷ []) left e'.lines) (sym (ap (λ (s : Contents). s.node) it.row ∙ same))
-              (inserted-here e.lines e'.lines (subst (λ k. IsHere k begun (put ∷ left) e.lines) same h) it.lines it.room it.own (ap (λ (s : Contents). s.newest) it.row))
+              (inserted-here e.lines e'.lines (subst (λ k. IsHere k begun (put ∷ left) e.lines) same h) it.lines it.room it.own (ap (λ (s : Contents). s.newest) it.row) it.nodes)
           by false is =
               let turned : nat_eq f e.node ≡ false = grind (arith, nat_tests, is) in
               subst (λ (x : FilePart). IsHere x.node (begun ++ edits.Insert file after text ∷ []) left x.lines) (sym (changed.elsewhere is)) (record {
                 above = h.above;
                 are_dated = subst (λ ds. AreDated ts count ds e.lines.lines) (sym (insert-there begun later file after text all e.node turned)) h.are_dated;
                 newest = h.newest;
+                nodes = h.nodes;
                 inserts = subst (λ b. cond b (suc (inserts_into e.node left)) (inserts_into e.node left) ≤ e.lines.room.inserts) turned h.inserts;
                 changes = h.changes;
                 position = λ t. h.position (or_right (nat_eq f e.node) (touches e.node left) t);
@@ -380,8 +386,8 @@ module _ (history : List Command) (base : ℕ) (choice : List Bool) (ambition : 
 
       -- and hasn't it then
       deleted-here : (old new : DatedFile) → IsRight (lines_at begun) df k vis → IsHere df begun (out ∷ left) old → AreAlike new.lines (with_change k vis q old.lines)
-          → IsLeft old.room new.room q 0 → new.newest ≡ q → IsHere df (begun ++ edits.Delete file line ∷ []) left new
-      deleted-here old new right h alike fewer at =
+          → IsLeft old.room new.room q 0 → new.newest ≡ q → AddsNode vis old.nodes new.nodes → IsHere df (begun ++ edits.Delete file line ∷ []) left new
+      deleted-here old new right h alike fewer at adds =
           let some = h.inserts in
           let less = fewer.inserts in
           record {
@@ -389,6 +395,7 @@ module _ (history : List Command) (base : ℕ) (choice : List Bool) (ambition : 
             are_dated = subst (λ ds. AreDated ts count ds new.lines) (sym (delete-here begun later file line all))
                 (delete-lines ts count q k vis ambition (file_dated df (lines_at begun)) old.lines new.lines (right.taken h.above) h.are_dated alike);
             newest = omega (arith, at);
+            nodes = added_below (diagram_size ts) vis old.nodes new.nodes adds h.nodes right.within;
             inserts = omega (arith, some, less);
             changes = λ some gone there. fewer.changes some
                 (h.changes some (or_right (nat_eq df df && nat_eq k some) (deletes_from df some left) gone)
@@ -405,13 +412,14 @@ module _ (history : List Command) (base : ℕ) (choice : List Bool) (ambition : 
               let same : e.node ≡ df = grind (arith, nat_tests, is) in
               let it = changed.here is in
               subst (λ x. IsHere x (begun ++ edits.Delete file line ∷ []) left e'.lines) (sym (ap (λ (s : Contents). s.node) it.row ∙ same))
-              (deleted-here e.lines e'.lines right (subst (λ x. IsHere x begun (out ∷ left) e.lines) same h) it.lines it.room (ap (λ (s : Contents). s.newest) it.row))
+              (deleted-here e.lines e'.lines right (subst (λ x. IsHere x begun (out ∷ left) e.lines) same h) it.lines it.room (ap (λ (s : Contents). s.newest) it.row) it.nodes)
           by false is =
               let turned : nat_eq df e.node ≡ false = grind (arith, nat_tests, is) in
               subst (λ (x : FilePart). IsHere x.node (begun ++ edits.Delete file line ∷ []) left x.lines) (sym (changed.elsewhere is)) (record {
                 above = h.above;
                 are_dated = subst (λ ds. AreDated ts count ds e.lines.lines) (sym (delete-out begun later file line all e.node turned)) h.are_dated;
                 newest = h.newest;
+                nodes = h.nodes;
                 inserts = h.inserts;
                 changes = λ some gone there. h.changes some (or_right (nat_eq df e.node && nat_eq k some) (deletes_from e.node some left) gone) there;
                 position = λ t. h.position (or_right (nat_eq df e.node) (touches e.node left) t);
@@ -441,6 +449,7 @@ module _ (history : List Command) (base : ℕ) (choice : List Bool) (ambition : 
       above = h.above;
       are_dated = subst (λ ks. AreDated ts count (file_dated x.node ks) x.lines.lines) (sym (rows-leave begun e is)) h.are_dated;
       newest = h.newest;
+      nodes = h.nodes;
       inserts = h.inserts;
       changes = h.changes;
       position = h.position;
@@ -472,25 +481,25 @@ module _ (history : List Command) (base : ℕ) (choice : List Bool) (ambition : 
     carried (edits.New kind parent name ∷ later) begun nodes lines stored (s ∷ ss) all counted right here =
         let e = edits.New kind parent name in
         carried-row e begun (resolved.New (nodes + 1) kind (node_number n parent) name a) s ss stored refl right.0
-        (λ node file h. record { above = h.above; are_dated = h.are_dated; newest = h.newest; inserts = h.inserts; changes = h.changes; position = h.position }) (λ x. tt) (λ old new h. h) here
+        (λ node file h. record { above = h.above; are_dated = h.are_dated; newest = h.newest; nodes = h.nodes; inserts = h.inserts; changes = h.changes; position = h.position }) (λ x. tt) (λ old new h. h) here
         (λ mid next. carried later (begun ++ e ∷ []) (nodes + 1) lines mid ss (append_assoc begun (e ∷ []) later ∙ all) (counted ∙ ap (λ l. m + length l) (sym (none_more m begun e refl)))
         (subst (λ ks. AreRight ks (nodes + 1) lines later ss) (sym (rows-leave begun e refl)) right.1) next)
     carried (edits.Rename node name ∷ later) begun nodes lines stored (s ∷ ss) all counted right here =
         let e = edits.Rename node name in
         carried-row e begun (resolved.Rename (node_number n node) name a) s ss stored refl right.0
-        (λ node file h. record { above = h.above; are_dated = h.are_dated; newest = h.newest; inserts = h.inserts; changes = h.changes; position = h.position }) (λ x. tt) (λ old new h. h) here
+        (λ node file h. record { above = h.above; are_dated = h.are_dated; newest = h.newest; nodes = h.nodes; inserts = h.inserts; changes = h.changes; position = h.position }) (λ x. tt) (λ old new h. h) here
         (λ mid next. carried later (begun ++ e ∷ []) nodes lines mid ss (append_assoc begun (e ∷ []) later ∙ all) (counted ∙ ap (λ l. m + length l) (sym (none_more m begun e refl)))
         (subst (λ ks. AreRight ks nodes lines later ss) (sym (rows-leave begun e refl)) right.1) next)
     carried (edits.Move node parent ∷ later) begun nodes lines stored (s ∷ ss) all counted right here =
         let e = edits.Move node parent in
         carried-row e begun (resolved.Move (node_number n node) (node_number n parent) a) s ss stored refl right.0
-        (λ node file h. record { above = h.above; are_dated = h.are_dated; newest = h.newest; inserts = h.inserts; changes = h.changes; position = h.position }) (λ x. tt) (λ old new h. h) here
+        (λ node file h. record { above = h.above; are_dated = h.are_dated; newest = h.newest; nodes = h.nodes; inserts = h.inserts; changes = h.changes; position = h.position }) (λ x. tt) (λ old new h. h) here
         (λ mid next. carried later (begun ++ e ∷ []) nodes lines mid ss (append_assoc begun (e ∷ []) later ∙ all) (counted ∙ ap (λ l. m + length l) (sym (none_more m begun e refl)))
         (subst (λ ks. AreRight ks nodes lines later ss) (sym (rows-leave begun e refl)) right.1) next)
     carried (edits.Remove node ∷ later) begun nodes lines stored (s ∷ ss) all counted right here =
         let e = edits.Remove node in
         carried-row e begun (resolved.Remove (node_number n node) a) s ss stored refl right.0
-        (λ node file h. record { above = h.above; are_dated = h.are_dated; newest = h.newest; inserts = h.inserts; changes = h.changes; position = h.position }) (λ x. tt) (λ old new h. h) here
+        (λ node file h. record { above = h.above; are_dated = h.are_dated; newest = h.newest; nodes = h.nodes; inserts = h.inserts; changes = h.changes; position = h.position }) (λ x. tt) (λ old new h. h) here
         (λ mid next. carried later (begun ++ e ∷ []) nodes lines mid ss (append_assoc begun (e ∷ []) later ∙ all) (counted ∙ ap (λ l. m + length l) (sym (none_more m begun e refl)))
         (subst (λ ks. AreRight ks nodes lines later ss) (sym (rows-leave begun e refl)) right.1) next)
     carried (edits.Insert file after text ∷ later) begun nodes lines stored (s ∷ ss) all counted right here =

@@ -22,7 +22,8 @@ use Rattle.cov_tree.specs.Carried.{AreOnceAt}
 use Rattle.cov_tree.specs.Changes.{all_changed, Makes}
 use Rattle.cov_tree.specs.Dated.{Dated, rows_at, rows_with, planned, nodes_in, nodes_with, without_room}
 use Rattle.cov_tree.specs.Entries.{rows_in, AllAreWithin}
-use Rattle.cov_tree.proofs.CallerLemmas.{newest_but_room, nodes_but_room}
+use Rattle.cov_tree.specs.Renumbered.{AreNodes}
+use Rattle.cov_tree.proofs.CallerLemmas.{newest_but_room, nodes_but_room, visibilities_but_room}
 use Rattle.cov_engine.specs.declared.counts.Counts.{Counts}
 use Rattle.cov_engine.specs.declared.history_index.CommitMark.{CommitMark}
 use Rattle.cov_visible.specs.declared.file_part.FilePart.{FilePart}
@@ -102,6 +103,7 @@ module _ (history : List Command) (base : ℕ) (choice : List Bool) (ambition : 
   entries-committed later set = record {
     rows = λ c p. by c p (nat_le p (length history)) refl;
     within = set.within ts makes.over makes.within;
+    kept = set.kept ts of_entries.kept makes.within;
     from = let one = length_push history commit in let from = set.from in omega (arith, one, from);
   }
     where
@@ -119,6 +121,7 @@ pub entries-room : (history : List Command) (ts : List Triple) (old new : Dated)
 entries-room history ts old new same held = record {
   rows = λ c p. ap (rows_in ts c) (nodes_but_room old new same p) ∙ held.rows c p;
   within = λ p. subst (AllAreWithin ts) (sym (nodes_but_room old new same p)) (held.within p);
+  kept = subst (AreNodes ts) (sym (visibilities_but_room old new same)) held.kept;
   from = let is : new.from ≡ old.from = ap (λ (d : Dated). d.from) same in let low = held.from in omega (arith, is, low);
 }
 

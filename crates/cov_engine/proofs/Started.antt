@@ -108,6 +108,7 @@ module _ (history : List Command) (base : ℕ) (choice : List Bool) (ambition : 
     taken = λ above. all (has_node file (map part_node stored)) refl;
     fresh = λ unmade. stands_weaker 0 (option_count history) (λ c. false) (omega arith) below
         (λ c. ap (λ r. value_in ts r c && not (value_in ts a c)) (old-none history ts q line file stored files unmade) ∙ ap (λ b. b && not (value_in ts a c)) (false-value c)) h;
+    within = h.within;
   }
     where
       old : ℕ

@@ -4,6 +4,7 @@ use Rattle.std.specs.List.{AllByRecursion}
 use Rattle.cov_dd.specs.declared.triple.Triple.{Triple}
 use Rattle.cov_tree.specs.Carried.{AreNodesAt}
 use Rattle.cov_tree.specs.Dated.{Dated, rows_at, nodes_in}
+use Rattle.cov_tree.specs.Renumbered.{visibilities, AreNodes}
 use Rattle.cov_edit.specs.declared.command.Command.{Command}
 use Rattle.cov_edit.specs.History.{option_count}
 use Rattle.cov_edit.specs.Numbering.{numbers_of, line_count}
@@ -18,16 +19,18 @@ use Rattle.cov_visible.specs.Parts.{part_node, files_in}
 use Rattle.cov_engine.specs.declared.history_index.CommitMark.{CommitMark}
 use Rattle.cov_visible.specs.declared.file_part.FilePart.{FilePart}
 
--- a stored file has its node's lines in order, with no change beyond the history
+-- a stored file has its node's lines in order, with no change beyond the history, and keeps no node that isn't of the table
 pub record IsFileOf (history : List Command) (ts : List Triple) (e : FilePart) : Type 0 where
   pub lines : AreDated ts (option_count history) (file_dated e.node (kept_of history)) e.lines.lines
   pub newest : e.lines.newest ≤ length history
+  pub nodes : AreNodes ts e.lines.nodes
 
--- on each choice the entries have at each position the rows of the replay, their visibilities are nodes of a table, and no change
--- of them is beyond the history
+-- on each choice the entries have at each position the rows of the replay, their visibilities are nodes of a table, those that they
+-- had too, and no change of them is beyond the history
 pub record AreEntriesOf (history : List Command) (ts : List Triple) (entries : Dated) : Type 0 where
   pub rows : (c : List Bool) (p : ℕ) → rows_at ts c p entries ≡ (replay c (take p history)).rows
   pub within : AreNodesAt ts entries
+  pub kept : AreNodes ts (visibilities entries)
   pub from : entries.from ≤ length history
 
 -- the entries are a history's; so are the files, in order, with their lines, whose nodes are of a table; the file of each line is

@@ -9,4 +9,5 @@ pub mod Sizes
 pub mod Staged
 pub mod States
 pub mod Summaries
+pub mod Sweeping
 pub mod Visibility

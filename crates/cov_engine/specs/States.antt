@@ -1,6 +1,7 @@
 -- What an engine keeps of its history.
-use Rattle.std.specs.Prelude.{◌≡◌, ℕ, suc, ◌+◌, ◌≤◌, List, [], ◌∷◌, length, Option}
+use Rattle.std.specs.Prelude.{◌≡◌, ℕ, suc, ◌+◌, ◌≤◌, List, [], ◌∷◌, ◌++◌, length, map, Option}
 use Rattle.cov_base.specs.declared.limits.TheConstants.{LIMITS}
+use Rattle.cov_dd.specs.Sweeps.{AreReached}
 use Rattle.cov_dd.specs.declared.triple.Triple.{Triple}
 use Rattle.cov_edit.specs.declared.command.Command.{Command}
 use Rattle.cov_edit.specs.declared.command.Command.TheVariants as commands
@@ -8,18 +9,23 @@ use Rattle.cov_edit.specs.History.{options_of, constraints_of, preferences_of, d
 use Rattle.cov_edit.specs.Limits.{limits_of}
 use Rattle.cov_edit.specs.Numbering.{line_count, node_count}
 use Rattle.cov_rules.specs.Installing.{Standing}
+use Rattle.cov_rules.specs.Renumbered.{nodes_of as rule_nodes}
+use Rattle.cov_tree.specs.Renumbered.{visibilities}
 use Rattle.cov_view.specs.Refusals.{first_of}
+use Rattle.cov_visible.specs.Renumbered.{line_nodes}
 use Rattle.cov_engine.specs.Holdings.{AreRowsAndLinesOf}
+use Rattle.cov_engine.specs.Marks.{mark_node}
 use Rattle.cov_engine.specs.Ruling.{AreRulesOf}
 use Rattle.cov_history.specs.Verdict.{IsLegal, name_refusals}
 use Rattle.cov_engine.specs.declared.counts.Counts.{Counts}
 use Rattle.cov_engine.specs.declared.state.EngineState.{EngineState}
 use Rattle.cov_history.specs.declared.refusal.Refusal.{Refusal}
 
--- a history, and the table of the visibilities and rules that an engine keeps of it
+-- a history, the table of the visibilities and rules that an engine keeps of it, and every node that it keeps, in one order
 pub record EngineValue : Type 0 where
   pub history : List Command
   pub table : List Triple
+  pub nodes : List ℕ
 
 -- a history with its table, and a command that it accepted and doesn't have yet
 pub record Pending : Type 0 where
@@ -47,6 +53,16 @@ history_of s = s.commands.commands
 
 abbrev pub table_of : EngineState → List Triple
 table_of s = s.visible.table
+
+-- every node that it keeps: those of its rules, those on which rows and lines are visible and were, and those of ambitions
+abbrev pub nodes_of : EngineState → List ℕ
+nodes_of s =
+    rule_nodes s.rules.standing
+    ++ (visibilities s.visible.entries ++ (line_nodes s.visible.files ++ map mark_node s.index.commits.items))
+
+-- each entry of a table is reached from a node that is kept
+abbrev pub IsSwept : EngineValue → Type 0
+IsSwept e = AreReached e.table e.nodes
 
 -- the positions at which commands declare options, so many commands coming before these
 abbrev pub options_at : ℕ → List Command → List ℕ

@@ -2,7 +2,8 @@
 ghost use Rattle.std.specs.Prelude.{ℕ, Bool, List, ◌≡◌, ◌≤◌, ◌+◌, ◌++◌, ◌∷◌, [], true, nat_lt, length, map, take, None, Some, is_none, IfOk, IfErr, IfSome, OnOk, OnErr};
 ghost use Rattle.std.specs.List.{list_all};
 ghost use Rattle.cov_base.specs.Rows.{is_present};
-ghost use Rattle.cov_dd.specs.Diagrams.{Extends};
+ghost use Rattle.cov_dd.specs.Diagrams.{diagram_size, Extends};
+ghost use Rattle.cov_dd.specs.Sweeps.{AreRenumbered};
 ghost use Rattle.cov_edit.specs.History.{options_of, option_count, constraints_of, first_false_in};
 ghost use Rattle.cov_edit.specs.Numbering.{numbers_of};
 ghost use Rattle.cov_edit.specs.Replay.{replay};
@@ -14,7 +15,7 @@ ghost use Rattle.cov_history.specs.Files.{file_dated};
 ghost use Rattle.cov_history.specs.Kept.{kept_of};
 ghost use Rattle.cov_history.specs.Completing.{completed_in};
 ghost use Rattle.cov_visible.specs.Reading.{IsFileAt, line_row};
-ghost use Rattle.cov_engine.specs.States.{AreCountsOf, IsKept, history_of, table_of, receipt_number};
+ghost use Rattle.cov_engine.specs.States.{AreCountsOf, IsKept, IsSwept, history_of, nodes_of, table_of, receipt_number};
 ghost use Rattle.cov_history.specs.Verdict.{IsLegal, verdict, RefusedBy};
 ghost use Rattle.cov_engine.specs.Visibility.{IsVisibilityOf, as_row, has_line_number, is_no_line, is_refusal, presence_of};
 ghost use Rattle.cov_visible.specs.Visible.{IsWhole, shown};
@@ -24,9 +25,10 @@ use crate::history_index::{HistoryIndex, file_of};
 use crate::installing::add;
 use crate::option_positions::OptionPositions;
 use crate::state::{EngineState, make_ready};
+use crate::sweeping::{append_nodes, sweep};
 use crate::{Counts, FileFault, FileParts, Prepared, Receipt, Refusal, Visible};
 use cov_base::{Choice, FileRows, LineNo, Memory, MemoryOr, Name, NodeNo, Position};
-use cov_dd::{Node, Table};
+use cov_dd::{Node, Nodes, Table};
 use cov_edit::{Command, Commands};
 use cov_expr::{Options, Partial};
 use cov_rules::{CompleteFault, Invalid, Rules};
@@ -51,13 +53,17 @@ impl Model for Engine {
     ghost use Rattle.std.specs.Coded.{codes};
     ghost use Rattle.cov_dd.specs.contracts.triple.Triple as triples;
     ghost use Rattle.cov_edit.specs.contracts.command.Command as row;
-    ghost use Rattle.cov_engine.specs.States.{EngineValue, IsKept, history_of, table_of};
+    ghost use Rattle.cov_engine.specs.States.{EngineValue, IsKept, history_of, nodes_of, table_of};
 
     ghost Value = { EngineValue };
 
     ghost coded = { Prim.hlevel (codes, row.the_row.coded, triples.the_row.coded) };
 
-    ghost view = { λ e. record { history = history_of e.state; table = table_of e.state } };
+    ghost view = { λ e. record {
+      history = history_of e.state;
+      table = table_of e.state;
+      nodes = nodes_of e.state;
+    } };
 
     ghost invariant = { λ e. IsKept e.state };
 }
@@ -305,9 +311,36 @@ impl Engine {
         Ok(Receipt { position, number })
     }
 
+    /// Appends every node that is kept: those of the rules, those on which lines, files and directories are visible or were, and
+    /// those of the ambitions of commits. At an `Err` the list is as before.
+    pub fn nodes(&self, into: &mut Nodes) -> Result<(), Memory>
+        ensures ok { OnOk result (into.new ≡ into.old ++ self.now.nodes) }
+        ensures err { OnErr result (into.new ≡ into.old) }
+    {
+        append_nodes(&self.state, into)
+    }
+
+    /// Leaves in the table what a node that is kept reaches, under new numbers: each of these nodes keeps its value, and all that
+    /// is said of the history stays. No other node is one of the table then. At an `Err` all is as before. It takes time in the table
+    /// and in the nodes that are kept.
+    pub fn sweep(&mut self) -> Result<(), Memory>
+        ensures history { self.new.history ≡ self.old.history }
+        ensures nodes { OnOk result (AreRenumbered self.old.table self.new.table
+            self.old.nodes self.new.nodes) }
+        ensures swept { OnOk result (IsSwept self.new) }
+        ensures fewer { diagram_size self.new.table ≤ diagram_size self.old.table }
+        ensures err { OnErr result (self.new ≡ self.old) }
+    {
+        sweep(&mut self.state)
+    }
+
     pub(crate) fn of_state(state: EngineState) -> Engine
         requires { IsKept state }
-        ensures { result ≡ record { history = history_of state; table = table_of state } }
+        ensures { result ≡ record {
+          history = history_of state;
+          table = table_of state;
+          nodes = nodes_of state;
+        } }
     {
         Engine { state }
     }

@@ -18,6 +18,7 @@ mod sizes;
 mod staging;
 mod state;
 mod summary;
+mod sweeping;
 
 pub use counts::Counts;
 pub use cov_history::Refusal;

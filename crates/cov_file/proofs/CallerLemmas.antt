@@ -1,4 +1,5 @@
--- What a caller cites of lines that are alike, and of those whose nodes are renumbered: they show the same.
+-- What a caller cites of lines that are alike, of the nodes that they keep, and of those whose nodes are renumbered: they show the same.
+pub use Rattle.cov_file.proofs.Added.{added_below}
 pub use Rattle.cov_file.proofs.Changing.{has_after}
 pub use Rattle.cov_file.proofs.Later.{alike_shown}
 pub use Rattle.cov_file.proofs.Sweeping.{each_renumbered, rows_renumbered}

@@ -1,3 +1,4 @@
+pub mod Added
 pub mod CallerLemmas
 pub mod Chains
 pub mod Changing

@@ -78,7 +78,7 @@ module _ (test : ℕ → Bool) where
   all-mapped [] h = tt
   all-mapped (x ∷ xs) h = (h.0, all-mapped xs h.1)
 
-  all-parts : (xs ys : List ℕ) → AllByRecursion (λ n. test n ≡ true) (xs ++ ys) → AllByRecursion (λ n. test n ≡ true) xs × AllByRecursion (λ n. test n ≡ true) ys
+  pub all-parts : (xs ys : List ℕ) → AllByRecursion (λ n. test n ≡ true) (xs ++ ys) → AllByRecursion (λ n. test n ≡ true) xs × AllByRecursion (λ n. test n ≡ true) ys
   all-parts [] ys h = (tt, h)
   all-parts (x ∷ xs) ys h = let rest = all-parts xs ys h.1 in ((h.0, rest.0), rest.1)
 

@@ -42,6 +42,10 @@ AreRenumberedLists nodes nodes' lists lists' =
 abbrev pub AllPass : (ℕ → Bool) → List ℕ → Type 0
 AllPass test nodes = AllByRecursion (λ n. test n ≡ true) nodes
 
+-- of the nodes that are kept now, each was kept before, but for one
+abbrev pub AddsNode : ℕ → List ℕ → List ℕ → Type 0
+AddsNode n old new = (test : ℕ → Bool) → AllPass test old → test n ≡ true → AllPass test new
+
 -- the node of each change passes a test
 abbrev pub ChangesPass : (ℕ → Bool) → List (ℕ × ℕ) → Type 0
 ChangesPass test changes = AllByRecursion (λ c. test c.1 ≡ true) changes

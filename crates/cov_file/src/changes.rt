@@ -3,7 +3,7 @@ ghost use Rattle.std.specs.Prelude.{◌≡◌, ◌<◌, ◌≤◌, ◌+◌, ◌-
 ghost use Rattle.std.specs.Option.{option_map, option_map_or};
 ghost use Rattle.cov_file.specs.Dated.{vis_at, newest_vis};
 ghost use Rattle.cov_file.specs.Kept.{changes_before, changes_of, AreLinked, changes_at, is_at, with_node};
-ghost use Rattle.cov_file.specs.Renumbered.{dates_of, having_nodes, node_of, AreAllListed, AreRenumberedLists};
+ghost use Rattle.cov_file.specs.Renumbered.{AddsNode, dates_of, having_nodes, node_of, AreAllListed, AreRenumberedLists};
 
 use cov_base::{Memory, Position};
 use cov_dd::{FALSE, Node, Nodes};
@@ -55,6 +55,7 @@ impl Changes {
     pub(crate) fn new(alloc: Global) -> Changes
         ensures lists { result.lists ≡ [] }
         ensures newest { result.newest ≡ 0 }
+        ensures nodes { result.nodes ≡ [] }
     {
         Changes {
             newest: Vec::new(alloc),
@@ -69,6 +70,7 @@ impl Changes {
     pub(crate) fn prepare(&mut self, inserts: u32, changes: usize) -> Result<(), Memory>
         ensures lists { self.new.lists ≡ self.old.lists }
         ensures newest { self.new.newest ≡ self.old.newest }
+        ensures nodes { self.new.nodes ≡ self.old.nodes }
         ensures inserts { OnOk result (inserts ≤ self.new.inserts) }
         ensures room { OnOk result (changes ≤ self.new.room) }
         ensures open { OnOk result (self.new.is_open ≡ true) }
@@ -90,6 +92,7 @@ impl Changes {
         requires later { self.old.newest ≤ at }
         ensures lists { self.new.lists ≡ self.old.lists ++ ((at, node) ∷ []) ∷ [] }
         ensures newest { self.new.newest ≡ at }
+        ensures nodes { AddsNode node self.old.nodes self.new.nodes }
         ensures inserts { self.old.inserts ≤ self.new.inserts + 1 }
         ensures room { self.new.room ≡ self.old.room }
         ensures open { self.new.is_open ≡ false }
@@ -111,6 +114,7 @@ impl Changes {
         ensures lists { self.new.lists ≡
             set self.old.lists index (with_node at node (changes_at self.old.lists index)) }
         ensures newest { self.new.newest ≡ at }
+        ensures nodes { AddsNode node self.old.nodes self.new.nodes }
         ensures inserts { self.new.inserts ≡ self.old.inserts }
         ensures room { self.old.room ≤ self.new.room + (if is_at at
             (changes_at self.old.lists index) then 0 else 1) }
@@ -181,6 +185,7 @@ impl Changes {
         requires later { self.old.newest ≤ at }
         ensures lists { self.new.lists ≡ self.old.lists }
         ensures newest { self.new.newest ≡ at }
+        ensures nodes { self.new.nodes ≡ self.old.nodes }
         ensures inserts { self.new.inserts ≡ self.old.inserts }
         ensures room { self.new.room ≡ self.old.room }
         ensures open { self.new.is_open ≡ false }

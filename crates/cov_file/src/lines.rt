@@ -8,7 +8,7 @@ ghost use Rattle.cov_base.specs.Addresses.{after_anchor};
 ghost use Rattle.cov_dd.specs.Diagrams.{value_in};
 ghost use Rattle.cov_order.specs.Orders.{has_line, is_anchor};
 ghost use Rattle.cov_file.specs.Dated.{line_numbers_of, new_line, with_line, with_change, rows_at, all_rows, newest_of, vis_of, AreAlike};
-ghost use Rattle.cov_file.specs.Renumbered.{AreAllNodes, AreRenumberedLines};
+ghost use Rattle.cov_file.specs.Renumbered.{AddsNode, AreAllNodes, AreRenumberedLines};
 ghost use Rattle.cov_file.specs.Rooms.{is_room_at, IsMade, IsLeft};
 ghost use Rattle.cov_file.specs.Kept.{row_in, dated_lines};
 
@@ -62,6 +62,7 @@ impl FileLines {
     pub fn new(alloc: Global) -> FileLines
         ensures lines { result.lines ≡ [] }
         ensures newest { result.newest ≡ 0 }
+        ensures nodes { result.nodes ≡ [] }
     {
         FileLines {
             order: Order::new(alloc),
@@ -76,6 +77,7 @@ impl FileLines {
     pub fn prepare(&mut self, inserts: u32, deletes: &LineNos) -> Result<(), Memory>
         ensures lines { self.new.lines ≡ self.old.lines }
         ensures newest { self.new.newest ≡ self.old.newest }
+        ensures nodes { self.new.nodes ≡ self.old.nodes }
         ensures room { OnOk result (IsMade self.new.room (line_numbers_of self.new.lines) inserts
             deletes.now) }
     {
@@ -90,6 +92,7 @@ impl FileLines {
     pub fn expect_insert(&mut self) -> Result<(), Memory>
         ensures lines { self.new.lines ≡ self.old.lines }
         ensures newest { self.new.newest ≡ self.old.newest }
+        ensures nodes { self.new.nodes ≡ self.old.nodes }
         ensures inserts { (count : ℕ) → count ≤ self.old.coming.inserts + 1 → count < 2 ^ 32 - 1 →
             count ≤ self.new.coming.inserts }
         ensures deletes { self.new.coming.deletes ≡ self.old.coming.deletes }
@@ -107,6 +110,7 @@ impl FileLines {
     pub fn expect_delete(&mut self, line: LineNo) -> Result<(), Memory>
         ensures lines { self.new.lines ≡ self.old.lines }
         ensures newest { self.new.newest ≡ self.old.newest }
+        ensures nodes { self.new.nodes ≡ self.old.nodes }
         ensures inserts { self.new.coming.inserts ≡ self.old.coming.inserts }
         ensures deletes { OnOk result (self.new.coming.deletes ≡
             self.old.coming.deletes ++ line ∷ []) }
@@ -123,6 +127,7 @@ impl FileLines {
     pub fn settle(&mut self)
         ensures lines { self.new.lines ≡ self.old.lines }
         ensures newest { self.new.newest ≡ self.old.newest }
+        ensures nodes { self.new.nodes ≡ self.old.nodes }
         ensures inserts { self.new.coming.inserts ≡ 0 }
         ensures deletes { self.new.coming.deletes ≡ [] }
     {
@@ -133,6 +138,7 @@ impl FileLines {
     fn make_room(&mut self) -> Result<(), Memory>
         ensures lines { self.new.lines ≡ self.old.lines }
         ensures newest { self.new.newest ≡ self.old.newest }
+        ensures nodes { self.new.nodes ≡ self.old.nodes }
         ensures coming { self.new.coming ≡ self.old.coming }
         ensures room { OnOk result (IsMade self.new.room (line_numbers_of self.new.lines)
             self.new.coming.inserts self.new.coming.deletes) }
@@ -157,6 +163,7 @@ impl FileLines {
         ensures numbers { line_numbers_of self.new.lines ≡
             after_anchor anchor line (line_numbers_of self.old.lines) }
         ensures newest { self.new.newest ≡ at }
+        ensures nodes { AddsNode vis self.old.nodes self.new.nodes }
         ensures room { IsLeft self.old.room self.new.room at 1 }
         ensures own { has_line line self.new.room.changes ≡ true }
     {
@@ -177,6 +184,7 @@ impl FileLines {
         ensures lines { AreAlike self.new.lines (with_change line vis at self.old.lines) }
         ensures numbers { line_numbers_of self.new.lines ≡ line_numbers_of self.old.lines }
         ensures newest { self.new.newest ≡ at }
+        ensures nodes { AddsNode vis self.old.nodes self.new.nodes }
         ensures room { IsLeft self.old.room self.new.room at 0 }
     {
         match self.texts.get_index_of(&line) {

@@ -8,7 +8,7 @@ use Rattle.cov_io.specs.Devices.{AppendsSome}
 use Rattle.cov_loop.specs.Answers.{is_refusal, kind_of}
 use Rattle.cov_loop.specs.Keeping.{AreAll, KeepsAnswered, Reaches}
 use Rattle.cov_loop.specs.Outcome.{Outcome, answers, followed_by}
-use Rattle.cov_loop.specs.Turns.{EndsWith, ServesNone, GoesOn, HasRows, HasStored, ReadsOut, IsWhole, Output, RowsComeFirst, ServesFirst, StopsAmid, WritesAll, ahead_of, ending_at_end}
+use Rattle.cov_loop.specs.Turns.{AtEnd, EndsWith, ServesNone, GoesOn, HasRows, HasStored, ReadsOut, IsWhole, Output, RowsComeFirst, ServesFirst, StopsAmid, WritesAll, ahead_of, ending_at_end}
 use Rattle.cov_loop.specs.declared.answer.Answer.{Answer}
 use Rattle.cov_loop.proofs.Appending.{all_some, all_then, all_then_some, same_all, told_all}
 use Rattle.cov_loop.proofs.Kept.{keeps_later, reaches_later}
@@ -213,6 +213,10 @@ left_is_empty progress None e = absurd (cc)
 left_is_empty progress (Some bytes) e =
     let none : progress.ahead ++ bytes ≡ [] = cc in
     ap Some (nothing_next progress.ahead bytes none)
+
+pub at_end : (was : Bool) (P : Type 0) → P → AtEnd (ending_at_end was) P
+at_end true P h = h
+at_end false P h = h
 
 pub reads_out : {S : Type 0} (was : Bool) (outcome : Outcome S) (left : Option (List ℕ))
     → (outcome.is_refused ≡ was) × (left ≡ Some []) → ReadsOut (ending_at_end was) outcome left

@@ -148,6 +148,12 @@ HasRows endings.Done outcome before grown = grown ≡ Some (before ++ outcome.ro
 HasRows endings.SomeRefused outcome before grown = grown ≡ Some (before ++ outcome.rows)
 HasRows _ outcome before grown = Unit {0}
 
+-- what holds where a run comes to the end
+abbrev pub AtEnd : Ending → Type 0 → Type 0
+AtEnd endings.Done P = P
+AtEnd endings.SomeRefused P = P
+AtEnd _ P = Unit {0}
+
 -- where a run comes to the end, bytes that are told are stored for the state that its whole script gives
 abbrev pub HasStored : {S : Type 0} → Ending → (S → List ℕ → Type 0) → Outcome S → Option (List ℕ) → Type 0
 HasStored endings.Done stored outcome contents = IfSome contents (stored outcome.state)

@@ -25,36 +25,38 @@ pub fn serve_line<V: LineServer, K: Sink, D: Disk, T: Trees>(
     disk: &mut D,
     trees: &mut T,
 ) -> Result<Answer, Ending>
-    requires gate { IfSome (D.contents disk.old) (V.gate server.old) }
-    ensures served { IfOk result (IsServed (V.step server.old line.now) server.new) }
+    requires gate { IfSome (D.contents disk.old) (V.gate (V.state_of server.old)) }
+    ensures served { IfOk result (IsServed (V.step (V.state_of server.old) line.now) (V.state_of server.new)) }
     ensures all { OnOk result
-        (AppendsAll (V.step server.old line.now).reply (K.written out.old) (K.written out.new)) }
+        (AppendsAll (V.step (V.state_of server.old) line.now).reply (K.written out.old) (K.written out.new)) }
     ensures some { OnErr result
-        (AppendsSome (V.step server.old line.now).reply (K.written out.old) (K.written out.new)) }
+        (AppendsSome (V.step (V.state_of server.old) line.now).reply (K.written out.old) (K.written out.new)) }
     ensures rows_all { OnOk result
-        (AppendsAll (V.step server.old line.now).rows (T.rows trees.old) (T.rows trees.new)) }
+        (AppendsAll (V.step (V.state_of server.old) line.now).rows (T.rows trees.old) (T.rows trees.new)) }
     ensures rows_some { OnErr result
-        (AppendsSome (V.step server.old line.now).rows (T.rows trees.old) (T.rows trees.new)) }
+        (AppendsSome (V.step (V.state_of server.old) line.now).rows (T.rows trees.old) (T.rows trees.new)) }
     ensures rows_first { OnErr result
-        (AppendsAll (V.step server.old line.now).rows (T.rows trees.old) (T.rows trees.new)
+        (AppendsAll (V.step (V.state_of server.old) line.now).rows (T.rows trees.old) (T.rows trees.new)
         ⊎ (out.new ≡ out.old)) }
 
     // What a read of the disk gives is stored for the state after the line, if it was for that before.
-    ensures gate { OnOk result (IfSome (D.contents disk.new) (V.gate server.new)) }
-    ensures stored { IfSome (D.contents disk.old) (V.stored server.old) →
-        OnOk result (IfSome (D.contents disk.new) (V.stored server.new)) }
+    ensures gate { OnOk result (IfSome (D.contents disk.new) (V.gate (V.state_of server.new))) }
+    ensures stored { IfSome (D.contents disk.old) (V.stored (V.state_of server.old)) →
+        OnOk result (IfSome (D.contents disk.new) (V.stored (V.state_of server.new))) }
 
     // A crash at any moment leaves what is stored for the state before the line or after it, and once the whole reply is written, after
     // it.
-    ensures any_moment { AreAll (V.stored server.old) (D.images disk.old) →
+    ensures any_moment { AreAll (V.stored (V.state_of server.old)) (D.images disk.old) →
         LeavesOnly D.moment D.images_since disk.old disk.new
-        (IsEither (V.stored server.old) (V.stored (V.step server.old line.now).state)) }
-    ensures durable { AreAll (V.stored server.old) (D.images disk.old) →
-        OnOk result (AreAll (V.stored server.new) (D.images disk.new)) }
-    ensures acknowledged { (before : List ℕ) → AreAll (V.stored server.old) (D.images disk.old) →
+        (IsEither (V.stored (V.state_of server.old)) (V.stored (V.step (V.state_of server.old) line.now).state)) }
+    ensures durable { AreAll (V.stored (V.state_of server.old)) (D.images disk.old) →
+        OnOk result (AreAll (V.stored (V.state_of server.new)) (D.images disk.new)) }
+    ensures acknowledged { (before : List ℕ) → AreAll (V.stored (V.state_of server.old)) (D.images disk.old) →
         K.written out.old ≡ Some before →
-        K.written out.new ≡ Some (before ++ (V.step server.old line.now).reply) →
-        AreAll (V.stored (V.step server.old line.now).state) (D.images disk.new) }
+        K.written out.new ≡ Some (before ++ (V.step (V.state_of server.old) line.now).reply) →
+        AreAll (V.stored (V.step (V.state_of server.old) line.now).state) (D.images disk.new) }
+
+    ensures goes_on { OnOk result (V.goes_on server.old server.new) }
 
     ensures stopped { IfErr result (λ ending.
         StopsLine ending (K.faults out.old) (K.faults out.new)
@@ -95,24 +97,25 @@ pub(crate) fn serve_long<V: LineServer, K: Sink, T: Trees>(
     trees: &mut T,
 ) -> Result<Answer, Ending>
     ensures served { (line : List ℕ) → MOST_SCRIPT_LINE_BYTES < length line →
-        IfOk result (IsServed (V.step server.old line) server.new) }
+        IfOk result (IsServed (V.step (V.state_of server.old) line) (V.state_of server.new)) }
     ensures all { (line : List ℕ) → MOST_SCRIPT_LINE_BYTES < length line →
         OnOk result
-        (AppendsAll (V.step server.old line).reply (K.written out.old) (K.written out.new)) }
+        (AppendsAll (V.step (V.state_of server.old) line).reply (K.written out.old) (K.written out.new)) }
     ensures some { (line : List ℕ) → MOST_SCRIPT_LINE_BYTES < length line →
         OnErr result
-        (AppendsSome (V.step server.old line).reply (K.written out.old) (K.written out.new)) }
+        (AppendsSome (V.step (V.state_of server.old) line).reply (K.written out.old) (K.written out.new)) }
     ensures rows_all { (line : List ℕ) → MOST_SCRIPT_LINE_BYTES < length line →
         OnOk result
-        (AppendsAll (V.step server.old line).rows (T.rows trees.old) (T.rows trees.new)) }
+        (AppendsAll (V.step (V.state_of server.old) line).rows (T.rows trees.old) (T.rows trees.new)) }
     ensures rows_some { (line : List ℕ) → MOST_SCRIPT_LINE_BYTES < length line →
         OnErr result
-        (AppendsSome (V.step server.old line).rows (T.rows trees.old) (T.rows trees.new)) }
+        (AppendsSome (V.step (V.state_of server.old) line).rows (T.rows trees.old) (T.rows trees.new)) }
     ensures rows_first { (line : List ℕ) → MOST_SCRIPT_LINE_BYTES < length line →
         OnErr result
-        (AppendsAll (V.step server.old line).rows (T.rows trees.old) (T.rows trees.new)
+        (AppendsAll (V.step (V.state_of server.old) line).rows (T.rows trees.old) (T.rows trees.new)
         ⊎ (out.new ≡ out.old)) }
-    ensures same { OnOk result (server.new ≡ server.old) }
+    ensures same { OnOk result (V.state_of server.new ≡ V.state_of server.old) }
+    ensures goes_on { OnOk result (V.goes_on server.old server.new) }
     ensures stopped { (disk disk' : ℕ) → IfErr result (λ ending.
         StopsLine ending (K.faults out.old) (K.faults out.new)
         disk disk' (T.faults trees.old) (T.faults trees.new)) }

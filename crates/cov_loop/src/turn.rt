@@ -7,7 +7,7 @@ ghost use Rattle.cov_loop.specs.Answers.{is_refusal};
 ghost use Rattle.cov_loop.specs.Counts.{Counted, Later, counts};
 ghost use Rattle.cov_loop.specs.Keeping.{AreAll, KeepsAnswered, Reaches};
 ghost use Rattle.cov_loop.specs.Outcome.{answers};
-ghost use Rattle.cov_loop.specs.Turns.{Falls, HasRows, HasStored, ReadsOut, IsWhole, RowsComeFirst, StopsScript, StopsTurn, Turns, WritesFront, ahead_of, ending_at_end, ending_of, output, turn_of};
+ghost use Rattle.cov_loop.specs.Turns.{AtEnd, Falls, HasRows, HasStored, ReadsOut, IsWhole, RowsComeFirst, StopsScript, StopsTurn, Turns, WritesFront, ahead_of, ending_at_end, ending_of, output, turn_of};
 ghost use Rattle.cov_out.specs.declared.row.OutRow.{OutRow};
 
 use crate::answer::Answer;
@@ -36,26 +36,26 @@ fn serve_next<V: LineServer, S: Source, K: Sink, D: Disk, T: Trees>(
     disk: &mut D,
     trees: &mut T,
 ) -> Result<Turn, Ending>
-    requires gate { IfSome (D.contents disk.old) (V.gate server.old) }
+    requires gate { IfSome (D.contents disk.old) (V.gate (V.state_of server.old)) }
     ensures told { (text : List ℕ) → ahead_of lines.old (S.left script.old) ≡ Some text →
-        Turns V.step server.old text server.new (ahead_of lines.new (S.left script.new))
+        Turns V.step (V.state_of server.old) text (V.state_of server.new) (ahead_of lines.new (S.left script.new))
         (output (K.written out.old) (T.rows trees.old))
         (output (K.written out.new) (T.rows trees.new)) result }
-    ensures gate { OnOk result (IfSome (D.contents disk.new) (V.gate server.new)) }
-    ensures stored { IfSome (D.contents disk.old) (V.stored server.old) →
-        OnOk result (IfSome (D.contents disk.new) (V.stored server.new)) }
+    ensures gate { OnOk result (IfSome (D.contents disk.new) (V.gate (V.state_of server.new))) }
+    ensures stored { IfSome (D.contents disk.old) (V.stored (V.state_of server.old)) →
+        OnOk result (IfSome (D.contents disk.new) (V.stored (V.state_of server.new))) }
     ensures any_moment { (text : List ℕ) → ahead_of lines.old (S.left script.old) ≡ Some text →
-        AreAll (V.stored server.old) (D.images disk.old) →
+        AreAll (V.stored (V.state_of server.old)) (D.images disk.old) →
         LeavesOnly D.moment D.images_since disk.old disk.new
-        (Reaches V.step V.stored server.old (lines_of text)) }
-    ensures durable { AreAll (V.stored server.old) (D.images disk.old) →
-        OnOk result (AreAll (V.stored server.new) (D.images disk.new)) }
+        (Reaches V.step V.stored (V.state_of server.old) (lines_of text)) }
+    ensures durable { AreAll (V.stored (V.state_of server.old)) (D.images disk.old) →
+        OnOk result (AreAll (V.stored (V.state_of server.new)) (D.images disk.new)) }
     ensures acknowledged { (text before bytes : List ℕ) →
         ahead_of lines.old (S.left script.old) ≡ Some text →
-        AreAll (V.stored server.old) (D.images disk.old) →
+        AreAll (V.stored (V.state_of server.old)) (D.images disk.old) →
         K.written out.old ≡ Some before → K.written out.new ≡ Some (before ++ bytes) →
         OnErr result
-        (AreAll (KeepsAnswered V.step V.stored V.count server.old (lines_of text) bytes)
+        (AreAll (KeepsAnswered V.step V.stored V.count (V.state_of server.old) (lines_of text) bytes)
         (D.images disk.new)) }
     ensures counted { Counted lines.old lines.new
         (counts (S.faults script.old) (K.faults out.old) (D.faults disk.old) (T.faults trees.old)
@@ -107,50 +107,59 @@ pub fn serve_all<V: LineServer, S: Source, K: Sink, D: Disk, T: Trees>(
     disk: &mut D,
     trees: &mut T,
 ) -> Ending
-    requires gate { IfSome (D.contents disk.old) (V.gate server.old) }
+    requires gate { IfSome (D.contents disk.old) (V.gate (V.state_of server.old)) }
     // At the end of the script its text is read to the end, and the ending says whether a line was refused.
     ensures ended { (text : List ℕ) →
         ahead_of lines.old (S.left script.old) ≡ Some text →
-        ReadsOut result (answers V.step server.old (lines_of text)) (S.left script.new) }
+        ReadsOut result (answers V.step (V.state_of server.old) (lines_of text)) (S.left script.new) }
     ensures prefix { (text before : List ℕ) →
         ahead_of lines.old (S.left script.old) ≡ Some text → K.written out.old ≡ Some before →
-        WritesFront before (answers V.step server.old (lines_of text)).reply (K.written out.new) }
+        WritesFront before (answers V.step (V.state_of server.old) (lines_of text)).reply (K.written out.new) }
     ensures whole { (text before : List ℕ) →
         ahead_of lines.old (S.left script.old) ≡ Some text → K.written out.old ≡ Some before →
-        IsWhole result (answers V.step server.old (lines_of text)) before
+        IsWhole result (answers V.step (V.state_of server.old) (lines_of text)) before
         (S.left script.new) (K.written out.new) }
     ensures rows_prefix { (text : List ℕ) (before : List OutRow) →
         ahead_of lines.old (S.left script.old) ≡ Some text → T.rows trees.old ≡ Some before →
-        WritesFront before (answers V.step server.old (lines_of text)).rows (T.rows trees.new) }
+        WritesFront before (answers V.step (V.state_of server.old) (lines_of text)).rows (T.rows trees.new) }
     ensures rows_whole { (text : List ℕ) (before : List OutRow) →
         ahead_of lines.old (S.left script.old) ≡ Some text → T.rows trees.old ≡ Some before →
-        HasRows result (answers V.step server.old (lines_of text)) before (T.rows trees.new) }
+        HasRows result (answers V.step (V.state_of server.old) (lines_of text)) before (T.rows trees.new) }
     ensures rows_first { (text before : List ℕ) (rows : List OutRow) →
         ahead_of lines.old (S.left script.old) ≡ Some text → K.written out.old ≡ Some before →
         T.rows trees.old ≡ Some rows →
-        RowsComeFirst V.step server.old (lines_of text) before rows
+        RowsComeFirst V.step (V.state_of server.old) (lines_of text) before rows
         (K.written out.new) (T.rows trees.new) }
 
     // At the end of the script, what a read of the disk gives is stored for the state that the whole script gives.
     ensures stored { (text : List ℕ) →
         ahead_of lines.old (S.left script.old) ≡ Some text →
-        IfSome (D.contents disk.old) (V.stored server.old) →
-        HasStored result V.stored (answers V.step server.old (lines_of text))
+        IfSome (D.contents disk.old) (V.stored (V.state_of server.old)) →
+        HasStored result V.stored (answers V.step (V.state_of server.old) (lines_of text))
         (D.contents disk.new) }
 
     // A crash at any moment leaves what is stored for the state after the first few lines, and at the return these have each command
     // whose whole reply is written.
     ensures any_moment { (text : List ℕ) →
         ahead_of lines.old (S.left script.old) ≡ Some text →
-        AreAll (V.stored server.old) (D.images disk.old) →
+        AreAll (V.stored (V.state_of server.old)) (D.images disk.old) →
         LeavesOnly D.moment D.images_since disk.old disk.new
-        (Reaches V.step V.stored server.old (lines_of text)) }
+        (Reaches V.step V.stored (V.state_of server.old) (lines_of text)) }
     ensures acknowledged { (text before bytes : List ℕ) →
         ahead_of lines.old (S.left script.old) ≡ Some text →
-        AreAll (V.stored server.old) (D.images disk.old) →
+        AreAll (V.stored (V.state_of server.old)) (D.images disk.old) →
         K.written out.old ≡ Some before → K.written out.new ≡ Some (before ++ bytes) →
-        AreAll (KeepsAnswered V.step V.stored V.count server.old (lines_of text) bytes)
+        AreAll (KeepsAnswered V.step V.stored V.count (V.state_of server.old) (lines_of text) bytes)
         (D.images disk.new) }
+
+    // At the end of the script, the server has the state that the whole script gives, and another script can be served.
+    ensures state { (text : List ℕ) →
+        ahead_of lines.old (S.left script.old) ≡ Some text →
+        AtEnd result (V.state_of server.new ≡
+        (answers V.step (V.state_of server.old) (lines_of text)).state) }
+    ensures gate { AtEnd result (IfSome (D.contents disk.new) (V.gate (V.state_of server.new))) }
+    ensures durable { AreAll (V.stored (V.state_of server.old)) (D.images disk.old) →
+        AtEnd result (AreAll (V.stored (V.state_of server.new)) (D.images disk.new)) }
 
     ensures later { Later
         (counts (S.faults script.old) (K.faults out.old) (D.faults disk.old) (T.faults trees.old)

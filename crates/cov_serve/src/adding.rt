@@ -33,18 +33,18 @@ impl Server {
         command: Command,
         disk: &mut D,
     ) -> Result<Result<Receipt, Stop>, Ending>
-        requires gate { IfSome (D.contents disk.old) (gated self.old) }
-        ensures changes { IfOk result (Changes (appended self.old command) self.old self.new) }
-        ensures receipt { IfOk result (λ added. IfOk added (HasReceipt self.old.history command)) }
-        ensures gate { OnOk result (IfSome (D.contents disk.new) (gated self.new)) }
-        ensures stored { IfSome (D.contents disk.old) (stored self.old) →
-            OnOk result (IfSome (D.contents disk.new) (stored self.new)) }
-        ensures any_moment { AreAll (stored self.old) (D.images disk.old) →
+        requires gate { IfSome (D.contents disk.old) (gated self.old.state) }
+        ensures changes { IfOk result (Changes (appended self.old.state command) self.old.state self.new.state) }
+        ensures receipt { IfOk result (λ added. IfOk added (HasReceipt self.old.state.history command)) }
+        ensures gate { OnOk result (IfSome (D.contents disk.new) (gated self.new.state)) }
+        ensures stored { IfSome (D.contents disk.old) (stored self.old.state) →
+            OnOk result (IfSome (D.contents disk.new) (stored self.new.state)) }
+        ensures any_moment { AreAll (stored self.old.state) (D.images disk.old) →
             LeavesOnly D.moment D.images_since disk.old disk.new
-            (IsEither (stored self.old)
-            (λ image. IsStored image (grown self.old.history command))) }
-        ensures durable { AreAll (stored self.old) (D.images disk.old) →
-            OnOk result (AreAll (stored self.new) (D.images disk.new)) }
+            (IsEither (stored self.old.state)
+            (λ image. IsStored image (grown self.old.state.history command))) }
+        ensures durable { AreAll (stored self.old.state) (D.images disk.old) →
+            OnOk result (AreAll (stored self.new.state) (D.images disk.new)) }
         ensures stopped { IfErr result (λ ending.
             StopsAnswer ending (D.faults disk.old) (D.faults disk.new)) }
         ensures later { D.faults disk.old ≤ D.faults disk.new }
@@ -69,8 +69,8 @@ fn as_added(appended: Result<Receipt, AppendFault>) -> Result<Result<Receipt, St
 impl ServerState {
     /// Ends the session of a name, if there is a name. Takes no memory.
     pub(crate) fn end(&mut self, ends: &Option<Name>)
-        requires { IfSome ends.now (λ name. is_some (named self.old.sessions name) ≡ true) }
-        ensures { self.new ≡ ended_by self.old ends.now }
+        requires { IfSome ends.now (λ name. is_some (named self.old.state.sessions name) ≡ true) }
+        ensures { self.new.state ≡ ended_by self.old.state ends.now }
     {
         match ends {
             Some(name) => match self.sessions.discard(name) {

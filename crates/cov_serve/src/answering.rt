@@ -25,8 +25,14 @@ use cov_script::Code;
 impl LineServer for Server {
     ghost use Rattle.cov_serve.specs.Growth.{commands_told, counts_rise, stored_told};
     ghost use Rattle.cov_serve.specs.Laws.{long_kept, silent_kept, refusal_told, rows_told};
+    ghost use Rattle.cov_serve.specs.States.{State};
     ghost use Rattle.cov_serve.specs.Step.{step};
+    ghost use Rattle.cov_serve.specs.Sweeping.{GoesOn, goes_on_same};
     ghost use Rattle.cov_serve.specs.Storing.{count, gated, stored};
+
+    ghost State = { State };
+
+    ghost state_of = { λ s. s.state };
 
     ghost step = { step };
 
@@ -35,6 +41,8 @@ impl LineServer for Server {
     ghost gate = { gated };
 
     ghost count = { count };
+
+    ghost goes_on = { GoesOn };
 
     fn answer<D: Disk>(&mut self, line: &[u8], disk: &mut D) -> Result<Reply, Ending> {
         match self.act(line) {
@@ -62,32 +70,34 @@ impl LineServer for Server {
     ghost stored_told = { stored_told };
 
     ghost counts_rise = { counts_rise };
+
+    ghost goes_on_same = { goes_on_same };
 }
 
 impl Server {
     // Does what a line says, or makes the command that it adds.
     fn act(&mut self, line: &[u8]) -> Result<Handled, Stop>
-        ensures { Handles (acted self.old line.now) self.old self.new result }
+        ensures { Handles (acted self.old.state line.now) self.old.state self.new.state result }
     {
         self.state.act(line)
     }
 
     // Adds a command, ends the session that ends with it, and makes the reply.
     fn add<D: Disk>(&mut self, addition: Addition, disk: &mut D) -> Result<Reply, Ending>
-        requires gate { IfSome (D.contents disk.old) (gated self.old) }
+        requires gate { IfSome (D.contents disk.old) (gated self.old.state) }
         requires there { IfSome addition.ends (λ name.
-            is_some (named self.old.sessions name) ≡ true) }
+            is_some (named self.old.state.sessions name) ≡ true) }
         ensures gives { IfOk result
-            (Gives (as_outcome self.old (plainly (command_added self.old addition))) self.new) }
-        ensures gate { OnOk result (IfSome (D.contents disk.new) (gated self.new)) }
-        ensures stored { IfSome (D.contents disk.old) (stored self.old) →
-            OnOk result (IfSome (D.contents disk.new) (stored self.new)) }
-        ensures any_moment { AreAll (stored self.old) (D.images disk.old) →
+            (Gives (as_outcome self.old.state (plainly (command_added self.old.state addition))) self.new.state) }
+        ensures gate { OnOk result (IfSome (D.contents disk.new) (gated self.new.state)) }
+        ensures stored { IfSome (D.contents disk.old) (stored self.old.state) →
+            OnOk result (IfSome (D.contents disk.new) (stored self.new.state)) }
+        ensures any_moment { AreAll (stored self.old.state) (D.images disk.old) →
             LeavesOnly D.moment D.images_since disk.old disk.new
-            (IsEither (stored self.old)
-            (λ image. IsStored image (grown self.old.history addition.command))) }
-        ensures durable { AreAll (stored self.old) (D.images disk.old) →
-            OnOk result (AreAll (stored self.new) (D.images disk.new)) }
+            (IsEither (stored self.old.state)
+            (λ image. IsStored image (grown self.old.state.history addition.command))) }
+        ensures durable { AreAll (stored self.old.state) (D.images disk.old) →
+            OnOk result (AreAll (stored self.new.state) (D.images disk.new)) }
         ensures stopped { IfErr result (λ ending.
             StopsAnswer ending (D.faults disk.old) (D.faults disk.new)) }
         ensures later { D.faults disk.old ≤ D.faults disk.new }
@@ -113,8 +123,8 @@ impl Server {
         confirmation: Confirmation,
         receipt: &Receipt,
     ) -> Result<Reply, Ending>
-        requires { IfSome ends.now (λ name. is_some (named self.old.sessions name) ≡ true) }
-        ensures ended { self.new ≡ ended_by self.old ends.now }
+        requires { IfSome ends.now (λ name. is_some (named self.old.state.sessions name) ≡ true) }
+        ensures ended { self.new.state ≡ ended_by self.old.state ends.now }
         ensures gives { IfOk result
             (IsPlain (confirmed confirmation receipt.now.number receipt.now.position)) }
         ensures stopped { (disk disk' : ℕ) →
@@ -130,8 +140,8 @@ impl Server {
 
     // Refuses a command that isn't added, or ends the run where memory is wanting.
     fn stop(&self, stop: &Stop) -> Result<Reply, Ending>
-        requires { CanBeTold self.now stop.now }
-        ensures gives { Refuses self.now stop.now result }
+        requires { CanBeTold self.now.state stop.now }
+        ensures gives { Refuses self.now.state stop.now result }
         ensures stopped { (disk disk' : ℕ) →
             IfErr result (λ ending. StopsAnswer ending disk disk') }
     {
@@ -143,8 +153,8 @@ impl Server {
 
     // Refuses a line.
     fn refuse(&self, code: &Code) -> Result<Reply, Ending>
-        requires { IsCodeOf (option_count self.now.history) code.now }
-        ensures gives { IfOk result (Gives (refused self.now code.now) self.now) }
+        requires { IsCodeOf (option_count self.now.state.history) code.now }
+        ensures gives { IfOk result (Gives (refused self.now.state code.now) self.now.state) }
         ensures stopped { (disk disk' : ℕ) →
             IfErr result (λ ending. StopsAnswer ending disk disk') }
     {

@@ -16,8 +16,8 @@ use cov_script::Code;
 impl ServerState {
     /// The option that has a name.
     pub(crate) fn find_option(&self, name: Text) -> Result<OptionId, Stop>
-        ensures found { Finds (found_option self.now.history name) self.now result }
-        ensures within { IfOk result (λ option. option < option_count self.now.history) }
+        ensures found { Finds (found_option self.now.state.history name) self.now.state result }
+        ensures within { IfOk result (λ option. option < option_count self.now.state.history) }
     {
         match self.engine.options().find(name.as_slice()) {
             Some(option) => Ok(option),
@@ -27,28 +27,28 @@ impl ServerState {
 
     /// An expression with options in place of their names.
     pub(crate) fn find_expression(&self, expr: &RawExpr) -> Result<Expr, Stop>
-        ensures found { Finds (found_expression self.now.history expr.now) self.now result }
-        ensures within { IfOk result (λ expr. reach expr ≤ option_count self.now.history) }
+        ensures found { Finds (found_expression self.now.state.history expr.now) self.now.state result }
+        ensures within { IfOk result (λ expr. reach expr ≤ option_count self.now.state.history) }
     {
         Ok(expr.bind(self.alloc, self.engine.options())?)
     }
 
     /// The partial choice that bindings are.
     pub(crate) fn find_partial(&self, choice: &RawChoice) -> Result<Partial, Stop>
-        ensures found { Finds (found_partial self.now.history choice.now) self.now result }
+        ensures found { Finds (found_partial self.now.state.history choice.now) self.now.state result }
         ensures within { IfOk result (λ partial.
-            list_all (λ b. nat_lt b.0 (option_count self.now.history)) partial ≡ true) }
+            list_all (λ b. nat_lt b.0 (option_count self.now.state.history)) partial ≡ true) }
     {
         Ok(choice.bind(self.alloc, self.engine.options())?)
     }
 
     /// The choice to which the rules complete a partial one. It is valid.
     pub(crate) fn complete_partial(&mut self, partial: &Partial) -> Result<Choice, Stop>
-        requires { list_all (λ b. nat_lt b.0 (option_count self.old.history)) partial.now ≡ true }
-        ensures found { Finds (completed_choice self.old.history partial.now) self.old result }
-        ensures same { self.new ≡ self.old }
-        ensures whole { IfOk result (λ choice. length choice ≡ option_count self.old.history) }
-        ensures valid { IfOk result (λ choice. first_false_in self.old.history choice ≡ None) }
+        requires { list_all (λ b. nat_lt b.0 (option_count self.old.state.history)) partial.now ≡ true }
+        ensures found { Finds (completed_choice self.old.state.history partial.now) self.old.state result }
+        ensures same { self.new.state ≡ self.old.state }
+        ensures whole { IfOk result (λ choice. length choice ≡ option_count self.old.state.history) }
+        ensures valid { IfOk result (λ choice. first_false_in self.old.state.history choice ≡ None) }
     {
         open_options_are_declared();
         Ok(self.engine.complete(partial)?)
@@ -56,9 +56,9 @@ impl ServerState {
 
     /// The choice to which the rules complete bindings.
     pub(crate) fn find_choice(&mut self, choice: &RawChoice) -> Result<Choice, Stop>
-        ensures found { Finds (found_choice self.old.history choice.now) self.old result }
-        ensures same { self.new ≡ self.old }
-        ensures whole { IfOk result (λ choice. length choice ≡ option_count self.old.history) }
+        ensures found { Finds (found_choice self.old.state.history choice.now) self.old.state result }
+        ensures same { self.new.state ≡ self.old.state }
+        ensures whole { IfOk result (λ choice. length choice ≡ option_count self.old.state.history) }
     {
         let partial = self.find_partial(choice)?;
         self.complete_partial(&partial)

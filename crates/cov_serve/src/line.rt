@@ -26,35 +26,35 @@ pub fn serve_line<K: Sink, D: Disk, T: Trees>(
     disk: &mut D,
     trees: &mut T,
 ) -> Result<(Server, Answer), Status>
-    requires gate { HasGate (D.contents disk.old) (gate_of server.history) }
-    ensures served { IfOk result (λ next. IsServed (step server line.now) next.0 next.1) }
+    requires gate { HasGate (D.contents disk.old) (gate_of server.state.history) }
+    ensures served { IfOk result (λ next. IsServed (step server.state line.now) next.0.state next.1) }
     ensures all { OnOk result
-        (AppendsAll (step server line.now).reply (K.written out.old) (K.written out.new)) }
+        (AppendsAll (step server.state line.now).reply (K.written out.old) (K.written out.new)) }
     ensures some { OnErr result
-        (AppendsSome (step server line.now).reply (K.written out.old) (K.written out.new)) }
+        (AppendsSome (step server.state line.now).reply (K.written out.old) (K.written out.new)) }
     ensures rows_all { OnOk result
-        (AppendsAll (step server line.now).rows (T.rows trees.old) (T.rows trees.new)) }
+        (AppendsAll (step server.state line.now).rows (T.rows trees.old) (T.rows trees.new)) }
     ensures rows_some { OnErr result
-        (AppendsSome (step server line.now).rows (T.rows trees.old) (T.rows trees.new)) }
+        (AppendsSome (step server.state line.now).rows (T.rows trees.old) (T.rows trees.new)) }
     ensures rows_first { OnErr result
-        (AppendsAll (step server line.now).rows (T.rows trees.old) (T.rows trees.new)
+        (AppendsAll (step server.state line.now).rows (T.rows trees.old) (T.rows trees.new)
         ⊎ (out.new ≡ out.old)) }
 
     // What a read of the disk gives is the store of the history after the line, if it was that of the history before.
-    ensures gate { IfOk result (λ next. HasGate (D.contents disk.new) (gate_of next.0.history)) }
-    ensures stored { IfSome (D.contents disk.old) (stored server) →
-        IfOk result (λ next. IfSome (D.contents disk.new) (stored next.0)) }
+    ensures gate { IfOk result (λ next. HasGate (D.contents disk.new) (gate_of next.0.state.history)) }
+    ensures stored { IfSome (D.contents disk.old) (stored server.state) →
+        IfOk result (λ next. IfSome (D.contents disk.new) (stored next.0.state)) }
 
     // A crash at any moment leaves the store of the history before the line or after it, and once the whole reply is written, after it.
-    ensures any_moment { AreAll (stored server) (D.images disk.old) →
+    ensures any_moment { AreAll (stored server.state) (D.images disk.old) →
         LeavesOnly D.moment D.images_since disk.old disk.new
-        (IsEither (stored server) (stored (step server line.now).state)) }
-    ensures durable { AreAll (stored server) (D.images disk.old) →
-        IfOk result (λ next. AreAll (stored next.0) (D.images disk.new)) }
-    ensures acknowledged { (before : List ℕ) → AreAll (stored server) (D.images disk.old) →
+        (IsEither (stored server.state) (stored (step server.state line.now).state)) }
+    ensures durable { AreAll (stored server.state) (D.images disk.old) →
+        IfOk result (λ next. AreAll (stored next.0.state) (D.images disk.new)) }
+    ensures acknowledged { (before : List ℕ) → AreAll (stored server.state) (D.images disk.old) →
         K.written out.old ≡ Some before →
-        K.written out.new ≡ Some (before ++ (step server line.now).reply) →
-        AreAll (stored (step server line.now).state) (D.images disk.new) }
+        K.written out.new ≡ Some (before ++ (step server.state line.now).reply) →
+        AreAll (stored (step server.state line.now).state) (D.images disk.new) }
 
     ensures stopped { IfErr result (λ status.
         StopsWithStatus status (K.faults out.old) (K.faults out.new)

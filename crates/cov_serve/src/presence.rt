@@ -17,7 +17,7 @@ impl ServerState {
     /// Tells the one reduced listing of the choices on which a line is, its file there or not.
     #[tactic(auto, unfolding(crate::specs::Step::presence_told))]
     pub(crate) fn presence(&self, line: LineNo) -> Result<Text, Stop>
-        ensures { Acts (presence_told self.now line) self.now self.now result }
+        ensures { Acts (presence_told self.now.state line) self.now.state self.now.state result }
     {
         let listing = self.engine.presence(line)?;
         Ok(presence_reply(self.alloc, self.engine.options(), &listing)?)

@@ -148,45 +148,45 @@ fn serve_opened<S: Source, K: Sink, D: Disk, T: Trees>(
     disk: &mut D,
     trees: &mut T,
 ) -> Status
-    requires gate { HasGate (D.contents disk.old) (gate_of server.history) }
+    requires gate { HasGate (D.contents disk.old) (gate_of server.state.history) }
     ensures ended { (history : List Command) (text : List ℕ) →
-        server ≡ starting history → S.left script.old ≡ Some text →
+        server.state ≡ starting history → S.left script.old ≡ Some text →
         OnServed result (λ refused.
         ((model history text).is_refused ≡ refused) × (S.left script.new ≡ Some [])) }
     ensures prefix { (history : List Command) (text before : List ℕ) →
-        server ≡ starting history → S.left script.old ≡ Some text →
+        server.state ≡ starting history → S.left script.old ≡ Some text →
         K.written out.old ≡ Some before →
         WritesFront before (model history text).reply (K.written out.new) }
     ensures whole { (history : List Command) (text before : List ℕ) →
-        server ≡ starting history → S.left script.old ≡ Some text →
+        server.state ≡ starting history → S.left script.old ≡ Some text →
         K.written out.old ≡ Some before →
         OnServed result (λ refused.
         K.written out.new ≡ Some (before ++ (model history text).reply)) }
     ensures stands { (history : List Command) (text : List ℕ) →
-        server ≡ starting history → S.left script.old ≡ Some text →
+        server.state ≡ starting history → S.left script.old ≡ Some text →
         IfSome (D.contents disk.old) (λ image. IsStored image history) →
         OnServed result (λ refused. IfSome (D.contents disk.new) (λ image.
         StandsFor image (model history text).state.history)) }
     ensures rows { (history : List Command) (text : List ℕ) (before : List OutRow) →
-        server ≡ starting history → S.left script.old ≡ Some text →
+        server.state ≡ starting history → S.left script.old ≡ Some text →
         T.rows trees.old ≡ Some before →
         WritesFront before (model history text).rows (T.rows trees.new) }
     ensures rows_whole { (history : List Command) (text : List ℕ) (before : List OutRow) →
-        server ≡ starting history → S.left script.old ≡ Some text →
+        server.state ≡ starting history → S.left script.old ≡ Some text →
         T.rows trees.old ≡ Some before →
         OnServed result (λ refused. T.rows trees.new ≡ Some (before ++ (model history text).rows)) }
     ensures rows_first { (history : List Command) (text before : List ℕ) (rows : List OutRow) →
-        server ≡ starting history → S.left script.old ≡ Some text →
+        server.state ≡ starting history → S.left script.old ≡ Some text →
         K.written out.old ≡ Some before → T.rows trees.old ≡ Some rows →
         RowsComeFirst step (starting history) (lines_of text) before rows
         (K.written out.new) (T.rows trees.new) }
     ensures any_moment { (history : List Command) (text : List ℕ) →
-        server ≡ starting history → S.left script.old ≡ Some text →
+        server.state ≡ starting history → S.left script.old ≡ Some text →
         AreAll (λ image. IsStored image history) (D.images disk.old) →
         LeavesOnly D.moment D.images_since disk.old disk.new
         (StandsForFront history (served_script history text).turns) }
     ensures acknowledged { (history : List Command) (text before bytes : List ℕ) →
-        server ≡ starting history → S.left script.old ≡ Some text →
+        server.state ≡ starting history → S.left script.old ≡ Some text →
         AreAll (λ image. IsStored image history) (D.images disk.old) →
         K.written out.old ≡ Some before → K.written out.new ≡ Some (before ++ bytes) →
         AreAll (StandsForTold history (served_script history text).turns bytes)
@@ -219,7 +219,7 @@ fn serve_opened<S: Source, K: Sink, D: Disk, T: Trees>(
 
 // Tells how many records a store has.
 fn put_checked<K: Sink>(alloc: Global, server: Server, out: &mut K) -> Status
-    ensures puts { PutsLast Done (check_line server.history) (K.written out.old) (K.written out.new)
+    ensures puts { PutsLast Done (check_line server.state.history) (K.written out.old) (K.written out.new)
         (K.faults out.old) (K.faults out.new) result }
     ensures later { K.faults out.old ≤ K.faults out.new }
 {

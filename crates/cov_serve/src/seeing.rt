@@ -15,9 +15,9 @@ use cov_view::View;
 impl ServerState {
     // What the session of a name sees.
     fn view_of(&self, name: &Name) -> Result<&View, Stop>
-        ensures found { IfOk result (λ view. IsNamed self.now name.now view.now) }
+        ensures found { IfOk result (λ view. IsNamed self.now.state name.now view.now) }
         ensures stopped { IfErr result
-            (Stops (ok_or (named self.now.sessions name.now) NoSession) self.now self.now) }
+            (Stops (ok_or (named self.now.state.sessions name.now) NoSession) self.now.state self.now.state) }
     {
         Ok(self.sessions.view(name)?)
     }
@@ -26,9 +26,9 @@ impl ServerState {
     #[tactic(auto, unfolding(crate::specs::Step::node_at))]
     pub(crate) fn node_at(&self, name: &Name, path: &[Name]) -> Result<(&View, NodeRef), Stop>
         ensures found { IfOk result (λ found.
-            IsNodeAt self.now name.now path.now found.0.now found.1) }
+            IsNodeAt self.now.state name.now path.now found.0.now found.1) }
         ensures stopped { IfErr result
-            (Stops (node_at self.now name.now path.now) self.now self.now) }
+            (Stops (node_at self.now.state name.now path.now) self.now.state self.now.state) }
     {
         let view = self.view_of(name)?;
         match view.follow(path) {

@@ -25,20 +25,29 @@ use std::mem;
 pub struct Server {
     pub(crate) state: ServerState,
     pub(crate) journal: Journal,
+    // How many commits were accepted in this run.
+    pub(crate) commits: u32,
 }
 
 impl Model for Server {
-    ghost use Rattle.cov_serve.specs.States.{State};
+    ghost use Rattle.std.specs.Prelude.{◌≤◌, length};
+    ghost use Rattle.cov_serve.specs.States.{ServerValue};
     ghost use Rattle.cov_serve.specs.contracts.state.ServerState as state_row;
     ghost use Rattle.cov_store.specs.Stands.{IsJournalOf};
 
-    ghost Value = { State };
+    ghost Value = { ServerValue };
 
     ghost coded = { state_row.the_row.coded };
 
-    ghost view = { λ s. s.state };
+    ghost view = { λ s. record {
+      state = s.state.state;
+      commits = s.commits;
+      table = s.state.table;
+      nodes = s.state.nodes;
+    } };
 
-    ghost invariant = { λ s. IsJournalOf s.journal s.state.history };
+    ghost invariant = { λ s. IsJournalOf s.journal s.state.state.history
+        × (s.commits ≤ length s.state.state.history) };
 }
 
 impl Server {
@@ -53,17 +62,17 @@ impl Server {
             (D.faults disk.old) (D.faults disk.new) result) }
         ensures no_store { IfSome (D.contents disk.old) (λ image. IsNoStore image →
             TellsNoStore (D.faults disk.old) (D.faults disk.new) result) }
-        ensures begins { IfOk result (λ server. server ≡ starting server.history) }
+        ensures begins { IfOk result (λ server. server.state ≡ starting server.state.history) }
         ensures opened { IfOk result (λ server.
-            IfSome (D.contents disk.old) (λ image. StandsFor image server.history)) }
+            IfSome (D.contents disk.old) (λ image. StandsFor image server.state.history)) }
         ensures faulty { IfErr result (λ fault.
             IfSome (D.contents disk.old) (λ image. IsImageFaultOf image fault)) }
         ensures cause { IfErr result (HasReason (D.faults disk.old) (D.faults disk.new)) }
         ensures verdict { IfErr result IsOfVerdict }
         ensures written { IfOk result (λ server.
-            IfSome (D.contents disk.new) (λ image. IsStored image server.history)) }
+            IfSome (D.contents disk.new) (λ image. IsStored image server.state.history)) }
         ensures gate { IfOk result (λ server.
-            HasGate (D.contents disk.new) (gate_of server.history)) }
+            HasGate (D.contents disk.new) (gate_of server.state.history)) }
         ensures kept { IfErr result (λ fault.
             IfSome (D.contents disk.old) (λ image.
             OnImageRefused fault (D.contents disk.new ≡ D.contents disk.old))) }
@@ -71,7 +80,7 @@ impl Server {
             IfSome (D.contents disk.old) (λ image. StandsFor image history →
             IfSome (D.contents disk.new) (λ now. StandsFor now history)) }
         ensures stored { IfOk result (λ server. (image : List ℕ) → D.images disk.new image →
-            IsStored image server.history) }
+            IsStored image server.state.history) }
         ensures any_moment { (history : List Command) →
             ((image : List ℕ) → D.images disk.old image → StandsFor image history) →
             LeavesOnly D.moment D.images_since disk.old disk.new
@@ -94,7 +103,7 @@ impl Server {
 
     /// How many commands the history has. Takes no memory.
     pub(crate) fn position(&self) -> Position
-        ensures { result ≡ length self.now.history }
+        ensures { result ≡ length self.now.state.history }
     {
         self.state.engine.position()
     }

@@ -24,8 +24,8 @@ use std::alloc::Global;
 impl ServerState {
     /// The reply that refuses a line.
     pub(crate) fn refuse(&self, code: &Code) -> Result<Reply, Memory>
-        requires { IsCodeOf (option_count self.now.history) code.now }
-        ensures { IfOk result (Gives (refused self.now code.now) self.now) }
+        requires { IsCodeOf (option_count self.now.state.history) code.now }
+        ensures { IfOk result (Gives (refused self.now.state code.now) self.now.state) }
     {
         let text = reply_refused(self.alloc, self.engine.options(), code)?;
         let rows = OutRows::new(self.alloc);
@@ -37,7 +37,7 @@ impl ServerState {
     /// line adds.
     #[tactic(auto, unfolding(crate::specs::Step::acted))]
     pub(crate) fn act(&mut self, line: &[u8]) -> Result<Handled, Stop>
-        ensures { Handles (acted self.old line.now) self.old self.new result }
+        ensures { Handles (acted self.old.state line.now) self.old.state self.new.state result }
     {
         if line.len() > MOST_SCRIPT_LINE_BYTES {
             return Err(Stop::Refused(Code::Long));
@@ -50,7 +50,7 @@ impl ServerState {
     #[tactic(auto, unfolding(crate::specs::Step::served))]
     fn serve(&mut self, line: GroupedLine) -> Result<Handled, Stop>
         requires { HasParts line }
-        ensures { Handles (served self.old line) self.old self.new result }
+        ensures { Handles (served self.old.state line) self.old.state self.new.state result }
     {
         match line {
             GroupedLine::Silent => Ok(Handled::Done(Reply::to_done(
@@ -67,8 +67,8 @@ impl ServerState {
 
     #[tactic(auto, unfolding(crate::specs::Step::served_declaration))]
     fn serve_declaration(&self, declaration: Declaration) -> Result<Handled, Stop>
-        ensures { Handles (plainly (served_declaration self.now declaration))
-            self.now self.now result }
+        ensures { Handles (plainly (served_declaration self.now.state declaration))
+            self.now.state self.now.state result }
     {
         match declaration {
             Declaration::Option { token } => self.declare(&token),
@@ -80,7 +80,7 @@ impl ServerState {
 
     #[tactic(auto, unfolding(crate::specs::Step::served_session))]
     fn serve_session(&mut self, line: SessionLine) -> Result<Handled, Stop>
-        ensures { Handles (plainly (served_session self.old line)) self.old self.new result }
+        ensures { Handles (plainly (served_session self.old.state line)) self.old.state self.new.state result }
     {
         match line {
             SessionLine::Open {
@@ -97,7 +97,7 @@ impl ServerState {
     #[tactic(auto, unfolding(crate::specs::Step::served_edit))]
     fn serve_edit(&mut self, name: &Name, edit: EditLine) -> Result<Text, Stop>
         requires { EditHasParts edit }
-        ensures { Acts (served_edit self.old name.now edit) self.old self.new result }
+        ensures { Acts (served_edit self.old.state name.now edit) self.old.state self.new.state result }
     {
         match edit {
             EditLine::MakeDir { path } => self.make_node(Kind::Dir, name, &path),
@@ -113,7 +113,7 @@ impl ServerState {
 
     #[tactic(auto, unfolding(crate::specs::Step::served_question))]
     fn serve_question(&mut self, question: Question) -> Result<Text, Stop>
-        ensures { Acts (served_question self.old question) self.old self.new result }
+        ensures { Acts (served_question self.old.state question) self.old.state self.new.state result }
     {
         match question {
             Question::Complete { choice } => self.complete(&choice),

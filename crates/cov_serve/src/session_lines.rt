@@ -19,7 +19,7 @@ impl ServerState {
         choice: &RawChoice,
         ambition: &RawExpr,
     ) -> Result<Text, Stop>
-        ensures { Acts (opened self.old name choice.now ambition.now) self.old self.new result }
+        ensures { Acts (opened self.old.state name choice.now ambition.now) self.old.state self.new.state result }
     {
         let partial = self.find_partial(choice)?;
         let ambition = self.find_expression(ambition)?;
@@ -33,7 +33,7 @@ impl ServerState {
     /// Moves the base of a session to now.
     #[tactic(auto, unfolding(crate::specs::Step::refreshed))]
     pub(crate) fn refresh(&mut self, name: &Name) -> Result<Text, Stop>
-        ensures { Acts (refreshed self.old name.now) self.old self.new result }
+        ensures { Acts (refreshed self.old.state name.now) self.old.state self.new.state result }
     {
         let opened = self.sessions.refresh(&mut self.engine, name)?;
         let options = self.engine.options();
@@ -43,7 +43,7 @@ impl ServerState {
     /// The commit of a session, which ends with it.
     #[tactic(auto, unfolding(crate::specs::Step::committed))]
     pub(crate) fn commit(&self, name: Name) -> Result<Handled, Stop>
-        ensures { Handles (plainly (committed self.now name)) self.now self.now result }
+        ensures { Handles (plainly (committed self.now.state name)) self.now.state self.now.state result }
     {
         let command = self.sessions.command(&name)?;
         Ok(Handled::Adds(Addition {
@@ -56,7 +56,7 @@ impl ServerState {
     /// Gives a session up.
     #[tactic(auto, unfolding(crate::specs::Step::dropped))]
     pub(crate) fn discard(&mut self, name: &Name) -> Result<Text, Stop>
-        ensures { Acts (dropped self.old name.now) self.old self.new result }
+        ensures { Acts (dropped self.old.state name.now) self.old.state self.new.state result }
     {
         self.sessions.discard(name)?;
         Ok(reply_plain(self.alloc)?)

@@ -25,13 +25,23 @@ impl Model for ServerState {
     ghost use Rattle.cov_edit.specs.contracts.edit.Edit as edit_row;
     ghost use Rattle.cov_session.specs.Calls.{AreOpen};
     ghost use Rattle.cov_session.specs.Open.{as_named};
-    ghost use Rattle.cov_serve.specs.States.{State};
+    ghost use Rattle.cov_dd.specs.contracts.triple.Triple as triples;
+    ghost use Rattle.cov_serve.specs.States.{Serving};
 
-    ghost Value = { State };
+    ghost Value = { Serving };
 
-    ghost coded = { Prim.hlevel (codes, formula_code coded_ℕ, command_row.the_row.coded, edit_row.the_row.coded) };
+    ghost coded = { Prim.hlevel (codes, formula_code coded_ℕ, command_row.the_row.coded,
+        edit_row.the_row.coded, triples.the_row.coded) };
 
-    ghost view = { λ s. record { history = s.engine.history; sessions = map as_named s.sessions; trees = s.trees } };
+    ghost view = { λ s. record {
+      state = record {
+        history = s.engine.history;
+        sessions = map as_named s.sessions;
+        trees = s.trees;
+      };
+      table = s.engine.table;
+      nodes = s.engine.nodes;
+    } };
 
     ghost invariant = { λ s. AreOpen s.engine.history s.sessions };
 }
@@ -39,7 +49,9 @@ impl Model for ServerState {
 impl ServerState {
     /// The state of a run that begins with a history.
     pub(crate) fn new(alloc: Global, engine: Engine) -> ServerState
-        ensures { result ≡ starting engine.history }
+        ensures state { result.state ≡ starting engine.history }
+        ensures table { result.table ≡ engine.table }
+        ensures nodes { result.nodes ≡ engine.nodes }
     {
         ServerState {
             alloc,

@@ -15,7 +15,7 @@ impl ServerState {
     /// Tells the choice to which the rules complete bindings.
     #[tactic(auto, unfolding(crate::specs::Step::completed))]
     pub(crate) fn complete(&mut self, choice: &RawChoice) -> Result<Text, Stop>
-        ensures { Acts (completed self.old choice.now) self.old self.new result }
+        ensures { Acts (completed self.old.state choice.now) self.old.state self.new.state result }
     {
         let choice = self.find_choice(choice)?;
         Ok(reply_complete(self.alloc, self.engine.options(), choice)?)
@@ -24,7 +24,7 @@ impl ServerState {
     /// Tells the lines of a file of the variant of a choice.
     #[tactic(auto, unfolding(crate::specs::Step::told))]
     pub(crate) fn tell(&mut self, choice: &RawChoice, path: &Path) -> Result<Text, Stop>
-        ensures { Acts (told self.old choice.now path.now) self.old self.new result }
+        ensures { Acts (told self.old.state choice.now path.now) self.old.state self.new.state result }
     {
         let choice = self.find_choice(choice)?;
         self.tell_at(choice, path)
@@ -32,8 +32,8 @@ impl ServerState {
 
     #[tactic(auto, unfolding(crate::specs::Step::file_told))]
     fn tell_at(&self, choice: Choice, path: &Path) -> Result<Text, Stop>
-        ensures { Acts (file_told self.now (replay choice self.now.history) path.now)
-            self.now self.now result }
+        ensures { Acts (file_told self.now.state (replay choice self.now.state.history) path.now)
+            self.now.state self.now.state result }
     {
         let at = self.engine.position();
         let file = self.engine.file_at(choice, at, path.as_slice())?;
@@ -49,7 +49,7 @@ impl ServerState {
         token: Text,
         path: &Path,
     ) -> Result<Text, Stop>
-        ensures { Acts (compared self.old choice.now token path.now) self.old self.new result }
+        ensures { Acts (compared self.old.state choice.now token path.now) self.old.state self.new.state result }
     {
         let partial = self.find_partial(choice)?;
         let option = self.find_option(token)?;
@@ -61,7 +61,7 @@ impl ServerState {
     /// Tells the lines of a file as a session sees them.
     #[tactic(auto, unfolding(crate::specs::Step::shown))]
     pub(crate) fn show(&self, name: &Name, path: &Path) -> Result<Text, Stop>
-        ensures { Acts (shown self.now name.now path.now) self.now self.now result }
+        ensures { Acts (shown self.now.state name.now path.now) self.now.state self.now.state result }
     {
         let (view, file) = self.node_at(name, path.as_slice())?;
         let lines = view.lines(file)?;
@@ -71,7 +71,7 @@ impl ServerState {
     /// Tells what is in a directory as a session sees it.
     #[tactic(auto, unfolding(crate::specs::Step::listed_at))]
     pub(crate) fn list(&self, name: &Name, path: &Path) -> Result<Text, Stop>
-        ensures { Acts (listed_at self.now name.now path.now) self.now self.now result }
+        ensures { Acts (listed_at self.now.state name.now path.now) self.now.state self.now.state result }
     {
         let (view, directory) = self.node_at(name, path.as_slice())?;
         let nodes = view.list(directory)?;

@@ -1,8 +1,11 @@
 -- Lemmas on changes of rows, for the proofs of callers.
 pub use Rattle.cov_tree.proofs.Carried.{nodes_stay, once_stays, options_stay, rows_stay}
 pub use Rattle.cov_tree.proofs.Among.{among_all, among_once, among_row}
+pub use Rattle.cov_tree.proofs.Holding.{same_kinds, same_nodes, visibilities_but_room}
 pub use Rattle.cov_tree.proofs.Installing.{newest_but_room, nodes_but_room}
+pub use Rattle.cov_tree.proofs.Numbering.{gets-all, gets-count, gets-here, gets-long, gets-none, gets-room, gets-step, GetsUntil}
 pub use Rattle.cov_tree.proofs.Plans.{plans_grow}
+pub use Rattle.cov_tree.proofs.Spreading.{all_left, all_right}
 use Rattle.std.proofs.Common.{◌≡◌, ℕ, Bool, true, false, cond, List, [], ◌∷◌, map, refl, ◌∙◌}
 use Rattle.std.specs.List.{fold}
 use Rattle.cov_base.specs.Rows.{Row, RowChange, changed}

@@ -13,6 +13,8 @@ use Rattle.cov_tree.specs.Entries.{rows_in, nodes_of, AllAreWithin}
 use Rattle.cov_tree.specs.Installing.{AreAlike, AreChanged}
 use Rattle.cov_tree.proofs.Carried.{now_at}
 use Rattle.cov_tree.proofs.Installing.{nodes_are}
+use Rattle.cov_tree.specs.Renumbered.{visibilities, AreNodes}
+use Rattle.cov_tree.proofs.Holding.{plan_within}
 use Rattle.cov_tree.proofs.Planned.{planned_distinct}
 
 pub until_later : (p q : ℕ) (es : List DatedEntry) → p ≤ q → AreUntil p es → AreUntil q es
@@ -51,6 +53,9 @@ module _ (at : ℕ) (plan : List Entry) (old new : Dated) (i : Installs at plan 
   before_it p low =
       subst (λ xs. AreAlike (nodes_at p old) xs) (sym (earlier at p new i.from low))
       (subst (λ xs. AreAlike xs (map (entry_at p) new.entries)) (sym (nodes_are p old i.until)) (i.changed.before p low))
+
+  pub installed_kept : AreDistinct (nodes_of plan) → (table : List Triple) → AreNodes table (visibilities old) → AreNodesWith table plan old → AreNodes table (visibilities new)
+  installed_kept distinct table h k = i.changed.kept table h (plan_within table plan (newest_nodes old) distinct k)
 
   pub installed_rows : (table : List Triple) (c : List Bool) (p : ℕ) → at ≤ p → rows_at table c p new ≡ rows_with table c plan old
   installed_rows table c p le = ap (rows_in table c) (from_there p le)

@@ -15,6 +15,7 @@ use Rattle.cov_tree.specs.Dated.{Dated, entry_at, newest_entry, newest_nodes, no
 use Rattle.cov_tree.specs.Entries.{rows_of, rows_in, nodes_of, AreWithin, AllAreWithin}
 use Rattle.cov_tree.specs.Planning.{IsFoundAs}
 use Rattle.cov_tree.specs.Installing.{IsChanged, IsPut, AreAlike, AreChanged}
+use Rattle.cov_tree.proofs.Holding.{kept_behind, kept_in_place, kept_put, kept_set}
 use Rattle.cov_tree.proofs.Noting.{put_noted, set_noted}
 use Rattle.cov_tree.proofs.Among.{is_of, rows_found, entry_first, find_none}
 use Rattle.cov_tree.proofs.Planned.{with_new, planned_distinct}
@@ -178,6 +179,7 @@ module _ (at : ℕ) (f : Entry) (new : DatedEntry) where
   set_changed es i d distinct here is c = record {
     newest = set_newest es i d distinct here is c;
     before = λ p low. alike_same (map (entry_at p) es) (map (entry_at p) (set es i new)) (set_before p low es i d here c);
+    kept = λ table h plan. kept_set table new es i d here h (λ own. c.kept table own plan.0);
     until = λ h. set_until es i c.from h;
     noted = λ all own h. set_noted at f new all own.0 es i d here is c h;
   }
@@ -219,6 +221,7 @@ put_changed at f es new none put = record {
       ∙ ap (λ e. map newest_entry es ++ e ∷ []) put.newest
       ∙ sym (with_new f (map newest_entry es) none);
   before = λ p low. put_alike at p f es new low put;
+  kept = λ table h plan. kept_put table at f es new put h plan.0;
   noted = λ all own h. put_noted at f all es new own.0 put h;
   until = λ h. subst (AreUntil at) (sym put.is) (let from = put.from in all-append (λ e. e.from ≤ at) es (put.made ∷ []) h (omega (arith, from), tt));
 }
@@ -228,6 +231,7 @@ pub none_changed : (at : ℕ) (es : List DatedEntry) → AreChanged at [] es es
 none_changed at es = record {
   newest = refl;
   before = λ p low. alike_same (map (entry_at p) es) (map (entry_at p) es) refl;
+  kept = λ table h plan. h;
   until = λ h. h;
   noted = λ all own h. h;
 }
@@ -236,6 +240,7 @@ pub more_changed : (at : ℕ) (f : Entry) (plan : List Entry) (es fs gs : List D
 more_changed at f plan es fs gs a b = record {
   newest = b.newest ∙ ap (planned plan) a.newest;
   before = λ p low. alike_trans (map (entry_at p) es) (map (entry_at p) fs) (map (entry_at p) gs) (a.before p low) (b.before p low);
+  kept = λ table h plan'. b.kept table (a.kept table h (plan'.0, tt)) plan'.1;
   until = λ h. b.until (a.until h);
   noted = λ all own h. b.noted all own.1 (a.noted all (own.0, tt) h);
 }
@@ -272,6 +277,7 @@ module _ (at : ℕ) (places : List Place) (old new : DatedEntry) (node : new.nod
         beyond p low
         ∙ ap (λ ls. value_at [] ls p) older
         ∙ ap (λ b. cond b old.places (value_at [] old.older.lists p)) (sym no);
+    kept = λ table h k. kept_in_place table places old new set_to h k older;
   }
 
   -- or behind those before
@@ -282,6 +288,7 @@ module _ (at : ℕ) (places : List Place) (old new : DatedEntry) (node : new.nod
     places = set_to;
     from = from;
     before = λ p low. beyond p low ∙ ap (λ ls. value_at [] ls p) older;
+    kept = λ table h k. kept_behind table places old new set_to h k older;
   }
 
 -- room for a change of a node

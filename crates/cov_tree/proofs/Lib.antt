@@ -4,6 +4,7 @@ pub mod CallerLemmas
 pub mod Carried
 pub mod Clashing
 pub mod Examples
+pub mod Holding
 pub mod Indexing
 pub mod Installed
 pub mod Installing

@@ -141,7 +141,7 @@ pub record Split (f : Entry) (es : List Entry) : Type 0 where
   pub node : own.node ≡ f.node
   pub all : (ps : List Place) → with_entry (with_places ps f) es ≡ front ++ with_places ps own ∷ rest
 
-split : (f : Entry) (es : List Entry) → Split f es
+pub split : (f : Entry) (es : List Entry) → Split f es
 split f [] = record { front = []; own = f; rest = []; node = refl; all = λ ps. refl }
 split f (e ∷ es) = by (nat_eq e.node f.node) refl (split f es)
   where
@@ -187,7 +187,7 @@ passed g n (e ∷ front) rest h = by (nat_eq e.node g.node) refl (passed g n fro
       all = λ b is. ap (λ t. cond t (with_places_of g e ∷ (front ++ b ∷ rest)) (e ∷ with_entry g (front ++ b ∷ rest))) other ∙ ap (λ xs. e ∷ xs) (s.all b is);
     }
 
-all_passed : (plan : List Entry) (n : ℕ) (front rest : List Entry) → has_node n (nodes_of plan) ≡ false → Passes n (λ b. planned plan (front ++ b ∷ rest))
+pub all_passed : (plan : List Entry) (n : ℕ) (front rest : List Entry) → has_node n (nodes_of plan) ≡ false → Passes n (λ b. planned plan (front ++ b ∷ rest))
 all_passed [] n front rest h = record { front = front; rest = rest; all = λ b is. refl }
 all_passed (g ∷ plan) n front rest h =
     let parts = or_parts (nat_eq g.node n) (has_node n (nodes_of plan)) h in

@@ -8,8 +8,9 @@ use Rattle.cov_tree.specs.declared.entry.Entry.{Entry}
 use Rattle.cov_tree.specs.declared.entry.Place.{Place}
 use Rattle.cov_tree.specs.declared.dated.DatedEntry.{DatedEntry}
 use Rattle.cov_tree.specs.Dated.{entry_at, newest_entry, planned, AreUntil}
-use Rattle.cov_tree.specs.Entries.{rows_in, nodes_of, AllAreWithin}
+use Rattle.cov_tree.specs.Entries.{rows_in, nodes_of, AllAreWithin, AreWithin}
 use Rattle.cov_tree.specs.Noted.{Noted, AreNoted, ArePlanNoted}
+use Rattle.cov_tree.specs.Renumbered.{entry_visibilities, AreKeptNodes, AreNodes}
 
 -- a node stands at a place among others, or isn't there
 abbrev pub IsPlaceOf : ℕ → List DatedEntry → Option ℕ → Type 0
@@ -31,6 +32,7 @@ pub record IsChanged (at : ℕ) (given : List Place) (old new : DatedEntry) : Ty
   pub places : new.places ≡ given
   pub from : new.from ≡ at
   pub before : (p : ℕ) → p < at → (entry_at p new).places ≡ (entry_at p old).places
+  pub kept : (table : List Triple) → AreNodes table (entry_visibilities old) → AreWithin table given → AreNodes table (entry_visibilities new)
 
 -- a node is made at a position and stands behind the others
 pub record IsPut (at : ℕ) (entry : Entry) (old new : List DatedEntry) : Type 0 where
@@ -49,5 +51,6 @@ pub record AreAlike (es fs : List Entry) : Type 0 where
 pub record AreChanged (at : ℕ) (plan : List Entry) (old new : List DatedEntry) : Type 0 where
   pub newest : map newest_entry new ≡ planned plan (map newest_entry old)
   pub before : (p : ℕ) → p < at → AreAlike (map (entry_at p) old) (map (entry_at p) new)
+  pub kept : (table : List Triple) → AreKeptNodes table old → AllAreWithin table plan → AreKeptNodes table new
   pub until : AreUntil at old → AreUntil at new
   pub noted : (all : Noted) → ArePlanNoted all plan → AreAllNoted all old → AreAllNoted all new

@@ -1,6 +1,8 @@
 -- The visibilities of nodes at all their positions, and others in their places.
-use Rattle.std.specs.Prelude.{◌≡◌, ℕ, Bool, List, [], ◌∷◌, ◌++◌, length, map, reverse, set, slice_index_or, take}
+use Rattle.std.specs.Prelude.{◌≡◌, ℕ, ◌<◌, Bool, List, [], ◌∷◌, ◌++◌, length, map, reverse, set, slice_index_or, take}
 use Rattle.cov_dd.specs.declared.triple.Triple.{Triple}
+use Rattle.std.specs.List.{AllByRecursion}
+use Rattle.cov_dd.specs.Diagrams.{diagram_size}
 use Rattle.cov_dd.specs.Sweeps.{AreRenumbered}
 use Rattle.cov_tree.specs.declared.entry.Place.{Place}
 use Rattle.cov_tree.specs.declared.dated.DatedEntry.{DatedEntry}
@@ -49,6 +51,14 @@ entry_without_vis e = record {
 -- every visibility that is kept, in one order
 abbrev pub visibilities : Dated → List ℕ
 visibilities d = all_numbers entry_visibilities d.entries
+
+-- numbers are nodes of a table
+abbrev pub AreNodes : List Triple → List ℕ → Type 0
+AreNodes table ns = AllByRecursion (λ n. n < diagram_size table) ns
+
+-- every visibility that nodes have or had is a node of a table
+abbrev pub AreKeptNodes : List Triple → List DatedEntry → Type 0
+AreKeptNodes table es = AreNodes table (all_numbers entry_visibilities es)
 
 -- all but the visibilities
 abbrev pub without_visibilities : Dated → Dated

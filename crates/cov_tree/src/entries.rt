@@ -16,6 +16,7 @@ ghost use Rattle.cov_tree.specs.Planning.{IsFoundAs};
 ghost use Rattle.cov_tree.specs.Installing.{IsPlaceOf, IsIndex, IsPut, AreChanged};
 ghost use Rattle.cov_tree.specs.Carried.{AreNodesAt, AreNodesWith, AreOnceAt, AreOnceWith, AreUnreadAt, AreUnreadWith};
 ghost use Rattle.cov_tree.specs.Changes.{all_changed, Makes};
+ghost use Rattle.cov_tree.specs.Renumbered.{visibilities, AreNodes};
 
 mod renumbering;
 
@@ -79,6 +80,7 @@ impl Entries {
         ensures nodes { IfOk result (λ entries. nodes_in entries ≡ []) }
         ensures kinds { IfOk result (λ entries. kinds_in entries ≡ []) }
         ensures within { IfOk result (λ entries. (table : List Triple) → AreNodesAt table entries) }
+        ensures kept { IfOk result (λ entries. visibilities entries ≡ []) }
         ensures once { IfOk result (λ entries. (table : List Triple) → AreOnceAt table entries) }
         ensures options { IfOk result (λ entries. (table : List Triple) (count : ℕ) →
             AreUnreadAt table entries count) }
@@ -172,6 +174,8 @@ impl Entries {
         ensures kinds { kinds_in self.new ≡ kinds_with plan self.old }
         ensures within { (table : List Triple) → AreNodesAt table self.old →
             AreNodesWith table plan self.old → AreNodesAt table self.new }
+        ensures kept { (table : List Triple) → AreNodes table (visibilities self.old) →
+            AreNodesWith table plan self.old → AreNodes table (visibilities self.new) }
         ensures once { (table : List Triple) → AreOnceAt table self.old →
             AreOnceWith table plan self.old → AreOnceAt table self.new }
         ensures options { (table : List Triple) (count : ℕ) → AreUnreadAt table self.old count →

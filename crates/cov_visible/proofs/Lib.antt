@@ -3,6 +3,7 @@ pub mod Fresh
 pub mod Halving
 pub mod Matching
 pub mod NamedRows
+pub mod Renumbering
 pub mod Resolved
 pub mod Rising
 pub mod Rooms

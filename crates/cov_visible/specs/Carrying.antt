@@ -2,6 +2,7 @@
 use Rattle.std.specs.Prelude.{◌≡◌, ℕ, ◌+◌, ◌-◌, ◌^◌, ◌<◌, ◌≤◌, true, false, nat_eq, List, [], ◌∷◌, ◌++◌, map}
 use Rattle.std.specs.List.{AllByRecursion, AllZip}
 use Rattle.cov_file.specs.Dated.{DatedLine as FileLine, line_numbers_of, new_line, with_line, with_change, AreAlike}
+use Rattle.cov_file.specs.Renumbered.{AddsNode}
 use Rattle.cov_file.specs.Rooms.{is_room_at, IsMade, IsLeft}
 use Rattle.cov_order.specs.Orders.{has_line, is_anchor}
 use Rattle.cov_visible.specs.Staging.{Contents, contents}
@@ -43,20 +44,22 @@ CanCarryOut at (resolved.Rename node name on) e = Unit {0}
 CanCarryOut at (resolved.Move node parent on) e = Unit {0}
 CanCarryOut at (resolved.Remove node on) e = Unit {0}
 
--- a stored file with other lines, the newest change of which is at a position
-abbrev pub with_other_lines : FilePart → List FileLine → ℕ → Contents
-with_other_lines e ls newest = record { node = e.node; lines = ls; newest = newest }
+-- a stored file with other lines, the newest change of which is at a position, and other nodes of these
+abbrev pub with_other_lines : FilePart → List FileLine → ℕ → List ℕ → Contents
+with_other_lines e ls newest ns = record { node = e.node; lines = ls; newest = newest; nodes = ns }
 
 -- a file has taken a line after an anchor
 pub record IsInserted (at anchor line : ℕ) (text : List ℕ) (vis : ℕ) (old new : FilePart) : Type 0 where
-  pub row : contents new ≡ with_other_lines old new.lines.lines at
+  pub row : contents new ≡ with_other_lines old new.lines.lines at new.lines.nodes
+  pub nodes : AddsNode vis old.lines.nodes new.lines.nodes
   pub lines : AreAlike new.lines.lines (with_line anchor (new_line line text vis at) old.lines.lines)
   pub room : IsLeft old.lines.room new.lines.room at 1
   pub own : has_line line new.lines.room.changes ≡ true
 
 -- a line of a file has got another visibility
 pub record IsChanged (at line vis : ℕ) (old new : FilePart) : Type 0 where
-  pub row : contents new ≡ with_other_lines old new.lines.lines at
+  pub row : contents new ≡ with_other_lines old new.lines.lines at new.lines.nodes
+  pub nodes : AddsNode vis old.lines.nodes new.lines.nodes
   pub lines : AreAlike new.lines.lines (with_change line vis at old.lines.lines)
   pub room : IsLeft old.lines.room new.lines.room at 0
 

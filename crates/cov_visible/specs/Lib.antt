@@ -2,6 +2,7 @@ pub mod Carrying
 pub mod Nodes
 pub mod Parts
 pub mod Reading
+pub mod Renumbered
 pub mod Resolved
 pub mod RowPlans
 pub mod Showing

@@ -9,6 +9,7 @@ use Rattle.cov_tree.specs.declared.entry.Entry.{Entry}
 use Rattle.cov_tree.specs.Carried.{AreNodesAt, AreNodesWith}
 use Rattle.cov_tree.specs.Changes.{Makes, nodes_after, kinds_after}
 use Rattle.cov_tree.specs.Dated.{Dated, rows_at, rows_with, nodes_in, kinds_in, nodes_with, kinds_with}
+use Rattle.cov_tree.specs.Renumbered.{visibilities, AreNodes}
 use Rattle.cov_visible.specs.declared.resolved_edit.ResolvedEdit.{ResolvedEdit}
 use Rattle.cov_visible.specs.declared.resolved_edit.ResolvedEdit.TheVariants as resolved
 
@@ -60,3 +61,4 @@ pub record IsSet (at : ℕ) (plan : List Entry) (old new : Dated) : Type 0 where
   pub nodes : nodes_in new ≡ nodes_with plan old
   pub kinds : kinds_in new ≡ kinds_with plan old
   pub within : (table : List Triple) → AreNodesAt table old → AreNodesWith table plan old → AreNodesAt table new
+  pub kept : (table : List Triple) → AreNodes table (visibilities old) → AreNodesWith table plan old → AreNodes table (visibilities new)

@@ -17,13 +17,14 @@ pub record Contents : Type 0 where
   pub node : ℕ
   pub lines : List FileLine
   pub newest : ℕ
+  pub nodes : List ℕ
 
 abbrev pub contents : FilePart → Contents
-contents e = record { node = e.node; lines = e.lines.lines; newest = e.lines.newest }
+contents e = record { node = e.node; lines = e.lines.lines; newest = e.lines.newest; nodes = e.lines.nodes }
 
 -- a new file, which has no lines
 abbrev pub new_contents : ℕ → Contents
-new_contents node = record { node = node; lines = []; newest = 0 }
+new_contents node = record { node = node; lines = []; newest = 0; nodes = [] }
 
 -- the files that edits make, so many nodes having been made before these edits
 abbrev pub new_files : ℕ → List Edit → List Contents

@@ -1,12 +1,13 @@
 // The lines of one file.
-ghost use Rattle.std.specs.Prelude.{◌≡◌, ◌≤◌, ◌<◌, ◌+◌, ◌-◌, ◌^◌, ◌++◌, ◌∷◌, [], ℕ, OnOk};
+ghost use Rattle.std.specs.Prelude.{◌≡◌, ◌≤◌, ◌<◌, ◌+◌, ◌-◌, ◌^◌, ◌++◌, ◌∷◌, [], ℕ, length, take, drop, OnOk};
 ghost use Rattle.cov_file.specs.Dated.{line_numbers_of};
 ghost use Rattle.cov_file.specs.Rooms.{IsMade};
 ghost use Rattle.cov_visible.specs.Staging.{contents};
+ghost use Rattle.cov_visible.specs.Renumbered.{kept_nodes, IsRenumberedPart};
 ghost use Rattle.cov_visible.specs.Carrying.{CanInsert, CanDelete, IsInserted, IsChanged};
 
 use cov_base::{LineNo, Memory, NodeNo, Position, Text};
-use cov_dd::Node;
+use cov_dd::{Node, Nodes};
 use cov_file::FileLines;
 
 /// The lines ever inserted into a file. Something is expected of them only while a commit is staged.
@@ -71,5 +72,16 @@ impl FilePart {
         ensures { IsChanged at line vis self.old self.new }
     {
         self.lines.delete(line, vis, at);
+    }
+
+    /// Puts the nodes of a list from a place on in the places of those that the lines keep, and answers the place after the last.
+    pub(crate) fn renumber(&mut self, from: &Nodes, first: u64) -> u64
+        requires { first + length (kept_nodes self.old) ≤ length from.now }
+        ensures next { result ≡ first + length (kept_nodes self.old) }
+        ensures nodes { kept_nodes self.new ≡
+            take (length (kept_nodes self.old)) (drop first from.now) }
+        ensures part { IsRenumberedPart self.old self.new }
+    {
+        self.lines.renumber(from, first)
     }
 }

@@ -1,17 +1,19 @@
 // Files with their lines.
-ghost use Rattle.std.specs.Prelude.{◌≡◌, ◌≤◌, ◌++◌, [], ◌∷◌, length, map, take, slice_get, OnOk, OnErr};
+ghost use Rattle.std.specs.Prelude.{◌≡◌, ◌≤◌, ◌+◌, ◌++◌, [], ◌∷◌, length, map, take, drop, slice_get, OnOk, OnErr};
 ghost use Rattle.std.specs.List.{AllByRecursion};
 ghost use Rattle.std.specs.Option.{option_copied};
 ghost use Rattle.cov_base.specs.declared.limits.TheConstants.{LIMITS};
 ghost use Rattle.cov_edit.specs.Touched.{AreRising};
 ghost use Rattle.cov_visible.specs.Carrying.{CanCarryOutAll, AreAllCarriedOut};
 ghost use Rattle.cov_visible.specs.Parts.{part_node};
+ghost use Rattle.cov_visible.specs.Renumbered.{line_nodes, ArePartsRenumbered};
 ghost use Rattle.cov_visible.specs.Staging.{contents, new_contents, made_files, HasRoom};
 
 use crate::FilePart;
 use crate::file_staging::{add_room_for, expect_nothing_in, stage_file};
 use crate::resolved_edit::{ResolvedEdit, carry_out};
 use cov_base::{Memory, NodeNo, Position};
+use cov_dd::Nodes;
 use std::alloc::Global;
 use std::collections::VecDeque;
 use std::marker::Model;
@@ -131,6 +133,63 @@ impl FileParts {
             carry_out(files, edit, at);
         }
     }
+
+    /// Appends every node that the files' lines keep, file by file. At an `Err` the list is as before.
+    pub fn nodes(&self, into: &mut Nodes) -> Result<(), Memory>
+        ensures ok { OnOk result (into.new ≡ into.old ++ line_nodes self.now) }
+        ensures err { OnErr result (into.new ≡ into.old) }
+    {
+        let before = into.len();
+        match append(self.parts.as_slice(), into) {
+            Ok(()) => Ok(()),
+            Err(error) => {
+                into.cut(before);
+                Err(error)
+            }
+        }
+    }
+
+    /// Puts the nodes of a list from a place on in the places of those that the files' lines keep, in the order of `nodes`. It
+    /// answers the place after the last, and takes no memory.
+    pub fn renumber(&mut self, from: &Nodes, first: u64) -> u64
+        requires { first + length (line_nodes self.old) ≤ length from.now }
+        ensures next { result ≡ first + length (line_nodes self.old) }
+        ensures nodes { line_nodes self.new ≡
+            take (length (line_nodes self.old)) (drop first from.now) }
+        ensures parts { ArePartsRenumbered self.old self.new }
+    {
+        renumber_all(&mut self.parts, from, first)
+    }
+}
+
+// Appends the nodes that files' lines keep.
+fn append(parts: &[FilePart], into: &mut Nodes) -> Result<(), Memory>
+    ensures ok { OnOk result (into.new ≡ into.old ++ line_nodes parts.now) }
+    ensures front { take (length into.old) into.new ≡ into.old }
+{
+    let mut ahead = parts;
+    while let [part, rest @ ..] = ahead {
+        part.lines.nodes(into)?;
+        ahead = rest;
+    }
+    Ok(())
+}
+
+// Gives files the nodes of a list from a place on, one file after another.
+fn renumber_all(parts: &mut Vec<FilePart>, from: &Nodes, first: u64) -> u64
+    requires { first + length (line_nodes parts.old.items) ≤ length from.now }
+    ensures next { result ≡ first + length (line_nodes parts.old.items) }
+    ensures nodes { line_nodes parts.new.items ≡
+        take (length (line_nodes parts.old.items)) (drop first from.now) }
+    ensures parts { ArePartsRenumbered parts.old.items parts.new.items }
+{
+    let mut next = first;
+    let mut index = 0;
+    while index < parts.len() {
+        next = parts[index].renumber(from, next);
+        index += 1;
+    }
+    next
 }
 
 // What was expected of the files with these nodes is no longer.

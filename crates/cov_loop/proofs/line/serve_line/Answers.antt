@@ -6,10 +6,10 @@ use Rattle.cov_loop.specs.Keeping.{IsEither}
 
 pub returns-in-Err-clause-acknowledged : goal.returns-in-Err-clause-acknowledged
 returns-in-Err-clause-acknowledged g c before all was is image here =
-    let step = g.V.LineServer.step c.args.server.now c.args.line.now in
+    let step = g.V.LineServer.step (g.V.LineServer.state_of c.args.server.now) c.args.line.now in
     let either = left_now g.D.Disk.moment g.D.Disk.images_since g.D.Disk.images g.met.D.Disk.counts_now c.args.disk.now c.answer.new.disk
-    (IsEither (g.V.LineServer.stored c.args.server.now) (g.V.LineServer.stored step.state)) (c.answer.ensures.any_moment all) image here in
+    (IsEither (g.V.LineServer.stored (g.V.LineServer.state_of c.args.server.now)) (g.V.LineServer.stored step.state)) (c.answer.ensures.any_moment all) image here in
     elim either [
-      | inl old ↦ g.met.V.LineServer.stored_told c.args.server.now c.args.line.now image (nothing_added before step.reply (cc)) old
+      | inl old ↦ g.met.V.LineServer.stored_told (g.V.LineServer.state_of c.args.server.now) c.args.line.now image (nothing_added before step.reply (cc)) old
       | inr new ↦ new
     ]

@@ -15,5 +15,5 @@ invariant_of-result c =
       ),
       (let entries = c.in_ok-new-2.ensures in
           held-none c.new.result.commands c.in_ok-new.field-0 c.new-4.result.items c.new-5.result.items c.in_ok-new-2.field-0 c.new-8.result c.new.ensures c.new-4.ensures c.new-5.ensures.items c.new-8.ensures
-          entries.from entries.rows entries.nodes entries.kinds entries.within),
+          entries.from entries.rows entries.nodes entries.kinds entries.within entries.kept),
     )

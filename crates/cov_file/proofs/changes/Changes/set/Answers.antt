@@ -1,9 +1,11 @@
-use Rattle.std.proofs.Common.{◌≡◌, ◌∙◌, ◌≤◌, ◌+◌, ◌-◌, min, nat_eq, true, cond, length, reverse, set, get_or, slice_get, Some, vec_len, vec_capacity, refl, sym, ap, subst, arith}
+use Rattle.std.proofs.Common.{◌≡◌, ◌∙◌, ◌≤◌, ◌+◌, ◌-◌, ℕ, List, min, nat_eq, true, cond, length, reverse, set, get_or, slice_get, Some, vec_len, vec_capacity, refl, sym, ap, subst, arith}
 use Rattle.std.proofs.lemmas.Bool.{eqb-true}
 use Rattle.std.proofs.lemmas.List.{length-map}
 use Rattle.std.proofs.lemmas.Option.{same_Some, slice_get_read}
 use Rattle.cov_file.specs.declared.changes.Change.{Change}
 use Rattle.cov_file.specs.Kept.{LineChanges, changes_of, lists_of, AreChanges, changes_at, is_at, with_node}
+use Rattle.cov_file.specs.Renumbered.{nodes_of, AddsNode}
+use Rattle.cov_file.proofs.Added.{followed_node, replaced_node}
 use Rattle.cov_file.proofs.Chains.{newest_at, replaced, followed, followed_kept}
 use Rattle.cov_file.proofs.changes.Changes.set.Goals as goal
 use Rattle.cov_file.proofs.changes.Changes.set.Goals.{After-index}
@@ -13,6 +15,9 @@ from_is c = ap (λ (l : LineChanges). l.newest) c.self.view_is ∙ c.begin.ensur
 
 lists_are : (c : After-index) → lists_of c.self.inside.newest.items c.self.inside.earlier.items ≡ c.args.self.now.lists
 lists_are c = ap (λ (l : LineChanges). l.lists) c.self.view_is ∙ c.begin.ensures.lists
+
+nodes_are : (c : After-index) → nodes_of c.self.inside.newest.items c.self.inside.earlier.items ≡ c.args.self.now.nodes
+nodes_are c = ap (λ (l : LineChanges). l.nodes) c.self.view_is ∙ c.begin.ensures.nodes
 
 kept : (c : After-index) → AreChanges c.args.at c.self.inside.newest.items c.self.inside.earlier.items
 kept c = subst (λ p. AreChanges p c.self.inside.newest.items c.self.inside.earlier.items) (from_is c) c.self.invariant
@@ -81,3 +86,18 @@ returns-clause-room c =
     let same = ap (λ (l : LineChanges). l.room) c.self.view_is in
     subst (λ x. c.args.self.now.room ≤ min (vec_capacity c.put_behind-before.new.earlier - vec_len c.put_behind-before.new.earlier) (4294967295 - vec_len c.put_behind-before.new.earlier) + cond x 0 1) (sym other)
     (omega (arith, same, c.begin.ensures.room, c.put_behind-before.ensures.len, c.put_behind-before.ensures.capacity))
+
+pub returns-then-eq-clause-nodes : goal.returns-then-eq-clause-nodes
+returns-then-eq-clause-nodes c =
+    let b = (goal.at.returns-then-eq-clause-nodes c).After-index in
+    let new : Change = record { node = c.args.node; from = c.index_mut.result.now.from; before = c.index_mut.result.now.before } in
+    subst (λ ns. AddsNode c.args.node ns (nodes_of (set c.self.inside.newest.items c.args.index new) c.self.inside.earlier.items)) (nodes_are b)
+    (replaced_node c.self.inside.newest.items c.self.inside.earlier.items c.args.index new)
+
+pub returns-clause-nodes : goal.returns-clause-nodes
+returns-clause-nodes c =
+    let b = (goal.at.returns-clause-nodes c).After-index in
+    let new : Change = record { node = c.args.node; from = c.args.at; before = c.put_behind-before.result } in
+    subst (λ (q : List ℕ × List Change). AddsNode c.args.node q.0 (nodes_of (set c.self.inside.newest.items c.args.index new) q.1))
+    (λ j. (nodes_are b j, sym c.put_behind-before.ensures.items j))
+    (followed_node c.self.inside.newest.items c.self.inside.earlier.items c.args.index new c.index.result.now (read b c.index.result.now c.index.ensures))

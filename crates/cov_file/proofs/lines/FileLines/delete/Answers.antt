@@ -5,6 +5,7 @@ use Rattle.indexmap.specs.IndexMap.{spare}
 use Rattle.cov_base.proofs.CallerLemmas.{none-placed}
 use Rattle.cov_order.specs.Orders.{has_line}
 use Rattle.cov_file.specs.Dated.{with_change, line_numbers_of, AreAlike}
+use Rattle.cov_file.specs.Renumbered.{AddsNode}
 use Rattle.cov_file.specs.Rooms.{DatedFile, is_room_at}
 use Rattle.cov_file.specs.Kept.{dated_lines, changes_at, changes_in, is_at, with_node, position_of, changeable}
 use Rattle.cov_file.proofs.Changing.{numbers, deleted_alike}
@@ -77,3 +78,6 @@ returns-clause-room c =
           ap (λ b. option_map_or (λ p. nat_eq c.args.at p) (cond b None (Some c.set.new.self.newest)) true) c.set.ensures.open
           ∙ ap (nat_eq c.args.at) c.set.ensures.newest ∙ same_number c.args.at;
     }
+
+pub returns-clause-nodes : goal.returns-clause-nodes
+returns-clause-nodes c = subst (λ (f : DatedFile). AddsNode c.args.vis f.nodes c.set.new.self.nodes) c.self.view_is c.set.ensures.nodes

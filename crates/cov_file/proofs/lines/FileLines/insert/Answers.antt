@@ -6,6 +6,7 @@ use Rattle.indexmap.specs.IndexMap.{spare}
 use Rattle.cov_base.specs.Addresses.{after_anchor}
 use Rattle.cov_order.specs.Orders.{has_line, is_anchor}
 use Rattle.cov_file.specs.Dated.{new_line, with_line, line_numbers_of, AreAlike}
+use Rattle.cov_file.specs.Renumbered.{AddsNode}
 use Rattle.cov_file.specs.Rooms.{DatedFile, is_room_at}
 use Rattle.cov_file.specs.Kept.{dated_lines, position_of, has_changed}
 use Rattle.cov_file.proofs.Changing.{numbers, has_after, inserted_alike, least_falls}
@@ -82,3 +83,6 @@ returns-clause-numbers c =
     numbers c.insert.new.self.entries c.push.new.self.lists c.insert_after.new.self.lines ∙ c.insert_after.ensures.lines
     ∙ ap (after_anchor c.args.anchor c.args.line)
     (sym (numbers c.self.inside.texts.entries c.self.inside.changes.lists c.self.inside.order.lines) ∙ ap (λ (f : DatedFile). line_numbers_of f.lines) c.self.view_is)
+
+pub returns-clause-nodes : goal.returns-clause-nodes
+returns-clause-nodes c = subst (λ (f : DatedFile). AddsNode c.args.vis f.nodes c.push.new.self.nodes) c.self.view_is c.push.ensures.nodes

@@ -3,7 +3,7 @@ use Rattle.cov_base.specs.Rows.{AreDistinct}
 use Rattle.cov_tree.specs.Dated.{Dated}
 use Rattle.cov_tree.specs.Entries.{nodes_of, kinds_of}
 use Rattle.cov_tree.specs.Noted.{ArePlanNoted}
-use Rattle.cov_tree.proofs.Installed.{installed_changes, installed_once, installed_options, installed_rows, installed_within, installs, rows_before, still_distinct, until_later}
+use Rattle.cov_tree.proofs.Installed.{installed_changes, installed_kept, installed_once, installed_options, installed_rows, installed_within, installs, rows_before, still_distinct, until_later}
 use Rattle.cov_tree.proofs.entries.Entries.install.Goals as goal
 
 pub invariant_of-self : goal.invariant_of-self
@@ -42,6 +42,16 @@ returns-clause-within c =
     installed_within c.args.at c.args.plan c.args.self.now (record { from = c.args.at; entries = c.change_all.new.entries.items; room = 0; noted = [] })
     (installs c.args.at c.into_entries.result.items c.args.plan _ c.args.self.now (record { from = c.args.at; entries = c.change_all.new.entries.items; room = 0; noted = [] }) c.into_entries.ensures.nodes c.self.view_is refl
     c.requires.later c.self.invariant.1 c.change_all.ensures.changed)
+
+pub returns-clause-kept : goal.returns-clause-kept
+returns-clause-kept c =
+    installed_kept c.args.at c.args.plan c.args.self.now (record { from = c.args.at; entries = c.change_all.new.entries.items; room = 0; noted = [] })
+    (installs c.args.at c.into_entries.result.items c.args.plan _ c.args.self.now (record { from = c.args.at; entries = c.change_all.new.entries.items; room = 0; noted = [] }) c.into_entries.ensures.nodes c.self.view_is refl
+    c.requires.later c.self.invariant.1 c.change_all.ensures.changed)
+    (rest c.into_entries.ensures.distinct)
+  where
+    rest : AreDistinct (0 ∷ nodes_of c.args.plan) → AreDistinct (nodes_of c.args.plan)
+    rest d = d.1
 
 pub returns-clause-once : goal.returns-clause-once
 returns-clause-once c =
