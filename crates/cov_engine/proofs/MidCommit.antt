@@ -28,9 +28,9 @@ use Rattle.cov_history.specs.Deletions.{Deletion, hidden_by}
 use Rattle.cov_history.specs.FileOfLine.{new_file_of_line, AreFilesOfLines}
 use Rattle.cov_visible.specs.Staging.{Contents, named_line, inserts_into, deletes_from, touches}
 use Rattle.cov_history.specs.Files.{DatedLine, dated_number, dated, file_dated, file_order, Takes}
-use Rattle.cov_history.specs.Insertions.{Insertion, table_of, lines_amid, held_amid, numbered_amid}
+use Rattle.cov_history.specs.Insertions.{Insertion, table_of, lines_amid, held_amid, numbered_amid, IsHeldAmid, held_next}
 use Rattle.cov_history.specs.RowChanges.{changes_rows}
-use Rattle.cov_history.specs.Kept.{Kept, seen_at, kept_number, kept_of, held_by, file_kept, is_kept_anchor}
+use Rattle.cov_history.specs.Kept.{Kept, Holding, seen_at, kept_number, kept_of, held_by, file_kept, is_kept_anchor}
 use Rattle.cov_visible.specs.Nodes.{AreDated}
 use Rattle.cov_history.specs.Sessions.{IsGood, session_of}
 use Rattle.cov_history.specs.Verdict.{IsLegal}
@@ -39,7 +39,7 @@ use Rattle.cov_visible.specs.Resolved.{AreResolvedBy}
 use Rattle.cov_visible.specs.declared.file_part.FilePart.{FilePart}
 use Rattle.cov_visible.specs.declared.resolved_edit.ResolvedEdit.{ResolvedEdit}
 use Rattle.cov_visible.specs.declared.resolved_edit.ResolvedEdit.TheVariants as resolved
-use Rattle.cov_history.proofs.CallerLemmas.{files_of_lines-stay, file_of_line-more, lines-edits, delete-dated, delete-elsewhere, delete-order, anchor-below, anchors-append, anchors-stay, anchor-known, insert-elsewhere, is_table-of, amid-within, stands-amid, any-mapped, insert-dated, order-takes, accepted-anchored, accepted-there, all-mapped}
+use Rattle.cov_history.proofs.CallerLemmas.{files_of_lines-stay, file_of_line-more, lines-edits, delete-dated, delete-elsewhere, delete-order, anchor-below, anchors-append, anchors-stay, anchor-known, insert-elsewhere, is_table-of, amid-goes_on, amid-within, stands-amid, any-mapped, insert-dated, order-takes, accepted-anchored, accepted-there, all-mapped}
 use Rattle.cov_engine.proofs.Committed.{numbers-dated, rows-same}
 use Rattle.cov_visible.proofs.CallerLemmas.{all-pairs, resolved-by}
 use Rattle.cov_engine.proofs.Dating.{IsGone, gone, dated-numbers, insert-lines, delete-lines, all-after}
@@ -104,9 +104,21 @@ module _ (history : List Command) (base : ℕ) (choice : List Bool) (ambition : 
   abbrev q : ℕ
   q = length history + 1
 
-  -- the lines that are kept when the first edits are done
+  -- what is held when the first edits are done
+  abbrev held_at : List Edit → Holding
+  held_at begun = held_amid history ambition es begun
+
+  -- the lines that are kept then
   abbrev pub lines_at : List Edit → List (Kept Line)
-  lines_at begun = (held_amid history ambition es begun).lines
+  lines_at begun = (held_at begun).lines
+
+  stands-at : (begun later : List Edit) → begun ++ later ≡ es → IsHeldAmid history (begun ++ later) begun (held_at begun)
+  stands-at begun later all = subst (λ some. IsHeldAmid history (begun ++ later) begun (held_amid history ambition some begun)) all (stands-amid history begun later ambition)
+
+  -- the lines that are kept when the next edit is done
+  next-at : (begun later : List Edit) (e : Edit) → begun ++ e ∷ later ≡ es → lines_at (begun ++ e ∷ []) ≡ (held_next history (begun ++ e ∷ later) begun (held_at begun) ambition e).lines
+  next-at begun later e all =
+      ap (λ (held : Holding). held.lines) (amid-goes_on history ambition es begun e) ∙ ap (λ some. (held_next history some begun (held_at begun) ambition e).lines) (sym all)
 
   abbrev new_dated : ℕ → List ℕ → DatedLine
   new_dated number text = record { line = number; text = text; changes = (q, ambition) ∷ [] }
@@ -129,37 +141,32 @@ module _ (history : List Command) (base : ℕ) (choice : List Bool) (ambition : 
     abbrev i : Insertion
     i = record { begun = begun; file = file; after = after; text = text; later = later }
 
-    anchored : is_kept_anchor (node_number n file) (line_number m after) (held_amid history ambition (begun ++ edits.Insert file after text ∷ later) begun).lines ≡ true
-    anchored = accepted-anchored history (session_of base choice ambition es) legal good i all
+    insert-stands : IsHeldAmid history (begun ++ edits.Insert file after text ∷ later) begun (held_at begun)
+    insert-stands = stands-at begun (edits.Insert file after text ∷ later) all
 
-    insert-before : (held_amid history ambition (begun ++ edits.Insert file after text ∷ later) begun).lines ≡ lines_at begun
-    insert-before = ap (λ some. (held_amid history ambition some begun).lines) all
+    insert-behind : lines_at (begun ++ edits.Insert file after text ∷ []) ≡ (held_next history (begun ++ edits.Insert file after text ∷ later) begun (held_at begun) ambition (edits.Insert file after text)).lines
+    insert-behind = next-at begun later (edits.Insert file after text) all
 
-    insert-behind : (held_amid history ambition (begun ++ edits.Insert file after text ∷ later) (begun ++ edits.Insert file after text ∷ [])).lines ≡ lines_at (begun ++ edits.Insert file after text ∷ [])
-    insert-behind = ap (λ some. (held_amid history ambition some (begun ++ edits.Insert file after text ∷ [])).lines) all
-
-    insert-anchored : is_kept_anchor (node_number n file) (line_number m after) (lines_at begun) ≡ true
-    insert-anchored = ap (is_kept_anchor (node_number n file) (line_number m after)) (sym insert-before) ∙ anchored
+    anchored : is_kept_anchor (node_number n file) (line_number m after) (lines_at begun) ≡ true
+    anchored =
+        subst (λ some. is_kept_anchor (node_number n file) (line_number m after) (held_amid history ambition some begun).lines ≡ true) all
+        (accepted-anchored history (session_of base choice ambition es) legal good i all)
 
     insert-here : file_dated (node_number n file) (lines_at (begun ++ edits.Insert file after text ∷ []))
         ≡ after_anchor_by dated_number (line_number m after) (new_dated (lines_amid history begun + 1) text) (file_dated (node_number n file) (lines_at begun))
-    insert-here =
-        ap (file_dated (node_number n file)) (sym insert-behind) ∙ insert-dated history ambition i anchored
-        ∙ ap (λ ks. after_anchor_by dated_number (line_number m after) (new_dated (lines_amid history begun + 1) text) (file_dated (node_number n file) ks)) insert-before
+    insert-here = ap (file_dated (node_number n file)) insert-behind ∙ insert-dated history (held_at begun) ambition i insert-stands anchored
 
     insert-there : (other : ℕ) → nat_eq (node_number n file) other ≡ false → file_dated other (lines_at (begun ++ edits.Insert file after text ∷ [])) ≡ file_dated other (lines_at begun)
-    insert-there other differs =
-        ap (file_dated other) (sym insert-behind) ∙ ap (map dated) (insert-elsewhere history ambition i other differs) ∙ ap (file_dated other) insert-before
+    insert-there other differs = ap (file_dated other) insert-behind ∙ ap (map dated) (insert-elsewhere history (held_at begun) ambition i other insert-stands differs)
 
     insert-takes : Takes (file_order (node_number n file) (lines_at begun)) (line_number m after) (lines_amid history begun + 1)
-    insert-takes = subst (λ ks. Takes (file_order (node_number n file) ks) (line_number m after) (lines_amid history begun + 1)) insert-before (order-takes history ambition i anchored).0
+    insert-takes = (order-takes history (held_at begun) ambition i insert-stands anchored).0
 
     insert-stays : (other line : ℕ) → is_kept_anchor other line (lines_at begun) ≡ true → is_kept_anchor other line (lines_at (begun ++ edits.Insert file after text ∷ [])) ≡ true
-    insert-stays other line h =
-        ap (is_kept_anchor other line) (sym insert-behind) ∙ (anchors-stay history ambition i).0 other line (ap (is_kept_anchor other line) insert-before ∙ h)
+    insert-stays other line h = ap (is_kept_anchor other line) insert-behind ∙ (anchors-stay history (held_at begun) ambition i).0 other line h
 
     insert-new : is_kept_anchor (node_number n file) (lines_amid history begun + 1) (lines_at (begun ++ edits.Insert file after text ∷ [])) ≡ true
-    insert-new = ap (is_kept_anchor (node_number n file) (lines_amid history begun + 1)) (sym insert-behind) ∙ (anchors-stay history ambition i).1
+    insert-new = ap (is_kept_anchor (node_number n file) (lines_amid history begun + 1)) insert-behind ∙ (anchors-stay history (held_at begun) ambition i).1
 
   module _ (begun later : List Edit) (file : NodeRef) (line : LineRef) (all : begun ++ edits.Delete file line ∷ later ≡ es) where
     abbrev gone_line : Deletion
@@ -168,8 +175,8 @@ module _ (history : List Command) (base : ℕ) (choice : List Bool) (ambition : 
     delete-before : (held_amid history ambition (begun ++ edits.Delete file line ∷ later) begun).lines ≡ lines_at begun
     delete-before = ap (λ some. (held_amid history ambition some begun).lines) all
 
-    delete-behind : (held_amid history ambition (begun ++ edits.Delete file line ∷ later) (begun ++ edits.Delete file line ∷ [])).lines ≡ lines_at (begun ++ edits.Delete file line ∷ [])
-    delete-behind = ap (λ some. (held_amid history ambition some (begun ++ edits.Delete file line ∷ [])).lines) all
+    delete-behind : lines_at (begun ++ edits.Delete file line ∷ []) ≡ (held_next history (begun ++ edits.Delete file line ∷ later) begun (held_at begun) ambition (edits.Delete file line)).lines
+    delete-behind = next-at begun later (edits.Delete file line) all
 
     pub delete-there : has_line (line_number m line) (file_order (node_number n file) (lines_at begun)) ≡ true
     delete-there =
@@ -179,16 +186,14 @@ module _ (history : List Command) (base : ℕ) (choice : List Bool) (ambition : 
     delete-here : file_dated (node_number n file) (lines_at (begun ++ edits.Delete file line ∷ []))
         ≡ map (hidden_by (line_number m line) q ambition) (file_dated (node_number n file) (lines_at begun))
     delete-here =
-        ap (file_dated (node_number n file)) (sym delete-behind) ∙ delete-dated history ambition gone_line
-        ∙ ap (λ ks. map (hidden_by (line_number m line) q ambition) (file_dated (node_number n file) ks)) delete-before
+        ap (file_dated (node_number n file)) delete-behind
+        ∙ delete-dated history (held_at begun) ambition gone_line (stands-at begun (edits.Delete file line ∷ later) all)
 
     delete-out : (other : ℕ) → nat_eq (node_number n file) other ≡ false → file_dated other (lines_at (begun ++ edits.Delete file line ∷ [])) ≡ file_dated other (lines_at begun)
-    delete-out other differs =
-        ap (file_dated other) (sym delete-behind) ∙ ap (map dated) (delete-elsewhere history ambition gone_line other differs) ∙ ap (file_dated other) delete-before
+    delete-out other differs = ap (file_dated other) delete-behind ∙ ap (map dated) (delete-elsewhere history (held_at begun) ambition gone_line other differs)
 
     delete-stays : (other some : ℕ) → is_kept_anchor other some (lines_at begun) ≡ true → is_kept_anchor other some (lines_at (begun ++ edits.Delete file line ∷ [])) ≡ true
-    delete-stays other some h =
-        ap (is_kept_anchor other some) (sym delete-behind) ∙ (delete-order history ambition gone_line other).1 some ∙ ap (is_kept_anchor other some) delete-before ∙ h
+    delete-stays other some h = ap (is_kept_anchor other some) delete-behind ∙ (delete-order history (held_at begun) ambition gone_line other).1 some ∙ h
 
   module _ (ts : List Triple) (a : ℕ) (stands : Stands ts a 0 (option_count history) (value ambition)) where
     abbrev count : ℕ
@@ -530,7 +535,7 @@ module _ (history : List Command) (base : ℕ) (choice : List Bool) (ambition : 
   named-low most (edits.Remove node ∷ later) begun all few = (omega arith, named-low most later (begun ++ edits.Remove node ∷ []) (append_assoc begun (edits.Remove node ∷ []) later ∙ all) few)
   named-low most (edits.Insert file after text ∷ later) begun all few =
       let i : Insertion = record { begun = begun; file = file; after = after; text = text; later = later } in
-      let known = anchor-known history ambition i (anchored begun later file after text all) in
+      let known = anchor-known history (held_at begun) i (insert-stands begun later file after text all) (anchored begun later file after text all) in
       let below = begun-few begun (edits.Insert file after text ∷ later) all in
       (omega (arith, known, below, few), named-low most later (begun ++ edits.Insert file after text ∷ []) (append_assoc begun (edits.Insert file after text ∷ []) later ∙ all) few)
   named-low most (edits.Delete file line ∷ later) begun all few =

@@ -13,10 +13,10 @@ use Rattle.cov_edit.specs.Numbering.{numbers_of}
 use Rattle.cov_edit.specs.Variant.{Line, is_line}
 use Rattle.cov_history.specs.Kept.{Kept, kept_address, kept_number, hidden, hidden_where, Holding, held_by, kept_of, file_kept, is_kept_anchor, IsHolding}
 use Rattle.cov_history.specs.Files.{dated, file_dated, file_order}
-use Rattle.cov_history.specs.Insertions.{table_of, lines_amid, held_amid}
-use Rattle.cov_history.specs.Deletions.{Deletion, the_delete, all_with, delete_file, delete_line, before_delete, behind_delete, hidden_by}
+use Rattle.cov_history.specs.Insertions.{table_of, lines_amid, held_amid, IsHeldAmid}
+use Rattle.cov_history.specs.Deletions.{Deletion, the_delete, all_with, delete_file, delete_line, behind_delete, hidden_by}
 use Rattle.cov_history.proofs.Standing.{holding-stands}
-use Rattle.cov_history.proofs.Inserts.{amid-append, is_table-of, amid-within, stands-amid}
+use Rattle.cov_history.proofs.Inserts.{is_table-of, amid-within, stands-amid}
 use Rattle.cov_history.proofs.Orders.{any-mapped, any-none}
 
 hidden-item : (test : Line → Bool) (q : ℕ) (within : Formula ℕ) (k : Kept Line) → (hidden_where test q within k).item ≡ k.item
@@ -87,55 +87,39 @@ elsewhere-same file other q address within (k ∷ ks) h = by (nat_eq k.item.file
         ap (λ b. cond (b && bytes_eq (kept_address k) address) (hidden q within k) k ∷ map (hidden_where (is_line file address) q within) (file_kept other ks)) apart
         ∙ ap (λ js. k ∷ js) rest
 
-module _ (history : List Command) (ambition : Formula ℕ) (d : Deletion) where
-  -- whether a line is the deleted one
-  abbrev is_deleted : Line → Bool
-  is_deleted l = is_line (delete_file history d) (address_in (table_of history (all_with d)) (delete_line history d)) l
+-- whether a line is the deleted one
+abbrev is_deleted : List Command → Deletion → Line → Bool
+is_deleted history d l = is_line (delete_file history d) (address_in (table_of history (all_with d)) (delete_line history d)) l
 
-  abbrev after_delete : Kept Line → Kept Line
-  after_delete k = hidden_where is_deleted (length history + 1) ambition k
+pub delete-dated : (history : List Command) (held : Holding) (on : Formula ℕ) (d : Deletion) → IsHeldAmid history (all_with d) d.begun held
+    → file_dated (delete_file history d) (behind_delete history held on d).lines
+    ≡ map (hidden_by (delete_line history d) (length history + 1) on) (file_dated (delete_file history d) held.lines)
+delete-dated history held on d s =
+    ap (map dated) (file-hidden (is_deleted history d) (length history + 1) on (delete_file history d) held.lines)
+    ∙ own-dated (table_of history (all_with d)) (lines_amid history d.begun) (delete_file history d) (delete_line history d) (length history + 1) on
+    (is_table-of history (all_with d)) (amid-within history d.begun (the_delete d ∷ d.later)) held.lines s.numbered_lines
 
-  behind : (behind_delete history ambition d).lines ≡ map after_delete (before_delete history ambition d).lines
-  behind = ap (λ (held : Holding). held.lines) (amid-append history ambition (all_with d) d.begun (the_delete d ∷ []))
+pub delete-elsewhere : (history : List Command) (held : Holding) (on : Formula ℕ) (d : Deletion) (file : ℕ) → nat_eq (delete_file history d) file ≡ false
+    → file_kept file (behind_delete history held on d).lines ≡ file_kept file held.lines
+delete-elsewhere history held on d file h =
+    file-hidden (is_deleted history d) (length history + 1) on file held.lines
+    ∙ elsewhere-same (delete_file history d) file (length history + 1) (address_in (table_of history (all_with d)) (delete_line history d)) on held.lines h
 
-  file-behind : (file : ℕ) → file_kept file (behind_delete history ambition d).lines ≡ map after_delete (file_kept file (before_delete history ambition d).lines)
-  file-behind file = ap (file_kept file) behind ∙ file-hidden is_deleted (length history + 1) ambition file (before_delete history ambition d).lines
-
-pub delete-dated : (history : List Command) (ambition : Formula ℕ) (d : Deletion)
-    → file_dated (delete_file history d) (behind_delete history ambition d).lines
-    ≡ map (hidden_by (delete_line history d) (length history + 1) ambition) (file_dated (delete_file history d) (before_delete history ambition d).lines)
-delete-dated history ambition d =
-    ap (map dated) (file-behind history ambition d (delete_file history d))
-    ∙ own-dated (table_of history (all_with d)) (lines_amid history d.begun) (delete_file history d) (delete_line history d) (length history + 1) ambition
-    (is_table-of history (all_with d)) (amid-within history d.begun (the_delete d ∷ d.later))
-    (before_delete history ambition d).lines (stands-amid history d.begun (the_delete d ∷ d.later) ambition).numbered_lines
-
-pub delete-elsewhere : (history : List Command) (ambition : Formula ℕ) (d : Deletion) (file : ℕ) → nat_eq (delete_file history d) file ≡ false
-    → file_kept file (behind_delete history ambition d).lines ≡ file_kept file (before_delete history ambition d).lines
-delete-elsewhere history ambition d file h =
-    file-behind history ambition d file
-    ∙ elsewhere-same (delete_file history d) file (length history + 1) (address_in (table_of history (all_with d)) (delete_line history d)) ambition (before_delete history ambition d).lines h
-
-pub delete-order : (history : List Command) (ambition : Formula ℕ) (d : Deletion) (file : ℕ)
-    → (file_order file (behind_delete history ambition d).lines ≡ file_order file (before_delete history ambition d).lines)
-    × ((line : ℕ) → is_kept_anchor file line (behind_delete history ambition d).lines ≡ is_kept_anchor file line (before_delete history ambition d).lines)
-delete-order history ambition d file = (order, anchors)
+pub delete-order : (history : List Command) (held : Holding) (on : Formula ℕ) (d : Deletion) (file : ℕ)
+    → (file_order file (behind_delete history held on d).lines ≡ file_order file held.lines)
+    × ((line : ℕ) → is_kept_anchor file line (behind_delete history held on d).lines ≡ is_kept_anchor file line held.lines)
+delete-order history held on d file = (order, anchors)
   where
-    before : List (Kept Line)
-    before = (before_delete history ambition d).lines
-
     after : List (Kept Line)
-    after = (behind_delete history ambition d).lines
+    after = (behind_delete history held on d).lines
 
-    order : file_order file after ≡ file_order file before
-    order =
-        ap (file_order file) (behind history ambition d)
-        ∙ order-hidden (is_deleted history ambition d) (length history + 1) ambition file before
+    order : file_order file after ≡ file_order file held.lines
+    order = order-hidden (is_deleted history d) (length history + 1) on file held.lines
 
-    anchors : (line : ℕ) → is_kept_anchor file line after ≡ is_kept_anchor file line before
+    anchors : (line : ℕ) → is_kept_anchor file line after ≡ is_kept_anchor file line held.lines
     anchors line =
         ap (λ b. nat_eq line 0 || b)
-        (sym (any-mapped kept_number line (file_kept file after)) ∙ ap (has_line line) order ∙ any-mapped kept_number line (file_kept file before))
+        (sym (any-mapped kept_number line (file_kept file after)) ∙ ap (has_line line) order ∙ any-mapped kept_number line (file_kept file held.lines))
 
 -- lines of a table in order have different numbers, from 1 on
 pub lines-apart : (t : List (List ℕ)) (n : ℕ) (ks : List (Kept Line)) → IsTable t → n ≤ length t → AreInOrder kept_address ks → AllByRecursion (λ k. IsLineOf t n (kept_address k)) ks

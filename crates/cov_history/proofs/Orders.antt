@@ -12,12 +12,12 @@ use Rattle.cov_edit.specs.Numbering.{Numbers, numbers_of}
 use Rattle.cov_edit.specs.Variant.{Line, lines_of}
 use Rattle.cov_edit.specs.Replay.{replay}
 use Rattle.cov_history.specs.Kept.{Kept, is_seen, kept_address, kept_number, Holding, held_from, held_by, kept_of, lines_seen, file_kept, is_kept_anchor, IsHolding}
-use Rattle.cov_history.specs.Insertions.{Insertion, lines_begun, table_with, file_of, anchor_of, line_with, held_before, held_behind}
+use Rattle.cov_history.specs.Insertions.{Insertion, all_edits, IsHeldAmid, lines_begun, table_with, file_of, anchor_of, line_with, held_behind}
 use Rattle.cov_history.specs.Files.{DatedLine, dated_number, dated, file_dated, file_order, as_shown, dated_as_shown, is_dated_seen, dated_shown, Takes}
 use Rattle.cov_history.specs.Sessions.{has_commit}
 use Rattle.cov_history.proofs.Appends.{holding-goes_on}
 use Rattle.cov_history.proofs.Files.{file-replay}
-use Rattle.cov_history.proofs.Inserts.{is_table, in_table, stands_before_insert, insert-anchor, insert-number}
+use Rattle.cov_history.proofs.Inserts.{is_table, in_table, insert-anchor, insert-number}
 
 same-held : (q : ℕ) (held : Holding) (ns : Numbers) (history : List Command) → has_commit history ≡ false → held_from q held ns history ≡ held
 same-held q held ns [] h = refl
@@ -44,18 +44,18 @@ pub file-shows : (c : List Bool) (p file : ℕ) (history : List Command)
     → dated_shown c p (file_dated file (kept_of history)) ≡ map as_shown (lines_of (replay c (take p history)) file)
 file-shows c p file history = shown-dated c p (file_kept file (kept_of history)) ∙ ap (map as_shown) (sym (file-replay c p file history))
 
-pub insert-dated : (history : List Command) (ambition : Formula ℕ) (i : Insertion)
-    → is_kept_anchor (file_of history i) (anchor_of history i) (held_before history ambition i).lines ≡ true
-    → file_dated (file_of history i) (held_behind history ambition i).lines
-    ≡ after_anchor_by dated_number (anchor_of history i) (record { line = lines_begun history i + 1; text = i.text; changes = (length history + 1, ambition) ∷ [] })
-    (file_dated (file_of history i) (held_before history ambition i).lines)
-insert-dated history ambition i h =
-    ap (map dated) (insert-anchor history ambition i h)
-    ∙ map-after_anchor dated dated_number (anchor_of history i) (line_with history ambition i) (file_kept (file_of history i) (held_before history ambition i).lines)
-    ∙ ap (λ n. after_anchor_by dated_number (anchor_of history i) (numbered_line n) (file_dated (file_of history i) (held_before history ambition i).lines)) (insert-number history ambition i)
+pub insert-dated : (history : List Command) (held : Holding) (on : Formula ℕ) (i : Insertion) → IsHeldAmid history (all_edits i) i.begun held
+    → is_kept_anchor (file_of history i) (anchor_of history i) held.lines ≡ true
+    → file_dated (file_of history i) (held_behind history held on i).lines
+    ≡ after_anchor_by dated_number (anchor_of history i) (record { line = lines_begun history i + 1; text = i.text; changes = (length history + 1, on) ∷ [] })
+    (file_dated (file_of history i) held.lines)
+insert-dated history held on i s h =
+    ap (map dated) (insert-anchor history held on i s h)
+    ∙ map-after_anchor dated dated_number (anchor_of history i) (line_with history on i) (file_kept (file_of history i) held.lines)
+    ∙ ap (λ n. after_anchor_by dated_number (anchor_of history i) (numbered_line n) (file_dated (file_of history i) held.lines)) (insert-number history on i)
   where
     numbered_line : ℕ → DatedLine
-    numbered_line n = record { line = n; text = i.text; changes = (length history + 1, ambition) ∷ [] }
+    numbered_line n = record { line = n; text = i.text; changes = (length history + 1, on) ∷ [] }
 
 pub any-mapped : {X : Type 0} (g : X → ℕ) (n : ℕ) (xs : List X) → has_line n (map g xs) ≡ list_any (λ x. nat_eq (g x) n) xs
 any-mapped g n xs = any-map (λ k. nat_eq k n) g xs
@@ -82,20 +82,19 @@ order-fresh t n q file held table below s =
     grind (arith, nat_tests, less, number))
     held.lines s.numbered_lines))
 
-pub order-takes : (history : List Command) (ambition : Formula ℕ) (i : Insertion)
-    → is_kept_anchor (file_of history i) (anchor_of history i) (held_before history ambition i).lines ≡ true
-    → Takes (file_order (file_of history i) (held_before history ambition i).lines) (anchor_of history i) (lines_begun history i + 1)
-    × (file_order (file_of history i) (held_behind history ambition i).lines
-    ≡ after_anchor (anchor_of history i) (lines_begun history i + 1) (file_order (file_of history i) (held_before history ambition i).lines))
-order-takes history ambition i h =
+pub order-takes : (history : List Command) (held : Holding) (on : Formula ℕ) (i : Insertion) → IsHeldAmid history (all_edits i) i.begun held
+    → is_kept_anchor (file_of history i) (anchor_of history i) held.lines ≡ true
+    → Takes (file_order (file_of history i) held.lines) (anchor_of history i) (lines_begun history i + 1)
+    × (file_order (file_of history i) (held_behind history held on i).lines
+    ≡ after_anchor (anchor_of history i) (lines_begun history i + 1) (file_order (file_of history i) held.lines))
+order-takes history held on i s h =
     let below = in_table history i in (
       record {
-        anchored = order-anchor (file_of history i) (anchor_of history i) (held_before history ambition i).lines h;
+        anchored = order-anchor (file_of history i) (anchor_of history i) held.lines h;
         above_head = omega arith;
-        fresh = order-fresh (table_with history i) (lines_begun history i) (length history + 1) (file_of history i) (held_before history ambition i)
-            (is_table history i) (omega (arith, below)) (stands_before_insert history i ambition);
+        fresh = order-fresh (table_with history i) (lines_begun history i) (length history + 1) (file_of history i) held (is_table history i) (omega (arith, below)) s;
       },
-      (ap (map kept_number) (insert-anchor history ambition i h)
-          ∙ map-after_anchor kept_number itself (anchor_of history i) (line_with history ambition i) (file_kept (file_of history i) (held_before history ambition i).lines)
-          ∙ ap (λ n. after_anchor (anchor_of history i) n (file_order (file_of history i) (held_before history ambition i).lines)) (insert-number history ambition i)),
+      (ap (map kept_number) (insert-anchor history held on i s h)
+          ∙ map-after_anchor kept_number itself (anchor_of history i) (line_with history on i) (file_kept (file_of history i) held.lines)
+          ∙ ap (λ n. after_anchor (anchor_of history i) n (file_order (file_of history i) held.lines)) (insert-number history on i)),
     )

@@ -32,7 +32,7 @@ AreNext t n [] = Unit {0}
 AreNext t n (d ∷ ds) = IsNext t n d × AreNext t (count_after n d) ds
 
 -- an edit by numbers counts its line as the edit does
-count-edit : (ns : Numbers) (t : List (List ℕ)) (node line n : ℕ) (e : Edit) → count_after n (numbered_edit ns t node line e) ≡ line_count_after n e
+pub count-edit : (ns : Numbers) (t : List (List ℕ)) (node line n : ℕ) (e : Edit) → count_after n (numbered_edit ns t node line e) ≡ line_count_after n e
 count-edit ns t node line n (edits.New kind parent name) = refl
 count-edit ns t node line n (edits.Insert file after text) = refl
 count-edit ns t node line n (edits.Delete file which) = refl
@@ -40,7 +40,7 @@ count-edit ns t node line n (edits.Rename which name) = refl
 count-edit ns t node line n (edits.Move which parent) = refl
 count-edit ns t node line n (edits.Remove which) = refl
 
-next-edit : (ns : Numbers) (t : List (List ℕ)) (node line : ℕ) (e : Edit) → line_count_after line e ≤ length t → IsNext t line (numbered_edit ns t node line e)
+pub next-edit : (ns : Numbers) (t : List (List ℕ)) (node line : ℕ) (e : Edit) → line_count_after line e ≤ length t → IsNext t line (numbered_edit ns t node line e)
 next-edit ns t node line (edits.New kind parent name) h = tt
 next-edit ns t node line (edits.Insert file after text) h = (omega (arith, h), refl)
 next-edit ns t node line (edits.Delete file which) h = tt

@@ -1,5 +1,5 @@
 -- One delete among the edits of a commit.
-use Rattle.std.specs.Prelude.{ℕ, nat_eq, List, [], ◌∷◌, ◌++◌, if◌then◌else◌}
+use Rattle.std.specs.Prelude.{ℕ, nat_eq, List, ◌∷◌, ◌++◌, if◌then◌else◌}
 use Rattle.cov_base.specs.declared.number.NodeRef.{NodeRef}
 use Rattle.cov_base.specs.declared.number.LineRef.{LineRef}
 use Rattle.cov_expr.specs.Formula.{Formula, Not, And}
@@ -9,7 +9,7 @@ use Rattle.cov_edit.specs.declared.command.Command.{Command}
 use Rattle.cov_edit.specs.Numbering.{node_number, line_number, numbers_of}
 use Rattle.cov_history.specs.Kept.{seen_at, Holding}
 use Rattle.cov_history.specs.Files.{DatedLine}
-use Rattle.cov_history.specs.Insertions.{lines_before, held_amid}
+use Rattle.cov_history.specs.Insertions.{lines_before, held_amid, held_next}
 
 -- a delete, the edits of its commit before it, and those after it
 pub record Deletion : Type 0 where
@@ -35,13 +35,13 @@ module _ (history : List Command) where
   abbrev pub delete_line : Deletion → ℕ
   delete_line d = line_number (lines_before history) d.line
 
-  -- what is held before the delete
+  -- what is held before the delete, if the edits before it apply within the ambition
   abbrev pub before_delete : Formula ℕ → Deletion → Holding
   before_delete ambition d = held_amid history ambition (all_with d) d.begun
 
-  -- what is held after the delete
-  abbrev pub behind_delete : Formula ℕ → Deletion → Holding
-  behind_delete ambition d = held_amid history ambition (all_with d) (d.begun ++ the_delete d ∷ [])
+  -- what is held after the delete, by what is held before it, if it applies within an expression
+  abbrev pub behind_delete : Holding → Formula ℕ → Deletion → Holding
+  behind_delete held on d = held_next history (all_with d) d.begun held on (the_delete d)
 
 -- a dated line, no longer seen within an expression from a position on if it has this number
 abbrev pub hidden_by : ℕ → ℕ → Formula ℕ → DatedLine → DatedLine

@@ -1,5 +1,5 @@
 -- The edits of a commit, and one insert among them.
-use Rattle.std.specs.Prelude.{ℕ, ◌+◌, List, [], ◌∷◌, ◌++◌, length}
+use Rattle.std.specs.Prelude.{ℕ, ◌+◌, List, ◌∷◌, ◌++◌, length}
 use Rattle.std.specs.List.{fold}
 use Rattle.cov_base.specs.Addresses.{address_in}
 use Rattle.cov_base.specs.declared.number.NodeRef.{NodeRef}
@@ -8,9 +8,9 @@ use Rattle.cov_expr.specs.Formula.{Formula}
 use Rattle.cov_edit.specs.declared.edit.Edit.{Edit}
 use Rattle.cov_edit.specs.declared.edit.Edit.TheVariants as edits
 use Rattle.cov_edit.specs.declared.command.Command.{Command}
-use Rattle.cov_edit.specs.Numbering.{NumberedEdit, node_number, line_number, anchors_of, numbers_after, numbers_of, numbered_from}
+use Rattle.cov_edit.specs.Numbering.{NumberedEdit, node_number, line_number, nodes_made, anchors_of, numbers_after, numbers_of, numbered_edit, numbered_from}
 use Rattle.cov_edit.specs.Variant.{Line}
-use Rattle.cov_history.specs.Kept.{Kept, new_line, Holding, held_after, held_by}
+use Rattle.cov_history.specs.Kept.{Kept, new_line, Holding, held_after, held_by, IsHolding}
 
 -- an insert, the edits of its commit before it, and those after it
 pub record Insertion : Type 0 where
@@ -45,9 +45,19 @@ module _ (history : List Command) where
   abbrev pub lines_amid : List Edit → ℕ
   lines_amid begun = lines_before + length (anchors_of lines_before begun)
 
-  -- what is held when the first of a commit's edits are done
+  -- what is held when the first of a commit's edits are done, if all apply within its ambition
   abbrev pub held_amid : Formula ℕ → List Edit → List Edit → Holding
   held_amid ambition es begun = fold (held_after (length history + 1) ambition) (held_by history) (numbered_amid es begun)
+
+  -- what may be held when the first of a commit's edits are done, whatever each applies within: it stands in order, has only
+  -- lines that are made so far, and no change beyond the commit
+  abbrev pub IsHeldAmid : List Edit → List Edit → Holding → Type 0
+  IsHeldAmid es begun held = IsHolding (table_of es) (lines_amid begun) (length history + 1) held
+
+  -- what is held when one more of a commit's edits is done, which applies within an expression
+  abbrev pub held_next : List Edit → List Edit → Holding → Formula ℕ → Edit → Holding
+  held_next es begun held on e =
+      held_after (length history + 1) on held (numbered_edit (numbers_of history) (table_of es) ((numbers_of history).nodes + nodes_made begun) (lines_amid begun) e)
 
   -- how many lines there are when the edits before the insert are done
   abbrev pub lines_begun : Insertion → ℕ
@@ -65,18 +75,14 @@ module _ (history : List Command) where
   abbrev pub anchor_of : Insertion → ℕ
   anchor_of i = line_number lines_before i.after
 
-  -- the new line, as it is kept
+  -- the new line, as it is kept if the insert applies within an expression
   abbrev pub line_with : Formula ℕ → Insertion → Kept Line
-  line_with ambition i = new_line (length history + 1) ambition (file_of i) (address_in (table_with i) (lines_begun i + 1)) i.text
+  line_with on i = new_line (length history + 1) on (file_of i) (address_in (table_with i) (lines_begun i + 1)) i.text
 
-  -- what is held when the first edits of the commit are done
-  abbrev pub held_when : Formula ℕ → Insertion → List Edit → Holding
-  held_when ambition i es = held_amid ambition (all_edits i) es
-
-  -- what is held before the insert
+  -- what is held before the insert, if the edits before it apply within the ambition
   abbrev pub held_before : Formula ℕ → Insertion → Holding
-  held_before ambition i = held_when ambition i i.begun
+  held_before ambition i = held_amid ambition (all_edits i) i.begun
 
-  -- what is held after the insert
-  abbrev pub held_behind : Formula ℕ → Insertion → Holding
-  held_behind ambition i = held_when ambition i (i.begun ++ the_insert i ∷ [])
+  -- what is held after the insert, by what is held before it, if it applies within an expression
+  abbrev pub held_behind : Holding → Formula ℕ → Insertion → Holding
+  held_behind held on i = held_next (all_edits i) i.begun held on (the_insert i)

@@ -14,15 +14,14 @@ use Rattle.cov_edit.specs.Touched.{AreRising}
 use Rattle.cov_view.specs.References.{is_dir_kind}
 use Rattle.cov_history.specs.FileNodes.{files_made, files_from, files_of, NamesFile}
 use Rattle.cov_edit.specs.Replay.{replay}
-use Rattle.cov_history.specs.Kept.{kept_number, kept_after, entries_after, held_from, held_by, kept_of, entries_of, lines_seen, rows_seen, variant_seen, file_kept, is_kept_anchor, IsHolding}
-use Rattle.cov_view.specs.Refusals.{when}
+use Rattle.cov_history.specs.Kept.{Holding, kept_number, kept_after, entries_after, held_from, held_by, kept_of, entries_of, lines_seen, rows_seen, variant_seen, file_kept, is_kept_anchor, IsHolding}
 use Rattle.cov_history.specs.Reach.{IsHeldInReach}
 use Rattle.cov_history.specs.Verdict.{IsLegal, verdict}
-use Rattle.cov_history.specs.Sessions.{Session, IsGood, seen, has_commit}
+use Rattle.cov_history.specs.Sessions.{Session, IsGood, has_commit}
 use Rattle.cov_history.specs.Files.{dated_number, file_dated, file_order, as_shown, dated_shown, Takes}
 use Rattle.cov_history.specs.Deletions.{Deletion, all_with, delete_file, delete_line, before_delete, behind_delete, hidden_by}
 use Rattle.cov_history.specs.Insertions.{Insertion, all_edits, lines_begun, file_of, anchor_of, line_with, held_before, held_behind}
-use Rattle.cov_history.specs.Insertions.{held_amid}
+use Rattle.cov_history.specs.Insertions.{held_amid, held_next, IsHeldAmid}
 use Rattle.cov_history.specs.FileOfLine.{IsWhole}
 use Rattle.cov_history.specs.InsertedTexts.{texts_in, HasText}
 
@@ -74,28 +73,46 @@ abbrev pub ShownIsKept : Type 0
 ShownIsKept = (c : List Bool) (p file line : ℕ) (history : List Command)
     → list_any (λ l. nat_eq (number_by line_address l) line) (lines_of (replay c (take p history)) file) ≡ true → is_kept_anchor file line (kept_of history) ≡ true
 
--- an insert puts its line directly after the anchor, or first where that is the head
+-- what is held stands when the edits of a commit begin, and after each of them, whatever they apply within
+abbrev pub EditsStand : Type 0
+EditsStand = (history : List Command)
+    → ((es : List Edit) → IsHeldAmid history es [] (held_by history))
+    × ((begun later : List Edit) (e : Edit) (held : Holding) (on : Formula ℕ)
+    → IsHeldAmid history (begun ++ e ∷ later) begun held
+    → IsHeldAmid history (begun ++ e ∷ later) (begun ++ e ∷ []) (held_next history (begun ++ e ∷ later) begun held on e))
+
+-- what is held when the first of a commit's edits are done, all within its ambition, stands, and goes on by one edit more
+abbrev pub AmidGoesOn : Type 0
+AmidGoesOn = (history : List Command) (ambition : Formula ℕ) (begun later : List Edit)
+    → IsHeldAmid history (begun ++ later) begun (held_amid history ambition (begun ++ later) begun)
+    × ((e : Edit) → held_amid history ambition (begun ++ later) (begun ++ e ∷ [])
+    ≡ held_next history (begun ++ later) begun (held_amid history ambition (begun ++ later) begun) ambition e)
+
+-- an insert puts its line directly after the anchor, or first where that is the head, whatever it and the edits before it
+-- apply within
 abbrev pub InsertAfterAnchor : Type 0
-InsertAfterAnchor = (history : List Command) (ambition : Formula ℕ) (i : Insertion)
-    → is_kept_anchor (file_of history i) (anchor_of history i) (held_before history ambition i).lines ≡ true
-    → file_kept (file_of history i) (held_behind history ambition i).lines
-    ≡ after_anchor_by kept_number (anchor_of history i) (line_with history ambition i) (file_kept (file_of history i) (held_before history ambition i).lines)
+InsertAfterAnchor = (history : List Command) (held : Holding) (on : Formula ℕ) (i : Insertion)
+    → IsHeldAmid history (all_edits i) i.begun held
+    → is_kept_anchor (file_of history i) (anchor_of history i) held.lines ≡ true
+    → file_kept (file_of history i) (held_behind history held on i).lines
+    ≡ after_anchor_by kept_number (anchor_of history i) (line_with history on i) (file_kept (file_of history i) held.lines)
 
 -- an insert leaves the other files as they are
 abbrev pub InsertInOneFile : Type 0
-InsertInOneFile = (history : List Command) (ambition : Formula ℕ) (i : Insertion) (file : ℕ)
+InsertInOneFile = (history : List Command) (held : Holding) (on : Formula ℕ) (i : Insertion) (file : ℕ)
+    → IsHeldAmid history (all_edits i) i.begun held
     → nat_eq (file_of history i) file ≡ false
-    → file_kept file (held_behind history ambition i).lines ≡ file_kept file (held_before history ambition i).lines
+    → file_kept file (held_behind history held on i).lines ≡ file_kept file held.lines
 
 -- a new line has the next number
 abbrev pub InsertIsNumbered : Type 0
-InsertIsNumbered = (history : List Command) (ambition : Formula ℕ) (i : Insertion) → kept_number (line_with history ambition i) ≡ lines_begun history i + 1
+InsertIsNumbered = (history : List Command) (on : Formula ℕ) (i : Insertion) → kept_number (line_with history on i) ≡ lines_begun history i + 1
 
 -- after an insert, each anchor still is one, and the new line is one of its file
 abbrev pub AnchorsStay : Type 0
-AnchorsStay = (history : List Command) (ambition : Formula ℕ) (i : Insertion)
-    → ((file line : ℕ) → is_kept_anchor file line (held_before history ambition i).lines ≡ true → is_kept_anchor file line (held_behind history ambition i).lines ≡ true)
-    × (is_kept_anchor (file_of history i) (lines_begun history i + 1) (held_behind history ambition i).lines ≡ true)
+AnchorsStay = (history : List Command) (held : Holding) (on : Formula ℕ) (i : Insertion)
+    → ((file line : ℕ) → is_kept_anchor file line held.lines ≡ true → is_kept_anchor file line (held_behind history held on i).lines ≡ true)
+    × (is_kept_anchor (file_of history i) (lines_begun history i + 1) (held_behind history held on i).lines ≡ true)
 
 -- each insert of a good session has its anchor kept when it is its turn, whatever stands after the base
 abbrev pub AcceptedIsAnchored : Type 0
@@ -113,35 +130,39 @@ FileShowsReplay = (c : List Bool) (p file : ℕ) (history : List Command)
 
 -- by number too, an insert puts its line directly after the anchor, or first where that is the head
 abbrev pub InsertIsDated : Type 0
-InsertIsDated = (history : List Command) (ambition : Formula ℕ) (i : Insertion)
-    → is_kept_anchor (file_of history i) (anchor_of history i) (held_before history ambition i).lines ≡ true
-    → file_dated (file_of history i) (held_behind history ambition i).lines
-    ≡ after_anchor_by dated_number (anchor_of history i) (record { line = lines_begun history i + 1; text = i.text; changes = (length history + 1, ambition) ∷ [] })
-    (file_dated (file_of history i) (held_before history ambition i).lines)
+InsertIsDated = (history : List Command) (held : Holding) (on : Formula ℕ) (i : Insertion)
+    → IsHeldAmid history (all_edits i) i.begun held
+    → is_kept_anchor (file_of history i) (anchor_of history i) held.lines ≡ true
+    → file_dated (file_of history i) (held_behind history held on i).lines
+    ≡ after_anchor_by dated_number (anchor_of history i) (record { line = lines_begun history i + 1; text = i.text; changes = (length history + 1, on) ∷ [] })
+    (file_dated (file_of history i) held.lines)
 
 -- the order of a file takes the line of an insert, and then is that of the file
 abbrev pub OrderTakesInsert : Type 0
-OrderTakesInsert = (history : List Command) (ambition : Formula ℕ) (i : Insertion)
-    → is_kept_anchor (file_of history i) (anchor_of history i) (held_before history ambition i).lines ≡ true
-    → Takes (file_order (file_of history i) (held_before history ambition i).lines) (anchor_of history i) (lines_begun history i + 1)
-    × (file_order (file_of history i) (held_behind history ambition i).lines
-    ≡ after_anchor (anchor_of history i) (lines_begun history i + 1) (file_order (file_of history i) (held_before history ambition i).lines))
+OrderTakesInsert = (history : List Command) (held : Holding) (on : Formula ℕ) (i : Insertion)
+    → IsHeldAmid history (all_edits i) i.begun held
+    → is_kept_anchor (file_of history i) (anchor_of history i) held.lines ≡ true
+    → Takes (file_order (file_of history i) held.lines) (anchor_of history i) (lines_begun history i + 1)
+    × (file_order (file_of history i) (held_behind history held on i).lines
+    ≡ after_anchor (anchor_of history i) (lines_begun history i + 1) (file_order (file_of history i) held.lines))
 
 -- what a legal history holds names, at each change, only options that are declared there
 abbrev pub LegalIsInReach : Type 0
 LegalIsInReach = (history : List Command) → IsLegal history → IsHeldInReach history (held_by history)
 
--- by number, a delete hides its line within the ambition from its commit on, and leaves the other lines of its file
+-- by number, a delete that applies within an expression hides its line there from its commit on, and leaves the other lines
+-- of its file
 abbrev pub DeleteIsDated : Type 0
-DeleteIsDated = (history : List Command) (ambition : Formula ℕ) (d : Deletion)
-    → file_dated (delete_file history d) (behind_delete history ambition d).lines
-    ≡ map (hidden_by (delete_line history d) (length history + 1) ambition) (file_dated (delete_file history d) (before_delete history ambition d).lines)
+DeleteIsDated = (history : List Command) (held : Holding) (on : Formula ℕ) (d : Deletion)
+    → IsHeldAmid history (all_with d) d.begun held
+    → file_dated (delete_file history d) (behind_delete history held on d).lines
+    ≡ map (hidden_by (delete_line history d) (length history + 1) on) (file_dated (delete_file history d) held.lines)
 
 -- a delete leaves the other files as they are
 abbrev pub DeleteInOneFile : Type 0
-DeleteInOneFile = (history : List Command) (ambition : Formula ℕ) (d : Deletion) (file : ℕ)
+DeleteInOneFile = (history : List Command) (held : Holding) (on : Formula ℕ) (d : Deletion) (file : ℕ)
     → nat_eq (delete_file history d) file ≡ false
-    → file_kept file (behind_delete history ambition d).lines ≡ file_kept file (before_delete history ambition d).lines
+    → file_kept file (behind_delete history held on d).lines ≡ file_kept file held.lines
 
 -- each delete of a good session has its line in its file when it is its turn, whatever stands after the base
 abbrev pub AcceptedIsThere : Type 0
@@ -150,9 +171,9 @@ AcceptedIsThere = (history : List Command) (s : Session) (d : Deletion) → IsLe
 
 -- a delete leaves the order of each file, and what is an anchor in it
 abbrev pub DeleteKeepsOrder : Type 0
-DeleteKeepsOrder = (history : List Command) (ambition : Formula ℕ) (d : Deletion) (file : ℕ)
-    → (file_order file (behind_delete history ambition d).lines ≡ file_order file (before_delete history ambition d).lines)
-    × ((line : ℕ) → is_kept_anchor file line (behind_delete history ambition d).lines ≡ is_kept_anchor file line (before_delete history ambition d).lines)
+DeleteKeepsOrder = (history : List Command) (held : Holding) (on : Formula ℕ) (d : Deletion) (file : ℕ)
+    → (file_order file (behind_delete history held on d).lines ≡ file_order file held.lines)
+    × ((line : ℕ) → is_kept_anchor file line (behind_delete history held on d).lines ≡ is_kept_anchor file line held.lines)
 
 -- when the first of a commit's edits are done, each file has different lines, none of them the head
 abbrev pub LinesAreDistinct : Type 0

@@ -1,5 +1,5 @@
 -- Laws of histories: replay, sessions, verdicts and soundness.
-use Rattle.std.specs.Prelude.{◌≡◌, ℕ, ◌+◌, ◌<◌, ◌≤◌, Bool, true, false, not, List, [], ◌∷◌, ◌++◌, take, drop, length, map, Some, None, is_some, if◌then◌else◌}
+use Rattle.std.specs.Prelude.{◌≡◌, ℕ, ◌<◌, ◌≤◌, Bool, true, false, List, [], ◌∷◌, ◌++◌, take, drop, length, map, Some, None, is_some, if◌then◌else◌}
 use Rattle.std.specs.List.{fold, list_any, AllByRecursion}
 use Rattle.cov_base.specs.Choices.{with_option}
 use Rattle.cov_base.specs.Faults.{in_node_order, fault_of}

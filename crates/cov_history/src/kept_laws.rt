@@ -1,6 +1,6 @@
 //! Laws of what a history keeps for all choices and positions at once, its rows and its lines by file and number. Each function
 //! does nothing; what it ensures is the law.
-ghost use Rattle.cov_history.specs.KeptLaws.{LinesFollowReplay, RowsFollowReplay, HoldingFollowsReplay, HoldingStands, HoldingIsWhole, LinesKeepTheirTexts, HoldingGoesOn, CommitKeepsLines, CommitKeepsRows, FileFollowsReplay, ShownIsKept, InsertAfterAnchor, InsertInOneFile, InsertIsNumbered, AnchorsStay, AcceptedIsAnchored, DeclarationsHoldNothing, FileShowsReplay, InsertIsDated, OrderTakesInsert, LegalIsInReach, DeleteIsDated, DeleteInOneFile, AcceptedIsThere, DeleteKeepsOrder, LinesAreDistinct, FilesRise, FilesGoOn, RowsTellFiles, LinesAreInFiles, AcceptedNamesFiles, TurnNamesFile, AmidIsInFiles};
+ghost use Rattle.cov_history.specs.KeptLaws.{LinesFollowReplay, RowsFollowReplay, HoldingFollowsReplay, HoldingStands, HoldingIsWhole, LinesKeepTheirTexts, HoldingGoesOn, CommitKeepsLines, CommitKeepsRows, FileFollowsReplay, ShownIsKept, EditsStand, AmidGoesOn, InsertAfterAnchor, InsertInOneFile, InsertIsNumbered, AnchorsStay, AcceptedIsAnchored, DeclarationsHoldNothing, FileShowsReplay, InsertIsDated, OrderTakesInsert, LegalIsInReach, DeleteIsDated, DeleteInOneFile, AcceptedIsThere, DeleteKeepsOrder, LinesAreDistinct, FilesRise, FilesGoOn, RowsTellFiles, LinesAreInFiles, AcceptedNamesFiles, TurnNamesFile, AmidIsInFiles};
 
 /// At each position, the lines seen on a choice are those of the replay of the history up to there.
 pub fn lines_follow_replay()
@@ -57,7 +57,18 @@ pub fn shown_is_kept()
     ensures { ShownIsKept }
 {}
 
-/// An insert puts its line directly after the anchor, or first where that is the head.
+/// What is held stands when the edits of a commit begin, and after each of them, whatever they apply within.
+pub fn edits_stand()
+    ensures { EditsStand }
+{}
+
+/// What is held amid the edits of a commit, all within its ambition, stands, and goes on by one edit more.
+pub fn amid_goes_on()
+    ensures { AmidGoesOn }
+{}
+
+/// An insert puts its line directly after the anchor, or first where that is the head, whatever it and the edits before it apply
+/// within.
 pub fn insert_after_anchor()
     ensures { InsertAfterAnchor }
 {}
@@ -107,7 +118,8 @@ pub fn legal_is_in_reach()
     ensures { LegalIsInReach }
 {}
 
-/// By number, a delete hides its line within the ambition from its commit on, and leaves the other lines of its file.
+/// By number, a delete that applies within an expression hides its line there from its commit on, and leaves the other lines of
+/// its file.
 pub fn delete_is_dated()
     ensures { DeleteIsDated }
 {}
