@@ -1,4 +1,4 @@
-use Rattle.std.proofs.Common.{◌≡◌, ◌≤◌, ◌<◌, ◌++◌, ◌∷◌, [], sym, subst, arith}
+use Rattle.std.proofs.Common.{sym, subst, arith}
 use Rattle.cov_dd.specs.Diagrams.{diagram_size}
 use Rattle.cov_bench.proofs.Sweeping.{one_more, AreBelow}
 use Rattle.cov_bench.proofs.conjoining.conjunctions.Goals as goal
