@@ -25,6 +25,7 @@ pub mod Turns
 pub mod Runs
 pub mod SessionFaults
 pub mod Spoken
+pub mod Sweeping
 pub mod ToldFiles
 pub mod ToldLines
 pub mod Unopened

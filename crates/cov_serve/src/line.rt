@@ -8,6 +8,7 @@ ghost use Rattle.cov_loop.specs.Keeping.{AreAll, IsEither};
 ghost use Rattle.cov_serve.specs.Statuses.{StopsWithStatus};
 ghost use Rattle.cov_serve.specs.Step.{step};
 ghost use Rattle.cov_serve.specs.Storing.{stored};
+ghost use Rattle.cov_serve.specs.Sweeping.{GoesOn};
 ghost use Rattle.cov_store.specs.Stands.{gate_of};
 
 use crate::server::Server;
@@ -18,7 +19,8 @@ use cov_loop::Answer;
 use cov_out::Trees;
 
 /// Serves one line: stores the command that it adds on the disk, writes its rows of trees, one call each, and then puts its reply in one
-/// call. At an `Err` the server is gone and the run ends.
+/// call. The server counts the commit that a line adds, and with each 64th of its run the engine is swept: then each entry of its table
+/// is reached from a node that is kept. At an `Err` the server is gone and the run ends.
 pub fn serve_line<K: Sink, D: Disk, T: Trees>(
     mut server: Server,
     line: &[u8],
@@ -55,6 +57,8 @@ pub fn serve_line<K: Sink, D: Disk, T: Trees>(
         K.written out.old ≡ Some before →
         K.written out.new ≡ Some (before ++ (step server.state line.now).reply) →
         AreAll (stored (step server.state line.now).state) (D.images disk.new) }
+
+    ensures goes_on { IfOk result (λ next. GoesOn server next.0) }
 
     ensures stopped { IfErr result (λ status.
         StopsWithStatus status (K.faults out.old) (K.faults out.new)
