@@ -34,8 +34,10 @@ impl Server {
         disk: &mut D,
     ) -> Result<Result<Receipt, Stop>, Ending>
         requires gate { IfSome (D.contents disk.old) (gated self.old.state) }
-        ensures changes { IfOk result (Changes (appended self.old.state command) self.old.state self.new.state) }
-        ensures receipt { IfOk result (λ added. IfOk added (HasReceipt self.old.state.history command)) }
+        ensures changes { IfOk result
+            (Changes (appended self.old.state command) self.old.state self.new.state) }
+        ensures receipt { IfOk result (λ added.
+            IfOk added (HasReceipt self.old.state.history command)) }
         ensures commits { self.new.commits ≡ self.old.commits }
         ensures fewer { IfOk result (λ added.
             OnOk added (self.new.commits < length self.new.state.history)) }

@@ -80,7 +80,8 @@ impl LineServer for Server {
 impl Server {
     // Does what a line says, or makes the command that it adds.
     fn act(&mut self, line: &[u8]) -> Result<Handled, Stop>
-        ensures handles { Handles (acted self.old.state line.now) self.old.state self.new.state result }
+        ensures handles { Handles (acted self.old.state line.now)
+            self.old.state self.new.state result }
         ensures commits { self.new.commits ≡ self.old.commits }
     {
         self.state.act(line)

@@ -29,7 +29,8 @@ pub fn serve_line<K: Sink, D: Disk, T: Trees>(
     trees: &mut T,
 ) -> Result<(Server, Answer), Status>
     requires gate { HasGate (D.contents disk.old) (gate_of server.state.history) }
-    ensures served { IfOk result (λ next. IsServed (step server.state line.now) next.0.state next.1) }
+    ensures served { IfOk result (λ next.
+        IsServed (step server.state line.now) next.0.state next.1) }
     ensures all { OnOk result
         (AppendsAll (step server.state line.now).reply (K.written out.old) (K.written out.new)) }
     ensures some { OnErr result
@@ -43,7 +44,8 @@ pub fn serve_line<K: Sink, D: Disk, T: Trees>(
         ⊎ (out.new ≡ out.old)) }
 
     // What a read of the disk gives is the store of the history after the line, if it was that of the history before.
-    ensures gate { IfOk result (λ next. HasGate (D.contents disk.new) (gate_of next.0.state.history)) }
+    ensures gate { IfOk result (λ next.
+        HasGate (D.contents disk.new) (gate_of next.0.state.history)) }
     ensures stored { IfSome (D.contents disk.old) (stored server.state) →
         IfOk result (λ next. IfSome (D.contents disk.new) (stored next.0.state)) }
 
