@@ -3,6 +3,7 @@ pub mod Additions
 pub mod Appended
 pub mod Beginning
 pub mod Compared
+pub mod Counting
 pub mod Crashing
 pub mod Declared
 pub mod Ended
@@ -25,7 +26,6 @@ pub mod Turns
 pub mod Runs
 pub mod SessionFaults
 pub mod Spoken
-pub mod Sweeping
 pub mod ToldFiles
 pub mod ToldLines
 pub mod Unopened

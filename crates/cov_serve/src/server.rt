@@ -33,13 +33,18 @@ pub struct Server {
 
 impl Model for Server {
     ghost use Rattle.std.specs.Prelude.{◌≤◌, length};
+    ghost use Rattle.std.specs.Coded.{codes, coded_ℕ};
+    ghost use Rattle.cov_dd.specs.contracts.triple.Triple as triples;
+    ghost use Rattle.cov_expr.specs.Formula.{formula_code};
+    ghost use Rattle.cov_edit.specs.contracts.command.Command as command_row;
+    ghost use Rattle.cov_edit.specs.contracts.edit.Edit as edit_row;
     ghost use Rattle.cov_serve.specs.States.{ServerValue};
-    ghost use Rattle.cov_serve.specs.contracts.state.ServerState as state_row;
     ghost use Rattle.cov_store.specs.Stands.{IsJournalOf};
 
     ghost Value = { ServerValue };
 
-    ghost coded = { state_row.the_row.coded };
+    ghost coded = { Prim.hlevel (codes, formula_code coded_ℕ, command_row.the_row.coded,
+        edit_row.the_row.coded, triples.the_row.coded) };
 
     ghost view = { λ s. record {
       state = s.state.state;

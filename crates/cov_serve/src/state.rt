@@ -20,12 +20,12 @@ pub(crate) struct ServerState {
 impl Model for ServerState {
     ghost use Rattle.std.specs.Prelude.{map};
     ghost use Rattle.std.specs.Coded.{codes, coded_ℕ};
+    ghost use Rattle.cov_dd.specs.contracts.triple.Triple as triples;
     ghost use Rattle.cov_expr.specs.Formula.{formula_code};
     ghost use Rattle.cov_edit.specs.contracts.command.Command as command_row;
     ghost use Rattle.cov_edit.specs.contracts.edit.Edit as edit_row;
     ghost use Rattle.cov_session.specs.Calls.{AreOpen};
     ghost use Rattle.cov_session.specs.Open.{as_named};
-    ghost use Rattle.cov_dd.specs.contracts.triple.Triple as triples;
     ghost use Rattle.cov_serve.specs.States.{Serving};
 
     ghost Value = { Serving };

@@ -12,7 +12,7 @@ use Rattle.cov_serve.specs.declared.handled.Handled.{Handled}
 use Rattle.cov_codes.specs.declared.stop.Stop.{Stop}
 use Rattle.cov_serve.proofs.Additions.{done-gives, refused-step, replied, step-added, step-grown}
 use Rattle.cov_serve.proofs.Leaving.{leaves-for}
-use Rattle.cov_serve.proofs.Sweeping.{goes-on-from, goes-on-same}
+use Rattle.cov_serve.proofs.Counting.{goes-on-from, goes-on-same}
 use Rattle.cov_serve.proofs.answering.ServerLineServer.answer.Goals as goal
 
 pub returns-in-Ok-Done-clause-gives : goal.returns-in-Ok-Done-clause-gives

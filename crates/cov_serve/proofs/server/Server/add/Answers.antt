@@ -11,7 +11,7 @@ use Rattle.cov_serve.specs.Sweeping.{HasCounted}
 use Rattle.cov_codes.specs.declared.stop.Stop.{Stop}
 use Rattle.cov_serve.proofs.Acted.{stops-history}
 use Rattle.cov_serve.proofs.Additions.{ended-history, finish-gives, finish-has, history-more, replied, stop-gives, stop-told, there-kept}
-use Rattle.cov_serve.proofs.Sweeping.{goes-on-more, goes-on-same}
+use Rattle.cov_serve.proofs.Counting.{goes-on-more, goes-on-same}
 use Rattle.cov_serve.proofs.server.Server.add.Goals as goal
 
 pub finish-requires-clause-there : goal.finish-requires-clause-there
@@ -45,7 +45,7 @@ returns-in-Ok-added-clause-goes_on g c =
     let more = history-more old.state k kept.state (subst (λ (r : Result Receipt Stop). Changes (appended old.state k) old.state kept.state r) c.in-Ok-added.is c.in-Ok.ensures.changes) in
     let same = ap (λ (t : State). t.history) c.finish.ensures.ended ∙ ended-history kept.state c.args.addition.ends in
     on_ok_weaker c.finish.result
-    (λ counted. goes-on-more old new k c.is_commit.result c.is_commit.ensures (same ∙ more) (subst (λ n. HasCounted c.is_commit.result n new) c.append.ensures.commits counted)) c.finish.ensures.counted
+    (λ counted. goes-on-more old new k c.is_commit-is_commit.result c.is_commit-is_commit.ensures (same ∙ more) (subst (λ n. HasCounted c.is_commit-is_commit.result n new) c.append.ensures.commits counted)) c.finish.ensures.counted
 
 pub returns-in-Ok-clause-goes_on : goal.returns-in-Ok-clause-goes_on
 returns-in-Ok-clause-goes_on g c =
