@@ -177,11 +177,7 @@ impl Server {
 }
 
 // The reply that confirms a command, unless memory is wanting.
-fn confirmed(
-    alloc: Global,
-    confirmation: Confirmation,
-    receipt: &Receipt,
-) -> Result<Reply, Ending>
+fn confirmed(alloc: Global, confirmation: Confirmation, receipt: &Receipt) -> Result<Reply, Ending>
     ensures gives { IfOk result
         (IsPlain (confirmed confirmation receipt.now.number receipt.now.position)) }
     ensures stopped { (disk disk' : ℕ) →

@@ -43,8 +43,13 @@ impl Model for Server {
 
     ghost Value = { ServerValue };
 
-    ghost coded = { Prim.hlevel (codes, formula_code coded_ℕ, command_row.the_row.coded,
-        edit_row.the_row.coded, triples.the_row.coded) };
+    ghost coded = { Prim.hlevel (
+      codes,
+      formula_code coded_ℕ,
+      command_row.the_row.coded,
+      edit_row.the_row.coded,
+      triples.the_row.coded,
+    ) };
 
     ghost view = { λ s. record {
       state = s.state.state;

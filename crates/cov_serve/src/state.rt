@@ -30,8 +30,13 @@ impl Model for ServerState {
 
     ghost Value = { Serving };
 
-    ghost coded = { Prim.hlevel (codes, formula_code coded_ℕ, command_row.the_row.coded,
-        edit_row.the_row.coded, triples.the_row.coded) };
+    ghost coded = { Prim.hlevel (
+      codes,
+      formula_code coded_ℕ,
+      command_row.the_row.coded,
+      edit_row.the_row.coded,
+      triples.the_row.coded,
+    ) };
 
     ghost view = { λ s. record {
       state = record {

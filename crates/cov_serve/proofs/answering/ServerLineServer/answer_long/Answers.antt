@@ -4,8 +4,6 @@ use Rattle.cov_loop.specs.Answers.{Gives}
 use Rattle.cov_serve.specs.Laws.{long_refused}
 use Rattle.cov_serve.specs.States.{ServerValue, State}
 use Rattle.cov_serve.specs.Step.{step}
-use Rattle.cov_serve.specs.Sweeping.{GoesOn, goes_on_same}
-use Rattle.cov_serve.proofs.Additions.{replied}
 use Rattle.cov_serve.proofs.answering.ServerLineServer.answer_long.Goals as goal
 
 pub returns-clause-gives : goal.returns-clause-gives

@@ -1,5 +1,4 @@
 use Rattle.std.proofs.Common.{◌≡◌, ◌∙◌, ap, subst, length, arith}
-use Rattle.std.specs.Prelude.{OnOk}
 use Rattle.cov_serve.specs.Adding.{ended_by}
 use Rattle.cov_serve.specs.States.{ServerValue, State}
 use Rattle.cov_serve.specs.Sweeping.{HasCounted}
