@@ -1,5 +1,5 @@
 -- What a command that is added comes to.
-use Rattle.std.proofs.Common.{◌≡◌, ◌∙◌, refl, sym, ap, subst, ℕ, ◌+◌, true, false, List, [], length, is_some, Option, Some, None, option_map, Result, Ok, Err}
+use Rattle.std.proofs.Common.{◌≡◌, ◌∙◌, refl, sym, ap, subst, ℕ, ◌+◌, true, false, List, [], ◌∷◌, ◌++◌, length, is_some, Option, Some, None, option_map, Result, Ok, Err}
 use Rattle.std.specs.Prelude.{IfOk, IfSome, OnOk}
 use Rattle.cov_edit.specs.declared.command.Command.{Command}
 use Rattle.cov_edit.specs.History.{option_count}
@@ -47,6 +47,13 @@ module _ (st : State) (k : Command) where
   appended-grown next h = at (verdict st.history k) h
     where
       at : (o : Option Refusal) → unless (option_map refusal_code o) (with_command st k) ≡ Ok next → next.history ≡ unless_refused o st.history k
+      at None e = let same : with_command st k ≡ next = cc in ap (λ t. t.history) (sym same)
+      at (Some refusal) e = absurd (cc)
+
+  pub history-more : (next : State) → appended st k ≡ Ok next → next.history ≡ st.history ++ k ∷ []
+  history-more next h = at (verdict st.history k) h
+    where
+      at : (o : Option Refusal) → unless (option_map refusal_code o) (with_command st k) ≡ Ok next → next.history ≡ st.history ++ k ∷ []
       at None e = let same : with_command st k ≡ next = cc in ap (λ t. t.history) (sym same)
       at (Some refusal) e = absurd (cc)
 

@@ -1,6 +1,7 @@
 -- What the appending of a command comes to.
-use Rattle.std.proofs.Common.{◌≡◌, refl, sym, ap, subst, ℕ, ◌+◌, List, [], ◌∷◌, ◌++◌, length, None, option_map, Result, Ok, Err}
+use Rattle.std.proofs.Common.{◌≡◌, refl, sym, ap, subst, ℕ, ◌+◌, ◌<◌, ◌≤◌, List, [], ◌∷◌, ◌++◌, length, None, option_map, Result, Ok, Err, arith}
 use Rattle.std.specs.Prelude.{IfErr, IfOk, OnOk}
+use Rattle.std.proofs.lemmas.List.{length-append}
 use Rattle.cov_base.specs.Causes.{Rose}
 use Rattle.cov_codes.proofs.CallerLemmas.{refusal-code}
 use Rattle.cov_codes.specs.Codes.{refusal_code}
@@ -49,6 +50,22 @@ pub still-open : OpenSessionsStay → (history now : List Command) (k : Command)
 still-open law history now k ss (Ok receipt) leaves here = stay-open law history now k ss leaves here
 still-open law history now k ss (Err faults.DiskFault) leaves here = stay-open law history now k ss leaves here
 still-open law history now k ss (Err (faults.Refused refusal)) leaves here = subst (λ h. AreOpen h ss) (sym leaves) here
+
+module _ (history : List Command) (k : Command) (now : List Command) where
+  longer : now ≡ history ++ k ∷ [] → length history ≤ length now
+  longer leaves = omega (arith, ap length leaves, length-append history (k ∷ []))
+
+  -- no command is lost
+  pub no-shorter : (r : Result Receipt AppendFault) → LeavesHistory history k now r → length history ≤ length now
+  no-shorter (Ok receipt) leaves = longer leaves
+  no-shorter (Err faults.DiskFault) leaves = longer leaves
+  no-shorter (Err (faults.Refused refusal)) leaves = omega (arith, ap length leaves)
+
+  -- where the history has the command, it has more than so many commits as there were commands
+  pub fewer-commits : (commits : ℕ) (r : Result Receipt AppendFault) → LeavesHistory history k now r → commits ≤ length history → IfOk (added_as r) (λ added. OnOk added (commits < length now))
+  fewer-commits commits (Ok receipt) leaves few = omega (arith, ap length leaves, length-append history (k ∷ []), few)
+  fewer-commits commits (Err faults.DiskFault) leaves few = tt
+  fewer-commits commits (Err (faults.Refused refusal)) leaves few = tt
 
 module _ (st : State) (k : Command) (now : List Command) where
   -- the state is the one that is wanted

@@ -3,6 +3,7 @@ pub mod Additions
 pub mod Appended
 pub mod Beginning
 pub mod Compared
+pub mod Counting
 pub mod Crashing
 pub mod Declared
 pub mod Ended

@@ -49,7 +49,8 @@ can_be_told (faults.Damaged number (damages.Refused refusal) options) of =
 can_be_told faults.DiskFault of = tt
 can_be_told faults.Memory of = tt
 
-appends_none : (line : List ℕ) (old new : Option (List ℕ)) → new ≡ old → AppendsSome line old new
+-- where nothing is written, no byte of a line is
+pub appends_none : (line : List ℕ) (old new : Option (List ℕ)) → new ≡ old → AppendsSome line old new
 appends_none line None new same = tt
 appends_none line (Some old) new same = ([], line, refl, same ∙ ap Some (sym (append-nil old)))
 

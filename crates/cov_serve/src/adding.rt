@@ -1,5 +1,5 @@
 // How a command is added: to the history and to the disk, before there is a reply.
-ghost use Rattle.std.specs.Prelude.{◌≡◌, ◌≤◌, true, is_some, IfOk, OnOk, IfErr, IfSome};
+ghost use Rattle.std.specs.Prelude.{◌≡◌, ◌<◌, ◌≤◌, true, length, is_some, IfOk, OnOk, IfErr, IfSome};
 ghost use Rattle.cov_disk.specs.Images.{LeavesOnly};
 ghost use Rattle.cov_loop.specs.Answers.{StopsAnswer};
 ghost use Rattle.cov_loop.specs.Keeping.{AreAll, IsEither};
@@ -34,8 +34,13 @@ impl Server {
         disk: &mut D,
     ) -> Result<Result<Receipt, Stop>, Ending>
         requires gate { IfSome (D.contents disk.old) (gated self.old.state) }
-        ensures changes { IfOk result (Changes (appended self.old.state command) self.old.state self.new.state) }
-        ensures receipt { IfOk result (λ added. IfOk added (HasReceipt self.old.state.history command)) }
+        ensures changes { IfOk result
+            (Changes (appended self.old.state command) self.old.state self.new.state) }
+        ensures receipt { IfOk result (λ added.
+            IfOk added (HasReceipt self.old.state.history command)) }
+        ensures commits { self.new.commits ≡ self.old.commits }
+        ensures fewer { IfOk result (λ added.
+            OnOk added (self.new.commits < length self.new.state.history)) }
         ensures gate { OnOk result (IfSome (D.contents disk.new) (gated self.new.state)) }
         ensures stored { IfSome (D.contents disk.old) (stored self.old.state) →
             OnOk result (IfSome (D.contents disk.new) (stored self.new.state)) }

@@ -1,5 +1,5 @@
 // How a line is answered: what it adds is stored before there is a reply.
-ghost use Rattle.std.specs.Prelude.{◌≡◌, ◌≤◌, ℕ, true, is_some, IfOk, OnOk, IfErr, IfSome};
+ghost use Rattle.std.specs.Prelude.{◌≡◌, ◌<◌, ◌≤◌, ℕ, true, length, is_some, IfOk, OnOk, IfErr, IfSome};
 ghost use Rattle.cov_disk.specs.Images.{LeavesOnly};
 ghost use Rattle.cov_edit.specs.History.{option_count};
 ghost use Rattle.cov_loop.specs.Answers.{Gives, StopsAnswer};
@@ -9,18 +9,21 @@ ghost use Rattle.cov_serve.specs.Acting.{CanBeTold, Handles, IsPlain, Refuses};
 ghost use Rattle.cov_serve.specs.Adding.{command_added, ended_by, confirmed};
 ghost use Rattle.cov_serve.specs.Step.{acted, as_outcome, plainly, refused};
 ghost use Rattle.cov_serve.specs.Storing.{gated, grown, stored};
+ghost use Rattle.cov_serve.specs.Sweeping.{GoesOn, HasCounted};
 ghost use Rattle.cov_session.specs.Named.{named};
 ghost use Rattle.cov_store.specs.Stands.{IsStored};
 
 use crate::adding::confirm;
 use crate::handled::{Addition, Confirmation, Handled};
 use crate::server::Server;
+use crate::sweeping::is_commit;
 use cov_base::{Memory, Name};
 use cov_codes::Stop;
 use cov_disk::Disk;
 use cov_engine::Receipt;
 use cov_loop::{Ending, LineServer, Reply};
 use cov_script::Code;
+use std::alloc::Global;
 
 impl LineServer for Server {
     ghost use Rattle.cov_serve.specs.Growth.{commands_told, counts_rise, stored_told};
@@ -77,18 +80,22 @@ impl LineServer for Server {
 impl Server {
     // Does what a line says, or makes the command that it adds.
     fn act(&mut self, line: &[u8]) -> Result<Handled, Stop>
-        ensures { Handles (acted self.old.state line.now) self.old.state self.new.state result }
+        ensures handles { Handles (acted self.old.state line.now)
+            self.old.state self.new.state result }
+        ensures commits { self.new.commits ≡ self.old.commits }
     {
         self.state.act(line)
     }
 
-    // Adds a command, ends the session that ends with it, and makes the reply.
+    // Adds a command, ends the session that ends with it, counts it if it is a commit, and makes the reply.
     fn add<D: Disk>(&mut self, addition: Addition, disk: &mut D) -> Result<Reply, Ending>
         requires gate { IfSome (D.contents disk.old) (gated self.old.state) }
         requires there { IfSome addition.ends (λ name.
             is_some (named self.old.state.sessions name) ≡ true) }
         ensures gives { IfOk result
-            (Gives (as_outcome self.old.state (plainly (command_added self.old.state addition))) self.new.state) }
+            (Gives (as_outcome self.old.state (plainly (command_added self.old.state addition)))
+            self.new.state) }
+        ensures goes_on { OnOk result (GoesOn self.old self.new) }
         ensures gate { OnOk result (IfSome (D.contents disk.new) (gated self.new.state)) }
         ensures stored { IfSome (D.contents disk.old) (stored self.old.state) →
             OnOk result (IfSome (D.contents disk.new) (stored self.new.state)) }
@@ -107,33 +114,37 @@ impl Server {
             ends,
             confirmation,
         } = addition;
+        let is_commit = is_commit(&command);
         match self.append(command, disk) {
             Ok(added) => match added {
-                Ok(receipt) => self.finish(&ends, confirmation, &receipt),
+                Ok(receipt) => self.finish(is_commit, &ends, confirmation, &receipt),
                 Err(stop) => self.stop(&stop),
             },
             Err(ending) => Err(ending),
         }
     }
 
-    // Ends the session that ends with a command that was appended, and makes the reply.
+    // Ends the session that ends with a command that was appended, counts it if it is a commit, and makes the reply.
     fn finish(
         &mut self,
+        is_commit: bool,
         ends: &Option<Name>,
         confirmation: Confirmation,
         receipt: &Receipt,
     ) -> Result<Reply, Ending>
-        requires { IfSome ends.now (λ name. is_some (named self.old.state.sessions name) ≡ true) }
+        requires there { IfSome ends.now (λ name.
+            is_some (named self.old.state.sessions name) ≡ true) }
+        requires fewer { self.old.commits < length self.old.state.history }
         ensures ended { self.new.state ≡ ended_by self.old.state ends.now }
+        ensures counted { OnOk result (HasCounted is_commit self.old.commits self.new) }
         ensures gives { IfOk result
             (IsPlain (confirmed confirmation receipt.now.number receipt.now.position)) }
         ensures stopped { (disk disk' : ℕ) →
             IfErr result (λ ending. StopsAnswer ending disk disk') }
     {
-        let alloc = self.state.alloc;
         self.state.end(ends);
-        match confirm(alloc, confirmation, receipt) {
-            Ok(text) => Ok(Reply::to_done(alloc, text)),
+        match self.count(is_commit) {
+            Ok(()) => confirmed(self.state.alloc, confirmation, receipt),
             Err(Memory) => Err(Ending::NoMemory),
         }
     }
@@ -162,5 +173,18 @@ impl Server {
             Ok(reply) => Ok(reply),
             Err(Memory) => Err(Ending::NoMemory),
         }
+    }
+}
+
+// The reply that confirms a command, unless memory is wanting.
+fn confirmed(alloc: Global, confirmation: Confirmation, receipt: &Receipt) -> Result<Reply, Ending>
+    ensures gives { IfOk result
+        (IsPlain (confirmed confirmation receipt.now.number receipt.now.position)) }
+    ensures stopped { (disk disk' : ℕ) →
+        IfErr result (λ ending. StopsAnswer ending disk disk') }
+{
+    match confirm(alloc, confirmation, receipt) {
+        Ok(text) => Ok(Reply::to_done(alloc, text)),
+        Err(Memory) => Err(Ending::NoMemory),
     }
 }

@@ -13,7 +13,8 @@ use cov_script::reply_option;
 impl ServerState {
     #[tactic(auto, unfolding(crate::specs::Step::declared))]
     pub(crate) fn declare(&self, token: &Text) -> Result<Handled, Stop>
-        ensures { Handles (plainly (declared self.now.state token.now)) self.now.state self.now.state result }
+        ensures { Handles (plainly (declared self.now.state token.now))
+            self.now.state self.now.state result }
     {
         let name = OptionName::read(self.alloc, token.as_slice())?;
         let reply = reply_option(self.alloc, OptionId::new(self.engine.options().count()))?;
@@ -22,7 +23,8 @@ impl ServerState {
 
     #[tactic(auto, unfolding(crate::specs::Step::constrained))]
     pub(crate) fn constrain(&self, expr: &RawExpr) -> Result<Handled, Stop>
-        ensures { Handles (plainly (constrained self.now.state expr.now)) self.now.state self.now.state result }
+        ensures { Handles (plainly (constrained self.now.state expr.now))
+            self.now.state self.now.state result }
     {
         let expr = self.find_expression(expr)?;
         Ok(Handled::to_declare(Command::Constraint { expr }, Confirmation::Constraint))
@@ -30,7 +32,8 @@ impl ServerState {
 
     #[tactic(auto, unfolding(crate::specs::Step::preferred))]
     pub(crate) fn prefer(&self, expr: &RawExpr) -> Result<Handled, Stop>
-        ensures { Handles (plainly (preferred self.now.state expr.now)) self.now.state self.now.state result }
+        ensures { Handles (plainly (preferred self.now.state expr.now))
+            self.now.state self.now.state result }
     {
         let expr = self.find_expression(expr)?;
         Ok(Handled::to_declare(Command::Prefer { expr }, Confirmation::Prefer))
@@ -39,7 +42,8 @@ impl ServerState {
     /// Sets the default of an option.
     #[tactic(auto, unfolding(crate::specs::Step::defaulted))]
     pub(crate) fn set_default(&self, token: Text, on: bool) -> Result<Handled, Stop>
-        ensures { Handles (plainly (defaulted self.now.state token on)) self.now.state self.now.state result }
+        ensures { Handles (plainly (defaulted self.now.state token on))
+            self.now.state self.now.state result }
     {
         let option = self.find_option(token)?;
         Ok(Handled::to_declare(Command::Default { option, on }, Confirmation::Default))

@@ -18,7 +18,8 @@ impl ServerState {
     /// Makes a directory or file at a path.
     pub(crate) fn make_node(&mut self, kind: Kind, name: &Name, path: &Path) -> Result<Text, Stop>
         requires { 0 < length path.now }
-        ensures { Acts (made self.old.state kind name.now path.now) self.old.state self.new.state result }
+        ensures { Acts (made self.old.state kind name.now path.now)
+            self.old.state self.new.state result }
     {
         let Some((own, directory)) = path.as_slice().split_last() else {
             unreachable!()
@@ -52,7 +53,8 @@ impl ServerState {
     /// Gives a node that a session sees another name in its directory.
     #[tactic(auto, unfolding(crate::specs::Step::renamed))]
     pub(crate) fn rename(&mut self, name: &Name, path: &Path, to: Name) -> Result<Text, Stop>
-        ensures { Acts (renamed self.old.state name.now path.now to) self.old.state self.new.state result }
+        ensures { Acts (renamed self.old.state name.now path.now to)
+            self.old.state self.new.state result }
     {
         let (_, node) = self.node_at(name, path.as_slice())?;
         self.edit(name, Edit::Rename { node, name: to })
@@ -66,7 +68,8 @@ impl ServerState {
         path: &Path,
         target: &Path,
     ) -> Result<Text, Stop>
-        ensures { Acts (moved self.old.state name.now path.now target.now) self.old.state self.new.state result }
+        ensures { Acts (moved self.old.state name.now path.now target.now)
+            self.old.state self.new.state result }
     {
         let (_, node) = self.node_at(name, path.as_slice())?;
         let (_, parent) = self.node_at(name, target.as_slice())?;
@@ -76,7 +79,8 @@ impl ServerState {
     /// Removes a node that a session sees.
     #[tactic(auto, unfolding(crate::specs::Step::removed))]
     pub(crate) fn remove(&mut self, name: &Name, path: &Path) -> Result<Text, Stop>
-        ensures { Acts (removed self.old.state name.now path.now) self.old.state self.new.state result }
+        ensures { Acts (removed self.old.state name.now path.now)
+            self.old.state self.new.state result }
     {
         let (_, node) = self.node_at(name, path.as_slice())?;
         self.edit(name, Edit::Remove { node })
@@ -92,7 +96,8 @@ impl ServerState {
         text: Text,
     ) -> Result<Text, Stop>
         requires { is_line_text text ≡ true }
-        ensures { Acts (inserted self.old.state name.now path.now line text) self.old.state self.new.state result }
+        ensures { Acts (inserted self.old.state name.now path.now line text)
+            self.old.state self.new.state result }
     {
         let (_, file) = self.node_at(name, path.as_slice())?;
         let after = line_ref(line);
@@ -102,7 +107,8 @@ impl ServerState {
     /// Deletes a line of a file that a session sees.
     #[tactic(auto, unfolding(crate::specs::Step::deleted))]
     pub(crate) fn delete(&mut self, name: &Name, path: &Path, line: LineField) -> Result<Text, Stop>
-        ensures { Acts (deleted self.old.state name.now path.now line) self.old.state self.new.state result }
+        ensures { Acts (deleted self.old.state name.now path.now line)
+            self.old.state self.new.state result }
     {
         let (_, file) = self.node_at(name, path.as_slice())?;
         let line = line_ref(line);
@@ -119,7 +125,8 @@ impl ServerState {
         text: Text,
     ) -> Result<Text, Stop>
         requires { is_line_text text ≡ true }
-        ensures { Acts (replaced self.old.state name.now path.now line text) self.old.state self.new.state result }
+        ensures { Acts (replaced self.old.state name.now path.now line text)
+            self.old.state self.new.state result }
     {
         let (_, file) = self.node_at(name, path.as_slice())?;
         self.exchange(name, file, line_ref(line), text)
@@ -129,7 +136,8 @@ impl ServerState {
     fn edit(&mut self, name: &Name, edit: Edit) -> Result<Text, Stop>
         requires { has_line_text edit ≡ true }
         ensures { (s : NamedSession) → named self.old.state.sessions name.now ≡ Some s →
-            Acts (edited self.old.state name.now s.session edit) self.old.state self.new.state result }
+            Acts (edited self.old.state name.now s.session edit)
+            self.old.state self.new.state result }
     {
         match self.sessions.edit(name, edit)? {
             Some(number) => Ok(reply_new_line(self.alloc, number)?),
@@ -147,7 +155,8 @@ impl ServerState {
     ) -> Result<Text, Stop>
         requires { is_line_text text ≡ true }
         ensures { (s : NamedSession) → named self.old.state.sessions name.now ≡ Some s →
-            Acts (exchanged self.old.state name.now s.session file line text) self.old.state self.new.state result }
+            Acts (exchanged self.old.state name.now s.session file line text)
+            self.old.state self.new.state result }
     {
         let number = self.sessions.replace(name, file, line, text)?;
         Ok(reply_new_line(self.alloc, number)?)

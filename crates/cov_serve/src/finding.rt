@@ -27,7 +27,8 @@ impl ServerState {
 
     /// An expression with options in place of their names.
     pub(crate) fn find_expression(&self, expr: &RawExpr) -> Result<Expr, Stop>
-        ensures found { Finds (found_expression self.now.state.history expr.now) self.now.state result }
+        ensures found { Finds (found_expression self.now.state.history expr.now)
+            self.now.state result }
         ensures within { IfOk result (λ expr. reach expr ≤ option_count self.now.state.history) }
     {
         Ok(expr.bind(self.alloc, self.engine.options())?)
@@ -35,7 +36,8 @@ impl ServerState {
 
     /// The partial choice that bindings are.
     pub(crate) fn find_partial(&self, choice: &RawChoice) -> Result<Partial, Stop>
-        ensures found { Finds (found_partial self.now.state.history choice.now) self.now.state result }
+        ensures found { Finds (found_partial self.now.state.history choice.now)
+            self.now.state result }
         ensures within { IfOk result (λ partial.
             list_all (λ b. nat_lt b.0 (option_count self.now.state.history)) partial ≡ true) }
     {
@@ -44,11 +46,15 @@ impl ServerState {
 
     /// The choice to which the rules complete a partial one. It is valid.
     pub(crate) fn complete_partial(&mut self, partial: &Partial) -> Result<Choice, Stop>
-        requires { list_all (λ b. nat_lt b.0 (option_count self.old.state.history)) partial.now ≡ true }
-        ensures found { Finds (completed_choice self.old.state.history partial.now) self.old.state result }
+        requires { list_all (λ b. nat_lt b.0 (option_count self.old.state.history))
+            partial.now ≡ true }
+        ensures found { Finds (completed_choice self.old.state.history partial.now)
+            self.old.state result }
         ensures same { self.new.state ≡ self.old.state }
-        ensures whole { IfOk result (λ choice. length choice ≡ option_count self.old.state.history) }
-        ensures valid { IfOk result (λ choice. first_false_in self.old.state.history choice ≡ None) }
+        ensures whole { IfOk result (λ choice.
+            length choice ≡ option_count self.old.state.history) }
+        ensures valid { IfOk result (λ choice.
+            first_false_in self.old.state.history choice ≡ None) }
     {
         open_options_are_declared();
         Ok(self.engine.complete(partial)?)
@@ -56,9 +62,11 @@ impl ServerState {
 
     /// The choice to which the rules complete bindings.
     pub(crate) fn find_choice(&mut self, choice: &RawChoice) -> Result<Choice, Stop>
-        ensures found { Finds (found_choice self.old.state.history choice.now) self.old.state result }
+        ensures found { Finds (found_choice self.old.state.history choice.now)
+            self.old.state result }
         ensures same { self.new.state ≡ self.old.state }
-        ensures whole { IfOk result (λ choice. length choice ≡ option_count self.old.state.history) }
+        ensures whole { IfOk result (λ choice.
+            length choice ≡ option_count self.old.state.history) }
     {
         let partial = self.find_partial(choice)?;
         self.complete_partial(&partial)

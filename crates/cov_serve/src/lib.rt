@@ -20,6 +20,7 @@ mod serving;
 mod session_lines;
 mod state;
 mod status;
+mod sweeping;
 mod telling;
 mod tree_names;
 mod writing;

@@ -8,6 +8,7 @@ ghost use Rattle.cov_loop.specs.Keeping.{AreAll, IsEither};
 ghost use Rattle.cov_serve.specs.Statuses.{StopsWithStatus};
 ghost use Rattle.cov_serve.specs.Step.{step};
 ghost use Rattle.cov_serve.specs.Storing.{stored};
+ghost use Rattle.cov_serve.specs.Sweeping.{GoesOn};
 ghost use Rattle.cov_store.specs.Stands.{gate_of};
 
 use crate::server::Server;
@@ -18,7 +19,8 @@ use cov_loop::Answer;
 use cov_out::Trees;
 
 /// Serves one line: stores the command that it adds on the disk, writes its rows of trees, one call each, and then puts its reply in one
-/// call. At an `Err` the server is gone and the run ends.
+/// call. The server counts the commit that a line adds, and with each 64th of its run the engine is swept: then each entry of its table
+/// is reached from a node that is kept. At an `Err` the server is gone and the run ends.
 pub fn serve_line<K: Sink, D: Disk, T: Trees>(
     mut server: Server,
     line: &[u8],
@@ -27,7 +29,8 @@ pub fn serve_line<K: Sink, D: Disk, T: Trees>(
     trees: &mut T,
 ) -> Result<(Server, Answer), Status>
     requires gate { HasGate (D.contents disk.old) (gate_of server.state.history) }
-    ensures served { IfOk result (λ next. IsServed (step server.state line.now) next.0.state next.1) }
+    ensures served { IfOk result (λ next.
+        IsServed (step server.state line.now) next.0.state next.1) }
     ensures all { OnOk result
         (AppendsAll (step server.state line.now).reply (K.written out.old) (K.written out.new)) }
     ensures some { OnErr result
@@ -41,7 +44,8 @@ pub fn serve_line<K: Sink, D: Disk, T: Trees>(
         ⊎ (out.new ≡ out.old)) }
 
     // What a read of the disk gives is the store of the history after the line, if it was that of the history before.
-    ensures gate { IfOk result (λ next. HasGate (D.contents disk.new) (gate_of next.0.state.history)) }
+    ensures gate { IfOk result (λ next.
+        HasGate (D.contents disk.new) (gate_of next.0.state.history)) }
     ensures stored { IfSome (D.contents disk.old) (stored server.state) →
         IfOk result (λ next. IfSome (D.contents disk.new) (stored next.0.state)) }
 
@@ -55,6 +59,8 @@ pub fn serve_line<K: Sink, D: Disk, T: Trees>(
         K.written out.old ≡ Some before →
         K.written out.new ≡ Some (before ++ (step server.state line.now).reply) →
         AreAll (stored (step server.state line.now).state) (D.images disk.new) }
+
+    ensures goes_on { IfOk result (λ next. GoesOn server next.0) }
 
     ensures stopped { IfErr result (λ status.
         StopsWithStatus status (K.faults out.old) (K.faults out.new)

@@ -17,7 +17,8 @@ impl ServerState {
     fn view_of(&self, name: &Name) -> Result<&View, Stop>
         ensures found { IfOk result (λ view. IsNamed self.now.state name.now view.now) }
         ensures stopped { IfErr result
-            (Stops (ok_or (named self.now.state.sessions name.now) NoSession) self.now.state self.now.state) }
+            (Stops (ok_or (named self.now.state.sessions name.now) NoSession)
+            self.now.state self.now.state) }
     {
         Ok(self.sessions.view(name)?)
     }

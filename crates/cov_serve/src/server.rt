@@ -6,13 +6,14 @@ ghost use Rattle.cov_journal.specs.Gates.{HasGate};
 ghost use Rattle.cov_journal.specs.Reading.{IsNoStore};
 ghost use Rattle.cov_serve.specs.Opening.{BeginsWith};
 ghost use Rattle.cov_serve.specs.States.{starting};
+ghost use Rattle.cov_serve.specs.Sweeping.{IsSwept};
 ghost use Rattle.cov_store.specs.Damages.{HasDamage};
 ghost use Rattle.cov_store.specs.Opening.{IsImageFaultOf, HasReason, IsOfVerdict, OnImageRefused, TellsDamage, TellsNoStore};
 ghost use Rattle.cov_store.specs.Stands.{StandsFor, IsStored, gate_of};
 ghost use Rattle.cov_store.specs.declared.damage.StoreDamage.{StoreDamage};
 
 use crate::state::ServerState;
-use cov_base::Position;
+use cov_base::{Memory, Position};
 use cov_disk::Disk;
 use cov_journal::Journal;
 use cov_store::{Store, StoreFault};
@@ -20,24 +21,35 @@ use std::alloc::Global;
 use std::marker::Model;
 use std::mem;
 
-/// What serves the lines of a script: what the script has made so far, and the journal that goes on behind the history.
+/// What serves the lines of a script: what the script has made so far, and the journal that goes on behind the history. Its engine is
+/// swept as it is opened, and with each 64th commit that it adds.
 #[derive(Drop)]
 pub struct Server {
     pub(crate) state: ServerState,
     pub(crate) journal: Journal,
-    // How many commits were accepted in this run.
+    /// How many commits were added in this run.
     pub(crate) commits: u32,
 }
 
 impl Model for Server {
     ghost use Rattle.std.specs.Prelude.{◌≤◌, length};
+    ghost use Rattle.std.specs.Coded.{codes, coded_ℕ};
+    ghost use Rattle.cov_dd.specs.contracts.triple.Triple as triples;
+    ghost use Rattle.cov_expr.specs.Formula.{formula_code};
+    ghost use Rattle.cov_edit.specs.contracts.command.Command as command_row;
+    ghost use Rattle.cov_edit.specs.contracts.edit.Edit as edit_row;
     ghost use Rattle.cov_serve.specs.States.{ServerValue};
-    ghost use Rattle.cov_serve.specs.contracts.state.ServerState as state_row;
     ghost use Rattle.cov_store.specs.Stands.{IsJournalOf};
 
     ghost Value = { ServerValue };
 
-    ghost coded = { state_row.the_row.coded };
+    ghost coded = { Prim.hlevel (
+      codes,
+      formula_code coded_ℕ,
+      command_row.the_row.coded,
+      edit_row.the_row.coded,
+      triples.the_row.coded,
+    ) };
 
     ghost view = { λ s. record {
       state = s.state.state;
@@ -51,7 +63,8 @@ impl Model for Server {
 }
 
 impl Server {
-    /// Opens the store of a disk, as `Store::open` does. The run begins with its history, no session and no name of a tree.
+    /// Opens the store of a disk, as `Store::open` does, and sweeps its engine. The run begins with its history, no session, no name of a
+    /// tree and no commit.
     pub fn open<D: Disk>(alloc: Global, disk: &mut D) -> Result<Server, StoreFault>
         ensures stands { (history : List Command) →
             IfSome (D.contents disk.old) (λ image. StandsFor image history →
@@ -63,6 +76,8 @@ impl Server {
         ensures no_store { IfSome (D.contents disk.old) (λ image. IsNoStore image →
             TellsNoStore (D.faults disk.old) (D.faults disk.new) result) }
         ensures begins { IfOk result (λ server. server.state ≡ starting server.state.history) }
+        ensures commits { IfOk result (λ server. server.commits ≡ 0) }
+        ensures swept { IfOk result IsSwept }
         ensures opened { IfOk result (λ server.
             IfSome (D.contents disk.old) (λ image. StandsFor image server.state.history)) }
         ensures faulty { IfErr result (λ fault.
@@ -88,17 +103,35 @@ impl Server {
         ensures later { D.faults disk.old ≤ D.faults disk.new }
     {
         match Store::open(alloc, disk) {
-            Ok(store) => Ok(Server::of_store(alloc, store)),
+            Ok(store) => match Server::of_store(alloc, store) {
+                Ok(server) => Ok(server),
+                Err(Memory) => Err(StoreFault::Memory),
+            },
             Err(fault) => Err(fault),
         }
     }
 
-    fn of_store(alloc: Global, store: Store) -> Server
-        ensures { result ≡ starting store.history }
+    // The server of a store, swept.
+    fn of_store(alloc: Global, store: Store) -> Result<Server, Memory>
+        ensures begins { IfOk result (λ server. server.state ≡ starting store.history) }
+        ensures commits { IfOk result (λ server. server.commits ≡ 0) }
+        ensures swept { IfOk result IsSwept }
     {
         let (engine, journal) = store.into_parts();
         let state = ServerState::new(alloc, engine);
-        Server { state, journal }
+        let commits = 0;
+        let mut server = Server {
+            state,
+            journal,
+            commits,
+        };
+        match server.sweep() {
+            Ok(()) => Ok(server),
+            Err(Memory) => {
+                server.close();
+                Err(Memory)
+            }
+        }
     }
 
     /// How many commands the history has. Takes no memory.

@@ -80,7 +80,8 @@ impl ServerState {
 
     #[tactic(auto, unfolding(crate::specs::Step::served_session))]
     fn serve_session(&mut self, line: SessionLine) -> Result<Handled, Stop>
-        ensures { Handles (plainly (served_session self.old.state line)) self.old.state self.new.state result }
+        ensures { Handles (plainly (served_session self.old.state line))
+            self.old.state self.new.state result }
     {
         match line {
             SessionLine::Open {
@@ -97,7 +98,8 @@ impl ServerState {
     #[tactic(auto, unfolding(crate::specs::Step::served_edit))]
     fn serve_edit(&mut self, name: &Name, edit: EditLine) -> Result<Text, Stop>
         requires { EditHasParts edit }
-        ensures { Acts (served_edit self.old.state name.now edit) self.old.state self.new.state result }
+        ensures { Acts (served_edit self.old.state name.now edit)
+            self.old.state self.new.state result }
     {
         match edit {
             EditLine::MakeDir { path } => self.make_node(Kind::Dir, name, &path),
@@ -113,7 +115,8 @@ impl ServerState {
 
     #[tactic(auto, unfolding(crate::specs::Step::served_question))]
     fn serve_question(&mut self, question: Question) -> Result<Text, Stop>
-        ensures { Acts (served_question self.old.state question) self.old.state self.new.state result }
+        ensures { Acts (served_question self.old.state question)
+            self.old.state self.new.state result }
     {
         match question {
             Question::Complete { choice } => self.complete(&choice),

@@ -19,7 +19,8 @@ impl ServerState {
         choice: &RawChoice,
         ambition: &RawExpr,
     ) -> Result<Text, Stop>
-        ensures { Acts (opened self.old.state name choice.now ambition.now) self.old.state self.new.state result }
+        ensures { Acts (opened self.old.state name choice.now ambition.now)
+            self.old.state self.new.state result }
     {
         let partial = self.find_partial(choice)?;
         let ambition = self.find_expression(ambition)?;
@@ -43,7 +44,8 @@ impl ServerState {
     /// The commit of a session, which ends with it.
     #[tactic(auto, unfolding(crate::specs::Step::committed))]
     pub(crate) fn commit(&self, name: Name) -> Result<Handled, Stop>
-        ensures { Handles (plainly (committed self.now.state name)) self.now.state self.now.state result }
+        ensures { Handles (plainly (committed self.now.state name))
+            self.now.state self.now.state result }
     {
         let command = self.sessions.command(&name)?;
         Ok(Handled::Adds(Addition {

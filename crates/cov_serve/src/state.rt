@@ -20,18 +20,23 @@ pub(crate) struct ServerState {
 impl Model for ServerState {
     ghost use Rattle.std.specs.Prelude.{map};
     ghost use Rattle.std.specs.Coded.{codes, coded_ℕ};
+    ghost use Rattle.cov_dd.specs.contracts.triple.Triple as triples;
     ghost use Rattle.cov_expr.specs.Formula.{formula_code};
     ghost use Rattle.cov_edit.specs.contracts.command.Command as command_row;
     ghost use Rattle.cov_edit.specs.contracts.edit.Edit as edit_row;
     ghost use Rattle.cov_session.specs.Calls.{AreOpen};
     ghost use Rattle.cov_session.specs.Open.{as_named};
-    ghost use Rattle.cov_dd.specs.contracts.triple.Triple as triples;
     ghost use Rattle.cov_serve.specs.States.{Serving};
 
     ghost Value = { Serving };
 
-    ghost coded = { Prim.hlevel (codes, formula_code coded_ℕ, command_row.the_row.coded,
-        edit_row.the_row.coded, triples.the_row.coded) };
+    ghost coded = { Prim.hlevel (
+      codes,
+      formula_code coded_ℕ,
+      command_row.the_row.coded,
+      edit_row.the_row.coded,
+      triples.the_row.coded,
+    ) };
 
     ghost view = { λ s. record {
       state = record {

@@ -24,7 +24,8 @@ impl ServerState {
     /// Tells the lines of a file of the variant of a choice.
     #[tactic(auto, unfolding(crate::specs::Step::told))]
     pub(crate) fn tell(&mut self, choice: &RawChoice, path: &Path) -> Result<Text, Stop>
-        ensures { Acts (told self.old.state choice.now path.now) self.old.state self.new.state result }
+        ensures { Acts (told self.old.state choice.now path.now)
+            self.old.state self.new.state result }
     {
         let choice = self.find_choice(choice)?;
         self.tell_at(choice, path)
@@ -49,7 +50,8 @@ impl ServerState {
         token: Text,
         path: &Path,
     ) -> Result<Text, Stop>
-        ensures { Acts (compared self.old.state choice.now token path.now) self.old.state self.new.state result }
+        ensures { Acts (compared self.old.state choice.now token path.now)
+            self.old.state self.new.state result }
     {
         let partial = self.find_partial(choice)?;
         let option = self.find_option(token)?;
@@ -61,7 +63,8 @@ impl ServerState {
     /// Tells the lines of a file as a session sees them.
     #[tactic(auto, unfolding(crate::specs::Step::shown))]
     pub(crate) fn show(&self, name: &Name, path: &Path) -> Result<Text, Stop>
-        ensures { Acts (shown self.now.state name.now path.now) self.now.state self.now.state result }
+        ensures { Acts (shown self.now.state name.now path.now)
+            self.now.state self.now.state result }
     {
         let (view, file) = self.node_at(name, path.as_slice())?;
         let lines = view.lines(file)?;
@@ -71,7 +74,8 @@ impl ServerState {
     /// Tells what is in a directory as a session sees it.
     #[tactic(auto, unfolding(crate::specs::Step::listed_at))]
     pub(crate) fn list(&self, name: &Name, path: &Path) -> Result<Text, Stop>
-        ensures { Acts (listed_at self.now.state name.now path.now) self.now.state self.now.state result }
+        ensures { Acts (listed_at self.now.state name.now path.now)
+            self.now.state self.now.state result }
     {
         let (view, directory) = self.node_at(name, path.as_slice())?;
         let nodes = view.list(directory)?;

@@ -23,7 +23,8 @@ impl ServerState {
     /// yet: the reply has the rows that are to come before it.
     #[tactic(auto, unfolding(crate::specs::Step::checked_out))]
     pub(crate) fn check_out(&mut self, tree: &Name, choice: &RawChoice) -> Result<Handled, Stop>
-        ensures { Handles (checked_out self.old.state tree.now choice.now) self.old.state self.new.state result }
+        ensures { Handles (checked_out self.old.state tree.now choice.now)
+            self.old.state self.new.state result }
     {
         let partial = self.find_partial(choice)?;
         if self.trees.contains(tree.as_slice()) {
@@ -36,7 +37,8 @@ impl ServerState {
 
     // The rows and the reply of the tree of a choice.
     fn make_tree(&self, tree: &Name, choice: Choice) -> Result<Reply, Memory>
-        ensures { IfOk result (TellsTree tree.now (tree_of (replay choice self.now.state.history))) }
+        ensures { IfOk result
+            (TellsTree tree.now (tree_of (replay choice self.now.state.history))) }
     {
         // That the count of nodes fits 32 bits bounds the rows for the proof.
         let _nodes = self.engine.counts();

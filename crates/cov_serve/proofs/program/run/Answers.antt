@@ -43,10 +43,10 @@ run_serves g c all comes =
     let left = g.S.Source.left c.args.script.now in
     serves contents left all (subst (λ j. ComesTo j contents left all) (run_is g c) comes) (not_unopened contents all c.in-Ok.ensures.no_store c.in-Ok.ensures.damage)
 
-run_begins : (g : Over) (c : After-serve_opened g) (history : List Command) → ReadsAs (g.D.Disk.contents c.args.disk.now) history → c.in-Ok.server ≡ starting history
-run_begins g c history reads = reads_gives (g.D.Disk.contents c.args.disk.now) history (c.in-Ok.server ≡ starting history) reads (c.in-Ok.ensures.stands history)
+run_begins : (g : Over) (c : After-serve_opened g) (history : List Command) → ReadsAs (g.D.Disk.contents c.args.disk.now) history → c.in-Ok.server.state ≡ starting history
+run_begins g c history reads = reads_gives (g.D.Disk.contents c.args.disk.now) history (c.in-Ok.server.state ≡ starting history) reads (c.in-Ok.ensures.stands history)
 
-run_stored : (g : Over) (c : After-serve_opened g) (history : List Command) → c.in-Ok.server ≡ starting history → AreAll (λ image. IsStored image history) (g.D.Disk.images c.open.new.disk)
+run_stored : (g : Over) (c : After-serve_opened g) (history : List Command) → c.in-Ok.server.state ≡ starting history → AreAll (λ image. IsStored image history) (g.D.Disk.images c.open.new.disk)
 run_stored g c history begins image now = subst (λ (h : List Command). IsStored image h) (ap (λ (s : State). s.history) begins) (c.in-Ok.ensures.stored image now)
 
 abbrev run_old : (g : Over) → After-serve_opened g → Counts
@@ -199,7 +199,7 @@ check_told g c all comes =
     check_tells contents left (g.D.Disk.faults c.args.disk.now) (g.D.Disk.faults c.open.new.disk) (subst (λ j. ComesTo j contents left all) (check_is g c) comes)
     (not_unopened contents all c.in-Ok.ensures.no_store c.in-Ok.ensures.damage)
     (λ history reads. subst (λ (h : List Command). PutsLast Done (check_line h) (g.K.Sink.written c.args.out.now) (g.K.Sink.written c.put_checked.new.out) (g.K.Sink.faults c.args.out.now) (g.K.Sink.faults c.put_checked.new.out) c.put_checked.result)
-    (ap (λ (s : State). s.history) (reads_gives contents history (c.in-Ok.server ≡ starting history) reads (c.in-Ok.ensures.stands history))) c.put_checked.ensures.puts)
+    (ap (λ (s : State). s.history) (reads_gives contents history (c.in-Ok.server.state ≡ starting history) reads (c.in-Ok.ensures.stands history))) c.put_checked.ensures.puts)
 
 pub returns-in-Check-clause-ends : goal.returns-in-Check-clause-ends
 returns-in-Check-clause-ends g c all comes = tells_ends (check_told g (goal.at.returns-in-Check-clause-ends g c).After-put_checked all comes) (g.S.Source.left c.args.script.now)

@@ -1,4 +1,4 @@
-use Rattle.std.proofs.Common.{◌≡◌, ◌∙◌, sym, subst, ℕ, ◌<◌, List, length, map}
+use Rattle.std.proofs.Common.{◌≡◌, ◌∙◌, sym, ap, subst, ℕ, ◌<◌, ◌≤◌, List, length, map, arith}
 use Rattle.std.specs.Prelude.{IfErr, IfOk, IfSome, OnOk}
 use Rattle.cov_disk.specs.Images.{LeavesOnly}
 use Rattle.cov_loop.specs.Answers.{StopsAnswer}
@@ -7,42 +7,59 @@ use Rattle.cov_session.specs.Open.{as_named}
 use Rattle.cov_store.specs.Stands.{IsStored, gate_of}
 use Rattle.cov_serve.specs.Acting.{Changes}
 use Rattle.cov_serve.specs.Adding.{HasReceipt, added_as}
-use Rattle.cov_serve.specs.States.{State}
+use Rattle.cov_serve.specs.States.{Serving, ServerValue, State}
 use Rattle.cov_serve.specs.Step.{appended}
 use Rattle.cov_serve.specs.Storing.{gated, grown, stored}
-use Rattle.cov_serve.proofs.Appended.{appends, carried, has-receipt, moments, still-open, with_history, write-stops}
+use Rattle.cov_serve.proofs.Appended.{appends, carried, fewer-commits, has-receipt, moments, no-shorter, still-open, with_history, write-stops}
 use Rattle.cov_serve.proofs.server.Server.append.Goals as goal
 
 pub invariant_of-state : goal.invariant_of-state
 invariant_of-state g c =
     still-open c.open_sessions_stay.ensures c.state.inside.engine.history c.append.new.engine.history c.args.command c.state.inside.sessions c.append.result c.append.ensures.history c.state.invariant
 
+pub invariant_of-self : goal.invariant_of-self
+invariant_of-self g c =
+    let h = c.state.inside.engine.history in
+    let k = c.args.command in
+    let now = c.append.new.engine.history in
+    let few : c.self.inside.commits ≤ length h = subst (λ (v : Serving). c.self.inside.commits ≤ length v.state.history) (sym c.state.view_is) c.self.invariant.1 in
+    let more : length h ≤ length now = no-shorter h k now c.append.result c.append.ensures.history in
+    (c.append.ensures.journal, omega (arith, few, more))
+
 pub returns-clause-changes : goal.returns-clause-changes
 returns-clause-changes g c =
     let st : State = record { history = c.state.inside.engine.history; sessions = map as_named c.state.inside.sessions; trees = c.state.inside.trees } in
-    let is : st ≡ c.args.self.now = c.state.view_is ∙ c.self.view_is in
+    let is : st ≡ c.args.self.now.state = ap (λ (v : Serving). v.state) c.state.view_is ∙ ap (λ (v : ServerValue). v.state) c.self.view_is in
     let k = c.args.command in
     let now = c.append.new.engine.history in
     let r = c.append.result in
-    subst (λ res. IfOk res (Changes (appended c.args.self.now k) c.args.self.now (with_history st now))) (sym c.as_added.ensures)
+    subst (λ res. IfOk res (Changes (appended c.args.self.now.state k) c.args.self.now.state (with_history st now))) (sym c.as_added.ensures)
     (subst (λ (t : State). IfOk (added_as r) (Changes (appended t k) t (with_history st now))) is
     (appends st k now r c.append.ensures.history c.append.ensures.accepted c.append.ensures.refused))
 
 pub returns-clause-receipt : goal.returns-clause-receipt
 returns-clause-receipt g c =
     let st : State = record { history = c.state.inside.engine.history; sessions = map as_named c.state.inside.sessions; trees = c.state.inside.trees } in
-    let is : st ≡ c.args.self.now = c.state.view_is ∙ c.self.view_is in
+    let is : st ≡ c.args.self.now.state = ap (λ (v : Serving). v.state) c.state.view_is ∙ ap (λ (v : ServerValue). v.state) c.self.view_is in
     let k = c.args.command in
     let now = c.append.new.engine.history in
     let r = c.append.result in
-    subst (λ res. IfOk res (λ added. IfOk added (HasReceipt c.args.self.now.history k))) (sym c.as_added.ensures)
+    subst (λ res. IfOk res (λ added. IfOk added (HasReceipt c.args.self.now.state.history k))) (sym c.as_added.ensures)
     (subst (λ (t : State). IfOk (added_as r) (λ added. IfOk added (HasReceipt t.history k))) is
     (has-receipt st k now r c.append.ensures.number c.append.ensures.position))
+
+pub returns-clause-fewer : goal.returns-clause-fewer
+returns-clause-fewer g c =
+    let k = c.args.command in
+    let now = c.append.new.engine.history in
+    let r = c.append.result in
+    subst (λ res. IfOk res (λ added. OnOk added (c.self.inside.commits < length now))) (sym c.as_added.ensures)
+    (fewer-commits c.state.inside.engine.history k now c.self.inside.commits r c.append.ensures.history (subst (λ (v : Serving). c.self.inside.commits ≤ length v.state.history) (sym c.state.view_is) c.self.invariant.1))
 
 pub returns-clause-gate : goal.returns-clause-gate
 returns-clause-gate g c =
     let st : State = record { history = c.state.inside.engine.history; sessions = map as_named c.state.inside.sessions; trees = c.state.inside.trees } in
-    let is : st ≡ c.args.self.now = c.state.view_is ∙ c.self.view_is in
+    let is : st ≡ c.args.self.now.state = ap (λ (v : Serving). v.state) c.state.view_is ∙ ap (λ (v : ServerValue). v.state) c.self.view_is in
     let k = c.args.command in
     let now = c.append.new.engine.history in
     let r = c.append.result in
@@ -55,7 +72,7 @@ returns-clause-gate g c =
 pub returns-clause-stored : goal.returns-clause-stored
 returns-clause-stored g c here =
     let st : State = record { history = c.state.inside.engine.history; sessions = map as_named c.state.inside.sessions; trees = c.state.inside.trees } in
-    let is : st ≡ c.args.self.now = c.state.view_is ∙ c.self.view_is in
+    let is : st ≡ c.args.self.now.state = ap (λ (v : Serving). v.state) c.state.view_is ∙ ap (λ (v : ServerValue). v.state) c.self.view_is in
     let k = c.args.command in
     let now = c.append.new.engine.history in
     let r = c.append.result in
@@ -68,7 +85,7 @@ returns-clause-stored g c here =
 pub returns-clause-durable : goal.returns-clause-durable
 returns-clause-durable g c all =
     let st : State = record { history = c.state.inside.engine.history; sessions = map as_named c.state.inside.sessions; trees = c.state.inside.trees } in
-    let is : st ≡ c.args.self.now = c.state.view_is ∙ c.self.view_is in
+    let is : st ≡ c.args.self.now.state = ap (λ (v : Serving). v.state) c.state.view_is ∙ ap (λ (v : ServerValue). v.state) c.self.view_is in
     let k = c.args.command in
     let now = c.append.new.engine.history in
     let r = c.append.result in
@@ -81,7 +98,7 @@ returns-clause-durable g c all =
 pub returns-clause-any_moment : goal.returns-clause-any_moment
 returns-clause-any_moment g c all =
     let st : State = record { history = c.state.inside.engine.history; sessions = map as_named c.state.inside.sessions; trees = c.state.inside.trees } in
-    let is : st ≡ c.args.self.now = c.state.view_is ∙ c.self.view_is in
+    let is : st ≡ c.args.self.now.state = ap (λ (v : Serving). v.state) c.state.view_is ∙ ap (λ (v : ServerValue). v.state) c.self.view_is in
     let k = c.args.command in
     let now = c.append.new.engine.history in
     let r = c.append.result in

@@ -3,7 +3,7 @@ use Rattle.cov_session.specs.Counting.{line_made}
 use Rattle.cov_session.specs.Open.{as_named}
 use Rattle.cov_serve.specs.Acting.{Acts}
 use Rattle.cov_serve.specs.Replies.{edit_reply}
-use Rattle.cov_serve.specs.States.{State}
+use Rattle.cov_serve.specs.States.{Serving, State}
 use Rattle.cov_serve.specs.Step.{added, edited}
 use Rattle.cov_codes.specs.Stops.{session_stop}
 use Rattle.cov_serve.proofs.Acted.{stopped, stops-later}
@@ -12,15 +12,15 @@ use Rattle.cov_serve.proofs.state.ServerState.edit.Goals as goal
 
 pub returns-in_err-number : goal.returns-in_err-number
 returns-in_err-number c = λ s has.
-    let st = c.args.self.now in
+    let st = c.args.self.now.state in
     let name = c.args.name.now in
     let history = c.self.inside.engine.history in
     let es = c.args.edit ∷ [] in
     let fault = c.in_err-number.field-0.0 in
-    let same = ap (λ ss. record { history = history; sessions = map as_named ss; trees = c.self.inside.trees }) c.in_err-number.ensures.same ∙ c.self.view_is in
+    let same = ap (λ ss. record { history = history; sessions = map as_named ss; trees = c.self.inside.trees }) c.in_err-number.ensures.same ∙ ap (λ (v : Serving). v.state) c.self.view_is in
     stopped (Acts (edited st name s.session c.args.edit) st _) c.from_residual.result _ c.from_residual.ensures.1
     (stops-later (added st name es) (λ (next : State). Ok (next, edit_reply (line_made s.session c.args.edit))) st _ (session_stop fault)
-    (edit-stops st _ history c.self.inside.sessions c.self.inside.trees name es fault c.self.view_is same c.self.invariant c.in_err-number.ensures.refused))
+    (edit-stops st _ history c.self.inside.sessions c.self.inside.trees name es fault (ap (λ (v : Serving). v.state) c.self.view_is) same c.self.invariant c.in_err-number.ensures.refused))
 
 pub invariant_of-self-in_err-reply_new_line-in-Some : goal.invariant_of-self-in_err-reply_new_line-in-Some
 invariant_of-self-in_err-reply_new_line-in-Some c = c.in_ok-number.ensures.open c.self.inside.engine.history c.self.invariant

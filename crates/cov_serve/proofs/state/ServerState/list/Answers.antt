@@ -8,7 +8,7 @@ use Rattle.cov_serve.proofs.state.ServerState.list.Goals as goal
 
 pub returns-in_err-nodes : goal.returns-in_err-nodes
 returns-in_err-nodes c =
-    let st = c.args.self.now in
+    let st = c.args.self.now.state in
     stopped (Acts _ st st) c.from_residual-in_err-nodes.result _ c.from_residual-in_err-nodes.ensures.1
     (list-stops (at-path c.as_slice.ensures c.in_ok-view.ensures.found) _ c.in_err-nodes.ensures.absent_shown c.in_err-nodes.ensures.not_directory_shown)
 

@@ -7,8 +7,8 @@ use Rattle.cov_serve.proofs.state.ServerState.serve.Goals as goal
 
 pub returns-in-Edit : goal.returns-in-Edit
 returns-in-Edit c =
-    let st = c.args.self.now in
-    let new = c.serve_edit.new.self in
+    let st = c.args.self.now.state in
+    let new = c.serve_edit.new.self.state in
     let name = c.in-Edit.name in
     let edit = c.in-Edit.edit in
     subst (λ wanted. Handles wanted st new c.as_done.result) (edit-served st c.args.line name edit c.in-Edit.is)
@@ -16,8 +16,8 @@ returns-in-Edit c =
 
 pub returns-in-Question : goal.returns-in-Question
 returns-in-Question c =
-    let st = c.args.self.now in
-    let new = c.serve_question.new.self in
+    let st = c.args.self.now.state in
+    let new = c.serve_question.new.self.state in
     let question = c.in-Question.question in
     subst (λ wanted. Handles wanted st new c.as_done-in-Question.result) (question-served st c.args.line question c.in-Question.is)
     (c.as_done-in-Question.ensures (served_question st question) st new (question_keeps st question) c.serve_question.ensures)

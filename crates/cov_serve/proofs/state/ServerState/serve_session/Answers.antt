@@ -7,8 +7,8 @@ use Rattle.cov_serve.proofs.state.ServerState.serve_session.Goals as goal
 
 pub returns-in-Open : goal.returns-in-Open
 returns-in-Open c =
-    let st = c.args.self.now in
-    let new = c.open.new.self in
+    let st = c.args.self.now.state in
+    let new = c.open.new.self.state in
     let name = c.in-Open.name in
     let choice = c.in-Open.choice in
     let ambition = c.in-Open.ambition in
@@ -17,16 +17,16 @@ returns-in-Open c =
 
 pub returns-in-Refresh : goal.returns-in-Refresh
 returns-in-Refresh c =
-    let st = c.args.self.now in
-    let new = c.refresh.new.self in
+    let st = c.args.self.now.state in
+    let new = c.refresh.new.self.state in
     let name = c.in-Refresh.name in
     subst (λ act. Handles (plainly act) st new c.as_done-in-Refresh.result) (refreshed-served st c.args.line name c.in-Refresh.is)
     (c.as_done-in-Refresh.ensures (refreshed st name) st new (refreshed_keeps st name) c.refresh.ensures)
 
 pub returns-in-Discard : goal.returns-in-Discard
 returns-in-Discard c =
-    let st = c.args.self.now in
-    let new = c.discard.new.self in
+    let st = c.args.self.now.state in
+    let new = c.discard.new.self.state in
     let name = c.in-Discard.name in
     subst (λ act. Handles (plainly act) st new c.as_done-in-Discard.result) (dropped-served st c.args.line name c.in-Discard.is)
     (c.as_done-in-Discard.ensures (dropped st name) st new (dropped_keeps st name) c.discard.ensures)

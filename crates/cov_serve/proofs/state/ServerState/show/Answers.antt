@@ -8,7 +8,7 @@ use Rattle.cov_serve.proofs.state.ServerState.show.Goals as goal
 
 pub returns-in_err-lines : goal.returns-in_err-lines
 returns-in_err-lines c =
-    let st = c.args.self.now in
+    let st = c.args.self.now.state in
     stopped (Acts _ st st) c.from_residual-in_err-lines.result _ c.from_residual-in_err-lines.ensures.1
     (read-stops (at-path c.as_slice.ensures c.in_ok-view.ensures.found) _ c.in_err-lines.ensures.absent_shown c.in_err-lines.ensures.not_file_shown)
 
