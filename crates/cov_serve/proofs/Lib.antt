@@ -21,6 +21,7 @@ pub mod OthersLines
 pub mod OwnActs
 pub mod OwnLines
 pub mod References
+pub mod TextServing
 pub mod Turns
 pub mod Runs
 pub mod SessionFaults

@@ -14,5 +14,6 @@ pub mod States
 pub mod Statuses
 pub mod Step
 pub mod Storing
+pub mod TextServing
 pub mod Texts
 pub mod Written

@@ -4,6 +4,7 @@
 mod adding;
 mod answering;
 mod declaring;
+mod demo;
 mod editing;
 mod finding;
 mod handled;
@@ -21,6 +22,8 @@ mod session_lines;
 mod state;
 mod status;
 mod telling;
+mod text_serving;
+mod text_source;
 mod tree_names;
 mod writing;
 
