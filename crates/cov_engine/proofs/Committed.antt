@@ -66,7 +66,7 @@ in-range history file =
     (omega (arith, own), omega (arith, own, less)))
     (file_kept file (kept_of history)) (all-filter (λ k. IsLineOf t (length t) (kept_address k)) (λ k. nat_eq k.item.file file) (kept_of history) stands.1.numbered_lines)
 
-pub new-files-all : (P : Contents → Type 0) (made : ℕ) (es : List Edit) → ((node : ℕ) → made < node → P (record { node = node; lines = []; newest = 0 })) → AllByRecursion P (new_files made es)
+pub new-files-all : (P : Contents → Type 0) (made : ℕ) (es : List Edit) → ((node : ℕ) → made < node → P (new_contents node)) → AllByRecursion P (new_files made es)
 new-files-all P made es f = all-mapped (λ node. (made < node) × (node ≤ made + nodes_made es)) P new_contents (λ node h. f node h.0) (files_made made es) (made-within made es)
 
 pub line-files-after : (history : List Command) (base : ℕ) (choice : List Bool) (ambition : Formula ℕ) (es : List Edit) (file_of_line : List ℕ) (n : ℕ) → length file_of_line ≡ length (numbers_of history).addresses

@@ -26,7 +26,7 @@ pub mod RowPlans
 pub mod Ruling
 pub mod Started
 pub mod States
-pub mod Sweeping
+pub mod Renumbered
 pub mod TouchedRows
 pub mod Trying
 pub mod Views

@@ -172,6 +172,6 @@ state-grown history names ts ts' standing standing' counts old x se =
 
 -- the rules of a state complete a choice as the history does that its engine is seen as
 pub completed-there : (engine : EngineValue) (history : List Command) (names : List (List ℕ)) (ts : List Triple) (standing : Standing) (counts : Counts) (count : ℕ) (partial : List (ℕ × Bool))
-    → record { history = history; table = ts } ≡ engine → AreDeclarationsOf history names ts standing counts → count ≡ length names → completed count standing partial ≡ completed_in engine.history partial
+    → history ≡ engine.history → AreDeclarationsOf history names ts standing counts → count ≡ length names → completed count standing partial ≡ completed_in engine.history partial
 completed-there engine history names ts standing counts count partial seen state same =
-    completed-same history ts standing count partial state.rules (same ∙ ap length state.options) ∙ ap (λ (e : EngineValue). completed_in e.history partial) seen
+    completed-same history ts standing count partial state.rules (same ∙ ap length state.options) ∙ ap (λ h. completed_in h partial) seen

@@ -26,17 +26,23 @@ pub fn serve_line<V: LineServer, K: Sink, D: Disk, T: Trees>(
     trees: &mut T,
 ) -> Result<Answer, Ending>
     requires gate { IfSome (D.contents disk.old) (V.gate (V.state_of server.old)) }
-    ensures served { IfOk result (IsServed (V.step (V.state_of server.old) line.now) (V.state_of server.new)) }
+    ensures served { IfOk result
+        (IsServed (V.step (V.state_of server.old) line.now) (V.state_of server.new)) }
     ensures all { OnOk result
-        (AppendsAll (V.step (V.state_of server.old) line.now).reply (K.written out.old) (K.written out.new)) }
+        (AppendsAll (V.step (V.state_of server.old) line.now).reply (K.written out.old)
+        (K.written out.new)) }
     ensures some { OnErr result
-        (AppendsSome (V.step (V.state_of server.old) line.now).reply (K.written out.old) (K.written out.new)) }
+        (AppendsSome (V.step (V.state_of server.old) line.now).reply (K.written out.old)
+        (K.written out.new)) }
     ensures rows_all { OnOk result
-        (AppendsAll (V.step (V.state_of server.old) line.now).rows (T.rows trees.old) (T.rows trees.new)) }
+        (AppendsAll (V.step (V.state_of server.old) line.now).rows (T.rows trees.old)
+        (T.rows trees.new)) }
     ensures rows_some { OnErr result
-        (AppendsSome (V.step (V.state_of server.old) line.now).rows (T.rows trees.old) (T.rows trees.new)) }
+        (AppendsSome (V.step (V.state_of server.old) line.now).rows (T.rows trees.old)
+        (T.rows trees.new)) }
     ensures rows_first { OnErr result
-        (AppendsAll (V.step (V.state_of server.old) line.now).rows (T.rows trees.old) (T.rows trees.new)
+        (AppendsAll (V.step (V.state_of server.old) line.now).rows (T.rows trees.old)
+        (T.rows trees.new)
         ⊎ (out.new ≡ out.old)) }
 
     // What a read of the disk gives is stored for the state after the line, if it was for that before.
@@ -48,10 +54,12 @@ pub fn serve_line<V: LineServer, K: Sink, D: Disk, T: Trees>(
     // it.
     ensures any_moment { AreAll (V.stored (V.state_of server.old)) (D.images disk.old) →
         LeavesOnly D.moment D.images_since disk.old disk.new
-        (IsEither (V.stored (V.state_of server.old)) (V.stored (V.step (V.state_of server.old) line.now).state)) }
+        (IsEither (V.stored (V.state_of server.old))
+        (V.stored (V.step (V.state_of server.old) line.now).state)) }
     ensures durable { AreAll (V.stored (V.state_of server.old)) (D.images disk.old) →
         OnOk result (AreAll (V.stored (V.state_of server.new)) (D.images disk.new)) }
-    ensures acknowledged { (before : List ℕ) → AreAll (V.stored (V.state_of server.old)) (D.images disk.old) →
+    ensures acknowledged { (before : List ℕ) →
+        AreAll (V.stored (V.state_of server.old)) (D.images disk.old) →
         K.written out.old ≡ Some before →
         K.written out.new ≡ Some (before ++ (V.step (V.state_of server.old) line.now).reply) →
         AreAll (V.stored (V.step (V.state_of server.old) line.now).state) (D.images disk.new) }
@@ -100,16 +108,20 @@ pub(crate) fn serve_long<V: LineServer, K: Sink, T: Trees>(
         IfOk result (IsServed (V.step (V.state_of server.old) line) (V.state_of server.new)) }
     ensures all { (line : List ℕ) → MOST_SCRIPT_LINE_BYTES < length line →
         OnOk result
-        (AppendsAll (V.step (V.state_of server.old) line).reply (K.written out.old) (K.written out.new)) }
+        (AppendsAll (V.step (V.state_of server.old) line).reply (K.written out.old)
+        (K.written out.new)) }
     ensures some { (line : List ℕ) → MOST_SCRIPT_LINE_BYTES < length line →
         OnErr result
-        (AppendsSome (V.step (V.state_of server.old) line).reply (K.written out.old) (K.written out.new)) }
+        (AppendsSome (V.step (V.state_of server.old) line).reply (K.written out.old)
+        (K.written out.new)) }
     ensures rows_all { (line : List ℕ) → MOST_SCRIPT_LINE_BYTES < length line →
         OnOk result
-        (AppendsAll (V.step (V.state_of server.old) line).rows (T.rows trees.old) (T.rows trees.new)) }
+        (AppendsAll (V.step (V.state_of server.old) line).rows (T.rows trees.old)
+        (T.rows trees.new)) }
     ensures rows_some { (line : List ℕ) → MOST_SCRIPT_LINE_BYTES < length line →
         OnErr result
-        (AppendsSome (V.step (V.state_of server.old) line).rows (T.rows trees.old) (T.rows trees.new)) }
+        (AppendsSome (V.step (V.state_of server.old) line).rows (T.rows trees.old)
+        (T.rows trees.new)) }
     ensures rows_first { (line : List ℕ) → MOST_SCRIPT_LINE_BYTES < length line →
         OnErr result
         (AppendsAll (V.step (V.state_of server.old) line).rows (T.rows trees.old) (T.rows trees.new)

@@ -39,14 +39,16 @@ pub trait LineServer: Sized {
     /// it.
     fn answer<D: Disk>(&mut self, line: &[u8], disk: &mut D) -> Result<Reply, Ending>
         requires { IfSome (D.contents disk.old) (gate (state_of self.old)) }
-        ensures gives { IfOk result (Gives (step (state_of self.old) line.now) (state_of self.new)) }
+        ensures gives { IfOk result
+            (Gives (step (state_of self.old) line.now) (state_of self.new)) }
         ensures goes_on { OnOk result (goes_on self.old self.new) }
         ensures gate { OnOk result (IfSome (D.contents disk.new) (gate (state_of self.new))) }
         ensures stored { IfSome (D.contents disk.old) (stored (state_of self.old)) →
             OnOk result (IfSome (D.contents disk.new) (stored (state_of self.new))) }
         ensures any_moment { AreAll (stored (state_of self.old)) (D.images disk.old) →
             LeavesOnly D.moment D.images_since disk.old disk.new
-            (IsEither (stored (state_of self.old)) (stored (step (state_of self.old) line.now).state)) }
+            (IsEither (stored (state_of self.old))
+            (stored (step (state_of self.old) line.now).state)) }
         ensures durable { AreAll (stored (state_of self.old)) (D.images disk.old) →
             OnOk result (AreAll (stored (state_of self.new)) (D.images disk.new)) }
         ensures stopped { IfErr result (λ ending.

@@ -38,7 +38,8 @@ fn serve_next<V: LineServer, S: Source, K: Sink, D: Disk, T: Trees>(
 ) -> Result<Turn, Ending>
     requires gate { IfSome (D.contents disk.old) (V.gate (V.state_of server.old)) }
     ensures told { (text : List ℕ) → ahead_of lines.old (S.left script.old) ≡ Some text →
-        Turns V.step (V.state_of server.old) text (V.state_of server.new) (ahead_of lines.new (S.left script.new))
+        Turns V.step (V.state_of server.old) text (V.state_of server.new)
+        (ahead_of lines.new (S.left script.new))
         (output (K.written out.old) (T.rows trees.old))
         (output (K.written out.new) (T.rows trees.new)) result }
     ensures gate { OnOk result (IfSome (D.contents disk.new) (V.gate (V.state_of server.new))) }
@@ -55,7 +56,8 @@ fn serve_next<V: LineServer, S: Source, K: Sink, D: Disk, T: Trees>(
         AreAll (V.stored (V.state_of server.old)) (D.images disk.old) →
         K.written out.old ≡ Some before → K.written out.new ≡ Some (before ++ bytes) →
         OnErr result
-        (AreAll (KeepsAnswered V.step V.stored V.count (V.state_of server.old) (lines_of text) bytes)
+        (AreAll (KeepsAnswered V.step V.stored V.count (V.state_of server.old)
+        (lines_of text) bytes)
         (D.images disk.new)) }
     ensures counted { Counted lines.old lines.new
         (counts (S.faults script.old) (K.faults out.old) (D.faults disk.old) (T.faults trees.old)
@@ -111,20 +113,24 @@ pub fn serve_all<V: LineServer, S: Source, K: Sink, D: Disk, T: Trees>(
     // At the end of the script its text is read to the end, and the ending says whether a line was refused.
     ensures ended { (text : List ℕ) →
         ahead_of lines.old (S.left script.old) ≡ Some text →
-        ReadsOut result (answers V.step (V.state_of server.old) (lines_of text)) (S.left script.new) }
+        ReadsOut result (answers V.step (V.state_of server.old) (lines_of text))
+        (S.left script.new) }
     ensures prefix { (text before : List ℕ) →
         ahead_of lines.old (S.left script.old) ≡ Some text → K.written out.old ≡ Some before →
-        WritesFront before (answers V.step (V.state_of server.old) (lines_of text)).reply (K.written out.new) }
+        WritesFront before (answers V.step (V.state_of server.old) (lines_of text)).reply
+        (K.written out.new) }
     ensures whole { (text before : List ℕ) →
         ahead_of lines.old (S.left script.old) ≡ Some text → K.written out.old ≡ Some before →
         IsWhole result (answers V.step (V.state_of server.old) (lines_of text)) before
         (S.left script.new) (K.written out.new) }
     ensures rows_prefix { (text : List ℕ) (before : List OutRow) →
         ahead_of lines.old (S.left script.old) ≡ Some text → T.rows trees.old ≡ Some before →
-        WritesFront before (answers V.step (V.state_of server.old) (lines_of text)).rows (T.rows trees.new) }
+        WritesFront before (answers V.step (V.state_of server.old) (lines_of text)).rows
+        (T.rows trees.new) }
     ensures rows_whole { (text : List ℕ) (before : List OutRow) →
         ahead_of lines.old (S.left script.old) ≡ Some text → T.rows trees.old ≡ Some before →
-        HasRows result (answers V.step (V.state_of server.old) (lines_of text)) before (T.rows trees.new) }
+        HasRows result (answers V.step (V.state_of server.old) (lines_of text)) before
+        (T.rows trees.new) }
     ensures rows_first { (text before : List ℕ) (rows : List OutRow) →
         ahead_of lines.old (S.left script.old) ≡ Some text → K.written out.old ≡ Some before →
         T.rows trees.old ≡ Some rows →

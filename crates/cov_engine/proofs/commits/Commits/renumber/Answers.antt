@@ -1,6 +1,6 @@
 use Rattle.std.proofs.Common.{drop, sym, subst}
 use Rattle.cov_engine.specs.Overtakers.{noted, AreNoted}
-use Rattle.cov_engine.proofs.Sweeping.{noted-having}
+use Rattle.cov_engine.proofs.Renumbered.{noted-having}
 use Rattle.cov_engine.proofs.commits.Commits.renumber.Goals as goal
 
 pub invariant_of-self : goal.invariant_of-self

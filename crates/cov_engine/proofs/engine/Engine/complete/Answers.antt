@@ -1,8 +1,9 @@
-use Rattle.std.proofs.Common.{refl, sym, subst, ◌∙◌}
+use Rattle.std.proofs.Common.{ap, refl, sym, subst, ◌∙◌}
 use Rattle.std.proofs.lemmas.Result.{IfErr-weaker, IfOk-weaker}
 use Rattle.cov_edit.specs.History.{option_count, constraints_of, preferences_of, defaults_of}
 use Rattle.cov_rules.specs.Completion.{literals, IsRefusalBy}
 use Rattle.cov_rules.proofs.CallerLemmas.{completed_is_valid}
+use Rattle.cov_engine.specs.States.{EngineValue}
 use Rattle.cov_engine.proofs.Holdings.{held-grown}
 use Rattle.cov_engine.proofs.States.{state-grown, completed-there}
 use Rattle.cov_engine.proofs.engine.Engine.complete.Goals as goal
@@ -22,12 +23,12 @@ pub returns-clause-answer : goal.returns-clause-answer
 returns-clause-answer c =
     let history = c.args.self.now.history in
     let there = completed-there c.args.self.now c.self.inside.state.commands.commands c.self.inside.state.options.names c.self.inside.state.visible.table c.self.inside.state.rules.standing
-    c.self.inside.state.counts c.count-count.result c.args.partial.now c.self.view_is c.self.invariant.0.0 c.count-count.ensures.count in
+    c.self.inside.state.counts c.count-count.result c.args.partial.now (ap (λ (e : EngineValue). e.history) c.self.view_is) c.self.invariant.0.0 c.count-count.ensures.count in
     IfOk-weaker c.complete.result _ _
     (λ choice e. completed_is_valid (option_count history) (constraints_of history) (preferences_of history) (literals (defaults_of history)) c.args.partial.now choice (sym there ∙ e)) c.complete.ensures.complete
 
 pub returns-clause-refused : goal.returns-clause-refused
 returns-clause-refused c =
     let there = completed-there c.args.self.now c.self.inside.state.commands.commands c.self.inside.state.options.names c.self.inside.state.visible.table c.self.inside.state.rules.standing
-    c.self.inside.state.counts c.count-count.result c.args.partial.now c.self.view_is c.self.invariant.0.0 c.count-count.ensures.count in
+    c.self.inside.state.counts c.count-count.result c.args.partial.now (ap (λ (e : EngineValue). e.history) c.self.view_is) c.self.invariant.0.0 c.count-count.ensures.count in
     IfErr-weaker c.complete.result _ _ (λ fault refused. subst (λ a. IsRefusalBy a fault) there refused) c.complete.ensures.refused

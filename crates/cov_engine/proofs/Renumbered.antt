@@ -275,3 +275,14 @@ taken-four xs a b c d =
     ((λ j. take c (drop (a + b) xs) ++ take d (sym (drop-drop c (a + b) xs) j)) ∙ sym (take-add c d (drop (a + b) xs)))
     ∙ ap (λ l. take a xs ++ l) ((λ j. take b (drop a xs) ++ take (c + d) (sym (drop-drop b a xs) j)) ∙ sym (take-add b (c + d) (drop a xs)))
     ∙ sym (take-add a (b + (c + d)) xs)
+
+-- how many nodes a state keeps
+pub nodes-count : (s : EngineState) → length (nodes_of s)
+    ≡ length (rule_nodes s.rules.standing) + (length (visibilities s.visible.entries) + (length (line_nodes s.visible.files) + length s.index.commits.items))
+nodes-count s =
+    length-append (rule_nodes s.rules.standing) (visibilities s.visible.entries ++ (line_nodes s.visible.files ++ map mark_node s.index.commits.items))
+    ∙ ap (λ n. length (rule_nodes s.rules.standing) + n)
+    (length-append (visibilities s.visible.entries) (line_nodes s.visible.files ++ map mark_node s.index.commits.items)
+    ∙ ap (λ n. length (visibilities s.visible.entries) + n)
+    (length-append (line_nodes s.visible.files) (map mark_node s.index.commits.items)
+    ∙ ap (λ n. length (line_nodes s.visible.files) + n) (length-map s.index.commits.items mark_node)))
