@@ -2,9 +2,11 @@ pub mod Acted
 pub mod Additions
 pub mod Appended
 pub mod Beginning
+pub mod Checkouts
 pub mod Compared
 pub mod Crashing
 pub mod Declared
+pub mod DemoParts
 pub mod Ended
 pub mod Endings
 pub mod Entries
@@ -28,5 +30,6 @@ pub mod SessionFaults
 pub mod Spoken
 pub mod ToldFiles
 pub mod ToldLines
+pub mod TurnsAfter
 pub mod Unopened
 pub mod WrittenExamples

@@ -112,6 +112,10 @@ pub(crate) fn serve_after<V: LineServer, K: Sink, D: Disk, T: Trees>(
         K.written out.old ≡ Some before → K.written out.new ≡ Some (before ++ bytes) →
         AreAll (KeepsAfter V.step (V.state_of server.old) made told V.stored V.count bytes)
         (D.images disk.new) }
+    ensures durable { AreAll (V.stored (V.state_of server.old)) (D.images disk.old) →
+        AtEnd result (AreAll
+        (V.stored (answers_after V.step (V.state_of server.old) made told).state)
+        (D.images disk.new)) }
     ensures stopped { StopsText result (K.faults out.old) (K.faults out.new)
         (D.faults disk.old) (D.faults disk.new) (T.faults trees.old) (T.faults trees.new) }
     ensures later { K.faults out.old ≤ K.faults out.new }
