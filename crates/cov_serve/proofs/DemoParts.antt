@@ -5,11 +5,11 @@ use Rattle.std.specs.Fmt.{digits}
 use Rattle.cov_script.specs.Commits.{each_below}
 use Rattle.cov_script.specs.Demonstration.{checkout_lines, demo_text, made_lines}
 
-pub checkouts_size : length checkout_lines ≡ 147
+checkouts_size : length checkout_lines ≡ 147
 unfolding each_below digits
 checkouts_size = refl
 
-parts_are : (number : ℕ) → demo_text number ≡ made_lines number ++ checkout_lines
+pub parts_are : (number : ℕ) → demo_text number ≡ made_lines number ++ checkout_lines
 unfolding demo_text
 parts_are number = refl
 

@@ -7,6 +7,7 @@ pub mod Compared
 pub mod Crashing
 pub mod Declared
 pub mod DemoParts
+pub mod DemoScript
 pub mod Ended
 pub mod Endings
 pub mod Entries
