@@ -2,7 +2,6 @@
 use Rattle.std.proofs.Common.{◌≡◌, ◌∙◌, refl, sym, ap, subst, ℕ, suc, Bool, true, false, List, [], ◌∷◌, ◌++◌, append_assoc}
 use Rattle.std.specs.Prelude.{codes, get_or, nat_eq, if◌then◌else◌}
 use Rattle.cov_base.specs.Lines.{lines_of, onto_first_line}
-use Rattle.cov_edit.specs.declared.command.Command.{Command}
 use Rattle.cov_loop.specs.Outcome.{answers}
 use Rattle.cov_script.specs.Commits.{after_commits, commit_lines, delete_line, each_below, insert_lines, opening_line, plan_of}
 use Rattle.cov_script.specs.Demonstration.{checkout_lines, default_line, demo_text, each_commit, first_commit_lines, made_lines, option_line, rule_lines}

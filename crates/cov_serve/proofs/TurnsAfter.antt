@@ -5,14 +5,14 @@ use Rattle.std.proofs.lemmas.List.{nil_from_length}
 use Rattle.cov_base.specs.Lines.{lines_of}
 use Rattle.cov_edit.specs.declared.command.Command.{Command}
 use Rattle.cov_loop.specs.Outcome.{Outcome, answers}
-use Rattle.cov_loop.specs.Turns.{RowsComeFirst, WritesFront}
+use Rattle.cov_loop.specs.Turns.{WritesFront}
 use Rattle.cov_out.specs.declared.row.OutRow.{OutRow}
 use Rattle.cov_serve.specs.Jobs.{RowsPrecede, StandsForFront, StandsForTold, Turn, behind_rows, history_after, line_turns, replies, rows_of, turns_after}
 use Rattle.cov_serve.specs.States.{State, starting}
 use Rattle.cov_serve.specs.Step.{model, step}
 use Rattle.cov_serve.specs.Storing.{count, stored}
 use Rattle.cov_serve.specs.TextServing.{KeepsAfter, ReachesAfter, RowsComeAfter, answers_after, rows_after}
-use Rattle.cov_store.specs.Stands.{IsStored, StandsFor}
+use Rattle.cov_store.specs.Stands.{StandsFor}
 use Rattle.cov_serve.proofs.Crashing.{GoesOn, goes_further, grown_by, stands_for}
 use Rattle.cov_serve.proofs.Turns.{ComeFrom, come_from, history_as, replies_as, rows_as}
 

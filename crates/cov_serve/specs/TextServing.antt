@@ -1,5 +1,5 @@
 -- What is served of texts that are at hand.
-use Rattle.std.specs.Prelude.{◌≡◌, ◌⊎◌, ◌≤◌, ℕ, Bool, true, false, List, [], ◌++◌, length, Option, Some}
+use Rattle.std.specs.Prelude.{◌≡◌, ◌⊎◌, ℕ, Bool, true, false, List, [], ◌++◌, Option, Some}
 use Rattle.cov_base.specs.Causes.{Rose}
 use Rattle.cov_base.specs.Lines.{lines_of}
 use Rattle.cov_loop.specs.Keeping.{KeepsAnswered, Reaches}

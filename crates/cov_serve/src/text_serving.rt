@@ -29,14 +29,17 @@ fn serve_text<V: LineServer, K: Sink, D: Disk, T: Trees>(
     requires gate { IfSome (D.contents disk.old) (V.gate (V.state_of server.old)) }
     requires short { length text < TOO_MANY_SCRIPT_BYTES }
     ensures prefix { (before : List ℕ) → K.written out.old ≡ Some before →
-        WritesFront before (answers V.step (V.state_of server.old) (lines_of text)).reply (K.written out.new) }
+        WritesFront before (answers V.step (V.state_of server.old) (lines_of text)).reply
+        (K.written out.new) }
     ensures whole { (before : List ℕ) → K.written out.old ≡ Some before →
         AtEnd result (K.written out.new ≡
         Some (before ++ (answers V.step (V.state_of server.old) (lines_of text)).reply)) }
     ensures rows_prefix { (before : List OutRow) → T.rows trees.old ≡ Some before →
-        WritesFront before (answers V.step (V.state_of server.old) (lines_of text)).rows (T.rows trees.new) }
+        WritesFront before (answers V.step (V.state_of server.old) (lines_of text)).rows
+        (T.rows trees.new) }
     ensures rows_whole { (before : List OutRow) → T.rows trees.old ≡ Some before →
-        HasRows result (answers V.step (V.state_of server.old) (lines_of text)) before (T.rows trees.new) }
+        HasRows result (answers V.step (V.state_of server.old) (lines_of text)) before
+        (T.rows trees.new) }
     ensures rows_first { (before : List ℕ) (rows : List OutRow) → K.written out.old ≡ Some before →
         T.rows trees.old ≡ Some rows →
         RowsComeFirst V.step (V.state_of server.old) (lines_of text) before rows
@@ -93,7 +96,8 @@ pub(crate) fn serve_after<V: LineServer, K: Sink, D: Disk, T: Trees>(
         AtEnd result (K.written out.new ≡
         Some (before ++ (answers_after V.step (V.state_of server.old) made told).reply)) }
     ensures rows { (before : List OutRow) → T.rows trees.old ≡ Some before →
-        WritesFront before (rows_after V.step (V.state_of server.old) made told) (T.rows trees.new) }
+        WritesFront before (rows_after V.step (V.state_of server.old) made told)
+        (T.rows trees.new) }
     ensures rows_whole { (before : List OutRow) → T.rows trees.old ≡ Some before →
         AtEnd result (T.rows trees.new ≡
         Some (before ++ rows_after V.step (V.state_of server.old) made told)) }

@@ -1,4 +1,4 @@
-use Rattle.std.proofs.Common.{◌≡◌, ◌∙◌, ◌-◌, ◌≤◌, sym, ap, subst, ℕ, length, take, drop}
+use Rattle.std.proofs.Common.{◌∙◌, ◌-◌, ◌≤◌, sym, ap, subst, length, take, drop}
 use Rattle.cov_serve.proofs.DemoParts.{has_checkouts, made_is, told_is}
 use Rattle.cov_serve.proofs.demo.demo_parts.Goals as goal
 

@@ -1,5 +1,4 @@
-use Rattle.std.proofs.Common.{◌≡◌, ◌∙◌, ◌++◌, ◌<◌, inl, refl, sym, ap, subst, arith, ℕ, true, List, length, Some, IfSome}
-use Rattle.cov_base.specs.Lines.{lines_of}
+use Rattle.std.proofs.Common.{◌≡◌, ◌∙◌, ◌++◌, inl, refl, sym, ap, subst, arith, ℕ, true, List, length, Some, IfSome}
 use Rattle.cov_disk.specs.Images.{LeavesOnly}
 use Rattle.cov_edit.specs.declared.command.Command.{Command}
 use Rattle.cov_journal.proofs.CallerLemmas.{some_to}
@@ -7,7 +6,7 @@ use Rattle.cov_loop.specs.Keeping.{AreAll}
 use Rattle.cov_loop.specs.Turns.{AtEnd, WritesFront}
 use Rattle.cov_out.specs.declared.row.OutRow.{OutRow}
 use Rattle.cov_script.specs.Demonstration.{checkout_lines, made_lines}
-use Rattle.cov_serve.specs.Jobs.{RowsPrecede, StandsForFront, StandsForTold, history_after, replies, rows_of, served_demo}
+use Rattle.cov_serve.specs.Jobs.{StandsForFront, history_after, replies, rows_of, served_demo}
 use Rattle.cov_serve.specs.Program.{demo_line}
 use Rattle.cov_serve.specs.States.{State, starting}
 use Rattle.cov_serve.specs.Step.{model, step}

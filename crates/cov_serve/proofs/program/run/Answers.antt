@@ -15,7 +15,7 @@ use Rattle.cov_serve.specs.declared.job.Job.TheVariants.{OnStore, Unknown}
 use Rattle.cov_serve.specs.declared.job.StoreJob.TheVariants.{Run, Check, Demo}
 use Rattle.cov_serve.specs.declared.status.Status.TheVariants.{Done, Usage, NoMemory}
 use Rattle.cov_store.specs.Stands.{IsStored, StandsFor}
-use Rattle.cov_serve.proofs.Crashing.{front_first, stands_for}
+use Rattle.cov_serve.proofs.Crashing.{front_first}
 use Rattle.cov_serve.proofs.Jobs.{Demonstrates, Fell, Serves, check_tells, demo_caused, demo_end, demo_kept, demo_later, demo_unless, demonstrates, failed, failed_ends, failed_front, failed_rows, failed_rows_first, failed_unless, failed_whole, front_at_start, reads_of, served_caused, served_done, served_end, served_kept, served_on, served_unless, serves, stopped_stands, told_at_start, usage_is, usage_tells}
 use Rattle.cov_serve.proofs.Runs.{leaves_weaker, none_more, serving_later}
 use Rattle.cov_serve.proofs.Turns.{front_served, front_stands_told, last_is, replies_as, rows_as, rows_precede, rows_served, told_stands_told}

@@ -1,9 +1,9 @@
-use Rattle.std.proofs.Common.{◌≡◌, ◌∙◌, ◌++◌, inl, inr, sym, ap, subst, append_assoc, ℕ, List, true, refl, Some}
+use Rattle.std.proofs.Common.{◌≡◌, ◌∙◌, ◌++◌, inl, inr, sym, ap, subst, append_assoc, List, true, refl, Some}
 use Rattle.cov_base.specs.Lines.{lines_of}
 use Rattle.cov_loop.specs.Outcome.{Outcome, answers}
-use Rattle.cov_loop.specs.Turns.{AtEnd, HasRows, RowsComeFirst, WritesFront}
+use Rattle.cov_loop.specs.Turns.{HasRows, RowsComeFirst, WritesFront}
 use Rattle.cov_out.specs.declared.row.OutRow.{OutRow}
-use Rattle.cov_serve.specs.TextServing.{answers_after, is_end, rows_after}
+use Rattle.cov_serve.specs.TextServing.{answers_after, is_end}
 use Rattle.cov_serve.proofs.Runs.{none_more}
 use Rattle.cov_serve.proofs.TextServing.{at_end, end_to, front_first_of, front_second_of, rows_end}
 use Rattle.cov_serve.proofs.text_serving.serve_after.Given.{Over}

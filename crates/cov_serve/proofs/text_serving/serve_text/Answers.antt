@@ -1,4 +1,4 @@
-use Rattle.std.proofs.Common.{◌≡◌, ◌++◌, ap, refl, Some}
+use Rattle.std.proofs.Common.{ap, refl, Some}
 use Rattle.cov_base.specs.Lines.{lines_of}
 use Rattle.cov_loop.specs.Outcome.{answers}
 use Rattle.cov_loop.specs.Turns.{output}
