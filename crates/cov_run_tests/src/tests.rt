@@ -1,4 +1,5 @@
 mod crashes;
+mod demo;
 mod faults;
 mod plain;
 mod rows;

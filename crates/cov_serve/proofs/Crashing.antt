@@ -20,11 +20,11 @@ abbrev Grows : State → List ℕ → Type 0
 Grows st line = ((step st line).state.history ≡ st.history) ⊎ ((command : Command) × ((step st line).state.history ≡ st.history ++ command ∷ []) × ((step st line).reply ≡ [] → ⊥))
 
 -- a history goes on
-abbrev GoesOn : List Command → List Command → Type 0
+abbrev pub GoesOn : List Command → List Command → Type 0
 GoesOn old new = (more : List Command) × (new ≡ old ++ more)
 
 -- lines add commands, and take none away
-grown_by : (st : State) (ls : List (List ℕ)) → GoesOn st.history (answers step st ls).state.history
+pub grown_by : (st : State) (ls : List (List ℕ)) → GoesOn st.history (answers step st ls).state.history
 grown_by st [] = ([], sym (append-nil st.history))
 grown_by st (l ∷ ls) = at (step_grows st l) (grown_by (step st l).state ls)
   where
@@ -33,7 +33,7 @@ grown_by st (l ∷ ls) = at (step_grows st l) (grown_by (step st l).state ls)
     at (inr (command, added, reply)) (more, is) = (command ∷ more, is ∙ ap (λ h. h ++ more) added ∙ append_assoc st.history (command ∷ []) more)
 
 -- and so do those that follow
-goes_further : (st : State) (ls ms : List (List ℕ)) → GoesOn (answers step st ls).state.history (answers step st (ls ++ ms)).state.history
+pub goes_further : (st : State) (ls ms : List (List ℕ)) → GoesOn (answers step st ls).state.history (answers step st (ls ++ ms)).state.history
 goes_further st [] ms = grown_by st ms
 goes_further st (l ∷ ls) ms = goes_further (step st l).state ls ms
 

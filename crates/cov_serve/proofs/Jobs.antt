@@ -9,26 +9,31 @@ use Rattle.cov_loop.specs.Counts.{Counts}
 use Rattle.cov_loop.specs.Turns.{WritesFront, output}
 use Rattle.cov_loop.proofs.CallerLemmas.{fault_turn}
 use Rattle.cov_out.specs.declared.row.OutRow.{OutRow}
-use Rattle.cov_serve.specs.Jobs.{ComesTo, EndsAs, IsCaused, IsSettled, IsShort, JobOutcome, NoneRose, OnEnd, RowsPrecede, StandsForFront, StandsForTold, StartsFrom, TellsUnopened, history_after, outcome, replies, rows_of, served_script, served_status}
+use Rattle.cov_serve.specs.Jobs.{ComesTo, EndsAs, IsCaused, IsSettled, IsShort, JobOutcome, NoneRose, OnEnd, RowsPrecede, StandsForFront, StandsForTold, StartsFrom, TellsUnopened, history_after, outcome, replies, rows_of, served_demo, served_script, served_status}
+use Rattle.cov_script.specs.Demonstration.{checkout_lines, made_lines}
 use Rattle.cov_serve.specs.Laws.{rows_told}
-use Rattle.cov_serve.specs.Program.{EndsServed, OnServed, OnUnopened, PutsLast, ReadsAs, StopsServing, TellsFault, check_line, usage_line}
+use Rattle.cov_serve.specs.Program.{EndsServed, OnServed, OnUnopened, PutsLast, ReadsAs, StopsDemo, StopsServing, TellsFault, check_line, demo_line, usage_line}
 use Rattle.cov_serve.specs.States.{starting}
 use Rattle.cov_serve.specs.Step.{model, step}
+use Rattle.cov_serve.specs.TextServing.{rows_after}
 use Rattle.cov_serve.specs.declared.job.Job.TheVariants.{OnStore, Unknown}
 use Rattle.cov_serve.specs.declared.job.StoreJob.{StoreJob}
-use Rattle.cov_serve.specs.declared.job.StoreJob.TheVariants.{Run, Check}
+use Rattle.cov_serve.specs.declared.job.StoreJob.TheVariants.{Run, Check, Demo}
 use Rattle.cov_serve.specs.declared.status.Status.{Status}
 use Rattle.cov_serve.specs.declared.status.Status.TheVariants as statuses
 use Rattle.cov_store.specs.Stands.{StandsFor}
 use Rattle.cov_store.specs.declared.damage.StoreFault.{StoreFault}
+use Rattle.cov_serve.proofs.Checkouts.{checkout_answered, checkouts_are, first_checkout, other_checkouts}
 use Rattle.cov_serve.proofs.Crashing.{front_first, told_none}
 use Rattle.cov_serve.proofs.Turns.{front_stands_told, rows_precede, rows_precede_told, told_stands_told}
+use Rattle.cov_serve.proofs.TurnsAfter.{front_start, rows_precede_after, told_unwritten}
 use Rattle.cov_serve.proofs.Unopened.{Fails, IsCut, Tells, cut_end, cut_unless, cut_unserved, fails_stops, none_written, put_tells, tells_ends, tells_front, tells_rows, tells_rows_first, tells_unless, tells_whole, unopened_tells}
 
 -- what a job over a store asks of the disk is a history
 pub reads_of : (job : StoreJob) (contents left : Option (List ℕ)) (history : List Command) (text : List ℕ) → StartsFrom (OnStore job) contents left history text → ReadsAs contents history
 reads_of Run contents left history text (reads, is) = reads
 reads_of Check contents left history text reads = reads
+reads_of (Demo number) contents left history text reads = reads
 
 -- before anything is done
 module _ (job : StoreJob) (history : List Command) (text : List ℕ) where
@@ -39,6 +44,10 @@ module _ (job : StoreJob) (history : List Command) (text : List ℕ) where
       at : (job : StoreJob) → RowsPrecede (outcome (OnStore job) history text).turns before rows written grown
       at Run = rows_precede history text before rows written grown ((fault_turn step rows_told (starting history) text (output written grown)).first before rows wrote grew)
       at Check = rows_precede_told statuses.Done (check_line history) history before rows written grown (none_written before (check_line history) written wrote) grew
+      at (Demo number) =
+          let made = made_lines number in
+          rows_precede_after history made checkout_lines (demo_line number) first_checkout other_checkouts checkouts_are (checkout_answered (model history made).state) before rows written grown
+          (inl (wrote, none_written rows (rows_after step (starting history) made checkout_lines) grown grew))
 
   pub front_at_start : (image : List ℕ) → StandsFor image history → StandsForFront history (outcome (OnStore job) history text).turns image
   front_at_start image h = at job
@@ -46,6 +55,7 @@ module _ (job : StoreJob) (history : List Command) (text : List ℕ) where
       at : (job : StoreJob) → StandsForFront history (outcome (OnStore job) history text).turns image
       at Run = front_first history text image h
       at Check = front_stands_told statuses.Done (check_line history) history image h
+      at (Demo number) = front_start history (made_lines number) checkout_lines (demo_line number) image h
 
   pub told_at_start : (image : List ℕ) → StandsFor image history → StandsForTold history (outcome (OnStore job) history text).turns [] image
   told_at_start image h = at job
@@ -53,6 +63,10 @@ module _ (job : StoreJob) (history : List Command) (text : List ℕ) where
       at : (job : StoreJob) → StandsForTold history (outcome (OnStore job) history text).turns [] image
       at Run = told_none history text image h
       at Check = told_stands_told statuses.Done (check_line history) history [] image h
+      at (Demo number) =
+          let made = made_lines number in
+          told_unwritten history made checkout_lines (demo_line number) first_checkout other_checkouts checkouts_are (checkout_answered (model history made).state) [] image refl
+          (front_start history made checkout_lines (demo_line number) image h)
 
 -- nothing is told of a store, since the run was cut short
 pub record Stopped (job : StoreJob) (all : JobOutcome) (sink sink' disk disk' : ℕ) (old new : Option (List ℕ)) (status : Status) : Type 0 where
@@ -67,6 +81,7 @@ pub stopped_stands : (job : StoreJob) (history : List Command) (text : List ℕ)
     → IfSome contents (λ image. StandsFor image (history_after history (outcome (OnStore job) history text).turns))
 stopped_stands Run history text contents sink sink' disk disk' status cut h settled = absurd (cut_unserved sink sink' disk disk' status cut settled)
 stopped_stands Check history text contents sink sink' disk disk' status cut h settled = h
+stopped_stands (Demo number) history text contents sink sink' disk disk' status cut h settled = absurd (cut_unserved sink sink' disk disk' status cut settled)
 
 -- a store isn't opened: nothing is told of it, or one line is
 abbrev pub Fell : StoreJob → JobOutcome → ℕ → ℕ → ℕ → ℕ → Option (List ℕ) → Option (List ℕ) → Status → Type 0
@@ -202,3 +217,53 @@ pub served_on : (status : Status) (P : Type 0) → OnServed status (λ refused. 
 served_on statuses.Done P h e = h
 served_on statuses.SomeRefused P h e = h
 served_on status P h e = absurd e
+
+-- a store that is opened serves the script that a number stands for
+pub record Demonstrates (contents : Option (List ℕ)) (number : ℕ) (all : JobOutcome) : Type 0 where
+  pub history : List Command
+  pub reads : ReadsAs contents history
+  pub is : all ≡ served_demo history number
+
+pub demonstrates : (number : ℕ) (contents left : Option (List ℕ)) (all : JobOutcome) → ComesTo (OnStore (Demo number)) contents left all → (TellsUnopened contents all → ⊥) → Demonstrates contents number all
+demonstrates number contents left all (inl (history, text, reads, is)) opened = record { history = history; reads = reads; is = is }
+demonstrates number contents left all (inr (opens, tells)) opened = absurd (opened tells)
+
+-- how such a run ends
+pub demo_end : (sink sink' disk disk' trees trees' : ℕ) (status : Status) (P : Type 0) → StopsDemo status sink sink' disk disk' trees trees' → (status ≡ statuses.Done → P) → OnEnd status P
+demo_end sink sink' disk disk' trees trees' statuses.Done P s to = to refl
+demo_end sink sink' disk disk' trees trees' statuses.SomeRefused P s to = absurd s
+demo_end sink sink' disk disk' trees trees' statuses.Usage P s to = absurd s
+demo_end sink sink' disk disk' trees trees' statuses.NotAStore P s to = absurd s
+demo_end sink sink' disk disk' trees trees' (statuses.Damaged number cause) P s to = absurd s
+demo_end sink sink' disk disk' trees trees' status P s to = tt
+
+pub served_done : (status : Status) (P : Type 0) → OnServed status (λ refused. P) → status ≡ statuses.Done → P
+served_done status P h e = served_on status P h (subst EndsServed (sym e) tt)
+
+pub demo_kept : (sink sink' disk disk' trees trees' : ℕ) (status : Status) (P : Type 0) → StopsDemo status sink sink' disk disk' trees trees' → OnUnopened status P
+demo_kept sink sink' disk disk' trees trees' statuses.NotAStore P s = absurd s
+demo_kept sink sink' disk disk' trees trees' (statuses.Damaged number cause) P s = absurd s
+demo_kept sink sink' disk disk' trees trees' status P s = tt
+
+-- the disk may have failed before
+pub demo_later : (sink sink' disk disk1 disk' trees trees' : ℕ) (status : Status) → disk ≤ disk1 → StopsDemo status sink sink' disk1 disk' trees trees' → StopsDemo status sink sink' disk disk' trees trees'
+demo_later sink sink' disk disk1 disk' trees trees' statuses.DiskFault le h = omega (arith, le, h)
+demo_later sink sink' disk disk1 disk' trees trees' status le h = h
+
+pub demo_caused : (number : ℕ) (contents : Option (List ℕ)) (old new : Counts) (status : Status) → StopsDemo status old.sink new.sink old.disk new.disk old.trees new.trees
+    → IsCaused (OnStore (Demo number)) contents old new status
+demo_caused number contents old new statuses.Done h = refl
+demo_caused number contents old new statuses.NoMemory h = tt
+demo_caused number contents old new statuses.WriteFault h = h
+demo_caused number contents old new statuses.DiskFault h = (refl, h)
+demo_caused number contents old new statuses.TreesFault h = (refl, h)
+demo_caused number contents old new status h = absurd h
+
+pub demo_unless : (number : ℕ) (history : List Command) (old new : Counts) (status : Status) → StopsDemo status old.sink new.sink old.disk new.disk old.trees new.trees
+    → NoneRose (OnStore (Demo number)) (served_demo history number) old new → (status ≡ statuses.Done) ⊎ (status ≡ statuses.NoMemory)
+demo_unless number history old new statuses.Done h none = inl refl
+demo_unless number history old new statuses.NoMemory h none = inr refl
+demo_unless number history old new statuses.WriteFault h none = absurd (none.sink h)
+demo_unless number history old new statuses.DiskFault h none = absurd (none.disk refl h)
+demo_unless number history old new statuses.TreesFault h none = absurd (none.trees refl h)
+demo_unless number history old new status h none = absurd h

@@ -2,10 +2,13 @@ pub mod Acted
 pub mod Additions
 pub mod Appended
 pub mod Beginning
+pub mod Checkouts
 pub mod Compared
 pub mod Counting
 pub mod Crashing
 pub mod Declared
+pub mod DemoParts
+pub mod DemoScript
 pub mod Ended
 pub mod Endings
 pub mod Entries
@@ -22,11 +25,13 @@ pub mod OthersLines
 pub mod OwnActs
 pub mod OwnLines
 pub mod References
+pub mod TextServing
 pub mod Turns
 pub mod Runs
 pub mod SessionFaults
 pub mod Spoken
 pub mod ToldFiles
 pub mod ToldLines
+pub mod TurnsAfter
 pub mod Unopened
 pub mod WrittenExamples

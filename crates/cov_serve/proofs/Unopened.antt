@@ -13,7 +13,7 @@ use Rattle.cov_loop.specs.Turns.{WritesFront}
 use Rattle.cov_out.specs.declared.row.OutRow.{OutRow}
 use Rattle.cov_script.specs.Replies.{IsCodeOf}
 use Rattle.cov_serve.specs.Jobs.{EndsAs, IsCaused, JobOutcome, OnEnd, RowsPrecede, TellsUnopened, replies, rows_of, told_line, told_of_none}
-use Rattle.cov_serve.specs.Program.{DamageCanBeTold, EndsServed, EndsWithLine, OnUnopened, PutsLast, ReadsAs, TellsFault, damaged_line, not_a_store_line}
+use Rattle.cov_serve.specs.Program.{DamageCanBeTold, EndsServed, EndsWithLine, OnServed, OnUnopened, PutsLast, ReadsAs, TellsFault, damaged_line, not_a_store_line}
 use Rattle.cov_serve.specs.States.{State}
 use Rattle.cov_serve.specs.declared.job.Job.{Job}
 use Rattle.cov_serve.specs.declared.job.Job.TheVariants.{OnStore}
@@ -135,6 +135,12 @@ pub line_caused : (job : Job) (contents : Option (List ℕ)) (old new : Counts) 
 line_caused job contents old new wanted statuses.NoMemory h e = tt
 line_caused job contents old new wanted statuses.WriteFault h e = e
 line_caused job contents old new wanted status h e = subst (IsCaused job contents old new) (sym e) h
+
+-- what holds where a line ends a run that served its script, at that end
+pub line_served : (sink sink' : ℕ) (status : Status) (P : Type 0) → EndsWithLine statuses.Done sink sink' status → (status ≡ statuses.Done → P) → OnServed status (λ refused. P)
+line_served sink sink' statuses.Done P e to = to refl
+line_served sink sink' statuses.SomeRefused P e to = let other : statuses.SomeRefused ≡ statuses.Done = e in absurd (cc)
+line_served sink sink' status P e to = tt
 
 -- no line but that of a disk that isn't opened ends a run with its status
 pub line_kept : (wanted status : Status) (sink sink' : ℕ) (P : Type 0) → OnUnopened wanted P → EndsWithLine wanted sink sink' status → OnUnopened status P

@@ -7,25 +7,31 @@ use Rattle.cov_edit.specs.History.{options_of}
 use Rattle.cov_edit.specs.declared.command.Command.{Command}
 use Rattle.cov_journal.specs.Reading.{IsNoStore}
 use Rattle.cov_loop.specs.Counts.{Counts}
-use Rattle.cov_loop.specs.Outcome.{Outcome}
+use Rattle.cov_loop.specs.Outcome.{Outcome, answers}
 use Rattle.cov_out.specs.declared.row.OutRow.{OutRow}
-use Rattle.cov_serve.specs.Program.{EndsServed, ReadsAs, check_line, damaged_line, is_lone, not_a_store_line, usage_line}
+use Rattle.cov_script.specs.Demonstration.{checkout_lines, made_lines}
+use Rattle.cov_serve.specs.Program.{EndsServed, ReadsAs, check_line, damaged_line, demo_line, demo_number, is_lone, not_a_store_line, usage_line}
 use Rattle.cov_serve.specs.States.{State, starting}
 use Rattle.cov_serve.specs.Step.{model, step}
 use Rattle.cov_serve.specs.declared.job.Job.{Job}
 use Rattle.cov_serve.specs.declared.job.Job.TheVariants.{OnStore, Unknown}
-use Rattle.cov_serve.specs.declared.job.StoreJob.TheVariants.{Run, Check}
+use Rattle.cov_serve.specs.declared.job.StoreJob.TheVariants.{Run, Check, Demo}
 use Rattle.cov_serve.specs.declared.status.Status.{Status}
 use Rattle.cov_serve.specs.declared.status.Status.TheVariants as statuses
 use Rattle.cov_store.specs.Damages.{HasDamage}
 use Rattle.cov_store.specs.Stands.{StandsFor}
 use Rattle.cov_store.specs.declared.damage.StoreDamage.{StoreDamage}
 
+-- the job of the word demo, by the number behind it
+abbrev pub demo_job : Option ℕ → Job
+demo_job None = Unknown
+demo_job (Some number) = OnStore (Demo number)
+
 -- the job that words are of
 abbrev pub job_of : List (List ℕ) → Job
 job_of words =
     if is_lone (codes "run") words then OnStore Run
-    else (if is_lone (codes "check") words then OnStore Check else Unknown)
+    else (if is_lone (codes "check") words then OnStore Check else demo_job (demo_number words))
 
 -- whether a job opens the disk
 abbrev pub opens_disk : Job → Bool
@@ -36,19 +42,29 @@ opens_disk Unknown = false
 abbrev pub reads_source : Job → Bool
 reads_source (OnStore Run) = true
 reads_source (OnStore Check) = false
+reads_source (OnStore (Demo number)) = false
 reads_source Unknown = false
 
 -- whether it writes rows of trees
 abbrev pub writes_trees : Job → Bool
 writes_trees (OnStore Run) = true
 writes_trees (OnStore Check) = false
+writes_trees (OnStore (Demo number)) = true
 writes_trees Unknown = false
 
 -- whether a part of its work can be refused
 abbrev pub can_refuse : Job → Bool
 can_refuse (OnStore Run) = true
 can_refuse (OnStore Check) = false
+can_refuse (OnStore (Demo number)) = false
 can_refuse Unknown = false
+
+-- whether all that it adds is stored before the first byte is written
+abbrev pub stores_first : Job → Bool
+stores_first (OnStore Run) = false
+stores_first (OnStore Check) = true
+stores_first (OnStore (Demo number)) = true
+stores_first Unknown = true
 
 -- one reply of a run, the rows of trees that are written before it, and the history that is stored by then
 pub record Turn : Type 0 where
@@ -102,6 +118,27 @@ served_script history text = record {
   writes = true;
 }
 
+-- turns before whose first reply these rows are written too
+abbrev pub behind_rows : List OutRow → List Turn → List Turn
+behind_rows rows [] = []
+behind_rows rows (t ∷ ts) = record { reply = t.reply; rows = rows ++ t.rows; history = t.history } ∷ ts
+
+-- lines behind others whose replies aren't told, and a last line
+abbrev pub turns_after : List Command → List ℕ → List ℕ → List ℕ → List Turn
+turns_after history made told line =
+    let before = model history made in
+    behind_rows before.rows (line_turns before.state (lines_of told)
+    ++ record { reply = line; rows = []; history = (answers step before.state (lines_of told)).state.history } ∷ [])
+
+-- the script that a number stands for is served, and what its checkouts are replied is told, whatever that is
+abbrev pub served_demo : List Command → ℕ → JobOutcome
+served_demo history number = record {
+  turns = turns_after history (made_lines number) checkout_lines (demo_line number);
+  status = statuses.Done;
+  reads = false;
+  writes = true;
+}
+
 -- one line is told, and the history stays as it is
 abbrev pub told_line : Status → List ℕ → List Command → JobOutcome
 told_line status line history = record {
@@ -119,12 +156,14 @@ told_of_none status line = told_line status line []
 abbrev pub outcome : Job → List Command → List ℕ → JobOutcome
 outcome (OnStore Run) history text = served_script history text
 outcome (OnStore Check) history text = told_line statuses.Done (check_line history) history
+outcome (OnStore (Demo number)) history text = served_demo history number
 outcome Unknown history text = told_line statuses.Usage usage_line history
 
 -- a job begins with this history, if it opens the disk, and with this text, if it reads the source; what it doesn't touch may be any
 abbrev pub StartsFrom : Job → Option (List ℕ) → Option (List ℕ) → List Command → List ℕ → Type 0
 StartsFrom (OnStore Run) contents left history text = ReadsAs contents history × (left ≡ Some text)
 StartsFrom (OnStore Check) contents left history text = ReadsAs contents history
+StartsFrom (OnStore (Demo number)) contents left history text = ReadsAs contents history
 StartsFrom Unknown contents left history text = Unit {0}
 
 -- an image is no store, or damaged, and this is told
@@ -184,6 +223,7 @@ pub record RowsPrecede (turns : List Turn) (bytes_before : List ℕ) (rows_befor
 abbrev pub IsSettled : Job → Status → Type 0
 IsSettled (OnStore Run) status = EndsServed status
 IsSettled (OnStore Check) status = Unit {0}
+IsSettled (OnStore (Demo number)) status = EndsServed status
 IsSettled Unknown status = Unit {0}
 
 -- an image stands for the history with the first few of the commands that the turns add

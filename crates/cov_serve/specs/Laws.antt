@@ -1,9 +1,12 @@
 -- Laws of the model's step.
-use Rattle.std.specs.Prelude.{◌≡◌, ◌≢◌, ℕ, ◌<◌, true, false, nat_le, nat_lt, List, [], ◌∷◌, length, Ok, Err, if◌then◌else◌}
+use Rattle.std.specs.Prelude.{◌≡◌, ◌≢◌, ℕ, ◌<◌, true, false, nat_le, nat_lt, List, [], ◌∷◌, ◌++◌, length, Ok, Err, if◌then◌else◌}
+use Rattle.cov_base.specs.Lines.{lines_of}
 use Rattle.cov_base.specs.declared.limits.TheConstants.{MOST_SCRIPT_LINE_BYTES}
 use Rattle.std.proofs.Common.{ap, arith, refl, ◌∙◌}
 use Rattle.std.proofs.lemmas.Bool.{and_parts, false≢true}
 use Rattle.std.proofs.lemmas.Bool.Decides.{nat_tests}
+use Rattle.cov_edit.specs.declared.command.Command.{Command}
+use Rattle.cov_script.specs.Demonstration.{checkout_lines, demo_text, made_lines}
 use Rattle.cov_script.specs.Grouping.{grouped}
 use Rattle.cov_script.specs.Lines.{form_of, spoken}
 use Rattle.cov_script.specs.declared.code.Code.TheVariants.{Long}
@@ -13,8 +16,9 @@ use Rattle.cov_loop.specs.Outcome.{Outcome, answers, unchanged}
 use Rattle.cov_codes.specs.Codes.{syntax_code}
 use Rattle.cov_serve.specs.Finding.{Found, ◌>>=◌, by_code}
 use Rattle.cov_serve.specs.Growth.{no_reply, nothing_served, without_reply}
-use Rattle.cov_serve.specs.Jobs.{history_after, line_turns, replies, rows_of}
-use Rattle.cov_serve.specs.States.{State}
+use Rattle.cov_serve.specs.Jobs.{history_after, line_turns, replies, rows_of, served_demo}
+use Rattle.cov_serve.specs.Program.{demo_line}
+use Rattle.cov_serve.specs.States.{State, starting}
 use Rattle.cov_serve.specs.Step.{Done, acted, as_outcome, refused, served, step}
 
 told_so : (st : State) (act : Found Done) → (as_outcome st act).is_refused ≡ true → (as_outcome st act).reply ≢ []
@@ -67,3 +71,16 @@ abbrev pub TurnsAreAnswers : Type 0
 TurnsAreAnswers = (st : State) (ls : List (List ℕ)) → (replies (line_turns st ls) ≡ (answers step st ls).reply)
     × (rows_of (line_turns st ls) ≡ (answers step st ls).rows)
     × (history_after st.history (line_turns st ls) ≡ (answers step st ls).state.history)
+
+-- what a number's script comes to is what the lines of its text are answered: the replies of its checkouts and a last line, all rows,
+-- and the history after them
+abbrev pub DemosAreScripts : Type 0
+DemosAreScripts = (history : List Command) (number : ℕ) →
+    let all = answers step (starting history) (lines_of (demo_text number)) in
+    let made = answers step (starting history) (lines_of (made_lines number)) in
+    let told = answers step made.state (lines_of checkout_lines) in
+    let turns = (served_demo history number).turns in
+    (all.reply ≡ made.reply ++ told.reply)
+    × (replies turns ≡ told.reply ++ demo_line number)
+    × (rows_of turns ≡ all.rows)
+    × (history_after history turns ≡ all.state.history)

@@ -15,5 +15,6 @@ pub mod Statuses
 pub mod Step
 pub mod Storing
 pub mod Sweeping
+pub mod TextServing
 pub mod Texts
 pub mod Written

@@ -1,5 +1,5 @@
 -- What a run of the program promises.
-use Rattle.std.specs.Prelude.{◌≡◌, ℕ, Bool, true, false, List, [], ◌∷◌, ◌++◌, length, Option, Some, None, codes}
+use Rattle.std.specs.Prelude.{◌≡◌, ℕ, Bool, true, false, List, [], ◌∷◌, ◌++◌, length, Option, Some, None, codes, if◌then◌else◌}
 use Rattle.std.specs.Fmt.{decimal}
 use Rattle.std.specs.Str.{bytes_eq}
 use Rattle.cov_base.specs.Causes.{Rose}
@@ -8,6 +8,7 @@ use Rattle.cov_io.specs.Devices.{AppendsAll, AppendsSome}
 use Rattle.cov_io.specs.Progress.{Progress}
 use Rattle.cov_loop.specs.Counts.{Counts}
 use Rattle.cov_loop.specs.Turns.{TooMuchSince}
+use Rattle.cov_script.specs.Fields.{long_number_of}
 use Rattle.cov_script.specs.Replies.{code_text, IsCodeOf}
 use Rattle.cov_codes.specs.Codes.{refusal_code}
 use Rattle.cov_serve.specs.declared.status.Status.{Status}
@@ -25,11 +26,20 @@ is_lone wanted words = false
 
 -- what is written where the words are of no form
 abbrev pub usage_line : List ℕ
-usage_line = codes "usage: covstore run | check\n"
+usage_line = codes "usage: covstore run | check | demo N\n"
 
 -- what is written where a store is whole
 abbrev pub check_line : List Command → List ℕ
 check_line history = codes "ok " ++ (decimal (length history) ++ codes " records\n")
+
+-- the number behind the word demo, if the words are these two
+abbrev pub demo_number : List (List ℕ) → Option ℕ
+demo_number (word ∷ number ∷ []) = if bytes_eq word (codes "demo") then long_number_of number else None
+demo_number words = None
+
+-- what is written where the script that a number stands for was served
+abbrev pub demo_line : ℕ → List ℕ
+demo_line number = codes "ok demo " ++ (decimal number ++ codes "\n")
 
 -- the words that tell what is wrong with a record
 abbrev pub cause_text : List (List ℕ) → StoreDamage → List ℕ
@@ -119,3 +129,12 @@ StopsServing old new statuses.DiskFault = Rose old.disk new.disk
 StopsServing old new statuses.TreesFault = Rose old.trees new.trees
 StopsServing old new statuses.TooMuch = TooMuchSince at_first old new
 StopsServing old new status = ⊥
+
+-- why the run of the script that a number stands for ends as it does
+abbrev pub StopsDemo : Status → ℕ → ℕ → ℕ → ℕ → ℕ → ℕ → Type 0
+StopsDemo statuses.Done sink sink' disk disk' trees trees' = Unit {0}
+StopsDemo statuses.NoMemory sink sink' disk disk' trees trees' = Unit {0}
+StopsDemo statuses.WriteFault sink sink' disk disk' trees trees' = Rose sink sink'
+StopsDemo statuses.DiskFault sink sink' disk disk' trees trees' = Rose disk disk'
+StopsDemo statuses.TreesFault sink sink' disk disk' trees trees' = Rose trees trees'
+StopsDemo status sink sink' disk disk' trees trees' = ⊥

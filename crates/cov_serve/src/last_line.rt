@@ -1,9 +1,9 @@
-// The lines that end a run: how many records a store has, and why one can't be opened.
+// The lines that end a run: how many records a store has, which script was served, and why a store can't be opened.
 ghost use Rattle.std.specs.Prelude.{◌≡◌, ◌≢◌, ◌≤◌, ◌++◌, List, ℕ, IfOk, OnOk, codes, length};
 ghost use Rattle.cov_edit.specs.declared.command.Command.{Command};
 ghost use Rattle.cov_script.specs.Replies.{code_text, IsCodeOf};
 ghost use Rattle.cov_codes.specs.Codes.{refusal_code};
-ghost use Rattle.cov_serve.specs.Program.{cause_text, check_line, damaged_line, DamageCanBeTold, IsCauseOf, PutsLast, TellsFault};
+ghost use Rattle.cov_serve.specs.Program.{cause_text, check_line, damaged_line, demo_line, DamageCanBeTold, IsCauseOf, PutsLast, TellsFault};
 ghost use Rattle.cov_serve.specs.declared.status.Status.TheVariants.{Damaged, WriteFault};
 
 use crate::status::Status;
@@ -76,6 +76,13 @@ pub(crate) fn check_line(alloc: Global, count: Position) -> Result<Text, Memory>
 {
     let count = count.number();
     Ok(Text::from(format!(in alloc; "ok {count} records\n")?))
+}
+
+/// The line that tells that the script was served that a number stands for.
+pub(crate) fn demo_line(alloc: Global, number: u64) -> Result<Text, Memory>
+    ensures { IfOk result (λ line. line ≡ demo_line number) }
+{
+    Ok(Text::from(format!(in alloc; "ok demo {number}\n")?))
 }
 
 // The line that tells which record is damaged, and how.

@@ -1,6 +1,6 @@
 //! Laws of what a script is answered. Each function does nothing; what it ensures is the law.
 ghost use Rattle.cov_serve.specs.Isolation.{SessionsAreIsolated, SessionsBeginNow};
-ghost use Rattle.cov_serve.specs.Laws.{FormsAreAnswered, TurnsAreAnswers};
+ghost use Rattle.cov_serve.specs.Laws.{DemosAreScripts, FormsAreAnswered, TurnsAreAnswers};
 
 /// What a session is answered is a function of it, of the history up to its base and of its own lines, whatever others do.
 pub fn sessions_are_isolated()
@@ -20,4 +20,10 @@ pub fn forms_are_answered()
 /// The turns of a script are what its lines are answered: the same replies and rows, in order, and the same history after them.
 pub fn turns_are_answers()
     ensures { TurnsAreAnswers }
+{}
+
+/// What a number's script comes to is what the lines of its text are answered: the replies of its checkouts and a last line, all rows, and
+/// the history after them.
+pub fn demos_are_scripts()
+    ensures { DemosAreScripts }
 {}

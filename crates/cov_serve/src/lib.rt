@@ -4,6 +4,7 @@
 mod adding;
 mod answering;
 mod declaring;
+mod demo;
 mod editing;
 mod finding;
 mod handled;
@@ -22,6 +23,8 @@ mod state;
 mod status;
 mod sweeping;
 mod telling;
+mod text_serving;
+mod text_source;
 mod tree_names;
 mod writing;
 

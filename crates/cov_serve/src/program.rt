@@ -1,5 +1,5 @@
 // The program: what its words say is done with the devices that it is handed.
-ghost use Rattle.std.specs.Prelude.{◌≡◌, ◌⊎◌, ◌≤◌, ◌++◌, Bool, true, false, List, [], ℕ, Some, IfSome, length};
+ghost use Rattle.std.specs.Prelude.{◌≡◌, ◌⊎◌, ◌≤◌, ◌<◌, ◌++◌, Bool, true, false, List, [], ℕ, Some, IfSome, length};
 ghost use Rattle.cov_base.specs.Lines.{lines_of};
 ghost use Rattle.cov_disk.specs.Images.{LeavesOnly};
 ghost use Rattle.cov_edit.specs.declared.command.Command.{Command};
@@ -9,13 +9,14 @@ ghost use Rattle.cov_loop.specs.Counts.{Later, counts};
 ghost use Rattle.cov_loop.specs.Keeping.{AreAll};
 ghost use Rattle.cov_loop.specs.Turns.{RowsComeFirst, WritesFront};
 ghost use Rattle.cov_out.specs.declared.row.OutRow.{OutRow};
-ghost use Rattle.cov_serve.specs.Jobs.{ComesTo, EndsAs, IsCaused, IsSettled, IsShort, JobOutcome, NoneRose, OnEnd, RowsPrecede, StandsForFront, StandsForTold, StartsFrom, TellsUnopened, history_after, job_of, opens_disk, outcome, reads_source, replies, rows_of, served_script, writes_trees};
+ghost use Rattle.cov_serve.specs.Jobs.{ComesTo, EndsAs, IsCaused, IsSettled, IsShort, JobOutcome, NoneRose, OnEnd, RowsPrecede, StandsForFront, StandsForTold, StartsFrom, TellsUnopened, history_after, job_of, opens_disk, outcome, reads_source, replies, rows_of, served_script, stores_first, writes_trees};
 ghost use Rattle.cov_serve.specs.Program.{OnServed, OnUnopened, PutsLast, ReadsAs, StopsServing, check_line};
 ghost use Rattle.cov_serve.specs.States.{starting};
 ghost use Rattle.cov_serve.specs.Step.{model, step};
 ghost use Rattle.cov_serve.specs.declared.status.Status.TheVariants.{Done, NoMemory};
 ghost use Rattle.cov_store.specs.Stands.{StandsFor, IsStored, gate_of};
 
+use crate::demo::serve_demo;
 use crate::job::{Job, StoreJob, job_of};
 use crate::last_line::{check_line, put_last, tell_fault};
 use crate::server::Server;
@@ -28,11 +29,11 @@ use cov_out::Trees;
 use std::alloc::Global;
 
 /// The line that tells the words.
-const USAGE: &[u8] = b"usage: covstore run | check\n";
+const USAGE: &[u8] = b"usage: covstore run | check | demo N\n";
 
 /// Does what the words after the program's name say. `run` opens the store and serves the script, line by line: stores what a line
 /// adds, writes its rows of trees, one call each, and then puts its reply in one call. `check` opens the store, and tells how many
-/// records it has. A store that can't be opened is told in one line. All else writes the usage line. The first failing call ends the
+/// records it has. `demo N` serves the script that the number N stands for, and tells what its checkouts are replied. A store that can't be opened is told in one line. All else writes the usage line. The first failing call ends the
 /// run. Want of memory may come at any moment.
 pub fn run<S: Source, K: Sink, D: Disk, T: Trees>(
     alloc: Global,
@@ -95,6 +96,17 @@ pub fn run<S: Source, K: Sink, D: Disk, T: Trees>(
         AreAll (StandsForTold history (outcome (job_of words.now) history text).turns bytes)
         (D.images disk.new) }
 
+    // Where a job stores all that it adds before it writes a byte, a crash leaves all of it once a byte is written.
+    ensures stored_first { (history : List Command) (text before bytes : List ℕ) →
+        AreAll (λ image. StandsFor image history) (D.images disk.old) →
+        StartsFrom (job_of words.now) (D.contents disk.old) (S.left script.old) history text →
+        stores_first (job_of words.now) ≡ true →
+        K.written out.old ≡ Some before → K.written out.new ≡ Some (before ++ bytes) →
+        0 < length bytes →
+        AreAll (λ image. StandsFor image
+        (history_after history (outcome (job_of words.now) history text).turns))
+        (D.images disk.new) }
+
     // What the job has nothing to do with is as before; so are the source and the trees where the store can't be opened.
     ensures unread { reads_source (job_of words.now) ≡ false → script.new ≡ script.old }
     ensures unwritten { writes_trees (job_of words.now) ≡ false → trees.new ≡ trees.old }
@@ -132,6 +144,7 @@ pub fn run<S: Source, K: Sink, D: Disk, T: Trees>(
             Ok(server) => match job {
                 StoreJob::Run => serve_opened(alloc, server, script, out, disk, trees),
                 StoreJob::Check => put_checked(alloc, server, out),
+                StoreJob::Demo(number) => serve_demo(alloc, server, number, out, disk, trees),
             },
             Err(fault) => tell_fault(alloc, fault, out),
         },

@@ -17,12 +17,16 @@ const UNTOUCHED: Fails = Fails {
 };
 
 /// Words of no form.
-const WORDS: [&[&str]; 8] = [
+const WORDS: [&[&str]; 12] = [
     &[],
     &["run", "x"],
     &["check", "x"],
+    &["demo"],
     &["demo", "07"],
     &["demo", "-1"],
+    &["demo", "+1"],
+    &["demo", "18446744073709551616"],
+    &["demo", "1", "2"],
     &["--help"],
     &["--version"],
     &["Run"],
@@ -34,7 +38,7 @@ fn other_words_are_told_the_words(rt: HostRuntime) -> Result<(), Fail> {
         let case = Case {
             words,
             script: b"option a\n",
-            replies: b"usage: covstore run | check\n",
+            replies: b"usage: covstore run | check | demo N\n",
             rows: &[],
         };
         let end = end_from(rt.alloc(), &case, UNTOUCHED, &EMPTY, &EMPTY)?;

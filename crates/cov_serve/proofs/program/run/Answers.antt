@@ -1,4 +1,4 @@
-use Rattle.std.proofs.Common.{◌≡◌, ◌∙◌, ◌⊎◌, refl, sym, ap, subst, ℕ, Bool, List, [], ◌++◌, Some, IfSome}
+use Rattle.std.proofs.Common.{◌≡◌, ◌∙◌, ◌⊎◌, refl, sym, ap, subst, arith, ℕ, Bool, List, [], ◌++◌, length, Some, IfSome}
 use Rattle.std.proofs.lemmas.Bool.{false≢true}
 use Rattle.cov_disk.specs.Images.{LeavesOnly}
 use Rattle.cov_base.specs.Lines.{lines_of}
@@ -7,22 +7,22 @@ use Rattle.cov_journal.proofs.CallerLemmas.{joined, some_to, started}
 use Rattle.cov_loop.specs.Counts.{Counts, counts}
 use Rattle.cov_loop.specs.Keeping.{AreAll}
 use Rattle.cov_loop.specs.Turns.{WritesFront}
-use Rattle.cov_serve.specs.Jobs.{ComesTo, EndsAs, IsCaused, IsSettled, IsShort, JobOutcome, NoneRose, OnEnd, RowsPrecede, StandsForFront, StandsForTold, StartsFrom, history_after, job_of, opens_disk, outcome, reads_source, replies, rows_of, served_script, served_status, writes_trees}
-use Rattle.cov_serve.specs.Program.{OnServed, PutsLast, ReadsAs, StopsServing, check_line, usage_line}
+use Rattle.cov_serve.specs.Jobs.{ComesTo, EndsAs, IsCaused, IsSettled, IsShort, JobOutcome, NoneRose, OnEnd, RowsPrecede, StandsForFront, StandsForTold, StartsFrom, history_after, job_of, opens_disk, outcome, reads_source, replies, rows_of, served_demo, served_script, served_status, stores_first, writes_trees}
+use Rattle.cov_serve.specs.Program.{OnServed, PutsLast, ReadsAs, StopsDemo, StopsServing, check_line, usage_line}
 use Rattle.cov_serve.specs.States.{State, starting}
 use Rattle.cov_serve.specs.Step.{model}
 use Rattle.cov_serve.specs.declared.job.Job.TheVariants.{OnStore, Unknown}
-use Rattle.cov_serve.specs.declared.job.StoreJob.TheVariants.{Run, Check}
+use Rattle.cov_serve.specs.declared.job.StoreJob.TheVariants.{Run, Check, Demo}
 use Rattle.cov_serve.specs.declared.status.Status.TheVariants.{Done, Usage, NoMemory}
 use Rattle.cov_store.specs.Stands.{IsStored, StandsFor}
 use Rattle.cov_serve.proofs.Crashing.{front_first}
-use Rattle.cov_serve.proofs.Jobs.{Fell, Serves, check_tells, failed, failed_ends, failed_front, failed_rows, failed_rows_first, failed_unless, failed_whole, front_at_start, reads_of, served_caused, served_end, served_kept, served_on, served_unless, serves, stopped_stands, told_at_start, usage_is, usage_tells}
+use Rattle.cov_serve.proofs.Jobs.{Demonstrates, Fell, Serves, check_tells, demo_caused, demo_end, demo_kept, demo_later, demo_unless, demonstrates, failed, failed_ends, failed_front, failed_rows, failed_rows_first, failed_unless, failed_whole, front_at_start, reads_of, served_caused, served_done, served_end, served_kept, served_on, served_unless, serves, stopped_stands, told_at_start, usage_is, usage_tells}
 use Rattle.cov_serve.proofs.Runs.{leaves_weaker, none_more, serving_later}
 use Rattle.cov_serve.proofs.Turns.{front_served, front_stands_told, last_is, replies_as, rows_as, rows_precede, rows_served, told_stands_told}
 use Rattle.cov_serve.proofs.Unopened.{Fails, IsCut, Tells, can_be_told, fails_stops, fault_caused, fault_kept, line_caused, line_kept, line_unless, none_written, not_unopened, reads_as, reads_gives, tells_ends, tells_front, tells_rows, tells_rows_first, tells_unless, tells_whole}
 use Rattle.cov_serve.proofs.program.run.Given.{Over}
 use Rattle.cov_serve.proofs.program.run.Goals as goal
-use Rattle.cov_serve.proofs.program.run.Goals.{After-serve_opened, After-put_checked, After-tell_fault, After-put_last}
+use Rattle.cov_serve.proofs.program.run.Goals.{After-serve_opened, After-serve_demo, After-put_checked, After-tell_fault, After-put_last}
 
 pub tell_fault-requires : goal.tell_fault-requires
 tell_fault-requires g c = can_be_told c.in-Err.fault c.in-Err.ensures.verdict
@@ -155,6 +155,10 @@ returns-in-Run-clause-acknowledged g c history text before bytes images starts w
     subst (λ j. StandsForTold history (outcome j history text).turns bytes image) (sym (run_is g arm))
     (arm.serve_opened.ensures.acknowledged history text before bytes begins of.1 (run_stored g arm history begins) wrote writes image now)
 
+pub returns-in-Run-clause-stored_first : goal.returns-in-Run-clause-stored_first
+returns-in-Run-clause-stored_first g c history text before bytes images starts first wrote writes some image now =
+    absurd (false≢true (sym (ap stores_first (run_is g (goal.at.returns-in-Run-clause-stored_first g c).After-serve_opened)) ∙ first))
+
 pub returns-in-Run-clause-unread : goal.returns-in-Run-clause-unread
 returns-in-Run-clause-unread g c unless = absurd (false≢true (sym unless ∙ ap reads_source (run_is g (goal.at.returns-in-Run-clause-unread g c).After-serve_opened)))
 
@@ -247,6 +251,13 @@ returns-in-Check-clause-acknowledged g c history text before bytes images starts
     (told_stands_told Done (check_line history) history bytes image
     (run.each image (g.met.D.Disk.counts_now arm.open.new.disk (g.D.Disk.moment arm.args.disk.now) image run.later now)))
 
+pub returns-in-Check-clause-stored_first : goal.returns-in-Check-clause-stored_first
+returns-in-Check-clause-stored_first g c history text before bytes images starts first wrote writes some image now =
+    let arm = (goal.at.returns-in-Check-clause-stored_first g c).After-put_checked in
+    let run = arm.open.ensures.any_moment history images in
+    subst (λ j. StandsFor image (history_after history (outcome j history text).turns)) (sym (check_is g arm))
+    (run.each image (g.met.D.Disk.counts_now arm.open.new.disk (g.D.Disk.moment arm.args.disk.now) image run.later now))
+
 pub returns-in-Check-clause-untouched : goal.returns-in-Check-clause-untouched
 returns-in-Check-clause-untouched g c unless = absurd (false≢true (sym unless ∙ ap opens_disk (check_is g (goal.at.returns-in-Check-clause-untouched g c).After-put_checked)))
 
@@ -262,6 +273,157 @@ pub returns-in-Check-clause-complete : goal.returns-in-Check-clause-complete
 returns-in-Check-clause-complete g c all comes short none =
     let arm = (goal.at.returns-in-Check-clause-complete g c).After-put_checked in
     tells_unless (check_told g arm all comes) none.sink (λ rose. none.disk (ap opens_disk (check_is g arm)) rose)
+
+-- the script that a number stands for is served: its job, what that begins with, and why the serving ends
+demo_is : (g : Over) (c : After-serve_demo g) → job_of c.args.words.now ≡ OnStore (Demo c.in-Demo.number)
+demo_is g c = sym c.job_of.ensures ∙ c.in-OnStore.is ∙ ap OnStore c.in-Demo.is
+
+demo_reads : (g : Over) (c : After-serve_demo g) (history : List Command) (text : List ℕ)
+    → StartsFrom (job_of c.args.words.now) (g.D.Disk.contents c.args.disk.now) (g.S.Source.left c.args.script.now) history text → ReadsAs (g.D.Disk.contents c.args.disk.now) history
+demo_reads g c history text starts = subst (λ j. StartsFrom j (g.D.Disk.contents c.args.disk.now) (g.S.Source.left c.args.script.now) history text) (demo_is g c) starts
+
+demo_serves : (g : Over) (c : After-serve_demo g) (all : JobOutcome) → ComesTo (job_of c.args.words.now) (g.D.Disk.contents c.args.disk.now) (g.S.Source.left c.args.script.now) all
+    → Demonstrates (g.D.Disk.contents c.args.disk.now) c.in-Demo.number all
+demo_serves g c all comes =
+    let contents = g.D.Disk.contents c.args.disk.now in
+    let left = g.S.Source.left c.args.script.now in
+    demonstrates c.in-Demo.number contents left all (subst (λ j. ComesTo j contents left all) (demo_is g c) comes) (not_unopened contents all c.in-Ok.ensures.no_store c.in-Ok.ensures.damage)
+
+demo_begins : (g : Over) (c : After-serve_demo g) (history : List Command) → ReadsAs (g.D.Disk.contents c.args.disk.now) history → c.in-Ok.server.state ≡ starting history
+demo_begins g c history reads = reads_gives (g.D.Disk.contents c.args.disk.now) history (c.in-Ok.server.state ≡ starting history) reads (c.in-Ok.ensures.stands history)
+
+demo_stored : (g : Over) (c : After-serve_demo g) (history : List Command) → c.in-Ok.server.state ≡ starting history → AreAll (λ image. IsStored image history) (g.D.Disk.images c.open.new.disk)
+demo_stored g c history begins image now = subst (λ (h : List Command). IsStored image h) (ap (λ (s : State). s.history) begins) (c.in-Ok.ensures.stored image now)
+
+demo_stops : (g : Over) (c : After-serve_demo g)
+    → StopsDemo c.serve_demo.result (g.K.Sink.faults c.args.out.now) (g.K.Sink.faults c.serve_demo.new.out) (g.D.Disk.faults c.args.disk.now) (g.D.Disk.faults c.serve_demo.new.disk) (g.T.Trees.faults c.args.trees.now) (g.T.Trees.faults c.serve_demo.new.trees)
+demo_stops g c =
+    demo_later (g.K.Sink.faults c.args.out.now) (g.K.Sink.faults c.serve_demo.new.out) (g.D.Disk.faults c.args.disk.now) (g.D.Disk.faults c.open.new.disk) (g.D.Disk.faults c.serve_demo.new.disk) (g.T.Trees.faults c.args.trees.now) (g.T.Trees.faults c.serve_demo.new.trees)
+    c.serve_demo.result c.open.ensures.later c.serve_demo.ensures.stopped
+
+demo_ends : (g : Over) (c : After-serve_demo g) (P : Type 0) → (c.serve_demo.result ≡ Done → P) → OnEnd c.serve_demo.result P
+demo_ends g c P to =
+    demo_end (g.K.Sink.faults c.args.out.now) (g.K.Sink.faults c.serve_demo.new.out) (g.D.Disk.faults c.args.disk.now) (g.D.Disk.faults c.serve_demo.new.disk) (g.T.Trees.faults c.args.trees.now) (g.T.Trees.faults c.serve_demo.new.trees)
+    c.serve_demo.result P (demo_stops g c) to
+
+pub returns-in-Demo-clause-ends : goal.returns-in-Demo-clause-ends
+returns-in-Demo-clause-ends g c all comes =
+    let arm = (goal.at.returns-in-Demo-clause-ends g c).After-serve_demo in
+    let s = demo_serves g arm all comes in
+    let status = arm.serve_demo.result in
+    let left = g.S.Source.left arm.args.script.now in
+    demo_ends g arm (EndsAs all status left) (λ e. subst (λ o. EndsAs o status left) (sym s.is) (record { status_is = e; read = tt }))
+
+pub returns-in-Demo-clause-front : goal.returns-in-Demo-clause-front
+returns-in-Demo-clause-front g c all before comes wrote =
+    let arm = (goal.at.returns-in-Demo-clause-front g c).After-serve_demo in
+    let s = demo_serves g arm all comes in
+    subst (λ o. WritesFront before (replies o.turns) (g.K.Sink.written arm.serve_demo.new.out)) (sym s.is)
+    (arm.serve_demo.ensures.front s.history before (demo_begins g arm s.history s.reads) wrote)
+
+pub returns-in-Demo-clause-whole : goal.returns-in-Demo-clause-whole
+returns-in-Demo-clause-whole g c all before comes wrote =
+    let arm = (goal.at.returns-in-Demo-clause-whole g c).After-serve_demo in
+    let s = demo_serves g arm all comes in
+    let status = arm.serve_demo.result in
+    let written = g.K.Sink.written arm.serve_demo.new.out in
+    demo_ends g arm (written ≡ Some (before ++ replies all.turns))
+    (λ e. subst (λ o. written ≡ Some (before ++ replies o.turns)) (sym s.is)
+    (served_done status (written ≡ Some (before ++ replies (served_demo s.history arm.in-Demo.number).turns)) (arm.serve_demo.ensures.whole s.history before (demo_begins g arm s.history s.reads) wrote) e))
+
+pub returns-in-Demo-clause-rows : goal.returns-in-Demo-clause-rows
+returns-in-Demo-clause-rows g c all before comes grew =
+    let arm = (goal.at.returns-in-Demo-clause-rows g c).After-serve_demo in
+    let s = demo_serves g arm all comes in
+    subst (λ o. WritesFront before (rows_of o.turns) (g.T.Trees.rows arm.serve_demo.new.trees)) (sym s.is)
+    (arm.serve_demo.ensures.rows s.history before (demo_begins g arm s.history s.reads) grew)
+
+pub returns-in-Demo-clause-rows_whole : goal.returns-in-Demo-clause-rows_whole
+returns-in-Demo-clause-rows_whole g c all before comes grew =
+    let arm = (goal.at.returns-in-Demo-clause-rows_whole g c).After-serve_demo in
+    let s = demo_serves g arm all comes in
+    let status = arm.serve_demo.result in
+    let grown = g.T.Trees.rows arm.serve_demo.new.trees in
+    demo_ends g arm (grown ≡ Some (before ++ rows_of all.turns))
+    (λ e. subst (λ o. grown ≡ Some (before ++ rows_of o.turns)) (sym s.is)
+    (served_done status (grown ≡ Some (before ++ rows_of (served_demo s.history arm.in-Demo.number).turns)) (arm.serve_demo.ensures.rows_whole s.history before (demo_begins g arm s.history s.reads) grew) e))
+
+pub returns-in-Demo-clause-rows_first : goal.returns-in-Demo-clause-rows_first
+returns-in-Demo-clause-rows_first g c all before rows comes wrote grew =
+    let arm = (goal.at.returns-in-Demo-clause-rows_first g c).After-serve_demo in
+    let s = demo_serves g arm all comes in
+    subst (λ o. RowsPrecede o.turns before rows (g.K.Sink.written arm.serve_demo.new.out) (g.T.Trees.rows arm.serve_demo.new.trees)) (sym s.is)
+    (arm.serve_demo.ensures.rows_first s.history before rows (demo_begins g arm s.history s.reads) wrote grew)
+
+pub returns-in-Demo-clause-stands : goal.returns-in-Demo-clause-stands
+returns-in-Demo-clause-stands g c history text reads starts settled =
+    let arm = (goal.at.returns-in-Demo-clause-stands g c).After-serve_demo in
+    let begins = demo_begins g arm history reads in
+    let after = g.D.Disk.contents arm.serve_demo.new.disk in
+    subst (λ j. IfSome after (λ image. StandsFor image (history_after history (outcome j history text).turns))) (sym (demo_is g arm))
+    (served_on arm.serve_demo.result (IfSome after (λ image. StandsFor image (history_after history (served_demo history arm.in-Demo.number).turns)))
+    (arm.serve_demo.ensures.stands history begins (subst (λ (h : List Command). IfSome (g.D.Disk.contents arm.open.new.disk) (λ image. IsStored image h)) (ap (λ (s : State). s.history) begins) arm.in-Ok.ensures.written))
+    (subst (λ j. IsSettled j arm.serve_demo.result) (demo_is g arm) settled))
+
+pub returns-in-Demo-clause-kept : goal.returns-in-Demo-clause-kept
+returns-in-Demo-clause-kept g c =
+    let arm = (goal.at.returns-in-Demo-clause-kept g c).After-serve_demo in
+    demo_kept (g.K.Sink.faults arm.args.out.now) (g.K.Sink.faults arm.serve_demo.new.out) (g.D.Disk.faults arm.args.disk.now) (g.D.Disk.faults arm.serve_demo.new.disk) (g.T.Trees.faults arm.args.trees.now) (g.T.Trees.faults arm.serve_demo.new.trees)
+    arm.serve_demo.result (IfSome (g.D.Disk.contents arm.args.disk.now) (λ image. g.D.Disk.contents arm.serve_demo.new.disk ≡ Some image)) (demo_stops g arm)
+
+pub returns-in-Demo-clause-any_moment : goal.returns-in-Demo-clause-any_moment
+returns-in-Demo-clause-any_moment g c history text images starts =
+    let arm = (goal.at.returns-in-Demo-clause-any_moment g c).After-serve_demo in
+    let begins = demo_begins g arm history (demo_reads g arm history text starts) in
+    let front = StandsForFront history (served_demo history arm.in-Demo.number).turns in
+    subst (λ j. LeavesOnly g.D.Disk.moment g.D.Disk.images_since arm.args.disk.now arm.serve_demo.new.disk (StandsForFront history (outcome j history text).turns)) (sym (demo_is g arm))
+    (joined g.D.Disk.moment g.D.Disk.images_since arm.args.disk.now arm.open.new.disk arm.serve_demo.new.disk front
+    (leaves_weaker g.D.Disk.moment g.D.Disk.images_since arm.args.disk.now arm.open.new.disk (λ image. StandsFor image history) front (front_at_start (Demo arm.in-Demo.number) history text) (arm.open.ensures.any_moment history images))
+    (arm.serve_demo.ensures.any_moment history begins (demo_stored g arm history begins)))
+
+pub returns-in-Demo-clause-acknowledged : goal.returns-in-Demo-clause-acknowledged
+returns-in-Demo-clause-acknowledged g c history text before bytes images starts wrote writes image now =
+    let arm = (goal.at.returns-in-Demo-clause-acknowledged g c).After-serve_demo in
+    let begins = demo_begins g arm history (demo_reads g arm history text starts) in
+    subst (λ j. StandsForTold history (outcome j history text).turns bytes image) (sym (demo_is g arm))
+    (arm.serve_demo.ensures.acknowledged history before bytes begins (demo_stored g arm history begins) wrote writes image now)
+
+pub returns-in-Demo-clause-stored_first : goal.returns-in-Demo-clause-stored_first
+returns-in-Demo-clause-stored_first g c history text before bytes images starts first wrote writes some image now =
+    let arm = (goal.at.returns-in-Demo-clause-stored_first g c).After-serve_demo in
+    let begins = demo_begins g arm history (demo_reads g arm history text starts) in
+    subst (λ j. StandsFor image (history_after history (outcome j history text).turns)) (sym (demo_is g arm))
+    (arm.serve_demo.ensures.stored_first history before bytes begins (demo_stored g arm history begins) wrote writes some image now)
+
+pub returns-in-Demo-clause-unwritten : goal.returns-in-Demo-clause-unwritten
+returns-in-Demo-clause-unwritten g c unless = absurd (false≢true (sym unless ∙ ap writes_trees (demo_is g (goal.at.returns-in-Demo-clause-unwritten g c).After-serve_demo)))
+
+pub returns-in-Demo-clause-untouched : goal.returns-in-Demo-clause-untouched
+returns-in-Demo-clause-untouched g c unless = absurd (false≢true (sym unless ∙ ap opens_disk (demo_is g (goal.at.returns-in-Demo-clause-untouched g c).After-serve_demo)))
+
+pub returns-in-Demo-clause-unopened : goal.returns-in-Demo-clause-unopened
+returns-in-Demo-clause-unopened g c all opens tells = absurd (not_unopened (g.D.Disk.contents c.args.disk.now) all c.in-Ok.ensures.no_store c.in-Ok.ensures.damage tells)
+
+abbrev demo_old : (g : Over) → After-serve_demo g → Counts
+demo_old g c = counts (g.S.Source.faults c.args.script.now) (g.K.Sink.faults c.args.out.now) (g.D.Disk.faults c.args.disk.now) (g.T.Trees.faults c.args.trees.now) (g.S.Source.given c.args.script.now) (g.S.Source.ends c.args.script.now)
+
+abbrev demo_new : (g : Over) → After-serve_demo g → Counts
+demo_new g c = counts (g.S.Source.faults c.args.script.now) (g.K.Sink.faults c.serve_demo.new.out) (g.D.Disk.faults c.serve_demo.new.disk) (g.T.Trees.faults c.serve_demo.new.trees) (g.S.Source.given c.args.script.now) (g.S.Source.ends c.args.script.now)
+
+pub returns-in-Demo-clause-cause : goal.returns-in-Demo-clause-cause
+returns-in-Demo-clause-cause g c =
+    let arm = (goal.at.returns-in-Demo-clause-cause g c).After-serve_demo in
+    let contents = g.D.Disk.contents arm.args.disk.now in
+    subst (λ j. IsCaused j contents (demo_old g arm) (demo_new g arm) arm.serve_demo.result) (sym (demo_is g arm))
+    (demo_caused arm.in-Demo.number contents (demo_old g arm) (demo_new g arm) arm.serve_demo.result (demo_stops g arm))
+
+pub returns-in-Demo-clause-complete : goal.returns-in-Demo-clause-complete
+returns-in-Demo-clause-complete g c all comes short none =
+    let arm = (goal.at.returns-in-Demo-clause-complete g c).After-serve_demo in
+    let s = demo_serves g arm all comes in
+    subst (λ o. (arm.serve_demo.result ≡ o.status) ⊎ (arm.serve_demo.result ≡ NoMemory)) (sym s.is)
+    (demo_unless arm.in-Demo.number s.history (demo_old g arm) (demo_new g arm) arm.serve_demo.result (demo_stops g arm)
+    (subst (λ j. NoneRose j (served_demo s.history arm.in-Demo.number) (demo_old g arm) (demo_new g arm)) (demo_is g arm) (subst (λ o. NoneRose (job_of arm.args.words.now) o (demo_old g arm) (demo_new g arm)) s.is none)))
 
 -- a store isn't opened: its job, why it isn't, and what is told of it
 opening_is : (g : Over) (c : After-tell_fault g) → job_of c.args.words.now ≡ OnStore c.in-OnStore.job
@@ -345,6 +507,12 @@ returns-in-Err-clause-acknowledged g c history text before bytes images starts w
     (sym (none_more before bytes (g.K.Sink.written arm.args.out.now) (g.K.Sink.written arm.tell_fault.new.out) stop.1 wrote writes))
     (told_at_start arm.in-OnStore.job history text image stands))
 
+pub returns-in-Err-clause-stored_first : goal.returns-in-Err-clause-stored_first
+returns-in-Err-clause-stored_first g c history text before bytes images starts first wrote writes some image now =
+    let arm = (goal.at.returns-in-Err-clause-stored_first g c).After-tell_fault in
+    let stop = opening_cut g arm history text starts in
+    absurd (omega (arith, some, ap length (none_more before bytes (g.K.Sink.written arm.args.out.now) (g.K.Sink.written arm.tell_fault.new.out) stop.1 wrote writes)))
+
 pub returns-in-Err-clause-untouched : goal.returns-in-Err-clause-untouched
 returns-in-Err-clause-untouched g c unless = absurd (false≢true (sym unless ∙ ap opens_disk (opening_is g (goal.at.returns-in-Err-clause-untouched g c).After-tell_fault)))
 
@@ -412,6 +580,11 @@ pub returns-in-Unknown-clause-acknowledged : goal.returns-in-Unknown-clause-ackn
 returns-in-Unknown-clause-acknowledged g c history text before bytes images starts wrote writes image now =
     subst (λ j. StandsForTold history (outcome j history text).turns bytes image) (sym (unknown_is g (goal.at.returns-in-Unknown-clause-acknowledged g c).After-put_last))
     (told_stands_told Usage usage_line history bytes image (images image now))
+
+pub returns-in-Unknown-clause-stored_first : goal.returns-in-Unknown-clause-stored_first
+returns-in-Unknown-clause-stored_first g c history text before bytes images starts first wrote writes some image now =
+    subst (λ j. StandsFor image (history_after history (outcome j history text).turns)) (sym (unknown_is g (goal.at.returns-in-Unknown-clause-stored_first g c).After-put_last))
+    (images image now)
 
 pub returns-in-Unknown-clause-cause : goal.returns-in-Unknown-clause-cause
 returns-in-Unknown-clause-cause g c =
