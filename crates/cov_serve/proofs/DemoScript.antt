@@ -97,8 +97,7 @@ pub demos-are-scripts : DemosAreScripts
 demos-are-scripts history number =
     let start = starting history in
     let made = made_lines number in
-    let line = demo_line number in
-    (
+    let line = demo_line number in (
       ap (λ ls. (answers step start ls).reply) (lines_are number) ∙ reply_joined (lines_of checkout_lines) start (lines_of made),
       replies_are history made checkout_lines line,
       rows_are history made checkout_lines line ∙ sym (ap (λ ls. (answers step start ls).rows) (lines_are number) ∙ rows_joined (lines_of checkout_lines) start (lines_of made)),

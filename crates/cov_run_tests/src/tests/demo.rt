@@ -17,7 +17,8 @@ const UNREAD: Fails = Fails {
 };
 
 /// What the checkouts are replied, of the script of 7.
-const TOLD: &[u8] = b"ok checkout t0 8 64 ab2060f1a14ddc43f88a437280129362d146fe9675232433e31bbccbc45cf3f8\n\
+const TOLD: &[u8] =
+    b"ok checkout t0 8 64 ab2060f1a14ddc43f88a437280129362d146fe9675232433e31bbccbc45cf3f8\n\
 ok checkout t1 8 64 0c8cf35a5f78932545a6064f74111e5822d7817646461347346b8119fc392a66\n\
 ok checkout t2 8 64 1071af4190549b92e1c8f241c6a32a1a5cf1d60d93fc0faa85f47d1309c12b96\n\
 ok checkout t3 8 64 ad52445590cc1bfbf090a287518ad5f46349d30c88442fff5c1026855a2c7332\n\
@@ -30,7 +31,8 @@ ok checkout t7 8 64 446d51b4398107246c8d8d5bfcff65d4d1e06da3bdd9b1e36413388c059c
 const LAST: &[u8] = b"ok demo 7\n";
 
 /// The checkouts, as a script.
-const CHECKOUTS: &[u8] = b"checkout t0 -\ncheckout t1 o13=on\ncheckout t2 o20=on\ncheckout t3 o27=on\n\
+const CHECKOUTS: &[u8] =
+    b"checkout t0 -\ncheckout t1 o13=on\ncheckout t2 o20=on\ncheckout t3 o27=on\n\
 checkout t4 o34=on\ncheckout t5 o41=on\ncheckout t6 o48=on\ncheckout t7 o55=on\n";
 
 const DEMO: Case = Case {
@@ -74,11 +76,7 @@ fn ends(
 }
 
 // The store that the script leaves is whole, and its checkouts give the same trees again.
-fn all_end(
-    rt: &impl Abort,
-    alloc: Global,
-    disk: &mut MemoryDisk,
-) -> Result<(), Memory> {
+fn all_end(rt: &impl Abort, alloc: Global, disk: &mut MemoryDisk) -> Result<(), Memory> {
     let told = ends(alloc, &DEMO, LAST, UNREAD, disk)?;
     assert_eq!(rt; told, (0, 584, true));
     let counted = ends(alloc, &COUNTED, b"", UNASKED, disk)?;

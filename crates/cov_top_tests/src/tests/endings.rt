@@ -14,7 +14,11 @@ fn other_words_are_told_the_words(rt: HostRuntime) -> Result<(), Fail> {
         &["Run"],
     ];
     for words in others {
-        let case: Case = (b"option a\n", b"usage: covstore run | check | demo N\n", USAGE);
+        let case: Case = (
+            b"option a\n",
+            b"usage: covstore run | check | demo N\n",
+            USAGE,
+        );
         expect(&rt, rt.alloc(), (words, 1, &[1], &[]), case)?;
     }
     expect(

@@ -74,12 +74,17 @@ pub returns-clause-rows_first : goal.returns-clause-rows_first
 returns-clause-rows_first g c before rows wrote grew =
     let step = g.V.LineServer.step in
     let state = g.V.LineServer.state_of c.args.server.now in
-    inl (wrote, front_first_of rows (answers step state (lines_of c.args.made)).rows (answers_after step state c.args.made c.args.told).rows (g.T.Trees.rows c.serve_text-ending.new.trees)
-    (c.serve_text-ending.ensures.rows_prefix rows grew))
+    inl (
+      wrote,
+      front_first_of rows (answers step state (lines_of c.args.made)).rows (answers_after step state c.args.made c.args.told).rows (g.T.Trees.rows c.serve_text-ending.new.trees)
+          (c.serve_text-ending.ensures.rows_prefix rows grew),
+    )
 
 pub returns-clause-acknowledged : goal.returns-clause-acknowledged
 returns-clause-acknowledged g c before bytes all wrote writes image now =
     let written = g.K.Sink.written c.args.out.now in
     let run = c.serve_text-ending.ensures.any_moment all in
-    inl (none_more before bytes written written refl wrote writes,
-    inl (run.each image (g.met.D.Disk.counts_now c.serve_text-ending.new.disk (g.D.Disk.moment c.args.disk.now) image run.later now)))
+    inl (
+      none_more before bytes written written refl wrote writes,
+      inl (run.each image (g.met.D.Disk.counts_now c.serve_text-ending.new.disk (g.D.Disk.moment c.args.disk.now) image run.later now)),
+    )
