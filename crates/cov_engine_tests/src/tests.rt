@@ -1,8 +1,10 @@
 mod declaring;
+mod drawing;
 mod lines;
 mod overtaking;
 mod positions;
 mod refusing;
 mod sides;
 mod steps;
+mod sweeping;
 mod trees;

@@ -140,8 +140,8 @@ pub(crate) fn delete_lines(alloc: Global, engine: &mut Engine) -> Result<(), Fai
     delete(alloc, engine, 6, Some(OptionId::new(0)), 4)
 }
 
-// Whether a line is visible without d and with it.
-fn shown(engine: &Engine, line: u32) -> Option<(bool, bool)> {
+/// Whether a line is visible without d and with it.
+pub(crate) fn shown(engine: &Engine, line: u32) -> Option<(bool, bool)> {
     match engine.vis(LineNo::new(line)) {
         Some(node) => Some((
             engine.table().value(node, Choice::new(0, 1)),

@@ -1,17 +1,11 @@
 //! Random commits, what each position showed when it was the newest, and the files that the engine finds by their paths.
-ghost use Rattle.std.specs.Prelude.{◌≡◌, ◌<◌, true, IfOk};
-ghost use Rattle.cov_base.specs.Spelling.{is_line_text};
-ghost use Rattle.cov_edit.specs.EditFits.{has_line_text};
-
-use crate::tests::steps::{append, close, command};
-use crate::tests::trees::old;
-use cov_base::{
-    Choice, Kind, LineNo, LineRef, Name, NodeNo, NodeRef, OptionId, OptionName, Path, Position,
-    Text,
-};
-use cov_edit::{Command, Edit, Edits};
-use cov_engine::{Counts, Engine, FileFault};
-use cov_view::{View, digest};
+use crate::tests::drawing::{Draws, close_view, digest_at, drawn_edits};
+use crate::tests::steps::{close, command};
+use crate::tests::trees::declare;
+use cov_base::{Choice, Kind, NodeNo, NodeRef, OptionId, Path, Position};
+use cov_edit::Edits;
+use cov_engine::{Engine, FileFault};
+use cov_view::View;
 use std::alloc::Global;
 use std::process::Abort;
 use std::test::Fail;
@@ -19,182 +13,12 @@ use std::test::Fail;
 /// How many commits there are to be.
 const COMMITS: u32 = 200;
 
-/// Numbers that look random, each from the one before.
-#[derive(Drop)]
-struct Draws {
-    state: u64,
-}
-
-impl Draws {
-    fn below(&mut self, limit: u32) -> u32
-        requires { 0 < limit }
-        ensures { result < limit }
-    {
-        self.state = self
-            .state
-            .wrapping_mul(6364136223846793005)
-            .wrapping_add(1442695040888963407);
-        let high = self.state >> 33;
-        (high % u64::from(limit)) as u32
-    }
-}
-
 /// The tree of a choice at a position, by its digest.
 #[derive(Drop)]
 struct Seen {
     at: Position,
     choice: Choice,
     digest: [u8; 32],
-}
-
-fn declare(alloc: Global, engine: &mut Engine, name: &[u8]) -> Result<(), Fail> {
-    let name = OptionName::read(alloc, name)?;
-    append(engine, Command::Option { name })?;
-    Ok(())
-}
-
-fn drawn_node(counts: Counts, draws: &mut Draws) -> NodeRef {
-    old(draws.below(counts.nodes.saturating_add(1)))
-}
-
-fn drawn_line(counts: Counts, draws: &mut Draws) -> LineRef {
-    LineRef::Old(LineNo::new(draws.below(counts.lines.saturating_add(1))))
-}
-
-// The head of a file, or a line.
-fn drawn_anchor(counts: Counts, draws: &mut Draws) -> LineRef {
-    match draws.below(2) {
-        0 => LineRef::Old(LineNo::new(0)),
-        _ => drawn_line(counts, draws),
-    }
-}
-
-fn drawn_name(alloc: Global, draws: &mut Draws) -> Result<Name, Fail> {
-    let names = b"abcdef";
-    let at = draws.below(6) as usize;
-    Ok(Name::read(alloc, &names[at..at + 1])?)
-}
-
-fn text_of(draw: u32) -> &'static [u8]
-    ensures { is_line_text result.now ≡ true }
-{
-    match draw {
-        0 => b"one",
-        1 => b"two",
-        2 => b"three",
-        _ => b"four",
-    }
-}
-
-fn drawn_insert(alloc: Global, counts: Counts, draws: &mut Draws) -> Result<Edit, Fail>
-    ensures { IfOk result (λ edit. has_line_text edit ≡ true) }
-{
-    let file = drawn_node(counts, draws);
-    let after = drawn_anchor(counts, draws);
-    let text = Text::from_slice(alloc, text_of(draws.below(4)))?;
-    Ok(Edit::Insert { file, after, text })
-}
-
-fn drawn_new(alloc: Global, counts: Counts, draws: &mut Draws) -> Result<Edit, Fail>
-    ensures { IfOk result (λ edit. has_line_text edit ≡ true) }
-{
-    let kind = match draws.below(2) {
-        0 => Kind::File,
-        _ => Kind::Dir,
-    };
-    let parent = drawn_node(counts, draws);
-    let name = drawn_name(alloc, draws)?;
-    Ok(Edit::New { kind, parent, name })
-}
-
-fn drawn_rename(alloc: Global, counts: Counts, draws: &mut Draws) -> Result<Edit, Fail>
-    ensures { IfOk result (λ edit. has_line_text edit ≡ true) }
-{
-    let node = drawn_node(counts, draws);
-    let name = drawn_name(alloc, draws)?;
-    Ok(Edit::Rename { node, name })
-}
-
-fn drawn_edit(alloc: Global, counts: Counts, draws: &mut Draws) -> Result<Edit, Fail>
-    ensures { IfOk result (λ edit. has_line_text edit ≡ true) }
-{
-    match draws.below(12) {
-        0 | 1 => drawn_new(alloc, counts, draws),
-        2 => drawn_rename(alloc, counts, draws),
-        3 => Ok(Edit::Move {
-            node: drawn_node(counts, draws),
-            parent: drawn_node(counts, draws),
-        }),
-        4 => Ok(Edit::Remove {
-            node: drawn_node(counts, draws),
-        }),
-        5 | 6 => Ok(Edit::Delete {
-            file: drawn_node(counts, draws),
-            line: drawn_line(counts, draws),
-        }),
-        _ => drawn_insert(alloc, counts, draws),
-    }
-}
-
-// Whether a view takes an edit. Few enough are tried on one that it never has too many nodes or lines.
-fn takes(view: &mut View, edit: &Edit) -> bool {
-    if view.nodes_made() > 99 || view.lines_made() > 99 {
-        return false;
-    }
-    view.apply(edit).is_ok()
-}
-
-fn push_edit(edits: &mut Edits, edit: Edit) -> Result<(), Fail>
-    requires { has_line_text edit ≡ true }
-{
-    Ok(edits.push(edit)?)
-}
-
-fn drop_edit(_: Edit) {}
-
-// Adds an edit, if the view takes it.
-fn add_edit(
-    alloc: Global,
-    view: &mut View,
-    counts: Counts,
-    draws: &mut Draws,
-    edits: &mut Edits,
-) -> Result<(), Fail> {
-    let edit = drawn_edit(alloc, counts, draws)?;
-    if takes(view, &edit) {
-        return push_edit(edits, edit);
-    }
-    drop_edit(edit);
-    Ok(())
-}
-
-fn add_edits(
-    alloc: Global,
-    view: &mut View,
-    counts: Counts,
-    draws: &mut Draws,
-    edits: &mut Edits,
-) -> Result<(), Fail> {
-    'edits: for _ in 0..12 {
-        add_edit(alloc, view, counts, draws, edits)?;
-    }
-    Ok(())
-}
-
-fn close_view(_: View) {}
-
-// What was drawn for the variant of a choice now.
-fn drawn_edits(
-    alloc: Global,
-    engine: &Engine,
-    choice: Choice,
-    draws: &mut Draws,
-    edits: &mut Edits,
-) -> Result<(), Fail> {
-    let mut view = Engine::view(alloc, engine.visible(), choice, engine.position())?;
-    let added = add_edits(alloc, &mut view, engine.counts(), draws, edits);
-    close_view(view);
-    added
 }
 
 // All variants, or those with an option of a choice.
@@ -214,7 +38,7 @@ fn drawn_ambition(choice: Choice, draws: &mut Draws) -> Option<OptionId> {
 fn commit_drawn(alloc: Global, engine: &mut Engine, draws: &mut Draws) -> Result<bool, Fail> {
     let choice = Choice::new(u128::from(draws.below(8)), 3);
     let mut edits = Edits::new(alloc);
-    match drawn_edits(alloc, engine, choice, draws, &mut edits) {
+    match drawn_edits(alloc, engine, choice, engine.position(), draws, &mut edits) {
         Ok(()) => commit_edits(engine, choice, drawn_ambition(choice, draws), edits),
         Err(fail) => Err(fail),
     }
@@ -231,23 +55,6 @@ fn commit_edits(
         Ok(_) => Ok(true),
         Err(_) => Ok(false),
     }
-}
-
-fn digest_of_view(view: &View) -> Result<[u8; 32], Fail> {
-    let tree = view.tree()?;
-    Ok(digest(&tree))
-}
-
-fn digest_at(
-    alloc: Global,
-    engine: &Engine,
-    choice: Choice,
-    at: Position,
-) -> Result<[u8; 32], Fail> {
-    let view = Engine::view(alloc, engine.visible(), choice, at)?;
-    let digest = digest_of_view(&view);
-    close_view(view);
-    digest
 }
 
 // Notes what each choice shows now.

@@ -18,7 +18,8 @@ use std::alloc::Global;
 use std::process::Abort;
 use std::test::Fail;
 
-fn declare(alloc: Global, engine: &mut Engine, name: &[u8]) -> Result<(), Fail>
+/// Declares an option.
+pub(crate) fn declare(alloc: Global, engine: &mut Engine, name: &[u8]) -> Result<(), Fail>
     ensures { OnOk result (engine.new.history ≡ engine.old.history ++ of_option name.now ∷ []) }
 {
     let name = OptionName::read(alloc, name)?;

@@ -99,6 +99,28 @@ fn equal_functions_are_equal_nodes(rt: HostRuntime) -> Result<(), Fail> {
     with_table(rt.alloc(), |table| check_nodes(&rt, table))
 }
 
+// The first choice on which an option is on and the next one isn't.
+fn check_least(rt: &impl Abort, table: &mut Table) -> Result<(), Fail> {
+    let a = table.literal(OptionId::new(0))?;
+    let b = table.literal(OptionId::new(1))?;
+    let not_b = table.not(b)?;
+    let alone = table.and(a, not_b, &mut Steps::<Uncounted>::new())?;
+    match table.least(alone, 2) {
+        Some(choice) => {
+            assert_eq!(rt; choice.count(), 2);
+            assert!(rt; choice.get(OptionId::new(0)));
+            assert!(rt; !choice.get(OptionId::new(1)));
+        }
+        None => return Err(Fail::from("no choice")),
+    }
+    Ok(())
+}
+
+#[test]
+fn the_first_choice_of_a_node(rt: HostRuntime) -> Result<(), Fail> {
+    with_table(rt.alloc(), |table| check_least(&rt, table))
+}
+
 // The second of two conjunctions of the same nodes is kept from the first.
 fn check_kept(rt: &impl Abort, table: &mut Table) -> Result<(), Fail> {
     let a = table.literal(OptionId::new(0))?;
@@ -147,6 +169,24 @@ fn check_swept(rt: &impl Abort, alloc: Global, table: &mut Table) -> Result<(), 
 #[test]
 fn a_sweep_keeps_the_roots(rt: HostRuntime) -> Result<(), Fail> {
     with_table(rt.alloc(), |table| check_swept(&rt, rt.alloc(), table))
+}
+
+// A sweep with `a | b` as the one root leaves its values as they are.
+fn check_one_root(rt: &impl Abort, alloc: Global, table: &mut Table) -> Result<(), Fail> {
+    let a = table.literal(OptionId::new(0))?;
+    let b = table.literal(OptionId::new(1))?;
+    let either = table.or(a, b)?;
+    let mut roots = Nodes::new(alloc);
+    roots.push(either)?;
+    table.sweep(&mut roots)?;
+    assert!(rt; roots.len() == 1);
+    lists(rt, table, roots.get(0).unwrap_or(FALSE), 0b0011_1111);
+    Ok(())
+}
+
+#[test]
+fn a_root_keeps_its_values(rt: HostRuntime) -> Result<(), Fail> {
+    with_table(rt.alloc(), |table| check_one_root(&rt, rt.alloc(), table))
 }
 
 // !a & b
