@@ -236,18 +236,40 @@ def peak(child):
         return megabytes(next(int(line.split()[1]) for line in status if line.startswith('VmHWM:')))
 
 
-def instructions(command, source=None, name=None):
-    """The instructions of a command that ends well, and those within the function of a name, as Debian's valgrind counts them."""
+@contextlib.contextmanager
+def counts_of(command, source=None):
+    """Where Debian's valgrind puts what it counts of a command that ends well."""
     with tempfile.NamedTemporaryFile() as counts:
         command = ['valgrind', '--quiet', '--tool=callgrind', '--callgrind-out-file=' + counts.name, *command]
         with elsewhere():
             subprocess.run(command, stdin=source, stdout=subprocess.DEVNULL, check=True)
-        command = ['callgrind_annotate', '--inclusive=yes', '--threshold=100', counts.name]
+        yield counts.name
+
+
+def instructions(command, source=None, name=None):
+    """The instructions of a command that ends well, and those within the function of a name, as Debian's valgrind counts them."""
+    with counts_of(command, source) as counts:
+        command = ['callgrind_annotate', '--inclusive=yes', '--threshold=100', counts]
         told = subprocess.run(command, stdout=subprocess.PIPE, check=True, text=True).stdout
     rows = [(int(count.replace(',', '')), of) for count, of in re.findall(r'^\s*([\d,]+) \([^)]*\)\s+(.*)$', told, re.M)]
     total = next(count for count, of in rows if of == 'PROGRAM TOTALS')
     within = [count for count, of in rows if name and re.search(r'\b%s\b' % name, of)]
     return total, max(within, default=0)
+
+
+def calls(command, source=None):
+    """How often each function of a command that ends well calls each other one, by the names of both."""
+    names, made, caller, callee = {}, {}, '', ''
+    with counts_of(command, source) as counts, open(counts) as told:
+        for line in told:
+            kind, _, rest = line.strip().partition('=')
+            if kind in ('fn', 'cfn'):
+                number, _, name = rest.partition(' ')
+                name = names.setdefault(number, name)
+                caller, callee = (name, callee) if kind == 'fn' else (caller, name)
+            elif kind == 'calls':
+                made[caller, callee] = made.get((caller, callee), 0) + int(rest.split()[0])
+    return made
 
 
 def counted(lines, program, name=None):
