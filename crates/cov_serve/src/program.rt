@@ -232,7 +232,8 @@ fn serve_opened<S: Source, K: Sink, D: Disk, T: Trees>(
 
 // Tells how many records a store has.
 fn put_checked<K: Sink>(alloc: Global, server: Server, out: &mut K) -> Status
-    ensures puts { PutsLast Done (check_line server.state.history) (K.written out.old) (K.written out.new)
+    ensures puts { PutsLast Done (check_line server.state.history)
+        (K.written out.old) (K.written out.new)
         (K.faults out.old) (K.faults out.new) result }
     ensures later { K.faults out.old ≤ K.faults out.new }
 {
