@@ -246,15 +246,21 @@ def counts_of(command, source=None):
         yield counts.name
 
 
-def instructions(command, source=None, name=None):
-    """The instructions of a command that ends well, and those within the function of a name, as Debian's valgrind counts them."""
+def inclusive(command, source=None):
+    """The instructions of a command that ends well, and what tells those within the function of a name, as Debian's valgrind counts
+    them."""
     with counts_of(command, source) as counts:
         command = ['callgrind_annotate', '--inclusive=yes', '--threshold=100', counts]
         told = subprocess.run(command, stdout=subprocess.PIPE, check=True, text=True).stdout
     rows = [(int(count.replace(',', '')), of) for count, of in re.findall(r'^\s*([\d,]+) \([^)]*\)\s+(.*)$', told, re.M)]
     total = next(count for count, of in rows if of == 'PROGRAM TOTALS')
-    within = [count for count, of in rows if name and re.search(r'\b%s\b' % name, of)]
-    return total, max(within, default=0)
+    return total, lambda name: max((count for count, of in rows if re.search(r'\b%s\b' % name, of)), default=0)
+
+
+def instructions(command, source=None, name=None):
+    """The instructions of a command, and those within the function of a name, if one is given."""
+    total, within = inclusive(command, source)
+    return total, within(name) if name else 0
 
 
 def calls(command, source=None):

@@ -80,10 +80,15 @@ def of_kind(kind, whole, without, others, others_without):
             ratio('its checkouts to theirs, ' + kind, checkouts, others_checkouts, 'ms')]
 
 
-def figures(program):
+def as_author():
+    """From now on git commits in the name of the bench, and reads no settings."""
     os.environ.update(GIT_CONFIG_GLOBAL='/dev/null', GIT_CONFIG_NOSYSTEM='1')
     for person in 'AUTHOR', 'COMMITTER':
         os.environ.update({'GIT_%s_NAME' % person: 'bench', 'GIT_%s_EMAIL' % person: 'bench'})
+
+
+def figures(program):
+    as_author()
     made = commits(COMMITS)
     rounds = [clocks(program, made) for _ in range(REPETITIONS)]
     return [figure for kind, taken in least(rounds) for figure in of_kind(kind, *taken)]
