@@ -1,7 +1,7 @@
 use Rattle.std.proofs.Common.{◌≡◌, ◌∙◌, ◌++◌, inl, refl, sym, ap, subst, arith, ℕ, true, List, length, Some, IfSome}
 use Rattle.cov_disk.specs.Images.{LeavesOnly}
 use Rattle.cov_edit.specs.declared.command.Command.{Command}
-use Rattle.cov_journal.proofs.CallerLemmas.{some_to}
+use Rattle.cov_journal.proofs.CallerLemmas.{some_to, started}
 use Rattle.cov_loop.specs.Keeping.{AreAll}
 use Rattle.cov_loop.specs.Turns.{AtEnd, WritesFront}
 use Rattle.cov_out.specs.declared.row.OutRow.{OutRow}
@@ -226,6 +226,12 @@ returns-in-Err-clause-rows_first g c history before rows begins wrote grew =
     let grown = g.T.Trees.rows c.args.trees.now in
     rows_precede_after history made checkout_lines (demo_line c.args.number) first_checkout other_checkouts checkouts_are (checkout_answered (model history made).state) before rows written grown
     (inl (wrote, none_written rows (rows_after step (starting history) made checkout_lines) grown grew))
+
+pub returns-in-Err-clause-any_moment : goal.returns-in-Err-clause-any_moment
+returns-in-Err-clause-any_moment g c history begins all =
+    started g.D.Disk.moment g.D.Disk.images_since c.args.disk.now (StandsForFront history (served_demo history c.args.number).turns)
+    (λ image since.
+    front_start history (made_lines c.args.number) checkout_lines (demo_line c.args.number) image (stands_for image history (all image (g.met.D.Disk.only_now c.args.disk.now image since))))
 
 pub returns-in-Err-clause-acknowledged : goal.returns-in-Err-clause-acknowledged
 returns-in-Err-clause-acknowledged g c history before bytes begins all wrote writes image now =
