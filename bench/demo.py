@@ -7,8 +7,8 @@ from variants import COMMITS, TREES, as_author, by_git, digest
 
 NUMBER, REPETITIONS = '7', 5
 # Functions that do parts of the work, none of which calls another.
-PARTS = {'making the text': 'cov_script::demonstration::demo', 'reading lines': 'read_line', 'the edits of sessions': 'Sessions::edit',
-         'the history': 'Engine::append', 'sweeps': 'Engine::sweep', 'records': 'Journal::append', 'checkouts': 'ServerState::check_out'}
+PARTS = {'making the text': 'demonstration::append_commits', 'what sessions and checkouts see': 'Engine::view',
+         'the edits of sessions': 'ServerState::edit', 'the history': 'Engine::append', 'sweeps': 'sweep', 'SHA-256': 'Core256::update'}
 
 
 def by_store(program):
