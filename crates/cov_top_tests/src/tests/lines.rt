@@ -21,7 +21,7 @@ fn serve_last(
     disk: &mut MemoryDisk,
     trees: &mut MemoryTrees,
 ) -> Result<Answer, Status>
-    requires gate { HasGate (Some disk.old.kept.content) (gate_of server.history) }
+    requires gate { HasGate (Some disk.old.kept.content) (gate_of server.state.history) }
 {
     match serve_line(server, b"option a", out, disk, trees) {
         Ok((server, answer)) => {
@@ -40,7 +40,7 @@ fn serve_note(
     disk: &mut MemoryDisk,
     trees: &mut MemoryTrees,
 ) -> Result<Answer, Status>
-    requires gate { HasGate (Some disk.old.kept.content) (gate_of server.history) }
+    requires gate { HasGate (Some disk.old.kept.content) (gate_of server.state.history) }
 {
     match serve_line(server, b"# a note", out, disk, trees) {
         Ok((server, answer)) => {
@@ -59,7 +59,7 @@ fn serve_lines(
     disk: &mut MemoryDisk,
     trees: &mut MemoryTrees,
 ) -> Result<Answer, Status>
-    requires gate { HasGate (Some disk.old.kept.content) (gate_of server.history) }
+    requires gate { HasGate (Some disk.old.kept.content) (gate_of server.state.history) }
 {
     match serve_line(server, b"option a", out, disk, trees) {
         Ok((server, answer)) => {
