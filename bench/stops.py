@@ -1,8 +1,8 @@
 #!/usr/bin/env python3
 """Stops the program while it serves a script, and looks for each acknowledged commit in the store that it leaves.
 
-Each write and sync of the first commits fails once, by Debian's `strace`; and the program is killed at random moments of a script
-of 1,000 commits."""
+Each write and sync of the first commits fails once, by Debian's `strace`; each allocation of the line whose commit has the table
+swept fails once; and the program is killed at random moments of a script of 1,000 commits."""
 import collections
 import os
 import random
@@ -11,9 +11,10 @@ import signal
 import subprocess
 import time
 
-from timing import at_most, build, elsewhere, tell
+from timing import at_most, build, compiled, elsewhere, tell
 
 COMMITS, FAILING, KILLS = 1000, 5, 200
+SWEPT = 64  # with each commit of this number in a run the table is swept
 CALLS = ('write', 'pwrite64', 'fdatasync', 'fsync')
 
 
@@ -68,6 +69,34 @@ def fail_each(program):
     return beyond
 
 
+def served_without(program, library, text, number):
+    """A run in which the allocation of that number fails, none where it is 0."""
+    return subprocess.run([program, 'run'], input=text, capture_output=True, env={'LD_PRELOAD': library, 'FAILING': str(number)})
+
+
+def allocations(program, library, text):
+    """How many allocations the program makes while it serves a script, and its replies."""
+    with elsewhere():
+        ended = served_without(program, library, text, 0)
+        assert ended.returncode == 0, ended
+        return int(ended.stderr), ended.stdout
+
+
+def starve_each(program):
+    """As `fail_each`, but in each run one allocation fails of those of the line that has the table swept, or of the end of the run."""
+    text, beyond = script(SWEPT - 1), []
+    with compiled('failing', '-shared', '-fPIC') as library:
+        before, _ = allocations(program, library, text[:-len('commit s\n')])
+        count, replies = allocations(program, library, text)
+        for number in range(before + 1, count + 1):
+            with elsewhere():
+                ended = served_without(program, library, text, number)
+                assert ended.returncode in (0, 3) and replies.startswith(ended.stdout), ended
+                assert ended.returncode == 3 or replies == ended.stdout, ended
+                beyond.append(kept_beyond(program, ended.stdout, SWEPT))
+    return beyond
+
+
 def kill_often(program):
     """How many commits more than were acknowledged the store has after each run that was killed, and how many runs had ended before."""
     text, draw, beyond, ended = script(COMMITS), random.Random(1), [], 0
@@ -100,7 +129,8 @@ def of_runs(name, beyond, parts=''):
 
 def figures(program):
     beyond, ended = kill_often(program)
-    return [of_runs('by a failing call', fail_each(program)), of_runs('by SIGKILL', beyond, '; %d others had ended before' % ended)]
+    return [of_runs('by a failing call', fail_each(program)), of_runs('by an allocation that fails', starve_each(program)),
+            of_runs('by SIGKILL', beyond, '; %d others had ended before' % ended)]
 
 
 if __name__ == '__main__':

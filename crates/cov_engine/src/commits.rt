@@ -1,5 +1,5 @@
 // The commits of a history, with what tells soon that none of them overtakes.
-ghost use Rattle.std.specs.Prelude.{◌≡◌, ◌<◌, ◌≤◌, ◌+◌, ◌++◌, [], ◌∷◌, ℕ, true, length, map, take, drop, vec_len, vec_capacity, OnOk, OnErr};
+ghost use Rattle.std.specs.Prelude.{◌≡◌, ◌<◌, ◌≤◌, ◌+◌, ◌++◌, [], ◌∷◌, ℕ, true, length, map, drop, OnOk, OnErr};
 ghost use Rattle.std.specs.List.{AllByRecursion};
 ghost use Rattle.cov_base.specs.Replacing.{having};
 ghost use Rattle.cov_engine.specs.Marks.{having_node, mark_node};
@@ -7,7 +7,7 @@ ghost use Rattle.cov_engine.specs.Overtakers.{noted, NoneTouches};
 
 use crate::history_index::CommitMark;
 use cov_base::{Memory, NodeNo, Position};
-use cov_dd::{Node, Nodes};
+use cov_dd::{Nodes, append_nodes, renumber_nodes};
 use std::alloc::Global;
 use std::marker::Model;
 
@@ -105,7 +105,7 @@ impl Commits {
         ensures err { OnErr result (into.new ≡ into.old) }
     {
         let before = into.len();
-        match append(self.marks.as_slice(), into) {
+        match append_nodes(self.marks.as_slice(), into) {
             Ok(()) => Ok(()),
             Err(error) => {
                 into.cut(before);
@@ -120,34 +120,7 @@ impl Commits {
         ensures items { self.new.items ≡ having having_node self.old.items (drop first from.now) }
         ensures spare { self.new.spare ≡ self.old.spare }
     {
-        renumber_all(&mut self.marks, from.as_slice(), first);
-    }
-}
-
-// Appends the nodes of commits' ambitions.
-fn append(marks: &[CommitMark], into: &mut Nodes) -> Result<(), Memory>
-    ensures ok { OnOk result (into.new ≡ into.old ++ map mark_node marks.now) }
-    ensures front { take (length into.old) into.new ≡ into.old }
-{
-    let mut ahead = marks;
-    while let [mark, rest @ ..] = ahead {
-        into.push(mark.node)?;
-        ahead = rest;
-    }
-    Ok(())
-}
-
-// Gives commits the nodes of a list from a place on.
-fn renumber_all(marks: &mut Vec<CommitMark>, from: &[Node], first: u64)
-    requires { first + length marks.old.items ≤ length from.now }
-    ensures marks { marks.new.items ≡ having having_node marks.old.items (drop first from.now) }
-    ensures capacity { vec_capacity marks.new ≡ vec_capacity marks.old }
-    ensures len { vec_len marks.new ≡ vec_len marks.old }
-{
-    let mut index = 0;
-    while index < marks.len() {
-        marks[index].node = from[first as usize + index];
-        index += 1;
+        renumber_nodes(&mut self.marks, from.as_slice(), first);
     }
 }
 

@@ -4,10 +4,11 @@ use Rattle.std.specs.List.{AllByRecursion, filter}
 use Rattle.std.specs.Map.{keys_of}
 use Rattle.std.proofs.lemmas.Grind.{reverse_onto}
 use Rattle.std.proofs.lemmas.List.{length-map}
+use Rattle.cov_base.specs.Replacing.{having}
 use Rattle.cov_order.specs.Orders.{has_line}
 use Rattle.cov_file.specs.declared.changes.Change.{Change}
 use Rattle.cov_file.specs.Kept.{LineChanges, changes_before, changes_in, changeable, dated_in, dated_lines, has_changed, is_at, lists_of, AreChanges, AreKept, AreLinked}
-use Rattle.cov_file.specs.Renumbered.{dates_of, having_nodes, renumbered_changes, renumbered_line, ChangesPass}
+use Rattle.cov_file.specs.Renumbered.{dates_of, having_node, renumbered_changes, renumbered_line, ChangesPass}
 
 -- two lists of changes differ in their nodes alone
 abbrev pub AreSame : List Change → List Change → Type 0
@@ -20,7 +21,7 @@ same-itself : (cs : List Change) → AreSame cs cs
 same-itself [] = tt
 same-itself (c ∷ cs) = ((refl, refl), same-itself cs)
 
-pub same-having : (cs : List Change) (ns : List ℕ) → AreSame cs (having_nodes cs ns)
+pub same-having : (cs : List Change) (ns : List ℕ) → AreSame cs (having having_node cs ns)
 same-having [] ns = tt
 same-having (c ∷ cs) [] = ((refl, refl), same-itself cs)
 same-having (c ∷ cs) (n ∷ ns) = ((refl, refl), same-having cs ns)

@@ -3,63 +3,11 @@ use Rattle.std.proofs.Common.{◌≡◌, ℕ, zero, suc, ◌+◌, ◌<◌, ◌�
 use Rattle.std.proofs.lemmas.List.{length-map, length-drop, map-append, get_or_at, set_at, drop_more, drop-drop}
 use Rattle.std.specs.List.{AllByRecursion}
 use Rattle.std.proofs.lemmas.Grind.{reverse_onto}
+use Rattle.cov_base.specs.Replacing.{having}
+use Rattle.cov_base.proofs.CallerLemmas.{having-by, having-numbers, length-having, parted}
 use Rattle.cov_file.specs.declared.changes.Change.{Change}
 use Rattle.cov_file.specs.Kept.{changes_before, lists_of}
-use Rattle.cov_file.specs.Renumbered.{node_of, nodes_of, having_node, having_nodes, renumbered_changes}
-
-pub length-having : (cs : List Change) (ns : List ℕ) → length (having_nodes cs ns) ≡ length cs
-length-having [] ns = refl
-length-having (c ∷ cs) [] = refl
-length-having (c ∷ cs) (n ∷ ns) = ap suc (length-having cs ns)
-
--- one change more has its node
-pub more_nodes : (cs : List Change) (ns : List ℕ) (i : ℕ) (d : Change) → i < length cs → i < length ns
-    → having_nodes (take (suc i) cs) ns ≡ having_nodes (take i cs) ns ++ having_node (get_or ns i 0) (get_or cs i d) ∷ []
-more_nodes [] ns i d h k = absurd (omega (arith, h))
-more_nodes (c ∷ cs) [] i d h k = absurd (omega (arith, k))
-more_nodes (c ∷ cs) (n ∷ ns) zero d h k = refl
-more_nodes (c ∷ cs) (n ∷ ns) (suc i) d h k = ap (λ l. having_node n c ∷ l) (more_nodes cs ns i d (omega (arith, h)) (omega (arith, k)))
-
--- the changes before an index have their nodes, and then the one there
-pub step_nodes : (cs now : List Change) (ns : List ℕ) (i k : ℕ) (d : Change) → i < length cs → i < length ns → k ≡ i + 1 → now ≡ having_nodes (take i cs) ns ++ drop i cs
-    → set now i (having_node (get_or ns i 0) (get_or now i d)) ≡ having_nodes (take k cs) ns ++ drop k cs
-step_nodes cs now ns i k d h room at is =
-    let long : length (having_nodes (take i cs) ns) ≡ i = length-having (take i cs) ns ∙ length-take-le i cs (omega (arith, h)) in
-    let split : now ≡ having_nodes (take i cs) ns ++ get_or cs i d ∷ drop (i + 1) cs = is ∙ ap (λ l. having_nodes (take i cs) ns ++ l) (drop_more cs i d h) in
-    let here : get_or now i d ≡ get_or cs i d = ap (λ l. get_or l i d) split ∙ get_or_at (having_nodes (take i cs) ns) (get_or cs i d) (drop (i + 1) cs) d i long in
-    let next : suc i ≡ k = omega (arith, at) in
-    (λ j. set (split j) i (having_node (get_or ns i 0) (here j)))
-    ∙ set_at (having_nodes (take i cs) ns) (get_or cs i d) (drop (i + 1) cs) (having_node (get_or ns i 0) (get_or cs i d)) i long
-    ∙ sym (append_assoc (having_nodes (take i cs) ns) (having_node (get_or ns i 0) (get_or cs i d) ∷ []) (drop (i + 1) cs))
-    ∙ (λ j. sym (more_nodes cs ns i d h room) j ++ drop (sym at j) cs)
-    ∙ ap (λ m. having_nodes (take m cs) ns ++ drop k cs) next
-
--- the nodes that changes have then
-pub nodes-having_nodes : (cs : List Change) (ns : List ℕ) → length cs ≤ length ns → map node_of (having_nodes cs ns) ≡ take (length cs) ns
-nodes-having_nodes [] ns h = refl
-nodes-having_nodes (c ∷ cs) [] h = absurd (omega (arith, h))
-nodes-having_nodes (c ∷ cs) (n ∷ ns) h = ap (λ l. n ∷ l) (nodes-having_nodes cs ns (omega (arith, h)))
-
--- they are the changes with a function of their nodes, if the nodes are
-pub by-having_nodes : (by : ℕ → ℕ) (cs : List Change) (ns : List ℕ) → length cs ≤ length ns → map node_of (having_nodes cs ns) ≡ map by (map node_of cs)
-    → having_nodes cs ns ≡ map (λ c. having_node (by c.node) c) cs
-by-having_nodes by [] ns h is = refl
-by-having_nodes by (c ∷ cs) [] h is = absurd (omega (arith, h))
-by-having_nodes by (c ∷ cs) (n ∷ ns) h is =
-    let here : n ≡ by c.node = cc in
-    let rest : map node_of (having_nodes cs ns) ≡ map by (map node_of cs) = cc in
-    λ j. having_node (here j) c ∷ by-having_nodes by cs ns (omega (arith, h)) rest j
-
--- two lists that are joined, and two of the same lengths
-pub parted : (ks bs cs ds : List ℕ) → length ks ≡ length cs → ks ++ bs ≡ cs ++ ds → (ks ≡ cs) × (bs ≡ ds)
-parted [] bs [] ds long is = (refl, is)
-parted [] bs (c ∷ cs) ds long is = absurd (omega (arith, long))
-parted (a ∷ ks) bs [] ds long is = absurd (omega (arith, long))
-parted (a ∷ ks) bs (c ∷ cs) ds long is =
-    let first : a ≡ c = cc in
-    let rest : ks ++ bs ≡ cs ++ ds = cc in
-    let parts = parted ks bs cs ds (omega (arith, long)) rest in
-    ((λ j. first j ∷ parts.0 j), parts.1)
+use Rattle.cov_file.specs.Renumbered.{node_of, nodes_of, having_node, renumbered_changes}
 
 -- what holds of all nodes holds of the nodes of each line's changes
 module _ (test : ℕ → Bool) where
@@ -136,20 +84,20 @@ module _ (newest earlier : List Change) (from : List ℕ) (first middle : ℕ) (
   pub room₂ : length earlier ≤ length (drop middle from)
   room₂ = omega (arith, room, count, at, length-drop middle from)
 
-  nodes₁ : map node_of (having_nodes newest (drop first from)) ≡ take (length newest) (drop first from)
-  nodes₁ = nodes-having_nodes newest (drop first from) room₁
+  nodes₁ : map node_of (having having_node newest (drop first from)) ≡ take (length newest) (drop first from)
+  nodes₁ = having-numbers having_node node_of (λ n c. refl) newest (drop first from) room₁
 
-  nodes₂ : map node_of (having_nodes earlier (drop middle from)) ≡ take (length earlier) (drop (length newest) (drop first from))
-  nodes₂ = nodes-having_nodes earlier (drop middle from) room₂ ∙ ap (take (length earlier)) (ap (λ k. drop k from) at ∙ sym (drop-drop (length newest) first from))
+  nodes₂ : map node_of (having having_node earlier (drop middle from)) ≡ take (length earlier) (drop (length newest) (drop first from))
+  nodes₂ = having-numbers having_node node_of (λ n c. refl) earlier (drop middle from) room₂ ∙ ap (take (length earlier)) (ap (λ k. drop k from) at ∙ sym (drop-drop (length newest) first from))
 
-  pub nodes_after : nodes_of (having_nodes newest (drop first from)) (having_nodes earlier (drop middle from)) ≡ take (length (nodes_of newest earlier)) (drop first from)
+  pub nodes_after : nodes_of (having having_node newest (drop first from)) (having having_node earlier (drop middle from)) ≡ take (length (nodes_of newest earlier)) (drop first from)
   nodes_after = (λ j. nodes₁ j ++ nodes₂ j) ∙ sym (take-add (length newest) (length earlier) (drop first from)) ∙ ap (λ k. take k (drop first from)) (sym count)
 
-  pub lists_after : (by : ℕ → ℕ) → nodes_of (having_nodes newest (drop first from)) (having_nodes earlier (drop middle from)) ≡ map by (nodes_of newest earlier)
-      → lists_of (having_nodes newest (drop first from)) (having_nodes earlier (drop middle from)) ≡ map (renumbered_changes by) (lists_of newest earlier)
+  pub lists_after : (by : ℕ → ℕ) → nodes_of (having having_node newest (drop first from)) (having having_node earlier (drop middle from)) ≡ map by (nodes_of newest earlier)
+      → lists_of (having having_node newest (drop first from)) (having having_node earlier (drop middle from)) ≡ map (renumbered_changes by) (lists_of newest earlier)
   lists_after by is =
-      let split = parted (map node_of (having_nodes newest (drop first from))) (map node_of (having_nodes earlier (drop middle from))) (map by (map node_of newest)) (map by (map node_of earlier))
-      (length-map (having_nodes newest (drop first from)) node_of ∙ length-having newest (drop first from) ∙ sym (length-map (map node_of newest) by ∙ length-map newest node_of))
+      let split = parted (map node_of (having having_node newest (drop first from))) (map node_of (having having_node earlier (drop middle from))) (map by (map node_of newest)) (map by (map node_of earlier))
+      (length-map (having having_node newest (drop first from)) node_of ∙ length-having having_node newest (drop first from) ∙ sym (length-map (map node_of newest) by ∙ length-map newest node_of))
       (is ∙ map-append by (map node_of newest) (map node_of earlier)) in
-      (λ j. lists_of (by-having_nodes by newest (drop first from) room₁ split.0 j) (by-having_nodes by earlier (drop middle from) room₂ split.1 j))
+      (λ j. lists_of (having-by having_node node_of (λ n c. refl) by newest (drop first from) room₁ split.0 j) (having-by having_node node_of (λ n c. refl) by earlier (drop middle from) room₂ split.1 j))
       ∙ lists-by by newest earlier

@@ -15,12 +15,6 @@ nodes_of newest earlier = map node_of newest ++ map node_of earlier
 abbrev pub having_node : ℕ → Change → Change
 having_node n c = record { node = n; from = c.from; before = c.before }
 
--- changes with the nodes of a list in the places of theirs
-abbrev pub having_nodes : List Change → List ℕ → List Change
-having_nodes [] ns = []
-having_nodes (c ∷ cs) [] = c ∷ cs
-having_nodes (c ∷ cs) (n ∷ ns) = having_node n c ∷ having_nodes cs ns
-
 -- a line's changes with another node in the place of each
 abbrev pub renumbered_changes : (ℕ → ℕ) → List (ℕ × ℕ) → List (ℕ × ℕ)
 renumbered_changes by changes = map (λ c. (c.0, by c.1)) changes

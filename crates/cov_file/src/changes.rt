@@ -3,10 +3,10 @@ ghost use Rattle.std.specs.Prelude.{◌≡◌, ◌<◌, ◌≤◌, ◌+◌, ◌-
 ghost use Rattle.std.specs.Option.{option_map, option_map_or};
 ghost use Rattle.cov_file.specs.Dated.{vis_at, newest_vis};
 ghost use Rattle.cov_file.specs.Kept.{changes_before, changes_of, AreLinked, changes_at, is_at, with_node};
-ghost use Rattle.cov_file.specs.Renumbered.{AddsNode, dates_of, having_nodes, node_of, AreAllListed, AreRenumberedLists};
+ghost use Rattle.cov_file.specs.Renumbered.{AddsNode, dates_of, having_node, node_of, AreAllListed, AreRenumberedLists};
 
 use cov_base::{Memory, Position};
-use cov_dd::{FALSE, Node, Nodes};
+use cov_dd::{FALSE, HasNode, Node, Nodes, append_nodes, renumber_nodes};
 use std::alloc::Global;
 use std::marker::Model;
 
@@ -156,8 +156,8 @@ impl Changes {
         ensures ok { OnOk result (into.new ≡ into.old ++ self.now.nodes) }
         ensures front { take (length into.old) into.new ≡ into.old }
     {
-        append(self.newest.as_slice(), into)?;
-        append(self.earlier.as_slice(), into)
+        append_nodes(self.newest.as_slice(), into)?;
+        append_nodes(self.earlier.as_slice(), into)
     }
 
     /// Puts the nodes of a list from a place on in the places of these, in the order of `nodes`. It answers the place after the
@@ -176,8 +176,8 @@ impl Changes {
         ensures open { self.new.is_open ≡ self.old.is_open }
     {
         let nodes = from.as_slice();
-        let middle = renumber_all(&mut self.newest, nodes, first);
-        renumber_all(&mut self.earlier, nodes, middle)
+        let middle = renumber_nodes(&mut self.newest, nodes, first);
+        renumber_nodes(&mut self.earlier, nodes, middle)
     }
 
     // The changes that come are at a position, and only there is room for them.
@@ -218,33 +218,18 @@ impl Changes {
     }
 }
 
-// Appends the nodes of changes.
-fn append(changes: &[Change], into: &mut Nodes) -> Result<(), Memory>
-    ensures ok { OnOk result (into.new ≡ into.old ++ map node_of changes.now) }
-    ensures front { take (length into.old) into.new ≡ into.old }
-{
-    let mut ahead = changes;
-    while let [change, rest @ ..] = ahead {
-        into.push(change.node)?;
-        ahead = rest;
-    }
-    Ok(())
-}
+impl HasNode for Change {
+    ghost node_of = { node_of };
 
-// Gives changes the nodes of a list from a place on.
-fn renumber_all(changes: &mut Vec<Change>, from: &[Node], first: u64) -> u64
-    requires { first + length changes.old.items ≤ length from.now }
-    ensures next { result ≡ first + length changes.old.items }
-    ensures changes { changes.new.items ≡ having_nodes changes.old.items (drop first from.now) }
-    ensures capacity { vec_capacity changes.new ≡ vec_capacity changes.old }
-    ensures len { vec_len changes.new ≡ vec_len changes.old }
-{
-    let mut index = 0;
-    while index < changes.len() {
-        changes[index].node = from[first as usize + index];
-        index += 1;
+    ghost having_node = { having_node };
+
+    fn node(&self) -> Node {
+        self.node
     }
-    first + changes.len() as u64
+
+    fn set_node(&mut self, node: Node) {
+        self.node = node;
+    }
 }
 
 // Puts a change behind the earlier ones, and answers how many there are then.

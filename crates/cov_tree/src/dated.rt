@@ -1,13 +1,13 @@
 // A node with its own changes.
-ghost use Rattle.std.specs.Prelude.{◌≡◌, ◌<◌, ◌≤◌, ◌+◌, ◌++◌, [], length, take, drop, IfOk, OnOk, OnErr};
+ghost use Rattle.std.specs.Prelude.{◌≡◌, ◌<◌, ◌≤◌, ◌+◌, ◌++◌, [], length, take, drop, IfOk, OnOk};
 ghost use Rattle.cov_tree.specs.Dated.{entry_at, newest_entry, with_no_room};
 ghost use Rattle.cov_tree.specs.Installing.{IsChanged};
 ghost use Rattle.cov_tree.specs.Renumbered.{entry_visibilities, entry_without_vis, Gets};
 
 use crate::entry::{Entry, Place, Places};
-use crate::renumbering::{append, append_lists, renumber_lists};
+use crate::renumbering::{append_lists, renumber_lists};
 use cov_base::{Kind, Memory, NodeNo, OlderLists, Position};
-use cov_dd::{Node, Nodes};
+use cov_dd::{Node, Nodes, append_nodes};
 use std::alloc::Global;
 use std::mem;
 
@@ -76,7 +76,7 @@ impl DatedEntry {
         ensures ok { OnOk result (into.new ≡ into.old ++ entry_visibilities self.now) }
         ensures front { take (length into.old) into.new ≡ into.old }
     {
-        append(self.places.as_slice(), into)?;
+        append_nodes(self.places.as_slice(), into)?;
         append_lists(self.older.as_slice(), into)
     }
 

@@ -92,7 +92,8 @@ impl Table {
     {
         // Reading a field brings the table's invariant into the proof.
         let _ = &self.entries;
-        let mut kept = Kept::new(self.allocator())?;
+        let count = marks.iter().filter(|is_marked| **is_marked).count();
+        let mut kept = Kept::with_capacity(self.allocator(), marks.len(), count)?;
         let mut node: Node = 2;
         while let Some(triple) = self.entry(node) {
             kept.add(triple, marks[node as usize])?;
@@ -145,14 +146,17 @@ impl Model for Kept {
 }
 
 impl Kept {
-    // FALSE and TRUE keep their numbers.
-    fn new(alloc: Global) -> Result<Kept, Memory>
+    // With room for so many numbers and entries. FALSE and TRUE keep their numbers.
+    fn with_capacity(alloc: Global, numbers: usize, entries: usize) -> Result<Kept, Memory>
         ensures entries { IfOk result (λ kept. kept.entries ≡ []) }
         ensures numbers { IfOk result (λ kept. kept.numbers ≡ 0 ∷ 1 ∷ []) }
     {
+        let mut room = Vec::with_capacity(alloc, numbers)?;
+        room.push(FALSE)?;
+        room.push(TRUE)?;
         Ok(Kept {
-            entries: IndexSet::new(alloc),
-            numbers: vec![in alloc; FALSE, TRUE]?,
+            entries: IndexSet::with_capacity(alloc, entries)?,
+            numbers: room,
         })
     }
 

@@ -144,25 +144,34 @@ fn literal(alloc: Global, choice: Choice, option: u8) -> Result<Part, Fail>
     Ok(Part::Not(part))
 }
 
-// What two options have on a choice of five.
+// Two literals that a choice of five options has.
+fn two_literals(
+    alloc: Global,
+    choice: Choice,
+    draws: &mut Draws,
+) -> Result<(Box<Part>, Box<Part>), Fail>
+    requires { length choice ≡ 5 }
+{
+    let first = literal(alloc, choice, draws.below(5) as u8)?;
+    let first = Box::new(alloc, first)?;
+    let second = literal(alloc, choice, draws.below(5) as u8)?;
+    let second = Box::new(alloc, second)?;
+    Ok((first, second))
+}
+
+// What has both of two literals.
 fn both(alloc: Global, choice: Choice, draws: &mut Draws) -> Result<Expr, Fail>
     requires { length choice ≡ 5 }
 {
-    let first = literal(alloc, choice, draws.below(5) as u8)?;
-    let first = Box::new(alloc, first)?;
-    let second = literal(alloc, choice, draws.below(5) as u8)?;
-    let second = Box::new(alloc, second)?;
+    let (first, second) = two_literals(alloc, choice, draws)?;
     Ok(Expr::new(Part::And(first, second))?)
 }
 
-// What one of two options has.
+// What has one of two literals.
 fn either(alloc: Global, choice: Choice, draws: &mut Draws) -> Result<Expr, Fail>
     requires { length choice ≡ 5 }
 {
-    let first = literal(alloc, choice, draws.below(5) as u8)?;
-    let first = Box::new(alloc, first)?;
-    let second = literal(alloc, choice, draws.below(5) as u8)?;
-    let second = Box::new(alloc, second)?;
+    let (first, second) = two_literals(alloc, choice, draws)?;
     Ok(Expr::new(Part::Or(first, second))?)
 }
 

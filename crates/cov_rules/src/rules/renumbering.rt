@@ -1,11 +1,10 @@
 // The nodes of rules, listed and renumbered.
-ghost use Rattle.std.specs.Prelude.{◌≡◌, ◌≤◌, ◌+◌, ◌++◌, length, map, take, drop, vec_len, vec_capacity, OnOk, OnErr};
-ghost use Rattle.cov_base.specs.Replacing.{having};
+ghost use Rattle.std.specs.Prelude.{◌≡◌, ◌≤◌, ◌+◌, ◌++◌, length, take, drop, OnOk, OnErr};
 ghost use Rattle.cov_rules.specs.Renumbered.{having_node, node_of, nodes_of, without_nodes, HoldRenumbered};
 
 use super::{Installed, Rules};
 use cov_base::Memory;
-use cov_dd::{Node, Nodes};
+use cov_dd::{HasNode, Node, Nodes, append_nodes, renumber_nodes};
 
 impl Rules {
     /// Appends every node that is kept, or none where there is no memory.
@@ -27,8 +26,8 @@ impl Rules {
         ensures ok { OnOk result (into.new ≡ into.old ++ nodes_of self.now.standing) }
         ensures front { take (length into.old) into.new ≡ into.old }
     {
-        append(self.constraints.as_slice(), into)?;
-        append(self.preferences.as_slice(), into)?;
+        append_nodes(self.constraints.as_slice(), into)?;
+        append_nodes(self.preferences.as_slice(), into)?;
         into.push(self.conjunction)
     }
 
@@ -44,38 +43,23 @@ impl Rules {
         ensures spare { self.new.spare ≡ self.old.spare }
     {
         let nodes = from.as_slice();
-        let second = renumber_all(&mut self.constraints, nodes, first);
-        let third = renumber_all(&mut self.preferences, nodes, second);
+        let second = renumber_nodes(&mut self.constraints, nodes, first);
+        let third = renumber_nodes(&mut self.preferences, nodes, second);
         self.conjunction = nodes[third as usize];
         third + 1
     }
 }
 
-// Appends the nodes of rules.
-fn append(rules: &[Installed], into: &mut Nodes) -> Result<(), Memory>
-    ensures ok { OnOk result (into.new ≡ into.old ++ map node_of rules.now) }
-    ensures front { take (length into.old) into.new ≡ into.old }
-{
-    let mut ahead = rules;
-    while let [rule, rest @ ..] = ahead {
-        into.push(rule.node)?;
-        ahead = rest;
-    }
-    Ok(())
-}
+impl HasNode for Installed {
+    ghost node_of = { node_of };
 
-// Gives rules the nodes of a list from a place on.
-fn renumber_all(rules: &mut Vec<Installed>, from: &[Node], first: u64) -> u64
-    requires { first + length rules.old.items ≤ length from.now }
-    ensures next { result ≡ first + length rules.old.items }
-    ensures rules { rules.new.items ≡ having having_node rules.old.items (drop first from.now) }
-    ensures capacity { vec_capacity rules.new ≡ vec_capacity rules.old }
-    ensures len { vec_len rules.new ≡ vec_len rules.old }
-{
-    let mut index = 0;
-    while index < rules.len() {
-        rules[index].node = from[first as usize + index];
-        index += 1;
+    ghost having_node = { having_node };
+
+    fn node(&self) -> Node {
+        self.node
     }
-    first + rules.len() as u64
+
+    fn set_node(&mut self, node: Node) {
+        self.node = node;
+    }
 }

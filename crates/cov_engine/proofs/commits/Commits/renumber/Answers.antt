@@ -5,5 +5,5 @@ use Rattle.cov_engine.proofs.commits.Commits.renumber.Goals as goal
 
 pub invariant_of-self : goal.invariant_of-self
 invariant_of-self c =
-    subst (AreNoted (noted c.self.inside.notes)) (sym c.renumber_all.ensures.marks)
+    subst (AreNoted (noted c.self.inside.notes)) (sym c.renumber_nodes.ensures.items)
     (noted-having (noted c.self.inside.notes) c.self.inside.marks.items (drop c.args.first c.as_slice.result.now) c.self.invariant)
