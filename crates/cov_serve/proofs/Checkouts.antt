@@ -14,10 +14,10 @@ use Rattle.cov_script.specs.Grouping.{grouped}
 use Rattle.cov_script.specs.Lines.{form_of}
 use Rattle.cov_script.specs.declared.code.Code.TheVariants.{Long, TreeTaken}
 use Rattle.cov_script.specs.declared.line.Line.TheVariants as lines
-use Rattle.cov_serve.specs.Finding.{Found, ◌>>=◌, by_code, completed_choice, found_partial}
-use Rattle.cov_serve.specs.Growth.{without_reply}
-use Rattle.cov_serve.specs.States.{State}
-use Rattle.cov_serve.specs.Step.{Done, acted, as_outcome, checked_out, is_taken, served, step}
+use Rattle.cov_lines.specs.Finding.{Found, ◌>>=◌, by_code, completed_choice, found_partial}
+use Rattle.cov_lines.specs.Growth.{without_reply}
+use Rattle.cov_lines.specs.States.{State}
+use Rattle.cov_lines.specs.Step.{Done, acted, as_outcome, checked_out, is_taken, served, step}
 
 -- the first of them, and the others
 abbrev pub first_checkout : List ℕ

@@ -7,11 +7,11 @@ use Rattle.cov_edit.specs.declared.command.Command.{Command}
 use Rattle.cov_loop.specs.Keeping.{KeepsAnswered, Reaches}
 use Rattle.cov_loop.specs.Outcome.{answers}
 use Rattle.cov_loop.proofs.CallerLemmas.{nothing_first, nothing_next}
-use Rattle.cov_serve.specs.Growth.{step_grows}
+use Rattle.cov_lines.specs.Growth.{step_grows}
 use Rattle.cov_serve.specs.Jobs.{StandsForFront, StandsForTold, Turn, history_after, line_turns, replies}
-use Rattle.cov_serve.specs.States.{State, starting}
-use Rattle.cov_serve.specs.Step.{step}
-use Rattle.cov_serve.specs.Storing.{count, stored}
+use Rattle.cov_lines.specs.States.{State, starting}
+use Rattle.cov_lines.specs.Step.{step}
+use Rattle.cov_lines.specs.Storing.{count, stored}
 use Rattle.cov_store.specs.Stands.{IsStored, StandsFor}
 use Rattle.cov_serve.proofs.Turns.{history_as, last_is, to_turns}
 

@@ -8,8 +8,8 @@ use Rattle.cov_script.specs.Demonstration.{checkout_lines, default_line, demo_te
 use Rattle.cov_script.specs.Draws.{state_after}
 use Rattle.cov_serve.specs.Laws.{DemosAreScripts}
 use Rattle.cov_serve.specs.Program.{demo_line}
-use Rattle.cov_serve.specs.States.{State, starting}
-use Rattle.cov_serve.specs.Step.{step}
+use Rattle.cov_lines.specs.States.{State, starting}
+use Rattle.cov_lines.specs.Step.{step}
 use Rattle.cov_serve.proofs.DemoParts.{parts_are}
 use Rattle.cov_serve.proofs.TurnsAfter.{last_are, replies_are, rows_are}
 

@@ -11,10 +11,10 @@ use Rattle.cov_loop.proofs.CallerLemmas.{fault_turn}
 use Rattle.cov_out.specs.declared.row.OutRow.{OutRow}
 use Rattle.cov_serve.specs.Jobs.{ComesTo, EndsAs, IsCaused, IsSettled, IsShort, JobOutcome, NoneRose, OnEnd, RowsPrecede, StandsForFront, StandsForTold, StartsFrom, TellsUnopened, history_after, outcome, replies, rows_of, served_demo, served_script, served_status}
 use Rattle.cov_script.specs.Demonstration.{checkout_lines, made_lines}
-use Rattle.cov_serve.specs.Laws.{rows_told}
+use Rattle.cov_lines.specs.Laws.{rows_told}
 use Rattle.cov_serve.specs.Program.{EndsServed, OnServed, OnUnopened, PutsLast, ReadsAs, StopsDemo, StopsServing, TellsFault, check_line, demo_line, usage_line}
-use Rattle.cov_serve.specs.States.{starting}
-use Rattle.cov_serve.specs.Step.{model, step}
+use Rattle.cov_lines.specs.States.{starting}
+use Rattle.cov_lines.specs.Step.{model, step}
 use Rattle.cov_serve.specs.TextServing.{rows_after}
 use Rattle.cov_serve.specs.declared.job.Job.TheVariants.{OnStore, Unknown}
 use Rattle.cov_serve.specs.declared.job.StoreJob.{StoreJob}

@@ -7,8 +7,8 @@ use Rattle.cov_loop.specs.Outcome.{answers}
 use Rattle.cov_loop.specs.Turns.{RowsComeFirst, WritesFront}
 use Rattle.cov_out.specs.declared.row.OutRow.{OutRow}
 use Rattle.cov_serve.specs.Jobs.{Turn, RowsPrecede, StandsForFront, StandsForTold, history_after, line_turn, line_turns, replies, rows_of, told_line}
-use Rattle.cov_serve.specs.States.{State, starting}
-use Rattle.cov_serve.specs.Step.{model, step}
+use Rattle.cov_lines.specs.States.{State, starting}
+use Rattle.cov_lines.specs.Step.{model, step}
 use Rattle.cov_serve.specs.declared.status.Status.{Status}
 use Rattle.cov_store.specs.Stands.{StandsFor}
 

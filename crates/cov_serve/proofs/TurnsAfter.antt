@@ -8,9 +8,9 @@ use Rattle.cov_loop.specs.Outcome.{Outcome, answers}
 use Rattle.cov_loop.specs.Turns.{WritesFront}
 use Rattle.cov_out.specs.declared.row.OutRow.{OutRow}
 use Rattle.cov_serve.specs.Jobs.{RowsPrecede, StandsForFront, StandsForTold, Turn, behind_rows, history_after, line_turns, replies, rows_of, turns_after}
-use Rattle.cov_serve.specs.States.{State, starting}
-use Rattle.cov_serve.specs.Step.{model, step}
-use Rattle.cov_serve.specs.Storing.{count, stored}
+use Rattle.cov_lines.specs.States.{State, starting}
+use Rattle.cov_lines.specs.Step.{model, step}
+use Rattle.cov_lines.specs.Storing.{count, stored}
 use Rattle.cov_serve.specs.TextServing.{KeepsAfter, ReachesAfter, RowsComeAfter, answers_after, rows_after}
 use Rattle.cov_store.specs.Stands.{StandsFor}
 use Rattle.cov_serve.proofs.Crashing.{GoesOn, goes_further, grown_by, stands_for}

@@ -14,7 +14,7 @@ use Rattle.cov_out.specs.declared.row.OutRow.{OutRow}
 use Rattle.cov_script.specs.Replies.{IsCodeOf}
 use Rattle.cov_serve.specs.Jobs.{EndsAs, IsCaused, JobOutcome, OnEnd, RowsPrecede, TellsUnopened, replies, rows_of, told_line, told_of_none}
 use Rattle.cov_serve.specs.Program.{DamageCanBeTold, EndsServed, EndsWithLine, OnServed, OnUnopened, PutsLast, ReadsAs, TellsFault, damaged_line, not_a_store_line}
-use Rattle.cov_serve.specs.States.{State}
+use Rattle.cov_lines.specs.States.{State}
 use Rattle.cov_serve.specs.declared.job.Job.{Job}
 use Rattle.cov_serve.specs.declared.job.Job.TheVariants.{OnStore}
 use Rattle.cov_serve.specs.declared.job.StoreJob.{StoreJob}

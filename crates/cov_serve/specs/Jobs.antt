@@ -11,8 +11,8 @@ use Rattle.cov_loop.specs.Outcome.{Outcome, answers}
 use Rattle.cov_out.specs.declared.row.OutRow.{OutRow}
 use Rattle.cov_script.specs.Demonstration.{checkout_lines, made_lines}
 use Rattle.cov_serve.specs.Program.{EndsServed, ReadsAs, check_line, damaged_line, demo_line, demo_number, is_lone, not_a_store_line, usage_line}
-use Rattle.cov_serve.specs.States.{State, starting}
-use Rattle.cov_serve.specs.Step.{model, step}
+use Rattle.cov_lines.specs.States.{State, starting}
+use Rattle.cov_lines.specs.Step.{model, step}
 use Rattle.cov_serve.specs.declared.job.Job.{Job}
 use Rattle.cov_serve.specs.declared.job.Job.TheVariants.{OnStore, Unknown}
 use Rattle.cov_serve.specs.declared.job.StoreJob.TheVariants.{Run, Check, Demo}

@@ -4,23 +4,23 @@ ghost use Rattle.cov_base.specs.declared.limits.TheConstants.{TOO_MANY_SCRIPT_BY
 ghost use Rattle.cov_disk.specs.Images.{LeavesOnly};
 ghost use Rattle.cov_edit.specs.declared.command.Command.{Command};
 ghost use Rattle.cov_journal.specs.Gates.{HasGate};
+ghost use Rattle.cov_lines.specs.States.{starting};
 ghost use Rattle.cov_loop.specs.Keeping.{AreAll};
 ghost use Rattle.cov_loop.specs.Turns.{WritesFront};
 ghost use Rattle.cov_out.specs.declared.row.OutRow.{OutRow};
 ghost use Rattle.cov_script.specs.Demonstration.{checkout_lines, made_lines};
 ghost use Rattle.cov_serve.specs.Jobs.{RowsPrecede, StandsForFront, StandsForTold, history_after, replies, rows_of, served_demo};
 ghost use Rattle.cov_serve.specs.Program.{OnServed, PutsLast, StopsDemo, demo_line};
-ghost use Rattle.cov_serve.specs.States.{starting};
 ghost use Rattle.cov_serve.specs.declared.status.Status.TheVariants.{Done};
 ghost use Rattle.cov_store.specs.Stands.{StandsFor, IsStored, gate_of};
 
 use crate::last_line::{demo_line, put_last};
-use crate::server::Server;
 use crate::status::Status;
 use crate::text_serving::{is_end, serve_after};
 use cov_base::{Memory, Text};
 use cov_disk::Disk;
 use cov_io::Sink;
+use cov_lines::Server;
 use cov_out::Trees;
 use cov_script::demo;
 use std::alloc::Global;

@@ -3,18 +3,18 @@ ghost use Rattle.std.specs.Prelude.{◌≡◌, ◌⊎◌, ◌≤◌, ◌++◌, L
 ghost use Rattle.cov_disk.specs.Images.{LeavesOnly};
 ghost use Rattle.cov_io.specs.Devices.{AppendsAll, AppendsSome};
 ghost use Rattle.cov_journal.specs.Gates.{HasGate};
+ghost use Rattle.cov_lines.specs.Step.{step};
+ghost use Rattle.cov_lines.specs.Storing.{stored};
+ghost use Rattle.cov_lines.specs.Sweeping.{GoesOn};
 ghost use Rattle.cov_loop.specs.Answers.{IsServed};
 ghost use Rattle.cov_loop.specs.Keeping.{AreAll, IsEither};
 ghost use Rattle.cov_serve.specs.Statuses.{StopsWithStatus};
-ghost use Rattle.cov_serve.specs.Step.{step};
-ghost use Rattle.cov_serve.specs.Storing.{stored};
-ghost use Rattle.cov_serve.specs.Sweeping.{GoesOn};
 ghost use Rattle.cov_store.specs.Stands.{gate_of};
 
-use crate::server::Server;
 use crate::status::Status;
 use cov_disk::Disk;
 use cov_io::Sink;
+use cov_lines::Server;
 use cov_loop::Answer;
 use cov_out::Trees;
 

@@ -5,25 +5,25 @@ ghost use Rattle.cov_disk.specs.Images.{LeavesOnly};
 ghost use Rattle.cov_edit.specs.declared.command.Command.{Command};
 ghost use Rattle.cov_io.specs.Progress.{CountsGiven};
 ghost use Rattle.cov_journal.specs.Gates.{HasGate};
+ghost use Rattle.cov_lines.specs.States.{starting};
+ghost use Rattle.cov_lines.specs.Step.{model, step};
 ghost use Rattle.cov_loop.specs.Counts.{Later, counts};
 ghost use Rattle.cov_loop.specs.Keeping.{AreAll};
 ghost use Rattle.cov_loop.specs.Turns.{RowsComeFirst, WritesFront};
 ghost use Rattle.cov_out.specs.declared.row.OutRow.{OutRow};
 ghost use Rattle.cov_serve.specs.Jobs.{ComesTo, EndsAs, IsCaused, IsSettled, IsShort, JobOutcome, NoneRose, OnEnd, RowsPrecede, StandsForFront, StandsForTold, StartsFrom, TellsUnopened, history_after, job_of, opens_disk, outcome, reads_source, replies, rows_of, served_script, stores_first, writes_trees};
 ghost use Rattle.cov_serve.specs.Program.{OnServed, OnUnopened, PutsLast, ReadsAs, StopsServing, check_line};
-ghost use Rattle.cov_serve.specs.States.{starting};
-ghost use Rattle.cov_serve.specs.Step.{model, step};
 ghost use Rattle.cov_serve.specs.declared.status.Status.TheVariants.{Done, NoMemory};
 ghost use Rattle.cov_store.specs.Stands.{StandsFor, IsStored, gate_of};
 
 use crate::demo::serve_demo;
 use crate::job::{Job, StoreJob, job_of};
 use crate::last_line::{check_line, put_last, tell_fault};
-use crate::server::Server;
 use crate::status::Status;
 use cov_base::{Memory, Texts};
 use cov_disk::Disk;
 use cov_io::{Lines, Sink, Source};
+use cov_lines::Server;
 use cov_loop::serve_all;
 use cov_out::Trees;
 use std::alloc::Global;
@@ -33,8 +33,9 @@ const USAGE: &[u8] = b"usage: covstore run | check | demo N\n";
 
 /// Does what the words after the program's name say. `run` opens the store and serves the script, line by line: stores what a line
 /// adds, writes its rows of trees, one call each, and then puts its reply in one call. `check` opens the store, and tells how many
-/// records it has. `demo N` serves the script that the number N stands for, and tells what its checkouts are replied. A store that can't be opened is told in one line. All else writes the usage line. The first failing call ends the
-/// run. Want of memory may come at any moment.
+/// records it has. `demo N` serves the script that the number N stands for, and tells what its checkouts are replied. A store that
+/// can't be opened is told in one line. All else writes the usage line. The first failing call ends the run. Want of memory may
+/// come at any moment.
 pub fn run<S: Source, K: Sink, D: Disk, T: Trees>(
     alloc: Global,
     words: &Texts,

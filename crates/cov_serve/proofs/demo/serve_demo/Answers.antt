@@ -8,9 +8,9 @@ use Rattle.cov_out.specs.declared.row.OutRow.{OutRow}
 use Rattle.cov_script.specs.Demonstration.{checkout_lines, made_lines}
 use Rattle.cov_serve.specs.Jobs.{StandsForFront, history_after, replies, rows_of, served_demo}
 use Rattle.cov_serve.specs.Program.{demo_line}
-use Rattle.cov_serve.specs.States.{State, starting}
-use Rattle.cov_serve.specs.Step.{model, step}
-use Rattle.cov_serve.specs.Storing.{count, stored}
+use Rattle.cov_lines.specs.States.{State, starting}
+use Rattle.cov_lines.specs.Step.{model, step}
+use Rattle.cov_lines.specs.Storing.{count, stored}
 use Rattle.cov_serve.specs.TextServing.{KeepsAfter, ReachesAfter, RowsComeAfter, answers_after, is_end, rows_after}
 use Rattle.cov_store.specs.Stands.{IsStored, StandsFor}
 use Rattle.cov_serve.proofs.Checkouts.{checkout_answered, checkouts_are, checkouts_keep, first_checkout, other_checkouts}

@@ -9,8 +9,8 @@ use Rattle.cov_loop.specs.Keeping.{AreAll}
 use Rattle.cov_loop.specs.Turns.{WritesFront}
 use Rattle.cov_serve.specs.Jobs.{ComesTo, EndsAs, IsCaused, IsSettled, IsShort, JobOutcome, NoneRose, OnEnd, RowsPrecede, StandsForFront, StandsForTold, StartsFrom, history_after, job_of, opens_disk, outcome, reads_source, replies, rows_of, served_demo, served_script, served_status, stores_first, writes_trees}
 use Rattle.cov_serve.specs.Program.{OnServed, PutsLast, ReadsAs, StopsDemo, StopsServing, check_line, usage_line}
-use Rattle.cov_serve.specs.States.{State, starting}
-use Rattle.cov_serve.specs.Step.{model}
+use Rattle.cov_lines.specs.States.{State, starting}
+use Rattle.cov_lines.specs.Step.{model}
 use Rattle.cov_serve.specs.declared.job.Job.TheVariants.{OnStore, Unknown}
 use Rattle.cov_serve.specs.declared.job.StoreJob.TheVariants.{Run, Check, Demo}
 use Rattle.cov_serve.specs.declared.status.Status.TheVariants.{Done, Usage, NoMemory}

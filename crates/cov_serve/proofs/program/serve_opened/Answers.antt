@@ -7,11 +7,11 @@ use Rattle.cov_loop.specs.Outcome.{answers}
 use Rattle.cov_loop.specs.Turns.{HasRows, HasStored, IsWhole, ReadsOut, output}
 use Rattle.cov_loop.proofs.CallerLemmas.{fault_turn}
 use Rattle.cov_serve.specs.Jobs.{StandsForFront, StandsForTold, served_script}
-use Rattle.cov_serve.specs.Laws.{rows_told}
+use Rattle.cov_lines.specs.Laws.{rows_told}
 use Rattle.cov_serve.specs.Program.{OnServed}
-use Rattle.cov_serve.specs.States.{starting}
-use Rattle.cov_serve.specs.Step.{model, step}
-use Rattle.cov_serve.specs.Storing.{count, stored}
+use Rattle.cov_lines.specs.States.{starting}
+use Rattle.cov_lines.specs.Step.{model, step}
+use Rattle.cov_lines.specs.Storing.{count, stored}
 use Rattle.cov_store.specs.Stands.{IsStored, StandsFor}
 use Rattle.cov_serve.proofs.Crashing.{front_first, front_reached, stands_for, told_none, told_reached}
 use Rattle.cov_serve.proofs.Endings.{ended_status, rows_status, stored_status, whole_status}

@@ -1,0 +1,105 @@
+-- What the appending of a command comes to.
+use Rattle.std.proofs.Common.{◌≡◌, refl, sym, ap, subst, ℕ, ◌+◌, ◌<◌, ◌≤◌, List, [], ◌∷◌, ◌++◌, length, None, option_map, Result, Ok, Err, arith}
+use Rattle.std.specs.Prelude.{IfErr, IfOk, OnOk}
+use Rattle.std.proofs.lemmas.List.{length-append}
+use Rattle.cov_base.specs.Causes.{Rose}
+use Rattle.cov_codes.proofs.CallerLemmas.{refusal-code}
+use Rattle.cov_codes.specs.Codes.{refusal_code}
+use Rattle.cov_codes.specs.Stops.{refusal_stop}
+use Rattle.cov_disk.specs.Images.{LeavesOnly}
+use Rattle.cov_edit.specs.declared.command.Command.{Command}
+use Rattle.cov_engine.specs.States.{receipt_number}
+use Rattle.cov_engine.specs.declared.prepared.Receipt.{Receipt}
+use Rattle.cov_history.specs.Verdict.{RefusedBy, verdict}
+use Rattle.cov_history.specs.declared.refusal.Refusal.{Refusal}
+use Rattle.cov_history.specs.declared.refusal.Refusal.TheVariants as refusals
+use Rattle.cov_loop.specs.Answers.{StopsAnswer}
+use Rattle.cov_loop.specs.Keeping.{AreAll, IsEither}
+use Rattle.cov_session.specs.Calls.{AreOpen}
+use Rattle.cov_session.specs.Faults.{unless}
+use Rattle.cov_session.specs.Laws.{OpenSessionsStay}
+use Rattle.cov_session.specs.Open.{SessionValue}
+use Rattle.cov_store.specs.Appending.{IsAppendFaultOf, LeavesHistory, OnRefusal, OnWriteFault}
+use Rattle.cov_store.specs.Stands.{IsStored}
+use Rattle.cov_store.specs.declared.appending.AppendFault.{AppendFault}
+use Rattle.cov_store.specs.declared.appending.AppendFault.TheVariants as faults
+use Rattle.cov_lines.specs.Acting.{Changes, Stops}
+use Rattle.cov_lines.specs.Adding.{HasReceipt, added_as}
+use Rattle.cov_lines.specs.States.{State, with_command}
+use Rattle.cov_lines.specs.Step.{appended}
+use Rattle.cov_lines.specs.Storing.{grown, stored}
+use Rattle.cov_lines.proofs.Additions.{appended-as}
+use Rattle.cov_lines.proofs.Growing.{stay-open}
+use Rattle.cov_lines.proofs.Leaving.{leaves-grown, leaves-same}
+
+-- a command that is refused changes nothing
+refusal-stops : (st : State) (k : Command) (r : Refusal) → RefusedBy r (verdict st.history k) → Stops (appended st k) st st (refusal_stop r)
+refusal-stops st k refusals.Memory h = refl
+refusal-stops st k r h = record {
+  is = ap (λ o. unless (option_map refusal_code o) (with_command st k)) h;
+  same = refl;
+  told = refusal-code st.history k r h;
+}
+
+-- the state with another history
+abbrev pub with_history : State → List Command → State
+with_history st now = record { history = now; sessions = st.sessions; trees = st.trees }
+
+-- the sessions that are open stay so
+pub still-open : OpenSessionsStay → (history now : List Command) (k : Command) (ss : List SessionValue) (r : Result Receipt AppendFault) → LeavesHistory history k now r → AreOpen history ss → AreOpen now ss
+still-open law history now k ss (Ok receipt) leaves here = stay-open law history now k ss leaves here
+still-open law history now k ss (Err faults.DiskFault) leaves here = stay-open law history now k ss leaves here
+still-open law history now k ss (Err (faults.Refused refusal)) leaves here = subst (λ h. AreOpen h ss) (sym leaves) here
+
+module _ (history : List Command) (k : Command) (now : List Command) where
+  longer : now ≡ history ++ k ∷ [] → length history ≤ length now
+  longer leaves = omega (arith, ap length leaves, length-append history (k ∷ []))
+
+  -- no command is lost
+  pub no-shorter : (r : Result Receipt AppendFault) → LeavesHistory history k now r → length history ≤ length now
+  no-shorter (Ok receipt) leaves = longer leaves
+  no-shorter (Err faults.DiskFault) leaves = longer leaves
+  no-shorter (Err (faults.Refused refusal)) leaves = omega (arith, ap length leaves)
+
+  -- where the history has the command, it has more than so many commits as there were commands
+  pub fewer-commits : (commits : ℕ) (r : Result Receipt AppendFault) → LeavesHistory history k now r → commits ≤ length history → IfOk (added_as r) (λ added. OnOk added (commits < length now))
+  fewer-commits commits (Ok receipt) leaves few = omega (arith, ap length leaves, length-append history (k ∷ []), few)
+  fewer-commits commits (Err faults.DiskFault) leaves few = tt
+  fewer-commits commits (Err (faults.Refused refusal)) leaves few = tt
+
+module _ (st : State) (k : Command) (now : List Command) where
+  -- the state is the one that is wanted
+  pub appends : (r : Result Receipt AppendFault) → LeavesHistory st.history k now r → OnOk r (verdict st.history k ≡ None) → IfErr r (IsAppendFaultOf (verdict st.history k))
+      → IfOk (added_as r) (Changes (appended st k) st (with_history st now))
+  appends (Ok receipt) leaves accepted refused = appended-as st k (with_history st now) accepted (ap (with_history st) leaves)
+  appends (Err (faults.Refused refusal)) leaves accepted refused =
+      subst (λ (t : State). Stops (appended st k) st t (refusal_stop refusal)) (sym (ap (with_history st) leaves)) (refusal-stops st k refusal refused)
+  appends (Err faults.DiskFault) leaves accepted refused = tt
+
+  pub has-receipt : (r : Result Receipt AppendFault) → IfOk r (λ receipt. receipt.number ≡ receipt_number st.history k) → IfOk r (λ receipt. receipt.position ≡ length st.history + 1)
+      → IfOk (added_as r) (λ added. IfOk added (HasReceipt st.history k))
+  has-receipt (Ok receipt) number position = record { number = number; position = position }
+  has-receipt (Err (faults.Refused refusal)) number position = tt
+  has-receipt (Err faults.DiskFault) number position = tt
+
+  -- what a disk has of the history before, it has of the one after
+  pub carried : {D : Type 0} (old new : D) (Q : D → List Command → Type 0) (r : Result Receipt AppendFault) → LeavesHistory st.history k now r
+      → Q old st.history → OnOk r (Q new (st.history ++ k ∷ [])) → IfErr r (λ fault. OnRefusal fault (new ≡ old)) → OnOk (added_as r) (Q new now)
+  carried old new Q (Ok receipt) leaves was is same = subst (Q new) (sym leaves) is
+  carried old new Q (Err (faults.Refused refusal)) leaves was is same = subst (Q new) (sym leaves) (subst (λ d. Q d st.history) (sym same) was)
+  carried old new Q (Err faults.DiskFault) leaves was is same = tt
+
+  pub moments : {D : Type 0} (moment : D → ℕ) (images_since : D → ℕ → List ℕ → Type 0) (images : D → List ℕ → Type 0) (old new : D) → ((c : List ℕ) → images_since old (moment old) c → images old c)
+      → (r : Result Receipt AppendFault) → OnOk r (verdict st.history k ≡ None) → IfErr r (IsAppendFaultOf (verdict st.history k)) → IfErr r (λ fault. OnRefusal fault (new ≡ old))
+      → AreAll (stored st) (images old) → LeavesOnly moment images_since old new (IsEither (stored st) (λ image. IsStored image (st.history ++ k ∷ [])))
+      → LeavesOnly moment images_since old new (IsEither (stored st) (λ image. IsStored image (grown st.history k)))
+  moments moment images_since images old new only (Ok receipt) accepted refused same all leaves = leaves-grown moment images_since old new st st.history k refl accepted leaves
+  moments moment images_since images old new only (Err faults.DiskFault) accepted refused same all leaves = leaves-grown moment images_since old new st st.history k refl refused leaves
+  moments moment images_since images old new only (Err (faults.Refused refusal)) accepted refused same all leaves =
+      leaves-same moment images_since images old new only same st (λ image. IsStored image (grown st.history k)) all
+
+-- the disk has failed
+pub write-stops : (disk disk' : ℕ) (r : Result Receipt AppendFault) → IfErr r (λ fault. OnWriteFault fault (Rose disk disk')) → IfErr (added_as r) (λ ending. StopsAnswer ending disk disk')
+write-stops disk disk' (Ok receipt) failed = tt
+write-stops disk disk' (Err (faults.Refused refusal)) failed = tt
+write-stops disk disk' (Err faults.DiskFault) failed = failed

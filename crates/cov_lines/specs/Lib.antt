@@ -1,0 +1,16 @@
+pub mod Acting
+pub mod Adding
+pub mod Editing
+pub mod Finding
+pub mod Growth
+pub mod Isolation
+pub mod Laws
+pub mod Opening
+pub mod Replies
+pub mod Seeing
+pub mod States
+pub mod Step
+pub mod Storing
+pub mod Sweeping
+pub mod Texts
+pub mod Written

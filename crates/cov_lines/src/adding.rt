@@ -1,0 +1,106 @@
+// How a command is added: to the history and to the disk, before there is a reply.
+ghost use Rattle.std.specs.Prelude.{◌≡◌, ◌<◌, ◌≤◌, true, length, is_some, IfOk, OnOk, IfErr, IfSome};
+ghost use Rattle.cov_disk.specs.Images.{LeavesOnly};
+ghost use Rattle.cov_lines.specs.Acting.{Changes};
+ghost use Rattle.cov_lines.specs.Adding.{HasReceipt, added_as, ended_by, confirmed};
+ghost use Rattle.cov_lines.specs.Step.{appended};
+ghost use Rattle.cov_lines.specs.Storing.{gated, grown, stored};
+ghost use Rattle.cov_loop.specs.Answers.{StopsAnswer};
+ghost use Rattle.cov_loop.specs.Keeping.{AreAll, IsEither};
+ghost use Rattle.cov_session.specs.Named.{named};
+ghost use Rattle.cov_store.specs.Stands.{IsStored};
+
+use crate::handled::Confirmation;
+use crate::server::Server;
+use crate::state::ServerState;
+use cov_base::{Memory, Name, Text};
+use cov_codes::Stop;
+use cov_disk::Disk;
+use cov_edit::Command;
+use cov_engine::Receipt;
+use cov_loop::Ending;
+use cov_script::{reply_commit, reply_constraint, reply_default, reply_prefer};
+use cov_session::NoSession;
+use cov_session::laws::open_sessions_stay;
+use cov_store::{AppendFault, append};
+use std::alloc::Global;
+
+impl Server {
+    /// Appends a command and stores its record on the disk, unless the history refuses it or memory is wanting; then server and disk are
+    /// as before. At an `Err` the server is to be given up.
+    pub(crate) fn append<D: Disk>(
+        &mut self,
+        command: Command,
+        disk: &mut D,
+    ) -> Result<Result<Receipt, Stop>, Ending>
+        requires gate { IfSome (D.contents disk.old) (gated self.old.state) }
+        ensures changes { IfOk result
+            (Changes (appended self.old.state command) self.old.state self.new.state) }
+        ensures receipt { IfOk result (λ added.
+            IfOk added (HasReceipt self.old.state.history command)) }
+        ensures commits { self.new.commits ≡ self.old.commits }
+        ensures fewer { IfOk result (λ added.
+            OnOk added (self.new.commits < length self.new.state.history)) }
+        ensures gate { OnOk result (IfSome (D.contents disk.new) (gated self.new.state)) }
+        ensures stored { IfSome (D.contents disk.old) (stored self.old.state) →
+            OnOk result (IfSome (D.contents disk.new) (stored self.new.state)) }
+        ensures any_moment { AreAll (stored self.old.state) (D.images disk.old) →
+            LeavesOnly D.moment D.images_since disk.old disk.new
+            (IsEither (stored self.old.state)
+            (λ image. IsStored image (grown self.old.state.history command))) }
+        ensures durable { AreAll (stored self.old.state) (D.images disk.old) →
+            OnOk result (AreAll (stored self.new.state) (D.images disk.new)) }
+        ensures stopped { IfErr result (λ ending.
+            StopsAnswer ending (D.faults disk.old) (D.faults disk.new)) }
+        ensures later { D.faults disk.old ≤ D.faults disk.new }
+    {
+        open_sessions_stay();
+        let state = &mut self.state;
+        as_added(append(&mut state.engine, &mut self.journal, disk, command))
+    }
+}
+
+// What the appending of a command comes to.
+fn as_added(appended: Result<Receipt, AppendFault>) -> Result<Result<Receipt, Stop>, Ending>
+    ensures { result ≡ added_as appended }
+{
+    match appended {
+        Ok(receipt) => Ok(Ok(receipt)),
+        Err(AppendFault::Refused(refusal)) => Ok(Err(Stop::from(refusal))),
+        Err(AppendFault::DiskFault) => Err(Ending::DiskFault),
+    }
+}
+
+impl ServerState {
+    /// Ends the session of a name, if there is a name. Takes no memory.
+    pub(crate) fn end(&mut self, ends: &Option<Name>)
+        requires { IfSome ends.now (λ name. is_some (named self.old.state.sessions name) ≡ true) }
+        ensures { self.new.state ≡ ended_by self.old.state ends.now }
+    {
+        match ends {
+            Some(name) => match self.sessions.discard(name) {
+                Ok(()) => (),
+                Err(NoSession) => unreachable!(),
+            },
+            None => (),
+        }
+    }
+}
+
+/// The reply to a command that was added.
+pub(crate) fn confirm(
+    alloc: Global,
+    confirmation: Confirmation,
+    receipt: &Receipt,
+) -> Result<Text, Memory>
+    ensures { IfOk result (λ text.
+        text ≡ confirmed confirmation receipt.now.number receipt.now.position) }
+{
+    match confirmation {
+        Confirmation::Known(text) => Ok(text),
+        Confirmation::Constraint => reply_constraint(alloc, receipt.number),
+        Confirmation::Prefer => reply_prefer(alloc, receipt.number),
+        Confirmation::Default => reply_default(alloc, receipt.number),
+        Confirmation::Commit => reply_commit(alloc, receipt.position),
+    }
+}

@@ -1,0 +1,145 @@
+// What a line does, by its group, and its reply.
+ghost use Rattle.std.specs.Prelude.{IfOk};
+ghost use Rattle.cov_edit.specs.History.{option_count};
+ghost use Rattle.cov_lines.specs.Acting.{Acts, Handles};
+ghost use Rattle.cov_lines.specs.Growth.{Keeps};
+ghost use Rattle.cov_lines.specs.States.{State};
+ghost use Rattle.cov_lines.specs.Step.{Act, acted, plainly, refused, served, served_declaration, served_edit, served_question, served_session};
+ghost use Rattle.cov_lines.specs.Texts.{EditHasParts, HasParts};
+ghost use Rattle.cov_loop.specs.Answers.{Gives};
+ghost use Rattle.cov_script.specs.Replies.{IsCodeOf};
+
+use crate::handled::Handled;
+use crate::state::ServerState;
+use cov_base::{Kind, LineNo, MOST_SCRIPT_LINE_BYTES, Memory, Name, Text};
+use cov_codes::Stop;
+use cov_loop::{Answer, Reply};
+use cov_out::OutRows;
+use cov_script::{
+    Code, Declaration, EditLine, GroupedLine, Question, SessionLine, lines_read_as_spelt,
+    read_line, reply_refused,
+};
+use std::alloc::Global;
+
+impl ServerState {
+    /// The reply that refuses a line.
+    pub(crate) fn refuse(&self, code: &Code) -> Result<Reply, Memory>
+        requires { IsCodeOf (option_count self.now.state.history) code.now }
+        ensures { IfOk result (Gives (refused self.now.state code.now) self.now.state) }
+    {
+        let text = reply_refused(self.alloc, self.engine.options(), code)?;
+        let rows = OutRows::new(self.alloc);
+        let answer = Answer::Refused;
+        Ok(Reply { text, rows, answer })
+    }
+
+    /// Does what a line says, and makes its reply, with the rows that are to be written before it; or makes the command that the
+    /// line adds.
+    #[tactic(auto, unfolding(crate::specs::Step::acted))]
+    pub(crate) fn act(&mut self, line: &[u8]) -> Result<Handled, Stop>
+        ensures { Handles (acted self.old.state line.now) self.old.state self.new.state result }
+    {
+        if line.len() > MOST_SCRIPT_LINE_BYTES {
+            return Err(Stop::Refused(Code::Long));
+        }
+        lines_read_as_spelt();
+        let form = read_line(self.alloc, line)?;
+        self.serve(form.grouped())
+    }
+
+    #[tactic(auto, unfolding(crate::specs::Step::served))]
+    fn serve(&mut self, line: GroupedLine) -> Result<Handled, Stop>
+        requires { HasParts line }
+        ensures { Handles (served self.old.state line) self.old.state self.new.state result }
+    {
+        match line {
+            GroupedLine::Silent => Ok(Handled::Done(Reply::to_done(
+                self.alloc,
+                Text::new(self.alloc),
+            ))),
+            GroupedLine::Declaration(declaration) => self.serve_declaration(declaration),
+            GroupedLine::Session(line) => self.serve_session(line),
+            GroupedLine::Edit { name, edit } => as_done(self.alloc, self.serve_edit(&name, edit)),
+            GroupedLine::Question(question) => as_done(self.alloc, self.serve_question(question)),
+            GroupedLine::Checkout { tree, choice } => self.check_out(&tree, &choice),
+        }
+    }
+
+    #[tactic(auto, unfolding(crate::specs::Step::served_declaration))]
+    fn serve_declaration(&self, declaration: Declaration) -> Result<Handled, Stop>
+        ensures { Handles (plainly (served_declaration self.now.state declaration))
+            self.now.state self.now.state result }
+    {
+        match declaration {
+            Declaration::Option { token } => self.declare(&token),
+            Declaration::Constraint { expr } => self.constrain(&expr),
+            Declaration::Prefer { expr } => self.prefer(&expr),
+            Declaration::Default { token, on } => self.set_default(token, on),
+        }
+    }
+
+    #[tactic(auto, unfolding(crate::specs::Step::served_session))]
+    fn serve_session(&mut self, line: SessionLine) -> Result<Handled, Stop>
+        ensures { Handles (plainly (served_session self.old.state line))
+            self.old.state self.new.state result }
+    {
+        match line {
+            SessionLine::Open {
+                name,
+                choice,
+                ambition,
+            } => as_done(self.alloc, self.open(name, &choice, &ambition)),
+            SessionLine::Refresh { name } => as_done(self.alloc, self.refresh(&name)),
+            SessionLine::Commit { name } => self.commit(name),
+            SessionLine::Discard { name } => as_done(self.alloc, self.discard(&name)),
+        }
+    }
+
+    #[tactic(auto, unfolding(crate::specs::Step::served_edit))]
+    fn serve_edit(&mut self, name: &Name, edit: EditLine) -> Result<Text, Stop>
+        requires { EditHasParts edit }
+        ensures { Acts (served_edit self.old.state name.now edit)
+            self.old.state self.new.state result }
+    {
+        match edit {
+            EditLine::MakeDir { path } => self.make_node(Kind::Dir, name, &path),
+            EditLine::MakeFile { path } => self.make_node(Kind::File, name, &path),
+            EditLine::Rename { path, to } => self.rename(name, &path, to),
+            EditLine::Move { path, target } => self.move_node(name, &path, &target),
+            EditLine::Remove { path } => self.remove(name, &path),
+            EditLine::Insert { path, line, text } => self.insert(name, &path, line, text),
+            EditLine::Delete { path, line } => self.delete(name, &path, line),
+            EditLine::Replace { path, line, text } => self.replace(name, &path, line, text),
+        }
+    }
+
+    #[tactic(auto, unfolding(crate::specs::Step::served_question))]
+    fn serve_question(&mut self, question: Question) -> Result<Text, Stop>
+        ensures { Acts (served_question self.old.state question)
+            self.old.state self.new.state result }
+    {
+        match question {
+            Question::Complete { choice } => self.complete(&choice),
+            Question::Show { name, path } => self.show(&name, &path),
+            Question::List { name, path } => self.list(&name, &path),
+            Question::Cat { choice, path } => self.tell(&choice, &path),
+            Question::Alt {
+                choice,
+                token,
+                path,
+            } => self.compare(&choice, token, &path),
+            Question::Presence { line } => self.presence(LineNo::new(line)),
+        }
+    }
+}
+
+// What a line comes to that adds no command.
+fn as_done(alloc: Global, told: Result<Text, Stop>) -> Result<Handled, Stop>
+    ensures { (wanted : Act) (old new : State) → Keeps old wanted → Acts wanted old new told →
+        Handles (plainly wanted) old new result }
+{
+    match told {
+        Ok(text) => Ok(Handled::Done(Reply::to_done(alloc, text))),
+        Err(stop) => Err(stop),
+    }
+}

@@ -1,5 +1,0 @@
-use Rattle.cov_serve.specs.Growth.{without_reply}
-use Rattle.cov_serve.proofs.laws.forms_are_answered.Goals as goal
-
-pub returns : goal.returns
-returns c st line heard told = heard (without_reply st line told).0
