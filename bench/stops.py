@@ -1,9 +1,11 @@
 #!/usr/bin/env python3
 """Stops the program while it serves a script, and looks for each acknowledged commit in the store that it leaves.
 
-Each write and sync of the first commits fails once, by Debian's `strace`; each allocation of the line whose commit has the table
-swept fails once; and the program is killed at random moments of a script of 1,000 commits."""
+Each call of the system fails once that the first commits make, and each that a script of all kinds of devices makes, with one error
+after another, by Debian's `strace`; each allocation of the line whose commit has the table swept fails once; and the program is killed at
+random moments of a script of 1,000 commits."""
 import collections
+import itertools
 import os
 import random
 import re
@@ -15,7 +17,18 @@ from timing import at_most, build, compiled, elsewhere, tell
 
 COMMITS, FAILING, KILLS = 1000, 5, 200
 SWEPT = 64  # with each commit of this number in a run the table is swept
-CALLS = ('write', 'pwrite64', 'fdatasync', 'fsync')
+CALLS = ('openat', 'statx', 'lseek', 'read', 'write', 'fsync', 'fdatasync', 'mkdir')
+AT_START = ('openat', 'read')  # what the loader of programs calls as well, before the program begins
+ERRORS = ('EIO', 'ENOSPC', 'EACCES', 'EINTR', 'EMFILE')
+PLAIN = b"""option a
+default a off
+open s - for true
+mkdir s /d
+mkfile s /d/m
+insert s /d/m 0 line 0
+commit s
+checkout t -
+"""
 
 
 def script(count):
@@ -26,17 +39,22 @@ def script(count):
 
 
 def acknowledged(replies):
-    """How many commits were acknowledged: their whole replies were written."""
-    return sum(line.startswith(b'ok commit ') for line in replies.split(b'\n')[:-1])
+    """How many commands were acknowledged: their whole replies were written."""
+    return sum(line.startswith((b'ok commit ', b'ok option ', b'ok default ')) for line in replies.split(b'\n')[:-1])
+
+
+def records(program):
+    """How many commands the store has, which opens."""
+    told = subprocess.run([program, 'check'], stdin=subprocess.DEVNULL, capture_output=True)
+    kept = re.fullmatch(rb'ok (\d+) records\n', told.stdout)
+    assert told.returncode == 0 and kept, told
+    return int(kept[1])
 
 
 def kept_beyond(program, replies, most):
     """How many commits more than were acknowledged the store has, less than none where it lost some. It opens and has none that wasn't
     asked for, and the next run goes on from there."""
-    told = subprocess.run([program, 'check'], stdin=subprocess.DEVNULL, capture_output=True)
-    kept = re.fullmatch(rb'ok (\d+) records\n', told.stdout)
-    assert told.returncode == 0 and kept, told
-    kept = int(kept[1])
+    kept = records(program)
     assert kept <= most, (replies[-200:], kept)
     if kept > 0:
         cat = subprocess.run([program, 'run'], input=b'cat - /m\n', capture_output=True)
@@ -46,27 +64,40 @@ def kept_beyond(program, replies, most):
     return kept - acknowledged(replies)
 
 
-def calls(program, text):
-    """How often the program makes each call while it serves a script."""
+def calls(program, text, *words):
+    """How often the program makes each call while it serves a script, and what it writes."""
     with elsewhere():
-        subprocess.run(['strace', '-f', '-o', 'calls', '-e', 'trace=' + ','.join(CALLS), program, 'run'], input=text,
-                       stdout=subprocess.DEVNULL, check=True)
+        ended = subprocess.run(['strace', '-f', '-o', 'calls', '-e', 'trace=' + ','.join(CALLS), program, *words], input=text,
+                               capture_output=True)
         with open('calls', encoding='ascii', errors='replace') as traced:
-            return collections.Counter(re.findall(r'^\d+ +(\w+)\(', traced.read(), re.MULTILINE))
+            return collections.Counter(re.findall(r'^\d+ +(\w+)\(', traced.read(), re.MULTILINE)), ended.stdout
+
+
+def failing_once(program, text, errors):
+    """The replies of each run in which one call fails with one of the errors, while the folder is what the run leaves. Its status says
+    that a device failed, or all is as where none does."""
+    made, replies = calls(program, text, 'run')
+    at_start, _ = calls(program, text)
+    for call, count in made.items():
+        before = at_start[call] if call in AT_START else 0
+        for number, error in itertools.product(range(before + 1, count + 1), errors):
+            with elsewhere():
+                ended = subprocess.run(['strace', '-f', '-o', 'calls', '-e', 'trace=' + call,
+                                        '-e', 'inject=%s:error=%s:when=%d' % (call, error, number), program, 'run'],
+                                       input=text, capture_output=True)
+                assert ended.returncode in (0, 4, 5, 6, 7) and replies.startswith(ended.stdout), (call, number, error, ended)
+                assert ended.returncode > 0 or replies == ended.stdout, (call, number, error, ended)
+                yield ended.stdout
 
 
 def fail_each(program):
     """How many commits more than were acknowledged the store has after each run, in each of which one call fails."""
-    text, beyond = script(FAILING), []
-    for call, count in calls(program, text).items():
-        for number in range(1, count + 1):
-            with elsewhere():
-                ended = subprocess.run(['strace', '-f', '-o', 'calls', '-e', 'trace=' + call,
-                                        '-e', 'inject=%s:error=EIO:when=%d' % (call, number), program, 'run'],
-                                       input=text, capture_output=True)
-                assert ended.returncode in (5, 6), ended
-                beyond.append(kept_beyond(program, ended.stdout, FAILING + 1))
-    return beyond
+    return [kept_beyond(program, replies, FAILING + 1) for replies in failing_once(program, script(FAILING), ('EIO',))]
+
+
+def fail_plain_use(program):
+    """The same of commands, where the script uses all devices, and for each error."""
+    return [records(program) - acknowledged(replies) for replies in failing_once(program, PLAIN, ERRORS)]
 
 
 def served_without(program, library, text, number):
@@ -123,13 +154,15 @@ def kill_often(program):
 
 
 def of_runs(name, beyond, parts=''):
-    parts = 'of %d; %d kept a commit whose reply is missing' % (len(beyond), sum(more > 0 for more in beyond)) + parts
-    return at_most('runs that lost an acknowledged commit, ' + name, sum(more < 0 for more in beyond), 0, parts=parts)
+    parts = 'of %d; %d kept a command whose reply is missing' % (len(beyond), sum(more > 0 for more in beyond)) + parts
+    return at_most('runs that lost an acknowledged command, ' + name, sum(more < 0 for more in beyond), 0, parts=parts)
 
 
 def figures(program):
     beyond, ended = kill_often(program)
-    return [of_runs('by a failing call', fail_each(program)), of_runs('by an allocation that fails', starve_each(program)),
+    return [of_runs('by a failing call', fail_each(program)),
+            of_runs('by a failing call of plain use', fail_plain_use(program)),
+            of_runs('by an allocation that fails', starve_each(program)),
             of_runs('by SIGKILL', beyond, '; %d others had ended before' % ended)]
 
 
