@@ -5,17 +5,20 @@ Each call of the system fails once that the first commits make, and each that a 
 after another, by Debian's `strace`; each allocation of the line whose commit has the table swept fails once; and the program is killed at
 random moments of a script of 1,000 commits."""
 import collections
+import contextlib
 import itertools
 import os
 import random
 import re
+import shutil
 import signal
 import subprocess
+import tempfile
 import time
 
-from timing import at_most, build, compiled, elsewhere, tell
+from timing import COVSTORE, at_most, build, compiled, elsewhere, tell
 
-COMMITS, FAILING, KILLS = 1000, 5, 200
+COMMITS, FAILING, KILLS, PAIRS = 1000, 5, 200, 200
 SWEPT = 64  # with each commit of this number in a run the table is swept
 CALLS = ('openat', 'statx', 'lseek', 'read', 'write', 'fsync', 'fdatasync', 'mkdir')
 AT_START = ('openat', 'read')  # what the loader of programs calls as well, before the program begins
@@ -153,6 +156,37 @@ def kill_often(program):
     return beyond, ended
 
 
+@contextlib.contextmanager
+def installed(program):
+    """The script `covstore` over this program, as if it had just been built, in a folder of its own."""
+    with tempfile.TemporaryDirectory() as top:
+        out = os.path.join(top, 'crates', 'cov_cli', 'out')
+        os.makedirs(out)
+        shutil.copy(COVSTORE, top)
+        shutil.copy(program, os.path.join(out, 'cov_cli'))
+        for name in (os.path.join(top, 'crates.txt'), os.path.join(out, 'cov_cli.sources')):
+            open(name, 'w').close()
+        yield os.path.join(top, 'covstore')
+
+
+def run_two_at_once(program):
+    """How many commands more than both acknowledged the store has after each two runs of the script `covstore` at once, and in how many of
+    these one was turned away."""
+    beyond, away = [], 0
+    with installed(program) as covstore:
+        for _ in range(PAIRS):
+            with elsewhere():
+                pair = [subprocess.Popen([covstore, 'run'], stdin=subprocess.PIPE, stdout=subprocess.PIPE, stderr=subprocess.PIPE)
+                        for _ in range(2)]
+                replies = [child.communicate(script(FAILING))[0] for child in pair]
+                turned = [child.returncode == 6 for child in pair]
+                assert all(child.returncode in (0, 1, 6) for child in pair) and not all(turned), [child.returncode for child in pair]
+                assert all(out == b'' for out, is_away in zip(replies, turned) if is_away), replies
+                beyond.append(records(program) - sum(map(acknowledged, replies)))
+                away += any(turned)
+    return beyond, away
+
+
 def of_runs(name, beyond, parts=''):
     parts = 'of %d; %d kept a command whose reply is missing' % (len(beyond), sum(more > 0 for more in beyond)) + parts
     return at_most('runs that lost an acknowledged command, ' + name, sum(more < 0 for more in beyond), 0, parts=parts)
@@ -160,9 +194,11 @@ def of_runs(name, beyond, parts=''):
 
 def figures(program):
     beyond, ended = kill_often(program)
+    at_once, away = run_two_at_once(program)
     return [of_runs('by a failing call', fail_each(program)),
             of_runs('by a failing call of plain use', fail_plain_use(program)),
             of_runs('by an allocation that fails', starve_each(program)),
+            of_runs('by a run at the same time', at_once, '; in %d a run was turned away' % away),
             of_runs('by SIGKILL', beyond, '; %d others had ended before' % ended)]
 
 
