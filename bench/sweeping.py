@@ -21,7 +21,7 @@ def figures(program):
     making, once, often = (min(clock.processor for clock, _ in column) for column in rounds)
     swept, plain = (peak_of([program, WINDOW, '0', str(times)]) for times in (ONCE, 0))
     return [no_limit('entries', int(entries)), no_limit('entries that stay', int(kept)),
-            ratio('a sweep to what made them', (often - once) / (OFTEN - ONCE), making, 's'),
+            ratio('a sweep to what made them', (often - once) / (OFTEN - ONCE), making, 's', 1),
             ratio('peak, a sweep to none', swept, plain, 'MB')]
 
 
