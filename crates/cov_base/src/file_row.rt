@@ -1,5 +1,5 @@
 // Lines with their texts.
-use crate::{LineNo, List, Text};
+use crate::{LineNo, List, Shared, Text};
 
 /// A line of a file.
 #[derive(Debug, Drop)]
@@ -10,3 +10,6 @@ pub struct FileRow {
 
 /// Lines of a file, in order.
 pub type FileRows = List<FileRow>;
+
+/// Lines of a file, in order, which several owners have and none changes.
+pub type SharedRows = Shared<FileRows>;

@@ -13,12 +13,13 @@ mod name;
 mod number;
 mod older;
 mod option_name;
+mod shared;
 mod steps;
 
 pub use bytes::Text;
 pub use choice::Choice;
 pub use error::{BadName, Failed, Memory, MemoryOr};
-pub use file_row::{FileRow, FileRows};
+pub use file_row::{FileRow, FileRows, SharedRows};
 pub use limits::{
     CHOICE_WIDTH, LIMITS, Limits, MOST_NAME_BYTES, MOST_OPTION_NAME_BYTES, MOST_PARTS,
     MOST_SCRIPT_LINE_BYTES, MOST_TEXT_BYTES, MOST_TOKENS, TOO_MANY_SCRIPT_BYTES,
@@ -29,4 +30,5 @@ pub use name::{Name, Path};
 pub use number::{Kind, LineNo, LineRef, NodeNo, NodeRef, OptionId, Position};
 pub use older::{OlderList, OlderLists};
 pub use option_name::{OptionName, is_first_byte, is_word_byte, spells_word};
+pub use shared::Shared;
 pub use steps::{Counted, Ledger, Steps, Tally, Uncounted};

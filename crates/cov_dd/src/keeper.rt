@@ -18,9 +18,12 @@ pub trait HasNode {
     /// Puts a node in the place of its own, without memory.
     fn set_node(&mut self, node: Node)
         ensures { self.new ≡ having_node node self.old };
+
+    // the node put in is its own
+    ghost has_that_node: { (n : ℕ) (x : Self) → node_of (having_node n x) ≡ n };
 }
 
-/// Appends the node of each.
+/// Appends the node of each. At an `Err` those in front are still there, and behind them may be some of these.
 pub fn append_nodes<T: HasNode>(items: &[T], into: &mut Nodes) -> Result<(), Memory>
     ensures ok { OnOk result (into.new ≡ into.old ++ map T.node_of items.now) }
     ensures front { take (length into.old) into.new ≡ into.old }

@@ -1,5 +1,5 @@
 // Which file each line is in, and the commits.
-ghost use Rattle.std.specs.Prelude.{◌≡◌, map};
+ghost use Rattle.std.specs.Prelude.{◌≡◌, map, refl};
 ghost use Rattle.std.specs.Option.{option_copied};
 ghost use Rattle.cov_edit.specs.Touched.{AreRising};
 ghost use Rattle.cov_visible.specs.Parts.{part_node};
@@ -32,6 +32,8 @@ impl HasNode for CommitMark {
     fn set_node(&mut self, node: Node) {
         self.node = node;
     }
+
+    ghost has_that_node = { λ n x. refl };
 }
 
 /// The commits, and the file of each line by number.

@@ -1,5 +1,5 @@
 // The nodes of rules, listed and renumbered.
-ghost use Rattle.std.specs.Prelude.{◌≡◌, ◌≤◌, ◌+◌, ◌++◌, length, take, drop, OnOk, OnErr};
+ghost use Rattle.std.specs.Prelude.{◌≡◌, ◌≤◌, ◌+◌, ◌++◌, length, take, drop, OnOk, OnErr, refl};
 ghost use Rattle.cov_rules.specs.Renumbered.{having_node, node_of, nodes_of, without_nodes, HoldRenumbered};
 
 use super::{Installed, Rules};
@@ -62,4 +62,6 @@ impl HasNode for Installed {
     fn set_node(&mut self, node: Node) {
         self.node = node;
     }
+
+    ghost has_that_node = { λ n x. refl };
 }
