@@ -84,7 +84,7 @@ module _ (table : List Triple) (c : List Bool) (p : ℕ) where
 before : (at p : ℕ) → p < at → nat_le at p ≡ false
 before at p h = grind (arith, nat_tests, h)
 
-reached : (at p : ℕ) → at ≤ p → nat_le at p ≡ true
+pub reached : (at p : ℕ) → at ≤ p → nat_le at p ≡ true
 reached at p h = grind (arith, nat_tests, h)
 
 new_unseen : (table : List Triple) (c : List Bool) (vis : ℕ) (b : Bool) → value_in table vis c ≡ false → value_in table (cond b vis 0) c ≡ false

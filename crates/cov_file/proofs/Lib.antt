@@ -3,9 +3,11 @@ pub mod CallerLemmas
 pub mod Chains
 pub mod Changing
 pub mod Finding
+pub mod Forward
 pub mod Later
 pub mod Redating
 pub mod Renumbering
 pub mod Rooms
 pub mod Shown
+pub mod Showing
 pub mod Sweeping

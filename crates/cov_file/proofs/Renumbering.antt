@@ -1,6 +1,6 @@
 -- Changes whose nodes are those of a list.
-use Rattle.std.proofs.Common.{◌≡◌, ℕ, zero, suc, ◌+◌, ◌<◌, ◌≤◌, nat_eq, Bool, true, false, cond, List, [], ◌∷◌, ◌++◌, length, map, take, drop, get_or, set, reverse, refl, sym, ap, ◌∙◌, subst, arith, length-append, length-take-le, take-add, append_assoc}
-use Rattle.std.proofs.lemmas.List.{length-map, length-drop, map-append, get_or_at, set_at, drop_more, drop-drop}
+use Rattle.std.proofs.Common.{◌≡◌, ℕ, suc, ◌+◌, ◌≤◌, nat_eq, Bool, true, false, cond, List, [], ◌∷◌, ◌++◌, length, map, take, drop, reverse, refl, sym, ap, ◌∙◌, subst, arith, length-append, take-add}
+use Rattle.std.proofs.lemmas.List.{length-map, length-drop, map-append, drop-drop}
 use Rattle.std.specs.List.{AllByRecursion}
 use Rattle.std.proofs.lemmas.Grind.{reverse_onto}
 use Rattle.cov_base.specs.Replacing.{having}

@@ -1,5 +1,7 @@
 pub mod Dated
+pub mod Forward
 pub mod Kept
 pub mod Laws
 pub mod Renumbered
 pub mod Rooms
+pub mod Sights

@@ -1,5 +1,5 @@
 -- The nodes of a file's lines, and others in their places.
-use Rattle.std.specs.Prelude.{◌≡◌, ℕ, Bool, true, List, [], ◌∷◌, ◌++◌, map}
+use Rattle.std.specs.Prelude.{◌≡◌, ℕ, Bool, true, List, ◌++◌, map}
 use Rattle.std.specs.List.{AllByRecursion}
 use Rattle.cov_file.specs.declared.changes.Change.{Change}
 use Rattle.cov_file.specs.Dated.{DatedLine}

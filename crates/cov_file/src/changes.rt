@@ -1,6 +1,7 @@
 // The changes of the visibilities of lines.
-ghost use Rattle.std.specs.Prelude.{◌≡◌, ◌<◌, ◌≤◌, ◌+◌, ◌-◌, ◌^◌, ℕ, [], ◌∷◌, ◌++◌, true, false, length, map, reverse, set, slice_get, take, drop, vec_len, vec_capacity, OnOk, OnErr, IfSome, if◌then◌else◌};
+ghost use Rattle.std.specs.Prelude.{◌≡◌, ◌<◌, ◌≤◌, ◌+◌, ◌-◌, ◌^◌, ℕ, [], ◌∷◌, ◌++◌, true, false, length, map, reverse, set, slice_get, take, drop, vec_len, vec_capacity, OnOk, OnErr, IfSome, if◌then◌else◌, refl};
 ghost use Rattle.std.specs.Option.{option_map, option_map_or};
+ghost use Rattle.std.specs.List.{AllByRecursion};
 ghost use Rattle.cov_file.specs.Dated.{vis_at, newest_vis};
 ghost use Rattle.cov_file.specs.Kept.{changes_before, changes_of, AreLinked, changes_at, is_at, with_node};
 ghost use Rattle.cov_file.specs.Renumbered.{AddsNode, dates_of, having_node, node_of, AreAllListed, AreRenumberedLists};
@@ -206,6 +207,24 @@ impl Changes {
         }
     }
 
+    /// The newest node of the line at an index, FALSE where there is no such line.
+    pub(crate) fn newest_node(&self, index: usize) -> Node
+        ensures { result ≡ newest_vis (changes_at self.now.lists index) }
+    {
+        match self.newest.get(index) {
+            Some(change) => change.node,
+            None => FALSE,
+        }
+    }
+
+    /// The position from which on each line has its newest node.
+    pub(crate) fn latest(&self) -> Position
+        ensures newest { result ≡ self.now.newest }
+        ensures nodes { (p : ℕ) → self.now.newest ≤ p → AllByRecursion (λ cs. vis_at cs p ≡ newest_vis cs) self.now.lists }
+    {
+        self.from
+    }
+
     /// The node at a position of the line at an index, FALSE where it has none. It takes time in the number of changes of
     /// this line beyond the position.
     pub(crate) fn at(&self, index: usize, position: Position) -> Node
@@ -230,6 +249,8 @@ impl HasNode for Change {
     fn set_node(&mut self, node: Node) {
         self.node = node;
     }
+
+    ghost has_that_node = { λ n x. refl };
 }
 
 // Puts a change behind the earlier ones, and answers how many there are then.

@@ -5,5 +5,6 @@ mod changes;
 mod coming;
 pub mod laws;
 mod lines;
+mod sights;
 
 pub use lines::FileLines;

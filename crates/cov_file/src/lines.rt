@@ -1,5 +1,5 @@
 // The lines of a file.
-ghost use Rattle.std.specs.Prelude.{◌≡◌, ℕ, List, ◌<◌, ◌≤◌, ◌+◌, ◌-◌, ◌^◌, ◌++◌, ◌∷◌, [], true, false, nat_eq, length, position, take, drop, IfOk, OnOk, OnErr, if◌then◌else◌};
+ghost use Rattle.std.specs.Prelude.{◌≡◌, ℕ, List, ◌<◌, ◌≤◌, ◌+◌, ◌-◌, ◌^◌, ◌++◌, ◌∷◌, [], true, false, Bool, nat_eq, length, position, take, drop, Some, IfOk, IfSome, OnOk, OnErr, if◌then◌else◌};
 ghost use Rattle.std.specs.List.{list_any};
 ghost use Rattle.std.specs.Map.{keys_of};
 ghost use Rattle.std.specs.Option.{option_map};
@@ -11,10 +11,14 @@ ghost use Rattle.cov_file.specs.Dated.{line_numbers_of, new_line, with_line, wit
 ghost use Rattle.cov_file.specs.Renumbered.{AddsNode, AreAllNodes, AreRenumberedLines};
 ghost use Rattle.cov_file.specs.Rooms.{is_room_at, IsMade, IsLeft};
 ghost use Rattle.cov_file.specs.Kept.{row_in, dated_lines};
+ghost use Rattle.cov_file.specs.Sights.{rows_by, Agrees, IsKnown, IsSight};
 
 use crate::changes::Changes;
 use crate::coming::Coming;
-use cov_base::{Choice, FileRow, FileRows, LineNo, LineNos, Memory, Position, Text};
+use crate::sights::{Evaluated, Kept, LineChange, Sights, value_of};
+use cov_base::{
+    Choice, FileRow, FileRows, LineNo, LineNos, Memory, Position, Shared, SharedRows, Text,
+};
 use cov_dd::{FALSE, Node, Nodes, Table};
 use cov_order::Order;
 use indexmap::IndexMap;
@@ -30,6 +34,7 @@ pub struct FileLines {
     texts: IndexMap<LineNo, Text>,
     changes: Changes,
     coming: Coming,
+    sights: Sights,
 }
 
 impl Model for FileLines {
@@ -38,6 +43,7 @@ impl Model for FileLines {
     ghost use Rattle.indexmap.specs.IndexMap.{spare};
     ghost use Rattle.cov_file.specs.Rooms.{DatedFile};
     ghost use Rattle.cov_file.specs.Kept.{dated_lines, position_of, changeable, AreKept};
+    ghost use Rattle.cov_file.specs.Sights.{AreSights};
 
     ghost Value = { DatedFile };
 
@@ -55,7 +61,8 @@ impl Model for FileLines {
     } };
 
     ghost invariant = { λ f. AreKept f.order.lines f.texts.entries f.changes
-        f.coming.deletes.items };
+        f.coming.deletes.items ×
+        AreSights (dated_lines f.texts.entries f.changes.lists f.order.lines) f.sights };
 }
 
 impl FileLines {
@@ -69,6 +76,7 @@ impl FileLines {
             texts: IndexMap::new(alloc),
             changes: Changes::new(alloc),
             coming: Coming::none(alloc),
+            sights: Sights::new(alloc),
         }
     }
 
@@ -167,6 +175,14 @@ impl FileLines {
         ensures room { IsLeft self.old.room self.new.room at 1 }
         ensures own { has_line line self.new.room.changes ≡ true }
     {
+        let beside = self.vis(anchor);
+        self.sights.change(&LineChange::Insert {
+            anchor,
+            beside,
+            line,
+            text: &text,
+            vis,
+        });
         self.order.insert_after(anchor, line);
         match self.texts.insert(line, text) {
             Ok(_) => (),
@@ -187,6 +203,10 @@ impl FileLines {
         ensures nodes { AddsNode vis self.old.nodes self.new.nodes }
         ensures room { IsLeft self.old.room self.new.room at 0 }
     {
+        self.order.lines_are_once();
+        let before = self.vis(line);
+        self.sights
+            .change(&LineChange::Delete { line, before, vis });
         match self.texts.get_index_of(&line) {
             Some(index) => self.changes.set(index, vis, at),
             None => unreachable!(),
@@ -201,6 +221,61 @@ impl FileLines {
         let lines = self.order.walk()?;
         let sight = Sight { table, choice, at };
         visible_rows(&self.texts, &self.changes, &lines, &sight)
+    }
+
+    /// Keeps what is shown on a choice from the newest change on, if it isn't yet. It takes time in the lines where it isn't,
+    /// and else in the nodes under which the kept lists are right; want of memory is passed over.
+    pub fn keep(&mut self, table: &Table, choice: Choice)
+        ensures { self.new ≡ self.old }
+    {
+        if self.sights.turn_to(table, choice) {
+            return;
+        }
+        match self.seen(table, choice) {
+            Ok(kept) => self.sights.keep(kept),
+            Err(_) => (),
+        }
+    }
+
+    /// Has the value of a node with each list that is kept, so that a line that gets this node doesn't make it wrong.
+    pub fn note(&mut self, table: &Table, node: Node)
+        ensures { self.new ≡ self.old }
+    {
+        self.sights.note(table, node);
+    }
+
+    // What is shown from the newest change on, with the values of nodes under which it is.
+    fn seen(&self, table: &Table, choice: Choice) -> Result<Kept, Memory>
+        ensures { IfOk result (IsSight self.now.lines) }
+    {
+        let lines = self.order.walk()?;
+        let sight = Sight {
+            table,
+            choice,
+            at: self.changes.latest(),
+        };
+        seen_newest(&self.texts, &self.changes, &lines, &sight)
+    }
+
+    /// The lines that are visible on a choice at a position, in order, shared with what is kept where that is right.
+    pub fn shown(&self, table: &Table, choice: Choice, at: Position) -> Result<SharedRows, Memory>
+        ensures { IfOk result (λ rows. rows ≡ rows_at table.now choice at self.now.lines) }
+    {
+        if let Some(rows) = self.kept(table, choice, at) {
+            return Ok(rows);
+        }
+        let rows = self.lines_at(table, choice, at)?;
+        Shared::new(*self.texts.allocator(), rows)
+    }
+
+    // The kept list that is right on a choice at a position, if there is one. It evaluates the nodes of kept lists alone.
+    fn kept(&self, table: &Table, choice: Choice, at: Position) -> Option<SharedRows>
+        ensures { IfSome result (λ rows. rows ≡ rows_at table.now choice at self.now.lines) }
+    {
+        if at < self.changes.latest() {
+            return None;
+        }
+        self.sights.find(table, choice)
     }
 
     /// Whether a line is among those that are visible on a choice at a position. It looks the line up once, goes through its
@@ -252,6 +327,7 @@ impl FileLines {
         ensures room { self.new.room ≡ self.old.room }
         ensures coming { self.new.coming ≡ self.old.coming }
     {
+        self.sights = Sights::new(*self.texts.allocator());
         self.changes.renumber(from, first)
     }
 
@@ -283,6 +359,13 @@ struct Last {
     value: bool,
 }
 
+// What was looked at before the first line.
+const NOTHING: Last = Last {
+    index: 0,
+    node: FALSE,
+    value: false,
+};
+
 // The lines that are asked for.
 fn visible_rows(
     texts: &IndexMap<LineNo, Text>,
@@ -297,17 +380,103 @@ fn visible_rows(
     // What `len` ensures bounds the index for the proof.
     let _count = lines.len();
     let mut rows = FileRows::new(*texts.allocator());
-    let mut last = Last {
-        index: 0,
-        node: FALSE,
-        value: false,
-    };
+    let mut last = NOTHING;
     let mut index = 0;
     while let Some(line) = lines.get(index) {
         add_visible(&mut rows, texts, changes, line, sight, &mut last)?;
         index += 1;
     }
     Ok(rows)
+}
+
+// What is shown by the newest nodes, with their values on a choice.
+fn seen_newest(
+    texts: &IndexMap<LineNo, Text>,
+    changes: &Changes,
+    lines: &LineNos,
+    sight: &Sight<'_>,
+) -> Result<Kept, Memory>
+    ensures { IfOk result (IsSight
+        (dated_lines texts.now.entries changes.now.lists lines.now)) }
+{
+    // What `len` ensures bounds the index for the proof.
+    let _count = lines.len();
+    let mut rows = FileRows::new(*texts.allocator());
+    let mut values = Vec::new(*texts.allocator());
+    let mut last = NOTHING;
+    let mut index = 0;
+    while let Some(line) = lines.get(index) {
+        add_seen(
+            &mut rows,
+            &mut values,
+            texts,
+            changes,
+            line,
+            sight,
+            &mut last,
+        )?;
+        index += 1;
+    }
+    let rows = Shared::new(*texts.allocator(), rows)?;
+    Ok(Kept {
+        choice: sight.choice,
+        values,
+        rows: Some(rows),
+    })
+}
+
+// Adds a line, if it is shown by its newest node, whose value is among the values then.
+fn add_seen(
+    rows: &mut FileRows,
+    values: &mut Vec<Evaluated>,
+    texts: &IndexMap<LineNo, Text>,
+    changes: &Changes,
+    line: LineNo,
+    sight: &Sight<'_>,
+    last: &mut Last,
+) -> Result<(), Memory>
+    requires last { IsKnown values.old.items last.old.node last.old.value }
+    ensures rows { OnOk result ((f : ℕ → Bool) → Agrees f values.new.items →
+        rows.new ≡ rows.old ++
+        rows_by f (dated_lines texts.now.entries changes.now.lists (line ∷ []))) }
+    ensures grows { OnOk result ((f : ℕ → Bool) → Agrees f values.new.items →
+        Agrees f values.old.items) }
+    ensures last { OnOk result (IsKnown values.new.items last.new.node last.new.value) }
+{
+    match find(texts, line, last.index) {
+        Some((index, text)) => {
+            let seen = note(values, index, changes.newest_node(index), sight, last)?;
+            *last = seen;
+            add_shown(rows, line, text, seen.value)
+        }
+        None => Ok(()),
+    }
+}
+
+// A node with its value, which is among the values then, at the index of its line. They are looked through only where the node
+// isn't the last one.
+fn note(
+    values: &mut Vec<Evaluated>,
+    index: usize,
+    node: Node,
+    sight: &Sight<'_>,
+    last: &Last,
+) -> Result<Last, Memory>
+    requires last { IsKnown values.old.items last.now.node last.now.value }
+    ensures node { IfOk result (λ seen. seen.node ≡ node) }
+    ensures value { IfOk result (λ seen. IsKnown values.new.items node seen.value) }
+    ensures grows { OnOk result ((f : ℕ → Bool) → Agrees f values.new.items →
+        Agrees f values.old.items) }
+{
+    if last.node == node {
+        return Ok(Last {
+            index,
+            node,
+            value: last.value,
+        });
+    }
+    let value = value_of(values, node, sight.table, sight.choice)?;
+    Ok(Last { index, node, value })
 }
 
 // Adds a line, if it is asked for. It looks the line up once, first behind the one that was looked at last.
@@ -326,7 +495,7 @@ fn add_visible(
         (dated_lines texts.now.entries changes.now.lists (line ∷ []))) }
     ensures last { last.new.value ≡ value_in sight.now.table.now last.new.node sight.now.choice }
 {
-    match find(texts, line, last.index.saturating_add(1)) {
+    match find(texts, line, last.index) {
         Some((index, text)) => {
             *last = look(sight, index, changes.at(index, sight.at), last);
             add_shown(rows, line, text, last.value)
@@ -336,20 +505,35 @@ fn add_visible(
 }
 
 // The index of a line with its text. Lines that stand together were mostly inserted one after another, so it is first looked for
-// where it would be then.
-fn find(texts: &IndexMap<LineNo, Text>, line: LineNo, expected: usize) -> Option<(usize, &Text)>
+// behind the one that was found last, and then before it.
+fn find(texts: &IndexMap<LineNo, Text>, line: LineNo, last: usize) -> Option<(usize, &Text)>
     ensures index { option_map (λ p. p.0) result ≡
         position (nat_eq line) (keys_of texts.now.entries) }
     ensures text { option_map (λ p. p.1.now) result ≡ get nat_eq texts.now line }
 {
+    if let Some(found) = at_index(texts, line, last.saturating_add(1)) {
+        return Some(found);
+    }
+    if let Some(found) = at_index(texts, line, last.saturating_sub(1)) {
+        return Some(found);
+    }
+    match texts.get_full(&line) {
+        Some((index, _, text)) => Some((index, text)),
+        None => None,
+    }
+}
+
+// An index with the text there, if it is the line's.
+fn at_index(texts: &IndexMap<LineNo, Text>, line: LineNo, index: usize) -> Option<(usize, &Text)>
+    ensures index { IfSome result (λ p.
+        position (nat_eq line) (keys_of texts.now.entries) ≡ Some p.0) }
+    ensures text { IfSome result (λ p. get nat_eq texts.now line ≡ Some p.1.now) }
+{
     // What `len` ensures is, for the proof, that no line stands twice.
     let _count = texts.len();
-    match texts.get_index(expected) {
-        Some((other, text)) if *other == line => Some((expected, text)),
-        _ => match texts.get_full(&line) {
-            Some((index, _, text)) => Some((index, text)),
-            None => None,
-        },
+    match texts.get_index(index) {
+        Some((other, text)) if *other == line => Some((index, text)),
+        _ => None,
     }
 }
 

@@ -62,6 +62,14 @@ impl Order {
         self.room -= 1;
     }
 
+    /// Does nothing; it tells that no line stands twice.
+    pub fn lines_are_once(&self)
+        ensures { AreLines self.now.lines }
+    {
+        // Names the pages, since their invariant tells it.
+        let _pages = &self.pages;
+    }
+
     /// The lines in order.
     pub fn walk(&self) -> Result<LineNos, Memory>
         ensures lines { IfOk result (λ lines. lines ≡ self.now.lines) }

@@ -3,21 +3,22 @@ use Rattle.std.specs.Map.{keys_of}
 use Rattle.std.specs.Option.{option_map_or}
 use Rattle.indexmap.specs.IndexMap.{spare}
 use Rattle.cov_base.proofs.CallerLemmas.{none-placed}
-use Rattle.cov_order.specs.Orders.{has_line}
-use Rattle.cov_file.specs.Dated.{with_change, line_numbers_of, AreAlike}
+use Rattle.cov_order.specs.Orders.{has_line, AreLines}
+use Rattle.cov_file.specs.Dated.{newest_of, with_change, line_numbers_of, AreAlike}
 use Rattle.cov_file.specs.Renumbered.{AddsNode}
 use Rattle.cov_file.specs.Rooms.{DatedFile, is_room_at}
 use Rattle.cov_file.specs.Kept.{dated_lines, changes_at, changes_in, is_at, with_node, position_of, changeable}
 use Rattle.cov_file.proofs.Changing.{numbers, deleted_alike}
 use Rattle.cov_file.proofs.Finding.{list_found, same_number}
 use Rattle.cov_file.proofs.Rooms.{as_many, room_for, delete_stays, deleted_kept, changeable_stays}
+use Rattle.cov_file.proofs.Forward.{sights_alike}
 use Rattle.cov_file.proofs.lines.FileLines.delete.Goals as goal
 use Rattle.cov_file.proofs.lines.FileLines.delete.Goals.{In-Some}
 
 pub unreachable-requires : goal.unreachable-requires
 unreachable-requires c =
     let there = ap (has_line c.args.line) (sym (numbers c.self.inside.texts.entries c.self.inside.changes.lists c.self.inside.order.lines) ∙ ap (λ (f : DatedFile). line_numbers_of f.lines) c.self.view_is) ∙ c.requires.there in
-    true≢false (sym there ∙ c.self.invariant.keys c.args.line ∙ none-placed (nat_eq c.args.line) (keys_of c.self.inside.texts.entries) (sym c.get_index_of.ensures.index ∙ c.in-None.is))
+    true≢false (sym there ∙ c.self.invariant.0.keys c.args.line ∙ none-placed (nat_eq c.args.line) (keys_of c.self.inside.texts.entries) (sym c.get_index_of.ensures.index ∙ c.in-None.is))
 
 found_at : (c : In-Some) → position (nat_eq c.args.line) (keys_of c.self.inside.texts.entries) ≡ Some c.in-Some.index
 found_at c = sym c.get_index_of.ensures.index ∙ c.in-Some.is
@@ -36,23 +37,36 @@ changes_are c = list_found c.args.line (keys_of c.self.inside.texts.entries) c.s
 pub set-requires-clause-room : goal.set-requires-clause-room
 set-requires-clause-room c = λ apart.
     let b = (goal.at.set-requires-clause-room c).In-Some in
-    room_for c.self.inside.order.lines c.self.inside.texts.entries c.self.inside.changes c.self.inside.coming.deletes.items c.self.invariant c.args.at (room_there b)
+    room_for c.self.inside.order.lines c.self.inside.texts.entries c.self.inside.changes c.self.inside.coming.deletes.items c.self.invariant.0 c.args.at (room_there b)
     c.args.line c.args.vis c.in-Some.index (found_at b) (may_change b) (ap (is_at c.args.at) (sym (changes_are b)) ∙ apart)
 
 pub invariant_of-self : goal.invariant_of-self
 invariant_of-self c =
-    let b = (goal.at.invariant_of-self c).In-Some in
-    deleted_kept c.self.inside.order.lines c.self.inside.texts.entries c.self.inside.changes c.self.inside.coming.deletes.items c.self.invariant c.args.at (room_there b)
-    c.args.line c.args.vis c.in-Some.index (found_at b) c.set.new.self
-    (c.set.ensures.lists ∙ ap (λ cs. set c.self.inside.changes.lists c.in-Some.index (with_node c.args.at c.args.vis cs)) (changes_are b)) c.set.ensures.newest c.set.ensures.open (may_change b)
-    (subst (λ cs. c.self.inside.changes.room ≤ c.set.new.self.room + cond (is_at c.args.at cs) 0 1) (changes_are b) c.set.ensures.room)
+    let b = (goal.at.invariant_of-self c).In-Some in (
+      deleted_kept c.self.inside.order.lines c.self.inside.texts.entries c.self.inside.changes c.self.inside.coming.deletes.items c.self.invariant.0 c.args.at (room_there b)
+          c.args.line c.args.vis c.in-Some.index (found_at b) c.set.new.self
+          (c.set.ensures.lists ∙ ap (λ cs. set c.self.inside.changes.lists c.in-Some.index (with_node c.args.at c.args.vis cs)) (changes_are b)) c.set.ensures.newest c.set.ensures.open (may_change b)
+          (subst (λ cs. c.self.inside.changes.room ≤ c.set.new.self.room + cond (is_at c.args.at cs) 0 1) (changes_are b) c.set.ensures.room),
+      sights_alike (dated_lines c.self.inside.texts.entries c.set.new.self.lists c.self.inside.order.lines)
+          (with_change c.args.line c.args.vis c.args.at (dated_lines c.self.inside.texts.entries c.self.inside.changes.lists c.self.inside.order.lines))
+          c.change.new.self
+          (deleted_alike c.self.inside.order.lines c.self.inside.texts.entries c.self.inside.changes.lists c.self.invariant.0.keys
+          (as_many c.self.inside.order.lines c.self.inside.texts.entries c.self.inside.changes c.self.inside.coming.deletes.items c.self.invariant.0 c.args.at (room_there b))
+          c.args.at c.args.line c.args.vis c.in-Some.index (found_at b) c.set.new.self.lists
+          (c.set.ensures.lists ∙ ap (λ cs. set c.self.inside.changes.lists c.in-Some.index (with_node c.args.at c.args.vis cs)) (changes_are b)))
+          (c.change.ensures (dated_lines c.self.inside.texts.entries c.self.inside.changes.lists c.self.inside.order.lines) c.args.at (
+            ap (λ (f : DatedFile). newest_of c.args.line f.lines) c.self.view_is ∙ sym c.vis-before.ensures.newest,
+            subst AreLines (sym (numbers c.self.inside.texts.entries c.self.inside.changes.lists c.self.inside.order.lines)) c.lines_are_once.ensures,
+          )
+          c.self.invariant.1),
+    )
 
 pub returns-clause-lines : goal.returns-clause-lines
 returns-clause-lines c =
     let b = (goal.at.returns-clause-lines c).In-Some in
     subst (λ (f : DatedFile). AreAlike (dated_lines c.self.inside.texts.entries c.set.new.self.lists c.self.inside.order.lines) (with_change c.args.line c.args.vis c.args.at f.lines)) c.self.view_is
-    (deleted_alike c.self.inside.order.lines c.self.inside.texts.entries c.self.inside.changes.lists c.self.invariant.keys
-    (as_many c.self.inside.order.lines c.self.inside.texts.entries c.self.inside.changes c.self.inside.coming.deletes.items c.self.invariant c.args.at (room_there b))
+    (deleted_alike c.self.inside.order.lines c.self.inside.texts.entries c.self.inside.changes.lists c.self.invariant.0.keys
+    (as_many c.self.inside.order.lines c.self.inside.texts.entries c.self.inside.changes c.self.inside.coming.deletes.items c.self.invariant.0 c.args.at (room_there b))
     c.args.at c.args.line c.args.vis c.in-Some.index (found_at b) c.set.new.self.lists
     (c.set.ensures.lists ∙ ap (λ cs. set c.self.inside.changes.lists c.in-Some.index (with_node c.args.at c.args.vis cs)) (changes_are b)))
 
@@ -70,7 +84,7 @@ returns-clause-room c =
       changes = λ line there.
           changeable_stays c.self.inside.changes c.set.new.self (keys_of c.self.inside.texts.entries) (keys_of c.self.inside.texts.entries) c.self.inside.coming.deletes.items c.self.inside.order.lines c.self.inside.order.lines line
           (λ old. old)
-          (delete_stays c.self.inside.order.lines c.self.inside.texts.entries c.self.inside.changes c.self.inside.coming.deletes.items c.self.invariant c.args.at (room_there b)
+          (delete_stays c.self.inside.order.lines c.self.inside.texts.entries c.self.inside.changes c.self.inside.coming.deletes.items c.self.invariant.0 c.args.at (room_there b)
           c.args.line c.args.vis c.in-Some.index (found_at b) c.set.new.self
           (c.set.ensures.lists ∙ ap (λ cs. set c.self.inside.changes.lists c.in-Some.index (with_node c.args.at c.args.vis cs)) (changes_are b)) c.set.ensures.newest c.set.ensures.open line)
           (ap (λ (f : DatedFile). has_line line f.room.changes) c.self.view_is ∙ there);

@@ -5,13 +5,14 @@ use Rattle.std.proofs.lemmas.Bool.{or_left, or_right}
 use Rattle.indexmap.specs.IndexMap.{spare}
 use Rattle.cov_base.specs.Addresses.{after_anchor}
 use Rattle.cov_order.specs.Orders.{has_line, is_anchor}
-use Rattle.cov_file.specs.Dated.{new_line, with_line, line_numbers_of, AreAlike}
+use Rattle.cov_file.specs.Dated.{new_line, newest_of, with_line, line_numbers_of, AreAlike}
 use Rattle.cov_file.specs.Renumbered.{AddsNode}
 use Rattle.cov_file.specs.Rooms.{DatedFile, is_room_at}
 use Rattle.cov_file.specs.Kept.{dated_lines, position_of, has_changed}
 use Rattle.cov_file.proofs.Changing.{numbers, has_after, inserted_alike, least_falls}
 use Rattle.cov_file.proofs.Finding.{put_last, same_number}
 use Rattle.cov_file.proofs.Rooms.{as_many, insert_stays, insert_own, inserted_kept, changeable_stays, changeable_changed}
+use Rattle.cov_file.proofs.Forward.{sights_alike}
 use Rattle.cov_file.proofs.lines.FileLines.insert.Goals as goal
 use Rattle.cov_file.proofs.lines.FileLines.insert.Goals.{After-push}
 
@@ -33,21 +34,33 @@ room_there c = subst (λ (f : DatedFile). is_room_at c.args.at f.room ≡ true) 
 
 -- the texts with the new one
 texts_are : (c : After-push) → c.insert.new.self.entries ≡ c.self.inside.texts.entries ++ (c.args.line, c.args.text) ∷ []
-texts_are c = c.in-Ok.ensures.entries ∙ put_last c.self.inside.texts.entries c.args.line c.args.text (sym (c.self.invariant.keys c.args.line) ∙ new_line_is c)
+texts_are c = c.in-Ok.ensures.entries ∙ put_last c.self.inside.texts.entries c.args.line c.args.text (sym (c.self.invariant.0.keys c.args.line) ∙ new_line_is c)
+
+-- the lines with the new one
+alike_now : (c : After-push) → AreAlike (dated_lines c.insert.new.self.entries c.push.new.self.lists c.insert_after.new.self.lines)
+    (with_line c.args.anchor (new_line c.args.line c.args.text c.args.vis c.args.at) (dated_lines c.self.inside.texts.entries c.self.inside.changes.lists c.self.inside.order.lines))
+alike_now c =
+    inserted_alike c.self.inside.order.lines c.self.inside.texts.entries c.self.inside.changes.lists c.self.invariant.0.keys
+    (as_many c.self.inside.order.lines c.self.inside.texts.entries c.self.inside.changes c.self.inside.coming.deletes.items c.self.invariant.0 c.args.at (room_there c))
+    c.args.at c.args.line c.args.text c.args.vis (new_line_is c) c.args.anchor
+    c.insert_after.new.self.lines c.insert.new.self.entries c.push.new.self.lists c.insert_after.ensures.lines (texts_are c) c.push.ensures.lists
 
 pub invariant_of-self : goal.invariant_of-self
-invariant_of-self c =
-    inserted_kept c.self.inside.order.lines c.self.inside.texts.entries c.self.inside.changes c.self.inside.coming.deletes.items c.self.invariant c.args.at (room_there c)
-    c.args.line c.args.text c.args.vis (new_line_is c) c.args.anchor c.push.new.self c.push.ensures.lists c.push.ensures.newest c.push.ensures.open
-    c.insert_after.new.self.lines c.insert.new.self.entries c.insert_after.ensures.lines (texts_are c) c.push.ensures.room
+invariant_of-self c = (
+  inserted_kept c.self.inside.order.lines c.self.inside.texts.entries c.self.inside.changes c.self.inside.coming.deletes.items c.self.invariant.0 c.args.at (room_there c)
+      c.args.line c.args.text c.args.vis (new_line_is c) c.args.anchor c.push.new.self c.push.ensures.lists c.push.ensures.newest c.push.ensures.open
+      c.insert_after.new.self.lines c.insert.new.self.entries c.insert_after.ensures.lines (texts_are c) c.push.ensures.room,
+  sights_alike (dated_lines c.insert.new.self.entries c.push.new.self.lists c.insert_after.new.self.lines)
+      (with_line c.args.anchor (new_line c.args.line c.args.text c.args.vis c.args.at) (dated_lines c.self.inside.texts.entries c.self.inside.changes.lists c.self.inside.order.lines))
+      c.change.new.self (alike_now c)
+      (c.change.ensures (dated_lines c.self.inside.texts.entries c.self.inside.changes.lists c.self.inside.order.lines) c.args.at
+      (ap (λ (f : DatedFile). newest_of c.args.anchor f.lines) c.self.view_is ∙ sym c.vis-beside.ensures.newest) c.self.invariant.1),
+)
 
 pub returns-clause-lines : goal.returns-clause-lines
 returns-clause-lines c =
     subst (λ (f : DatedFile). AreAlike (dated_lines c.insert.new.self.entries c.push.new.self.lists c.insert_after.new.self.lines) (with_line c.args.anchor (new_line c.args.line c.args.text c.args.vis c.args.at) f.lines)) c.self.view_is
-    (inserted_alike c.self.inside.order.lines c.self.inside.texts.entries c.self.inside.changes.lists c.self.invariant.keys
-    (as_many c.self.inside.order.lines c.self.inside.texts.entries c.self.inside.changes c.self.inside.coming.deletes.items c.self.invariant c.args.at (room_there c))
-    c.args.at c.args.line c.args.text c.args.vis (new_line_is c) c.args.anchor
-    c.insert_after.new.self.lines c.insert.new.self.entries c.push.new.self.lists c.insert_after.ensures.lines (texts_are c) c.push.ensures.lists)
+    (alike_now c)
 
 has_own : (c : After-push) → has_line c.args.line c.insert_after.new.self.lines ≡ true
 has_own c =
@@ -58,7 +71,7 @@ pub returns-clause-own : goal.returns-clause-own
 returns-clause-own c =
     changeable_changed c.push.new.self (keys_of c.insert.new.self.entries) c.self.inside.coming.deletes.items c.insert_after.new.self.lines c.args.line
     (subst (λ (es : List (ℕ × List ℕ)). has_changed c.push.new.self (keys_of es) c.args.line ≡ true) (sym (texts_are c))
-    (insert_own c.self.inside.order.lines c.self.inside.texts.entries c.self.inside.changes c.self.inside.coming.deletes.items c.self.invariant c.args.at (room_there c)
+    (insert_own c.self.inside.order.lines c.self.inside.texts.entries c.self.inside.changes c.self.inside.coming.deletes.items c.self.invariant.0 c.args.at (room_there c)
     c.args.line c.args.text c.args.vis (new_line_is c) c.args.anchor c.push.new.self c.push.ensures.lists c.push.ensures.newest c.push.ensures.open))
     (has_own c)
 
@@ -70,7 +83,7 @@ returns-clause-room c = record {
       changeable_stays c.self.inside.changes c.push.new.self (keys_of c.self.inside.texts.entries) (keys_of c.insert.new.self.entries) c.self.inside.coming.deletes.items c.self.inside.order.lines c.insert_after.new.self.lines line
       (λ old. ap (has_line line) c.insert_after.ensures.lines ∙ has_after line c.args.anchor c.args.line c.self.inside.order.lines ∙ or_right (nat_eq c.args.line line) (has_line line c.self.inside.order.lines) old)
       (λ changed. subst (λ (es : List (ℕ × List ℕ)). has_changed c.push.new.self (keys_of es) line ≡ true) (sym (texts_are c))
-      (insert_stays c.self.inside.order.lines c.self.inside.texts.entries c.self.inside.changes c.self.inside.coming.deletes.items c.self.invariant c.args.at (room_there c)
+      (insert_stays c.self.inside.order.lines c.self.inside.texts.entries c.self.inside.changes c.self.inside.coming.deletes.items c.self.invariant.0 c.args.at (room_there c)
       c.args.line c.args.text c.args.vis (new_line_is c) c.args.anchor c.push.new.self c.push.ensures.lists c.push.ensures.newest c.push.ensures.open line changed))
       (ap (λ (f : DatedFile). has_line line f.room.changes) c.self.view_is ∙ there);
   position =

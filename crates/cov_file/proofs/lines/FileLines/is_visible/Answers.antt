@@ -22,7 +22,7 @@ returns-in-Some c =
     let keys = keys_of c.self.inside.texts.entries in
     let lists = c.self.inside.changes.lists in
     let found = sym c.get_index_of.ensures.index ∙ c.in-Some.is in
-    let has : has_line c.args.line c.self.inside.order.lines ≡ true = c.self.invariant.keys c.args.line ∙ there c.args.line keys c.in-Some.index found in
+    let has : has_line c.args.line c.self.inside.order.lines ≡ true = c.self.invariant.0.keys c.args.line ∙ there c.args.line keys c.in-Some.index found in
     c.value.ensures
     ∙ ap (λ v. value_in c.args.table.now v c.args.choice)
     (c.at.ensures ∙ ap (λ cs. vis_at cs c.args.at) (list_found c.args.line keys lists c.in-Some.index found))
@@ -35,7 +35,7 @@ returns-in-None c =
     let keys = keys_of c.self.inside.texts.entries in
     let lists = c.self.inside.changes.lists in
     let lacks : has_line c.args.line c.self.inside.order.lines ≡ false =
-    c.self.invariant.keys c.args.line ∙ none-placed (nat_eq c.args.line) keys (sym c.get_index_of.ensures.index ∙ c.in-None.is) in
+    c.self.invariant.0.keys c.args.line ∙ none-placed (nat_eq c.args.line) keys (sym c.get_index_of.ensures.index ∙ c.in-None.is) in
     ap (λ b. b && value_in c.args.table.now (vis_at (changes_in keys lists c.args.line) c.args.at) c.args.choice) (sym lacks)
     ∙ sym (shown_among c.args.table.now c.args.choice c.args.at c.self.inside.texts.entries lists c.args.line c.self.inside.order.lines)
     ∙ ap (is_among c.args.table.now c.args.choice c.args.at c.args.line) c.self.view_is

@@ -4,6 +4,7 @@ use Rattle.indexmap.specs.IndexMap.{spare}
 use Rattle.cov_file.specs.Kept.{position_of}
 use Rattle.cov_file.specs.Renumbered.{renumbered_line}
 use Rattle.cov_file.specs.Rooms.{DatedFile}
+use Rattle.cov_file.proofs.Showing.{none_kept}
 use Rattle.cov_file.proofs.Redating.{changeable_as_before, kept_renumbered, lines_pass, lines_renumbered}
 use Rattle.cov_file.proofs.lines.FileLines.renumber.Goals as goal
 
@@ -11,9 +12,11 @@ pub renumber-requires : goal.renumber-requires
 renumber-requires c = subst (λ (f : DatedFile). c.args.first + length f.nodes ≤ length c.args.from.now) (sym c.self.view_is) c.requires
 
 pub invariant_of-self : goal.invariant_of-self
-invariant_of-self c =
-    kept_renumbered c.self.inside.changes c.renumber.new.self c.renumber.ensures.dates c.renumber.ensures.newest c.renumber.ensures.open
-    c.self.inside.order.lines c.self.inside.texts.entries c.self.inside.coming.deletes.items c.renumber.ensures.room c.self.invariant
+invariant_of-self c = (
+  kept_renumbered c.self.inside.changes c.renumber.new.self c.renumber.ensures.dates c.renumber.ensures.newest c.renumber.ensures.open
+      c.self.inside.order.lines c.self.inside.texts.entries c.self.inside.coming.deletes.items c.renumber.ensures.room c.self.invariant.0,
+  none_kept _ c.new.result c.new.ensures,
+)
 
 pub returns-clause-lines : goal.returns-clause-lines
 returns-clause-lines c = λ by is.

@@ -12,16 +12,16 @@ use Rattle.cov_file.proofs.lines.FileLines.vis.Goals as goal
 use Rattle.cov_file.proofs.lines.FileLines.vis.Goals.{In-None, After-get}
 
 has : (c : After-get) → has_line c.args.line c.self.inside.order.lines ≡ true
-has c = c.self.invariant.keys c.args.line ∙ there c.args.line (keys_of c.self.inside.texts.entries) c.in-Some.index (sym c.get_index_of.ensures.index ∙ c.in-Some.is)
+has c = c.self.invariant.0.keys c.args.line ∙ there c.args.line (keys_of c.self.inside.texts.entries) c.in-Some.index (sym c.get_index_of.ensures.index ∙ c.in-Some.is)
 
 lacks : (c : In-None) → has_line c.args.line c.self.inside.order.lines ≡ false
-lacks c = c.self.invariant.keys c.args.line ∙ none-placed (nat_eq c.args.line) (keys_of c.self.inside.texts.entries) (sym c.get_index_of.ensures.index ∙ c.in-None.is)
+lacks c = c.self.invariant.0.keys c.args.line ∙ none-placed (nat_eq c.args.line) (keys_of c.self.inside.texts.entries) (sym c.get_index_of.ensures.index ∙ c.in-None.is)
 
 -- the line's changes stand at its index
 stand : (c : After-get) → slice_get c.self.inside.changes.lists c.in-Some.index ≡ Some (changes_in (keys_of c.self.inside.texts.entries) c.self.inside.changes.lists c.args.line)
 stand c =
     list_there c.args.line (keys_of c.self.inside.texts.entries) c.self.inside.changes.lists c.in-Some.index
-    (c.self.invariant.lists ∙ sym (length-keys c.self.inside.texts.entries)) (sym c.get_index_of.ensures.index ∙ c.in-Some.is)
+    (c.self.invariant.0.lists ∙ sym (length-keys c.self.inside.texts.entries)) (sym c.get_index_of.ensures.index ∙ c.in-Some.is)
 
 pub returns-in-Some-clause-newest : goal.returns-in-Some-clause-newest
 returns-in-Some-clause-newest c =
