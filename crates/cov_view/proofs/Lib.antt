@@ -12,7 +12,9 @@ pub mod Finding
 pub mod Holding
 pub mod Inserts
 pub mod Keys
+pub mod Left
 pub mod Listed
+pub mod Marking
 pub mod Moves
 pub mod Naming
 pub mod OnePath

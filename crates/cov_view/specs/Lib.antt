@@ -1,8 +1,10 @@
+pub mod Held
 pub mod Keys
 pub mod Laws
 pub mod Lines
 pub mod Listing
 pub mod Ordering
+pub mod Owning
 pub mod Paths
 pub mod References
 pub mod Refusals

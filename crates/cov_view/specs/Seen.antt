@@ -14,6 +14,7 @@ use Rattle.cov_edit.specs.declared.edit.Edit.TheVariants as edits
 use Rattle.cov_base.specs.declared.file_row.FileRow.{FileRow}
 use Rattle.cov_view.specs.References.{is_root, is_head, is_dir_kind, same_node, is_new_below}
 use Rattle.cov_view.specs.Lines.{is_among, after_ref, without_ref}
+pub use Rattle.cov_view.specs.Lines.{old_line}
 use Rattle.cov_view.specs.declared.fault.EditFault.{EditFault}
 use Rattle.cov_view.specs.declared.fault.EditFault.TheVariants as faults
 use Rattle.cov_view.specs.declared.line.ViewLine.{ViewLine}
@@ -145,10 +146,6 @@ seen_fault rows (edits.Remove node) = remove_fault rows node
 -- a row with other lines
 abbrev pub with_lines_by : (List ViewLine → List ViewLine) → ViewRow → ViewRow
 with_lines_by f r = record { node = r.node; kind = r.kind; parent = r.parent; name = r.name; lines = f r.lines }
-
--- a line that a history has
-abbrev pub old_line : FileRow → ViewLine
-old_line r = record { line = lines.Old r.line; text = r.text }
 
 -- a row with another name
 abbrev pub with_name_by : List ℕ → ViewRow → ViewRow

@@ -17,7 +17,7 @@ pub(crate) fn old_lines(lines: &FileRows) -> Result<ViewLines, Memory>
 }
 
 // A line that a history has, which shares its text.
-fn old_line(row: &FileRow) -> Result<ViewLine, Memory>
+pub(crate) fn old_line(row: &FileRow) -> Result<ViewLine, Memory>
     ensures { IfOk result (λ line. line ≡ old_line row.now) }
 {
     Ok(ViewLine {

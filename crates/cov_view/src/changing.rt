@@ -1,13 +1,12 @@
 // Changes of one row.
-ghost use Rattle.std.specs.Prelude.{◌≡◌, ◌++◌, OnOk, OnErr, position};
+ghost use Rattle.std.specs.Prelude.{◌≡◌, ◌++◌, OnOk, OnErr, map, position};
 ghost use Rattle.cov_view.specs.Lines.{after_ref, without_ref};
 ghost use Rattle.cov_view.specs.References.{same_node};
-ghost use Rattle.cov_view.specs.Seen.{at_row, with_lines_by, with_name_by, with_parent_by};
+ghost use Rattle.cov_view.specs.Seen.{at_row, old_line, with_lines_by, with_name_by, with_parent_by};
 
-use crate::line::{delete, insert_after};
 use crate::row::ViewRow;
 use crate::{ViewLine, ViewLines};
-use cov_base::{LineRef, Memory, Name, NodeRef};
+use cov_base::{LineRef, Memory, Name, NodeRef, SharedRows};
 
 /// Puts lines at the end of a file, whose row stands at a place.
 pub(crate) fn append_lines(
@@ -27,6 +26,23 @@ pub(crate) fn append_lines(
     }
 }
 
+/// Puts shared lines at the end of a file, whose row stands at a place.
+pub(crate) fn share_lines(
+    rows: &mut [ViewRow],
+    file: &NodeRef,
+    place: Option<usize>,
+    lines: SharedRows,
+) -> Result<(), Memory>
+    requires { place ≡ position (λ r. same_node r.node file.now) rows.old }
+    ensures ok { OnOk result (rows.new ≡ at_row file.now (with_lines_by (λ ls. ls ++ map old_line lines)) rows.old) }
+    ensures err { OnErr result (rows.new ≡ rows.old) }
+{
+    match place {
+        Some(at) => rows[at].lines.share(lines),
+        None => Ok(()),
+    }
+}
+
 /// Puts a line directly after its anchor in a file, whose row stands at a place, or first where that is the head.
 pub(crate) fn insert_line(
     rows: &mut [ViewRow],
@@ -41,7 +57,7 @@ pub(crate) fn insert_line(
     ensures err { OnErr result (rows.new ≡ rows.old) }
 {
     match place {
-        Some(at) => insert_after(&mut rows[at].lines, after, line),
+        Some(at) => rows[at].lines.insert_after(after, line),
         None => Ok(()),
     }
 }
@@ -57,7 +73,7 @@ pub(crate) fn delete_line(
     ensures { rows.new ≡ at_row file.now (with_lines_by (without_ref line.now)) rows.old }
 {
     match place {
-        Some(at) => delete(&mut rows[at].lines, line),
+        Some(at) => rows[at].lines.delete(line),
         None => {}
     }
 }

@@ -1,8 +1,9 @@
 // The lines of one file.
-ghost use Rattle.std.specs.Prelude.{◌≡◌, ◌≤◌, ◌&&◌, ◌||◌, not, length, position, IfOk, OnOk, OnErr};
+ghost use Rattle.std.specs.Prelude.{◌≡◌, ◌≤◌, ◌++◌, length, position, IfOk, OnOk, OnErr};
 ghost use Rattle.std.specs.List.{insert};
 ghost use Rattle.cov_view.specs.References.{is_head, same_line};
 ghost use Rattle.cov_view.specs.Lines.{is_among, after_ref, without_ref};
+ghost use Rattle.cov_view.specs.SeenTree.{ended_lines};
 
 use cov_base::{LineRef, List, Memory, Text};
 
@@ -39,18 +40,17 @@ pub(crate) fn copied(lines: &ViewLines) -> Result<ViewLines, Memory>
     Ok(copy)
 }
 
-/// Whether a line can be put directly after one of a file.
-pub(crate) fn has_anchor(lines: &[ViewLine], after: &LineRef) -> bool
-    ensures { result ≡ (is_head after.now || is_among after.now lines.now) }
+/// Appends the bytes of lines, with the end of each.
+pub(crate) fn append_text(lines: &ViewLines, text: &mut Text) -> Result<(), Memory>
+    ensures { OnOk result (text.new ≡ text.old ++ ended_lines lines.now) }
 {
-    is_head(after) || is_among(lines, after)
-}
-
-/// Whether a line is one of a file; the head isn't.
-pub(crate) fn holds_line(lines: &[ViewLine], line: &LineRef) -> bool
-    ensures { result ≡ (not (is_head line.now) && is_among line.now lines.now) }
-{
-    !is_head(line) && is_among(lines, line)
+    let mut ahead = lines.as_slice();
+    while let [first, rest @ ..] = ahead {
+        text.append(first.text.as_slice())?;
+        text.push(10)?;
+        ahead = rest;
+    }
+    Ok(())
 }
 
 /// Puts a line directly after its anchor, or first where that is the head.
@@ -94,7 +94,7 @@ fn find(lines: &[ViewLine], line: &LineRef) -> Option<usize>
     lines.iter().position(|other| same_line(&other.line, line))
 }
 
-fn is_among(lines: &[ViewLine], line: &LineRef) -> bool
+pub(crate) fn is_among(lines: &[ViewLine], line: &LineRef) -> bool
     ensures { result ≡ is_among line.now lines.now }
 {
     lines.iter().any(|other| same_line(&other.line, line))
@@ -110,7 +110,7 @@ pub fn is_head(line: &LineRef) -> bool
     }
 }
 
-fn same_line(left: &LineRef, right: &LineRef) -> bool
+pub(crate) fn same_line(left: &LineRef, right: &LineRef) -> bool
     ensures { result ≡ same_line left.now right.now }
 {
     match left {

@@ -4,8 +4,9 @@ ghost use Rattle.cov_base.specs.Spelling.{is_name};
 ghost use Rattle.cov_view.specs.References.{is_root, is_head, same_node};
 ghost use Rattle.cov_view.specs.Seen.{has_line_in};
 
+use crate::line::is_head;
+use crate::row_lines::RowLines;
 use crate::rows::Rows;
-use crate::{ViewLines, line};
 use cov_base::{Kind, LineRef, Name, NodeRef};
 
 /// A node but the root, with its lines.
@@ -15,7 +16,7 @@ pub struct ViewRow {
     pub(crate) kind: Kind,
     pub(crate) parent: NodeRef,
     pub(crate) name: Name,
-    pub(crate) lines: ViewLines,
+    pub(crate) lines: RowLines,
 }
 
 impl ViewRow {
@@ -32,8 +33,8 @@ pub(crate) fn shows_anchor(rows: &Rows, file: &NodeRef, after: &LineRef) -> bool
     ensures { result ≡ (is_head after.now || has_line_in rows.now file.now after.now) }
 {
     match rows.get(file) {
-        Some(row) => line::has_anchor(row.lines.as_slice(), after),
-        None => line::is_head(after),
+        Some(row) => is_head(after) || row.lines.has(after),
+        None => is_head(after),
     }
 }
 
@@ -42,7 +43,7 @@ pub(crate) fn shows_line(rows: &Rows, file: &NodeRef, line: &LineRef) -> bool
     ensures { result ≡ (not (is_head line.now) && has_line_in rows.now file.now line.now) }
 {
     match rows.get(file) {
-        Some(row) => line::holds_line(row.lines.as_slice(), line),
+        Some(row) => !is_head(line) && row.lines.has(line),
         None => false,
     }
 }

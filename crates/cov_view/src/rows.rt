@@ -1,15 +1,15 @@
 // The rows of a view, each found by its node with one look-up.
-ghost use Rattle.std.specs.Prelude.{◌≡◌, ◌<◌, [], ◌∷◌, ◌++◌, false, IfSome, OnOk, OnErr, length, position, slice_get};
+ghost use Rattle.std.specs.Prelude.{◌≡◌, ◌<◌, [], ◌∷◌, ◌++◌, false, IfSome, OnOk, OnErr, length, map, position, slice_get};
 ghost use Rattle.std.specs.Option.{option_copied};
 ghost use Rattle.cov_view.specs.Lines.{after_ref, without_ref};
 ghost use Rattle.cov_view.specs.References.{same_node};
-ghost use Rattle.cov_view.specs.Seen.{row_at, has_row, kind_in, is_there, has_child, child_in, has_child_beside, has_child_of, has_children, lies_within, StandOnce, at_row, with_lines_by, with_name_by, with_parent_by, without_node};
+ghost use Rattle.cov_view.specs.Seen.{row_at, has_row, kind_in, is_there, has_child, child_in, has_child_beside, has_child_of, has_children, lies_within, StandOnce, at_row, old_line, with_lines_by, with_name_by, with_parent_by, without_node};
 
-use crate::changing::{append_lines, delete_line, insert_line, set_name, set_parent};
+use crate::changing::{append_lines, delete_line, insert_line, set_name, set_parent, share_lines};
 use crate::children::Children;
 use crate::row::{ViewRow, is_root, same_node};
 use crate::{ViewLine, ViewLines};
-use cov_base::{Kind, LineRef, Memory, Name, NodeRef};
+use cov_base::{Kind, LineRef, Memory, Name, NodeRef, SharedRows};
 use indexmap::IndexSet;
 use std::alloc::Global;
 use std::marker::Model;
@@ -192,6 +192,15 @@ impl Rows {
     {
         let place = self.place(file);
         append_lines(&mut self.rows, file, place, lines)
+    }
+
+    /// Puts shared lines at the end of a file, all of them or none.
+    pub(crate) fn share_lines(&mut self, file: &NodeRef, lines: SharedRows) -> Result<(), Memory>
+        ensures ok { OnOk result (self.new ≡ at_row file.now (with_lines_by (λ ls. ls ++ map old_line lines)) self.old) }
+        ensures err { OnErr result (self.new ≡ self.old) }
+    {
+        let place = self.place(file);
+        share_lines(&mut self.rows, file, place, lines)
     }
 
     /// Puts a line directly after its anchor in a file, or first where that is the head.

@@ -1,11 +1,11 @@
 // A view as a tree of paths.
 ghost use Rattle.std.specs.Prelude.{◌≡◌, true, ◌∷◌, ◌++◌, [], length, map, reverse, IfOk, OnOk};
 ghost use Rattle.cov_base.specs.Spelling.{is_name};
-ghost use Rattle.cov_view.specs.SeenTree.{path_by, ended_lines, file_bytes, tree_row, with_view_rows, tree_in, found_row, AreNamed};
+ghost use Rattle.cov_view.specs.SeenTree.{path_by, file_bytes, tree_row, with_view_rows, tree_in, found_row, AreNamed};
 ghost use Rattle.cov_view.specs.Tree.{joined, with_tree_row};
 
-use crate::ViewLines;
 use crate::row::ViewRow;
+use crate::row_lines::RowLines;
 use crate::rows::Rows;
 use cov_base::{Kind, List, Memory, NodeRef, Text};
 use std::alloc::Global;
@@ -107,27 +107,15 @@ fn push_reversed(back: &mut Vec<u8>, name: &[u8]) -> Result<(), Memory>
 }
 
 // The bytes of a file.
-fn file_text(alloc: Global, kind: Kind, lines: &ViewLines) -> Result<Text, Memory>
+fn file_text(alloc: Global, kind: Kind, lines: &RowLines) -> Result<Text, Memory>
     ensures { IfOk result (λ text. text ≡ file_bytes kind lines.now) }
 {
     let mut text = Text::new(alloc);
     match kind {
-        Kind::File => append_lines(&mut text, lines)?,
+        Kind::File => lines.append_text(&mut text)?,
         Kind::Dir => {}
     }
     Ok(text)
-}
-
-fn append_lines(text: &mut Text, lines: &ViewLines) -> Result<(), Memory>
-    ensures { OnOk result (text.new ≡ text.old ++ ended_lines lines.now) }
-{
-    let mut ahead = lines.as_slice();
-    while let [first, rest @ ..] = ahead {
-        text.append(first.text.as_slice())?;
-        text.push(10)?;
-        ahead = rest;
-    }
-    Ok(())
 }
 
 // What stands at a path.

@@ -20,14 +20,16 @@ ghost use Rattle.cov_view.specs.Tree.{tree_of, IsTreeOf};
 ghost use Rattle.cov_view.specs.Views.{Shows, table_after, next_by_number, FaultBy};
 
 use crate::adding::old_lines;
-use crate::line::copied;
 use crate::listing::listing;
 use crate::row::{ViewRow, is_root, shows_anchor, shows_line};
+use crate::row_lines::RowLines;
 use crate::rows::Rows;
 use crate::soundness::first_fault;
 use crate::tree::tree;
 use crate::{DirRows, EditFault, Fault, ListFault, ReadFaultOfView, TreeRows, ViewLine, ViewLines};
-use cov_base::{FileRows, Kind, LineNo, LineRef, Memory, Name, NodeNo, NodeRef, Path, Text};
+use cov_base::{
+    FileRows, Kind, LineNo, LineRef, Memory, Name, NodeNo, NodeRef, Path, SharedRows, Text,
+};
 use cov_edit::Edit;
 use std::alloc::Global;
 use std::marker::Model;
@@ -95,7 +97,7 @@ impl View {
             kind,
             parent: NodeRef::Old(parent),
             name: name.copy()?,
-            lines: ViewLines::new(self.rows.allocator()),
+            lines: RowLines::new(self.rows.allocator()),
         };
         self.rows.push(row)
     }
@@ -131,6 +133,18 @@ impl View {
     {
         let added = old_lines(lines)?;
         self.rows.append_lines(&NodeRef::Old(file), added)
+    }
+
+    /// Appends lines that a history has to their file, which was added before, as `add_lines` does. A file without lines shares
+    /// them, and takes a byte for each, until an edit puts one among them.
+    pub fn share_lines(&mut self, file: NodeNo, lines: SharedRows) -> Result<(), Memory>
+        requires { kind_in self.old.rows (NodeRef.Old file) ≡ Some File }
+        ensures rows { OnOk result (self.new.rows ≡ fold (with_file_row file) self.old.rows lines) }
+        ensures nodes { self.new.nodes_made ≡ self.old.nodes_made }
+        ensures lines { self.new.lines_made ≡ self.old.lines_made }
+        ensures err { OnErr result (self.new ≡ self.old) }
+    {
+        self.rows.share_lines(&NodeRef::Old(file), lines)
     }
 
     /// How many nodes edits have made.
@@ -232,7 +246,7 @@ impl View {
         };
         match row.kind {
             Kind::Dir => Err(ReadFaultOfView::NotFile),
-            Kind::File => match copied(&row.lines) {
+            Kind::File => match row.lines.copied() {
                 Ok(lines) => Ok(lines),
                 Err(Memory) => Err(ReadFaultOfView::Memory),
             },
@@ -460,7 +474,7 @@ impl View {
             kind,
             parent: *parent,
             name: name.copy()?,
-            lines: ViewLines::new(self.rows.allocator()),
+            lines: RowLines::new(self.rows.allocator()),
         };
         self.rows.push(row)?;
         self.nodes_made += 1;

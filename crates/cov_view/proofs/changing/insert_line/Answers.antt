@@ -8,7 +8,7 @@ use Rattle.cov_view.proofs.changing.insert_line.Goals as goal
 pub returns-in-Some-clause-ok : goal.returns-in-Some-clause-ok
 returns-in-Some-clause-ok c =
     on_ok_weaker c.insert_after.result
-    (lines_set c.args.file.now (after_ref c.args.after.now c.args.line) c.args.rows.now c.index-rows-at.result c.in-Some.at c.insert_after.new.lines (sym c.requires ∙ c.in-Some.is))
+    (lines_set c.args.file.now (after_ref c.args.after.now c.args.line) c.args.rows.now c.index-rows-at.result c.in-Some.at c.insert_after.new.self (sym c.requires ∙ c.in-Some.is))
     c.insert_after.ensures.ok
 
 pub returns-in-None-clause-ok : goal.returns-in-None-clause-ok
