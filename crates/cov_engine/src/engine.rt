@@ -238,6 +238,14 @@ impl Engine {
         cov_visible::view_at(alloc, visible, choice, at)
     }
 
+    /// Keeps what the files show on a choice now, so that views on it share their lines. No clause tells whether it did: want of memory
+    /// is passed over. It takes time in the lines of the files that have changed since, and for each other file in its nodes.
+    pub fn bring_forward(&mut self, choice: Choice)
+        ensures { self.new ≡ self.old }
+    {
+        cov_visible::keep_shown(&mut self.state.visible, choice);
+    }
+
     /// The file at a path, its names from the root on, in the variant of a choice at a position; beyond the history that is the one
     /// now. `NoSuchPath` and `NotFile` come exactly where a name on the path isn't there and where the path leads to a directory.
     /// It takes no memory, and for each name of the path time in the nodes that ever had that name in that directory.

@@ -83,7 +83,7 @@ pub(crate) fn stage(
     visible.entries.reserve(rows)?;
     stage_files_of_lines(&mut index.file_of_line, edits)?;
     visible.files.stage(edits)?;
-    visible.files.add_rooms(edits)
+    visible.files.add_rooms(&visible.table, edits)
 }
 
 /// Cuts off what a commit made behind so many files and lines; it touches these nodes.

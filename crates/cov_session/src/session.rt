@@ -106,6 +106,7 @@ impl OpenSession {
         if !ambition.value(choice) {
             return Err(SessionFault::OutsideAmbition);
         }
+        engine.bring_forward(choice);
         Ok(OpenSession::begin(alloc, engine, name, choice, ambition)?)
     }
 

@@ -9,3 +9,4 @@ mod sessions;
 mod sides;
 mod stops;
 mod trees;
+mod views;

@@ -6,8 +6,8 @@ ghost use Rattle.cov_visible.specs.Staging.{contents};
 ghost use Rattle.cov_visible.specs.Renumbered.{kept_nodes, IsRenumberedPart};
 ghost use Rattle.cov_visible.specs.Carrying.{CanInsert, CanDelete, IsInserted, IsChanged};
 
-use cov_base::{LineNo, Memory, NodeNo, Position, Text};
-use cov_dd::{Node, Nodes};
+use cov_base::{Choice, LineNo, Memory, NodeNo, Position, Text};
+use cov_dd::{Node, Nodes, Table};
 use cov_file::FileLines;
 
 /// The lines ever inserted into a file. Something is expected of them only while a commit is staged.
@@ -18,8 +18,8 @@ pub struct FilePart {
 }
 
 impl FilePart {
-    /// Makes room for one line more.
-    pub(crate) fn expect_insert(&mut self) -> Result<(), Memory>
+    /// Makes room for one line more, with a node.
+    pub(crate) fn expect_insert(&mut self, table: &Table, vis: Node) -> Result<(), Memory>
         ensures same { contents self.new ≡ contents self.old }
         ensures inserts { (count : ℕ) → count ≤ self.old.lines.coming.inserts + 1 →
             count < 2 ^ 32 - 1 → count ≤ self.new.lines.coming.inserts }
@@ -28,11 +28,17 @@ impl FilePart {
             (IsMade self.new.lines.room (line_numbers_of self.new.lines.lines)
             self.new.lines.coming.inserts self.new.lines.coming.deletes) }
     {
+        self.lines.note(table, vis);
         self.lines.expect_insert()
     }
 
     /// Makes room for another visibility of a line.
-    pub(crate) fn expect_delete(&mut self, line: LineNo) -> Result<(), Memory>
+    pub(crate) fn expect_delete(
+        &mut self,
+        line: LineNo,
+        table: &Table,
+        vis: Node,
+    ) -> Result<(), Memory>
         ensures same { contents self.new ≡ contents self.old }
         ensures inserts { self.new.lines.coming.inserts ≡ self.old.lines.coming.inserts }
         ensures deletes { OnOk result (self.new.lines.coming.deletes ≡
@@ -41,6 +47,7 @@ impl FilePart {
             (IsMade self.new.lines.room (line_numbers_of self.new.lines.lines)
             self.new.lines.coming.inserts self.new.lines.coming.deletes) }
     {
+        self.lines.note(table, vis);
         self.lines.expect_delete(line)
     }
 
@@ -49,6 +56,13 @@ impl FilePart {
         ensures { contents self.new ≡ contents self.old }
     {
         self.lines.settle();
+    }
+
+    /// Keeps what it shows on a choice from the newest change on, as `FileLines::keep` does.
+    pub(crate) fn keep(&mut self, table: &Table, choice: Choice)
+        ensures { self.new ≡ self.old }
+    {
+        self.lines.keep(table, choice);
     }
 
     /// Puts a line directly after its anchor, with its visibility from a position on.

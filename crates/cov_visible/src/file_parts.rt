@@ -12,8 +12,8 @@ ghost use Rattle.cov_visible.specs.Staging.{contents, new_contents, made_files, 
 use crate::FilePart;
 use crate::file_staging::{add_room_for, expect_nothing_in, stage_file};
 use crate::resolved_edit::{ResolvedEdit, carry_out};
-use cov_base::{Memory, NodeNo, Position};
-use cov_dd::Nodes;
+use cov_base::{Choice, Memory, NodeNo, Position};
+use cov_dd::{Nodes, Table};
 use std::alloc::Global;
 use std::collections::VecDeque;
 use std::marker::Model;
@@ -88,8 +88,8 @@ impl FileParts {
         Ok(())
     }
 
-    /// Makes room in each file for what edits do to it.
-    pub fn add_rooms(&mut self, edits: &[ResolvedEdit]) -> Result<(), Memory>
+    /// Makes room in each file for what edits do to it, by the nodes of a table.
+    pub fn add_rooms(&mut self, table: &Table, edits: &[ResolvedEdit]) -> Result<(), Memory>
         requires rising { AreRising (map part_node self.old) }
         requires few { length edits.now ≤ LIMITS.edits }
         ensures same { map contents self.new ≡ map contents self.old }
@@ -98,7 +98,7 @@ impl FileParts {
         let files = self.parts.as_mut_slice();
         let mut ahead = edits;
         while let [edit, rest @ ..] = ahead {
-            add_room_for(files, edit)?;
+            add_room_for(files, table, edit)?;
             ahead = rest;
         }
         Ok(())
@@ -132,6 +132,13 @@ impl FileParts {
         while let Some(edit) = edits.pop_front() {
             carry_out(files, edit, at);
         }
+    }
+
+    /// Each file keeps what it shows on a choice from its newest change on, as `FileLines::keep` does.
+    pub(crate) fn keep(&mut self, table: &Table, choice: Choice)
+        ensures { self.new ≡ self.old }
+    {
+        keep_all(&mut self.parts, table, choice);
     }
 
     /// Appends every node that the files' lines keep, file by file. At an `Err` the list is as before.
@@ -173,6 +180,17 @@ fn append(parts: &[FilePart], into: &mut Nodes) -> Result<(), Memory>
         ahead = rest;
     }
     Ok(())
+}
+
+// Each file keeps what it shows on a choice.
+fn keep_all(parts: &mut [FilePart], table: &Table, choice: Choice)
+    ensures { parts.new ≡ parts.old }
+{
+    let mut index = 0;
+    while index < parts.len() {
+        parts[index].keep(table, choice);
+        index += 1;
+    }
 }
 
 // Gives files the nodes of a list from a place on, one file after another.

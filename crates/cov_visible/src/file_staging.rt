@@ -11,6 +11,7 @@ use crate::FilePart;
 use crate::places::index_of;
 use crate::resolved_edit::ResolvedEdit;
 use cov_base::{Kind, LineNo, Memory, NodeNo};
+use cov_dd::{Node, Table};
 use cov_file::FileLines;
 
 /// Adds the file that an edit makes, if it makes one.
@@ -45,8 +46,12 @@ fn add_file(files: &mut Vec<FilePart>, node: NodeNo, kind: Kind) -> Result<(), M
     }
 }
 
-/// Makes room in each file for what an edit does to it.
-pub(crate) fn add_room_for(files: &mut [FilePart], edit: &ResolvedEdit) -> Result<(), Memory>
+/// Makes room in each file for what an edit does to it, by the nodes of a table.
+pub(crate) fn add_room_for(
+    files: &mut [FilePart],
+    table: &Table,
+    edit: &ResolvedEdit,
+) -> Result<(), Memory>
     requires rising { AreRising (map part_node files.old) }
     ensures same { map contents files.new ≡ map contents files.old }
     ensures room { OnOk result (Expects edit.now files.old files.new) }
@@ -56,31 +61,44 @@ pub(crate) fn add_room_for(files: &mut [FilePart], edit: &ResolvedEdit) -> Resul
         | ResolvedEdit::Rename { .. }
         | ResolvedEdit::Move { .. }
         | ResolvedEdit::Remove { .. } => Ok(()),
-        ResolvedEdit::Insert { file, .. } => expect_insert(files, *file),
-        ResolvedEdit::Delete { file, line, .. } => expect_delete(files, *file, *line),
+        ResolvedEdit::Insert { file, vis, .. } => expect_insert(files, *file, table, *vis),
+        ResolvedEdit::Delete { file, line, vis } => {
+            expect_delete(files, *file, *line, table, *vis)
+        }
     }
 }
 
 // Makes room for one line more of a file.
-fn expect_insert(files: &mut [FilePart], file: NodeNo) -> Result<(), Memory>
+fn expect_insert(
+    files: &mut [FilePart],
+    file: NodeNo,
+    table: &Table,
+    vis: Node,
+) -> Result<(), Memory>
     requires rising { AreRising (map part_node files.old) }
     ensures same { map contents files.new ≡ map contents files.old }
     ensures room { OnOk result (ExpectsInsert file files.old files.new) }
 {
     match index_of(files, file) {
-        Some(at) => files[at].expect_insert(),
+        Some(at) => files[at].expect_insert(table, vis),
         None => Ok(()),
     }
 }
 
 // Makes room for another visibility of a line of a file.
-fn expect_delete(files: &mut [FilePart], file: NodeNo, line: LineNo) -> Result<(), Memory>
+fn expect_delete(
+    files: &mut [FilePart],
+    file: NodeNo,
+    line: LineNo,
+    table: &Table,
+    vis: Node,
+) -> Result<(), Memory>
     requires rising { AreRising (map part_node files.old) }
     ensures same { map contents files.new ≡ map contents files.old }
     ensures room { OnOk result (ExpectsDelete file line files.old files.new) }
 {
     match index_of(files, file) {
-        Some(at) => files[at].expect_delete(line),
+        Some(at) => files[at].expect_delete(line, table, vis),
         None => Ok(()),
     }
 }

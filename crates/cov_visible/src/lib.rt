@@ -24,5 +24,5 @@ pub use resolved_edit::ResolvedEdit;
 pub use resolving::{CommitContext, resolve};
 pub use row_planning::plan_rows;
 pub use trial::first_refused;
-pub use viewing::{view_at, view_of_rows};
+pub use viewing::{keep_shown, view_at, view_of_rows};
 pub use visible::Visible;

@@ -46,6 +46,14 @@ pub fn view_at(
     Ok(view)
 }
 
+/// Keeps what each file shows on a choice from its newest change on, if it isn't kept yet, so that views share it. Want of memory
+/// is passed over.
+pub fn keep_shown(visible: &mut Visible, choice: Choice)
+    ensures { visible.new ≡ visible.old }
+{
+    visible.files.keep(&visible.table, choice);
+}
+
 /// The view of rows that are of different nodes but the root, without lines.
 pub fn view_of_rows(
     alloc: Global,
@@ -114,7 +122,7 @@ fn add_node(
     }
 }
 
-// Adds the lines of a file that are seen.
+// Adds the lines of a file that are seen, shared with what is kept of it where that is right.
 fn add_lines(
     view: &mut View,
     table: &Table,
@@ -129,6 +137,6 @@ fn add_lines(
     ensures nodes { view.new.nodes_made ≡ view.old.nodes_made }
     ensures lines { view.new.lines_made ≡ view.old.lines_made }
 {
-    let rows = file.lines_at(table, choice, at)?;
-    view.add_lines(node, &rows)
+    let rows = file.shown(table, choice, at)?;
+    view.share_lines(node, rows)
 }

@@ -46,6 +46,7 @@ impl OpenSession {
         ensures same { OnErr result (self.new ≡ self.old) }
     {
         let choice = self.completed_now(alloc, engine)?;
+        engine.bring_forward(choice);
         let view = self.view_on(alloc, engine, choice)?;
         self.base = engine.position();
         self.choice = choice;
