@@ -4,7 +4,7 @@ import statistics
 
 from timing import ask, build, counted, no_limit, peak, ratio, started, tell
 
-FILES, LINES, MOST, ROUNDS = 100, 200, 64, 200
+FILES, LINES, MOST, VISITS = 100, 200, 64, 3
 
 
 def store():
@@ -22,41 +22,51 @@ def opened(sessions):
     return ['open s%d - for true' % number for number in range(sessions)]
 
 
-def asked(session, turn):
-    """The lines of a turn: each form of an edit of lines, and what is shown."""
-    file, old = '/f%d' % (turn % FILES), turn % FILES * LINES + 2 * (turn // FILES) + 1
-    return ['insert s%d %s 0 another line' % (session, file), 'delete s%d %s %d' % (session, file, old),
-            'replace s%d %s %d a line in its place' % (session, file, old + 1), 'show s%d %s' % (session, file), 'list s%d /' % session]
+def asked(session, file, visit):
+    """The lines of a turn, each with what it is: each form of an edit of lines, and what is shown. The first insert of a session into a
+    file makes the list of its lines the session's own."""
+    path, old = '/f%d' % file, file * LINES + 2 * visit + 1
+    yield 'insert' if visit else 'first insert', 'insert s%d %s 0 another line' % (session, path)
+    yield 'delete', 'delete s%d %s %d' % (session, path, old)
+    yield 'replace', 'replace s%d %s %d a line in its place' % (session, path, old + 1)
+    yield 'show', 'show s%d %s' % (session, path)
+    yield 'list', 'list s%d /' % session
+
+
+def turns(sessions, taking_turns):
+    """What is asked of sessions that take turns, each in a file of its own, or of the last alone in these files."""
+    for visit in range(VISITS):
+        for file in range(MOST):
+            yield from asked(file if taking_turns else sessions - 1, file, visit)
 
 
 def seconds(program, sessions, taking_turns):
-    """The median seconds of the lines by form, of sessions that take turns or of the last alone, and the peak of memory in MB."""
+    """The median seconds of the lines by what they are, and the peak of memory in MB."""
     taken = {}
     with started(program) as child:
         for line in store() + opened(sessions):
             ask(child, line)
-        for turn in range(ROUNDS):
-            for line in asked(turn % sessions if taking_turns else sessions - 1, turn):
-                taken.setdefault(line.split()[0], []).append(ask(child, line))
+        for form, line in turns(sessions, taking_turns):
+            taken.setdefault(form, []).append(ask(child, line))
         return {form: statistics.median(times) for form, times in taken.items()}, peak(child)
 
 
 def instructions(program, sessions):
-    """The instructions of the lines of the last session, which are those of a run with them less those of a run without."""
+    """The instructions of a line of the last session, which are those of a run with its lines less those of a run without."""
     lines = store() + opened(sessions)
-    more = [line for turn in range(ROUNDS) for line in asked(sessions - 1, turn)]
-    return counted(lines + more, program)[0] - counted(lines, program)[0]
+    more = [line for _, line in turns(sessions, False)]
+    return (counted(lines + more, program)[0] - counted(lines, program)[0]) / len(more)
 
 
 def figures(program):
-    one, most = (instructions(program, sessions) / (len(asked(0, 0)) * ROUNDS) for sessions in (1, MOST))
-    told = [ratio('a line, 64 open to 1', most, one, 'instructions', 1.2)]
-    alone, memory = seconds(program, 1, False)
-    told.append(no_limit('peak, 1 open', memory, 'MB'))
+    told = [ratio('a line, 64 open to 1', instructions(program, MOST), instructions(program, 1), 'instructions', 1.2)]
+    alone, least = seconds(program, 1, False)
+    told.append(no_limit('peak, 1 open', least, 'MB'))
     for name, taking_turns in (('64 open', False), ('64 in turns', True)):
         by_form, memory = seconds(program, MOST, taking_turns)
-        told += [ratio('`%s`, %s to 1' % (form, name), 1e6 * taken, 1e6 * alone[form], 'us', 1.2) for form, taken in by_form.items()]
-        told.append(no_limit('peak, ' + name, memory, 'MB'))
+        told += [ratio('`%s`, %s to 1' % (form, name), 1e6 * taken, 1e6 * alone[form], 'us', None if form == 'first insert' else 1.2)
+                 for form, taken in by_form.items()]
+        told.append(ratio('peak, %s to 1 open' % name, memory, least, 'MB', None if taking_turns else 1.5))
     return told
 
 
