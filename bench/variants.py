@@ -76,7 +76,7 @@ def clocks(program, made):
 def of_kind(kind, whole, without, others, others_without):
     """The figures of a kind of time, from the least of each clock."""
     checkouts, others_checkouts = 1000 * (whole - without), 1000 * (others - others_without)
-    return [ratio('a run to git and unifdef, %s (aim 0.06)' % kind, whole, others, 's', 0.15),
+    return [ratio('a run to git and unifdef, %s (aim 0.06)' % kind, whole, others, 's', 0.08),
             ratio('its checkouts to theirs, ' + kind, checkouts, others_checkouts, 'ms')]
 
 
