@@ -77,6 +77,8 @@ impl Reader {
         ensures contents { OnOk result (Told IsOpened (D.contents disk.old) (D.contents disk.new)) }
         ensures kept { IfSome (D.contents disk.old) (λ bytes. 13 < length bytes →
             D.contents disk.new ≡ Some bytes) }
+        ensures settled { IfSome (D.contents disk.old) (λ bytes. 13 < length bytes →
+            KeepsImages D.images D.moment D.images_since disk.old disk.new) }
         ensures stays { (payloads : List (List ℕ)) →
             IfSome (D.contents disk.old) (λ bytes. Holds bytes payloads →
             IfSome (D.contents disk.new) (λ now. Holds now payloads)) }
