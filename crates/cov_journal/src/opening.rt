@@ -30,6 +30,8 @@ pub(crate) fn open<D: Disk>(alloc: Global, disk: &mut D) -> Result<Reader, OpenF
     ensures contents { OnOk result (Told IsOpened (D.contents disk.old) (D.contents disk.new)) }
     ensures kept { IfSome (D.contents disk.old) (λ bytes. 13 < length bytes →
         D.contents disk.new ≡ Some bytes) }
+    ensures images { IfSome (D.contents disk.old) (λ bytes. 13 < length bytes →
+        KeepsImages D.images D.moment D.images_since disk.old disk.new) }
     ensures stays { (payloads : List (List ℕ)) →
         IfSome (D.contents disk.old) (λ bytes. Holds bytes payloads →
         IfSome (D.contents disk.new) (λ now. Holds now payloads)) }
@@ -55,6 +57,8 @@ fn open_settled<D: Disk>(alloc: Global, disk: &mut D, count: u64) -> Result<Read
     ensures contents { OnOk result (Told IsOpened (D.contents disk.old) (D.contents disk.new)) }
     ensures kept { IfSome (D.contents disk.old) (λ bytes. 13 < length bytes →
         D.contents disk.new ≡ Some bytes) }
+    ensures images { IfSome (D.contents disk.old) (λ bytes. 13 < length bytes →
+        KeepsImages D.images D.moment D.images_since disk.old disk.new) }
     ensures only { OnOk result (Only (D.contents disk.new) (D.images disk.new)) }
     ensures any_moment { (payloads : List (List ℕ)) →
         ((c : List ℕ) → D.images disk.old c → Holds c payloads) →
@@ -77,6 +81,8 @@ fn made<D: Disk>(alloc: Global, disk: &mut D) -> Result<Reader, OpenFault>
     ensures contents { OnOk result (Told IsOpened (D.contents disk.old) (D.contents disk.new)) }
     ensures kept { IfSome (D.contents disk.old) (λ bytes. 13 < length bytes →
         D.contents disk.new ≡ Some bytes) }
+    ensures images { IfSome (D.contents disk.old) (λ bytes. 13 < length bytes →
+        KeepsImages D.images D.moment D.images_since disk.old disk.new) }
     ensures only { OnOk result (Only (D.contents disk.new) (D.images disk.new)) }
     ensures any_moment { (payloads : List (List ℕ)) →
         ((c : List ℕ) → D.images disk.old c → Holds c payloads) →
@@ -99,6 +105,8 @@ fn found<D: Disk>(alloc: Global, disk: &mut D) -> Result<Reader, OpenFault>
     ensures contents { OnOk result (Told IsOpened (D.contents disk.old) (D.contents disk.new)) }
     ensures kept { IfSome (D.contents disk.old) (λ bytes. 13 < length bytes →
         D.contents disk.new ≡ Some bytes) }
+    ensures images { IfSome (D.contents disk.old) (λ bytes. 13 < length bytes →
+        KeepsImages D.images D.moment D.images_since disk.old disk.new) }
     ensures only { OnOk result (Only (D.contents disk.new) (D.images disk.new)) }
     ensures any_moment { (payloads : List (List ℕ)) →
         ((c : List ℕ) → D.images disk.old c → Holds c payloads) →
