@@ -1,6 +1,6 @@
 // One line: what it does, what it stores, the rows that it writes and its reply.
 ghost use Rattle.std.specs.Prelude.{◌≡◌, ◌⊎◌, ◌≤◌, ◌<◌, ◌++◌, ℕ, List, Some, true, length, IfOk, OnOk, OnErr, IfErr, IfSome};
-ghost use Rattle.cov_base.specs.Causes.{HasCause};
+ghost use Rattle.cov_base.specs.Causes.{HasCause, Rose};
 ghost use Rattle.cov_base.specs.declared.limits.TheConstants.{MOST_SCRIPT_LINE_BYTES};
 ghost use Rattle.cov_disk.specs.Images.{LeavesOnly};
 ghost use Rattle.cov_io.specs.Devices.{AppendsAll, AppendsSome};
@@ -70,9 +70,9 @@ pub fn serve_line<V: LineServer, K: Sink, D: Disk, T: Trees>(
     ensures refused { (V.step (V.state_of server.old) line.now).is_refused ≡ true →
         disk.new ≡ disk.old }
 
-    // Unless the disk fails, a line leaves it as it is, or what is stored is that for the state after the line.
+    // The disk fails, or it is left as it is, or each image is stored for the state after the line.
     ensures settled { AreAll (V.stored (V.state_of server.old)) (D.images disk.old) →
-        D.faults disk.new ≡ D.faults disk.old → (disk.new ≡ disk.old)
+        Rose (D.faults disk.old) (D.faults disk.new) ⊎ (disk.new ≡ disk.old)
         ⊎ AreAll (V.stored (V.step (V.state_of server.old) line.now).state) (D.images disk.new) }
 
     ensures goes_on { OnOk result (V.goes_on server.old server.new) }

@@ -1,5 +1,6 @@
 // What serves one line after another.
 ghost use Rattle.std.specs.Prelude.{◌≡◌, ◌≢◌, ◌⊎◌, ◌<◌, ◌≤◌, ℕ, List, [], true, length, IfOk, OnOk, IfErr, IfSome};
+ghost use Rattle.cov_base.specs.Causes.{Rose};
 ghost use Rattle.cov_base.specs.declared.limits.TheConstants.{MOST_SCRIPT_LINE_BYTES};
 ghost use Rattle.cov_disk.specs.Images.{LeavesOnly};
 ghost use Rattle.cov_loop.specs.Answers.{Gives, StopsAnswer, is_passed_over};
@@ -55,7 +56,7 @@ pub trait LineServer: Sized {
         ensures unwritten { AddsNoCommand count (state_of self.old)
             (step (state_of self.old) line.now) → disk.new ≡ disk.old }
         ensures settled { AreAll (stored (state_of self.old)) (D.images disk.old) →
-            D.faults disk.new ≡ D.faults disk.old → (disk.new ≡ disk.old)
+            Rose (D.faults disk.old) (D.faults disk.new) ⊎ (disk.new ≡ disk.old)
             ⊎ AreAll (stored (step (state_of self.old) line.now).state) (D.images disk.new) }
         ensures stopped { IfErr result (λ ending.
             StopsAnswer ending (D.faults disk.old) (D.faults disk.new)) }

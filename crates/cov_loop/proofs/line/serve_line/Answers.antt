@@ -25,4 +25,4 @@ returns-in-Err-clause-refused g c refused =
     c.answer.ensures.unwritten (kept_adds_none g.V.LineServer.count state (g.V.LineServer.step state c.args.line.now) (g.met.V.LineServer.refused_kept state c.args.line.now refused))
 
 pub returns-then-is_passed_over-clause-settled : goal.returns-then-is_passed_over-clause-settled
-returns-then-is_passed_over-clause-settled g c all quiet = inl refl
+returns-then-is_passed_over-clause-settled g c all = inr (inl refl)
