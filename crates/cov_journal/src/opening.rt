@@ -30,7 +30,7 @@ pub(crate) fn open<D: Disk>(alloc: Global, disk: &mut D) -> Result<Reader, OpenF
     ensures contents { OnOk result (Told IsOpened (D.contents disk.old) (D.contents disk.new)) }
     ensures kept { IfSome (D.contents disk.old) (λ bytes. 13 < length bytes →
         D.contents disk.new ≡ Some bytes) }
-    ensures settled { IfSome (D.contents disk.old) (λ bytes. 13 < length bytes →
+    ensures images { IfSome (D.contents disk.old) (λ bytes. 13 < length bytes →
         KeepsImages D.images D.moment D.images_since disk.old disk.new) }
     ensures stays { (payloads : List (List ℕ)) →
         IfSome (D.contents disk.old) (λ bytes. Holds bytes payloads →
@@ -57,7 +57,7 @@ fn open_settled<D: Disk>(alloc: Global, disk: &mut D, count: u64) -> Result<Read
     ensures contents { OnOk result (Told IsOpened (D.contents disk.old) (D.contents disk.new)) }
     ensures kept { IfSome (D.contents disk.old) (λ bytes. 13 < length bytes →
         D.contents disk.new ≡ Some bytes) }
-    ensures settled { IfSome (D.contents disk.old) (λ bytes. 13 < length bytes →
+    ensures images { IfSome (D.contents disk.old) (λ bytes. 13 < length bytes →
         KeepsImages D.images D.moment D.images_since disk.old disk.new) }
     ensures only { OnOk result (Only (D.contents disk.new) (D.images disk.new)) }
     ensures any_moment { (payloads : List (List ℕ)) →
@@ -81,7 +81,7 @@ fn made<D: Disk>(alloc: Global, disk: &mut D) -> Result<Reader, OpenFault>
     ensures contents { OnOk result (Told IsOpened (D.contents disk.old) (D.contents disk.new)) }
     ensures kept { IfSome (D.contents disk.old) (λ bytes. 13 < length bytes →
         D.contents disk.new ≡ Some bytes) }
-    ensures settled { IfSome (D.contents disk.old) (λ bytes. 13 < length bytes →
+    ensures images { IfSome (D.contents disk.old) (λ bytes. 13 < length bytes →
         KeepsImages D.images D.moment D.images_since disk.old disk.new) }
     ensures only { OnOk result (Only (D.contents disk.new) (D.images disk.new)) }
     ensures any_moment { (payloads : List (List ℕ)) →
@@ -105,7 +105,7 @@ fn found<D: Disk>(alloc: Global, disk: &mut D) -> Result<Reader, OpenFault>
     ensures contents { OnOk result (Told IsOpened (D.contents disk.old) (D.contents disk.new)) }
     ensures kept { IfSome (D.contents disk.old) (λ bytes. 13 < length bytes →
         D.contents disk.new ≡ Some bytes) }
-    ensures settled { IfSome (D.contents disk.old) (λ bytes. 13 < length bytes →
+    ensures images { IfSome (D.contents disk.old) (λ bytes. 13 < length bytes →
         KeepsImages D.images D.moment D.images_since disk.old disk.new) }
     ensures only { OnOk result (Only (D.contents disk.new) (D.images disk.new)) }
     ensures any_moment { (payloads : List (List ℕ)) →

@@ -71,13 +71,13 @@ impl Reader {
         }
     }
 
-    /// Syncs, makes a disk of at most 13 bytes anew, and asks a longer one for its header. It takes no memory.
+    /// Syncs, makes a disk of at most 13 bytes anew, and asks a longer one for its header, which writes nothing. It takes no memory.
     pub fn open<D: Disk>(alloc: Global, disk: &mut D) -> Result<Reader, OpenFault>
         ensures reader { IfOk result (λ reader. HasGiven reader []) }
         ensures contents { OnOk result (Told IsOpened (D.contents disk.old) (D.contents disk.new)) }
         ensures kept { IfSome (D.contents disk.old) (λ bytes. 13 < length bytes →
             D.contents disk.new ≡ Some bytes) }
-        ensures settled { IfSome (D.contents disk.old) (λ bytes. 13 < length bytes →
+        ensures images { IfSome (D.contents disk.old) (λ bytes. 13 < length bytes →
             KeepsImages D.images D.moment D.images_since disk.old disk.new) }
         ensures stays { (payloads : List (List ℕ)) →
             IfSome (D.contents disk.old) (λ bytes. Holds bytes payloads →

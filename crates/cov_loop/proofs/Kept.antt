@@ -2,7 +2,7 @@
 use Rattle.std.proofs.Common.{◌≡◌, ◌∙◌, refl, sym, ap, subst, ℕ, ◌⊎◌, inl, inr, ◌+◌, ◌≤◌, arith, List, [], ◌∷◌, ◌++◌, length, length-append, append-nil, append_assoc, Option, Some, Result, Ok, Err, OnErr}
 use Rattle.std.proofs.lemmas.List.{append_cancel_left, nil_from_length}
 use Rattle.cov_io.specs.Devices.{AppendsSome}
-use Rattle.cov_loop.specs.Keeping.{AreAll, IsEither, KeepsAnswered, Reaches}
+use Rattle.cov_loop.specs.Keeping.{AddsNoCommand, AreAll, IsEither, KeepsAnswered, Reaches}
 use Rattle.cov_loop.specs.Outcome.{Outcome, answers}
 use Rattle.cov_loop.specs.Turns.{turn_of}
 use Rattle.cov_loop.specs.declared.answer.Answer.{Answer}
@@ -18,6 +18,29 @@ state_later : {S : Type 0} (step : S → List ℕ → Outcome S) (start state : 
     → (answers step start (served ++ more)).state ≡ (answers step state more).state
 state_later {S} step start state served more is =
     ap (λ (o : Outcome S). o.state) (answers_append step start served more) ∙ ap (λ s. (answers step s more).state) (sym is)
+
+-- a state that stays has no command more
+pub kept_adds_none : {S : Type 0} (count : S → ℕ) (state : S) (o : Outcome S) → o.state ≡ state → AddsNoCommand count state o
+kept_adds_none count state o is = omega (arith, ap count is)
+
+-- lines that add no command, none of which takes one away
+module _ {S : Type 0} (step : S → List ℕ → Outcome S) (count : S → ℕ) (rise : (s : S) (line : List ℕ) → count s ≤ count (step s line).state) where
+  rise_all : (s : S) (ls : List (List ℕ)) → count s ≤ count (answers step s ls).state
+  rise_all s [] = omega arith
+  rise_all s (l ∷ ls) = omega (arith, rise s l, rise_all (step s l).state ls)
+
+  -- the first adds none
+  pub first_adds_none : (start : S) (line : List ℕ) (lines rest : List (List ℕ)) → lines ≡ line ∷ rest → AddsNoCommand count start (answers step start lines) → AddsNoCommand count start (step start line)
+  first_adds_none start line lines rest e none =
+      let o : Outcome S = step start line in
+      omega (arith, ap (λ ls. count (answers step start ls).state) e, rise_all o.state rest, none)
+
+  -- the others add none
+  pub later_adds_none : (start state : S) (lines served more : List (List ℕ)) → lines ≡ served ++ more → state ≡ (answers step start served).state
+      → AddsNoCommand count start (answers step start lines) → AddsNoCommand count state (answers step state more)
+  later_adds_none start state lines served more e is none =
+      let same : count (answers step start lines).state ≡ count (answers step state more).state = ap (λ ls. count (answers step start ls).state) e ∙ ap count (state_later step start state served more is) in
+      omega (arith, same, none, rise_all start served, ap count is)
 
 module _ {S : Type 0} (step : S → List ℕ → Outcome S) (stored : S → List ℕ → Type 0) where
   -- before the first line
@@ -42,16 +65,12 @@ module _ {S : Type 0} (step : S → List ℕ → Outcome S) (stored : S → List
 
 module _ {S : Type 0} (step : S → List ℕ → Outcome S) (stored : S → List ℕ → Type 0) (count : S → ℕ)
     (rise : (s : S) (line : List ℕ) → count s ≤ count (step s line).state) where
-  rise_all : (s : S) (ls : List (List ℕ)) → count s ≤ count (answers step s ls).state
-  rise_all s [] = omega arith
-  rise_all s (l ∷ ls) = omega (arith, rise s l, rise_all (step s l).state ls)
-
   -- the first few of some lines leave no more commands than all
   fewer_commands : (start : S) (lines ls ms : List (List ℕ)) → lines ≡ ls ++ ms → count (answers step start ls).state ≤ count (answers step start lines).state
   fewer_commands start lines ls ms e =
       let same : count (answers step start lines).state ≡ count (answers step (answers step start ls).state ms).state =
       ap (λ all. count (answers step start all).state) e ∙ ap (λ (o : Outcome S). count o.state) (answers_append step start ls ms) in
-      omega (arith, same, rise_all (answers step start ls).state ms)
+      omega (arith, same, rise_all step count rise (answers step start ls).state ms)
 
   -- all lines were served
   pub keeps_all : (start : S) (lines : List (List ℕ)) (bytes image : List ℕ) → stored (answers step start lines).state image → KeepsAnswered step stored count start lines bytes image
@@ -70,7 +89,7 @@ module _ {S : Type 0} (step : S → List ℕ → Outcome S) (stored : S → List
     now_kept = state_later step start state served on.first is
 
     before_now : (ls k : List (List ℕ)) → served ≡ ls ++ k → count (answers step start ls).state ≤ count (answers step start (served ++ on.first)).state
-    before_now ls k e = omega (arith, fewer_commands start served ls k e, ap count is, rise_all state on.first, ap count now_kept)
+    before_now ls k e = omega (arith, fewer_commands start served ls k e, ap count is, rise_all step count rise state on.first, ap count now_kept)
 
     others : (k ms : List (List ℕ)) → more ≡ k ++ ms → length (answers step start (served ++ k)).reply ≤ length ((answers step start served).reply ++ bytes)
         → count (answers step start (served ++ k)).state ≤ count (answers step start (served ++ on.first)).state

@@ -6,12 +6,12 @@ use Rattle.cov_disk.specs.Images.{LeavesOnly}
 use Rattle.cov_io.specs.Progress.{Progress}
 use Rattle.cov_io.specs.Devices.{AppendsSome}
 use Rattle.cov_loop.specs.Answers.{is_refusal, kind_of}
-use Rattle.cov_loop.specs.Keeping.{AreAll, KeepsAnswered, Reaches}
+use Rattle.cov_loop.specs.Keeping.{AddsNoCommand, AreAll, KeepsAnswered, Reaches}
 use Rattle.cov_loop.specs.Outcome.{Outcome, answers, followed_by}
 use Rattle.cov_loop.specs.Turns.{AtEnd, EndsWith, ServesNone, GoesOn, HasRows, HasStored, ReadsOut, IsWhole, Output, RowsComeFirst, ServesFirst, StopsAmid, WritesAll, ahead_of, ending_at_end}
 use Rattle.cov_loop.specs.declared.answer.Answer.{Answer}
 use Rattle.cov_loop.proofs.Appending.{all_some, all_then, all_then_some, same_all, told_all}
-use Rattle.cov_loop.proofs.Kept.{keeps_later, reaches_later}
+use Rattle.cov_loop.proofs.Kept.{keeps_later, later_adds_none, reaches_later}
 use Rattle.cov_disk.proofs.CallerLemmas.{joined, weakened}
 use Rattle.cov_loop.proofs.Outcomes.{answers_append, answers_last, cut_twice, nothing_next}
 use Rattle.cov_out.specs.declared.row.OutRow.{OutRow}
@@ -184,6 +184,16 @@ moments_on step stored moment images_since first mid new {start} {text} {state} 
     joined moment images_since first mid new (Reaches step stored start (lines_of text)) before
     (weakened moment images_since mid new (Reaches step stored state (lines_of so_far.rest)) (Reaches step stored start (lines_of text))
     (reaches_later step stored start state (lines_of text) so_far.served (lines_of so_far.rest) so_far.lines so_far.state_is) (turn so_far.rest so_far.ahead_is))
+
+-- one turn more of a script that adds no command
+pub unwritten_on : {S D : Type 0} (step : S → List ℕ → Outcome S) (count : S → ℕ) → ((s : S) (line : List ℕ) → count s ≤ count (step s line).state) → (first mid new : D)
+    {start : S} {text : List ℕ} {state : S} {was : Bool} {ahead : Option (List ℕ)} {old now : Output}
+    → GoesOn step start text state was ahead old now
+    → mid ≡ first
+    → ((t : List ℕ) → ahead ≡ Some t → AddsNoCommand count state (answers step state (lines_of t)) → new ≡ mid)
+    → AddsNoCommand count start (answers step start (lines_of text)) → new ≡ first
+unwritten_on step count rise first mid new {start} {text} {state} so_far before turn none =
+    turn so_far.rest so_far.ahead_is (later_adds_none step count rise start state (lines_of text) so_far.served (lines_of so_far.rest) so_far.lines so_far.state_is none) ∙ before
 
 -- the run stopped within a line, and each image has every command that is answered
 pub keeps_on : {S : Type 0} (step : S → List ℕ → Outcome S) (stored : S → List ℕ → Type 0) (count : S → ℕ)

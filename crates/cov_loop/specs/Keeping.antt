@@ -6,6 +6,10 @@ use Rattle.cov_loop.specs.Outcome.{Outcome, answers}
 abbrev pub AreAll : (List ℕ → Type 0) → (List ℕ → Type 0) → Type 0
 AreAll P images = (image : List ℕ) → images image → P image
 
+-- an outcome has no more commands than the state before
+abbrev pub AddsNoCommand : {S : Type 0} → (S → ℕ) → S → Outcome S → Type 0
+AddsNoCommand count before outcome = count outcome.state ≤ count before
+
 -- bytes have one of these two
 abbrev pub IsEither : (List ℕ → Type 0) → (List ℕ → Type 0) → List ℕ → Type 0
 IsEither P Q bytes = P bytes ⊎ Q bytes

@@ -1,11 +1,11 @@
 // One line: what it does, what it stores, the rows that it writes and its reply.
-ghost use Rattle.std.specs.Prelude.{◌≡◌, ◌⊎◌, ◌≤◌, ◌<◌, ◌++◌, ℕ, List, Some, length, IfOk, OnOk, OnErr, IfErr, IfSome};
-ghost use Rattle.cov_base.specs.Causes.{HasCause};
+ghost use Rattle.std.specs.Prelude.{◌≡◌, ◌⊎◌, ◌≤◌, ◌<◌, ◌++◌, ℕ, List, Some, true, length, IfOk, OnOk, OnErr, IfErr, IfSome};
+ghost use Rattle.cov_base.specs.Causes.{HasCause, Rose};
 ghost use Rattle.cov_base.specs.declared.limits.TheConstants.{MOST_SCRIPT_LINE_BYTES};
 ghost use Rattle.cov_disk.specs.Images.{LeavesOnly};
 ghost use Rattle.cov_io.specs.Devices.{AppendsAll, AppendsSome};
 ghost use Rattle.cov_loop.specs.Answers.{IsServed, StopsLine, is_silent, is_passed_over};
-ghost use Rattle.cov_loop.specs.Keeping.{AreAll, IsEither};
+ghost use Rattle.cov_loop.specs.Keeping.{AddsNoCommand, AreAll, IsEither};
 
 use crate::answer::{Answer, Reply};
 use crate::ending::Ending;
@@ -63,6 +63,17 @@ pub fn serve_line<V: LineServer, K: Sink, D: Disk, T: Trees>(
         K.written out.old ≡ Some before →
         K.written out.new ≡ Some (before ++ (V.step (V.state_of server.old) line.now).reply) →
         AreAll (V.stored (V.step (V.state_of server.old) line.now).state) (D.images disk.new) }
+
+    // A line that adds no command, as one that is refused, leaves the disk as it is, at an `Err` too.
+    ensures unwritten { AddsNoCommand V.count (V.state_of server.old)
+        (V.step (V.state_of server.old) line.now) → disk.new ≡ disk.old }
+    ensures refused { (V.step (V.state_of server.old) line.now).is_refused ≡ true →
+        disk.new ≡ disk.old }
+
+    // The disk fails, or it is left as it is, or each image is stored for the state after the line.
+    ensures settled { AreAll (V.stored (V.state_of server.old)) (D.images disk.old) →
+        Rose (D.faults disk.old) (D.faults disk.new) ⊎ (disk.new ≡ disk.old)
+        ⊎ AreAll (V.stored (V.step (V.state_of server.old) line.now).state) (D.images disk.new) }
 
     ensures goes_on { OnOk result (V.goes_on server.old server.new) }
 

@@ -1,9 +1,10 @@
 // What serves one line after another.
-ghost use Rattle.std.specs.Prelude.{◌≡◌, ◌≢◌, ◌<◌, ◌≤◌, ℕ, List, [], true, length, IfOk, OnOk, IfErr, IfSome};
+ghost use Rattle.std.specs.Prelude.{◌≡◌, ◌≢◌, ◌⊎◌, ◌<◌, ◌≤◌, ℕ, List, [], true, length, IfOk, OnOk, IfErr, IfSome};
+ghost use Rattle.cov_base.specs.Causes.{Rose};
 ghost use Rattle.cov_base.specs.declared.limits.TheConstants.{MOST_SCRIPT_LINE_BYTES};
 ghost use Rattle.cov_disk.specs.Images.{LeavesOnly};
 ghost use Rattle.cov_loop.specs.Answers.{Gives, StopsAnswer, is_passed_over};
-ghost use Rattle.cov_loop.specs.Keeping.{AreAll, IsEither};
+ghost use Rattle.cov_loop.specs.Keeping.{AddsNoCommand, AreAll, IsEither};
 ghost use Rattle.cov_loop.specs.Outcome.{Outcome, unchanged};
 
 use crate::answer::Reply;
@@ -35,8 +36,9 @@ pub trait LineServer: Sized {
     /// What holds of a server before a line and after it beside what is said of their states.
     ghost goes_on: { Self → Self → Type 0 };
 
-    /// Does what a line says, stores what it adds, and makes its reply. At an `Err` the server is to be given up: nothing more is said of
-    /// it.
+    /// Does what a line says, stores what it adds, and makes its reply. A line that adds no command leaves the disk as it is, at an `Err`
+    /// too, and unless the disk fails, one that adds a command leaves it so or has it stored. At an `Err` the server is to be given up:
+    /// nothing more is said of it.
     fn answer<D: Disk>(&mut self, line: &[u8], disk: &mut D) -> Result<Reply, Ending>
         requires { IfSome (D.contents disk.old) (gate (state_of self.old)) }
         ensures gives { IfOk result
@@ -51,6 +53,11 @@ pub trait LineServer: Sized {
             (stored (step (state_of self.old) line.now).state)) }
         ensures durable { AreAll (stored (state_of self.old)) (D.images disk.old) →
             OnOk result (AreAll (stored (state_of self.new)) (D.images disk.new)) }
+        ensures unwritten { AddsNoCommand count (state_of self.old)
+            (step (state_of self.old) line.now) → disk.new ≡ disk.old }
+        ensures settled { AreAll (stored (state_of self.old)) (D.images disk.old) →
+            Rose (D.faults disk.old) (D.faults disk.new) ⊎ (disk.new ≡ disk.old)
+            ⊎ AreAll (stored (step (state_of self.old) line.now).state) (D.images disk.new) }
         ensures stopped { IfErr result (λ ending.
             StopsAnswer ending (D.faults disk.old) (D.faults disk.new)) }
         ensures later { D.faults disk.old ≤ D.faults disk.new };
@@ -64,6 +71,10 @@ pub trait LineServer: Sized {
     /// A line that is refused has a reply.
     ghost refusal_told: { (state : State) (line : List ℕ) → (step state line).is_refused ≡ true →
         (step state line).reply ≢ [] };
+
+    /// A line that is refused changes nothing.
+    ghost refused_kept: { (state : State) (line : List ℕ) → (step state line).is_refused ≡ true →
+        (step state line).state ≡ state };
 
     /// A line without a reply writes no row.
     ghost rows_told: { (state : State) (line : List ℕ) → (step state line).reply ≡ [] →

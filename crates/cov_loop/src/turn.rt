@@ -5,7 +5,7 @@ ghost use Rattle.cov_disk.specs.Images.{LeavesOnly};
 ghost use Rattle.cov_io.specs.Progress.{CountsGiven};
 ghost use Rattle.cov_loop.specs.Answers.{is_refusal};
 ghost use Rattle.cov_loop.specs.Counts.{Counted, Later, counts};
-ghost use Rattle.cov_loop.specs.Keeping.{AreAll, KeepsAnswered, Reaches};
+ghost use Rattle.cov_loop.specs.Keeping.{AddsNoCommand, AreAll, KeepsAnswered, Reaches};
 ghost use Rattle.cov_loop.specs.Outcome.{answers};
 ghost use Rattle.cov_loop.specs.Turns.{AtEnd, Falls, HasRows, HasStored, ReadsOut, IsWhole, RowsComeFirst, StopsScript, StopsTurn, Turns, WritesFront, ahead_of, ending_at_end, ending_of, output, turn_of};
 ghost use Rattle.cov_out.specs.declared.row.OutRow.{OutRow};
@@ -59,6 +59,9 @@ fn serve_next<V: LineServer, S: Source, K: Sink, D: Disk, T: Trees>(
         (AreAll (KeepsAnswered V.step V.stored V.count (V.state_of server.old)
         (lines_of text) bytes)
         (D.images disk.new)) }
+    ensures unwritten { (text : List ℕ) → ahead_of lines.old (S.left script.old) ≡ Some text →
+        AddsNoCommand V.count (V.state_of server.old)
+        (answers V.step (V.state_of server.old) (lines_of text)) → disk.new ≡ disk.old }
     ensures counted { Counted lines.old lines.new
         (counts (S.faults script.old) (K.faults out.old) (D.faults disk.old) (T.faults trees.old)
         (S.given script.old) (S.ends script.old))
@@ -157,6 +160,12 @@ pub fn serve_all<V: LineServer, S: Source, K: Sink, D: Disk, T: Trees>(
         K.written out.old ≡ Some before → K.written out.new ≡ Some (before ++ bytes) →
         AreAll (KeepsAnswered V.step V.stored V.count (V.state_of server.old) (lines_of text) bytes)
         (D.images disk.new) }
+
+    // A script that adds no command leaves the disk as it is, however the run ends.
+    ensures unwritten { (text : List ℕ) →
+        ahead_of lines.old (S.left script.old) ≡ Some text →
+        AddsNoCommand V.count (V.state_of server.old)
+        (answers V.step (V.state_of server.old) (lines_of text)) → disk.new ≡ disk.old }
 
     // At the end of the script, the server has the state that the whole script gives, and another script can be served.
     ensures state { (text : List ℕ) →

@@ -1,5 +1,5 @@
-use Rattle.std.proofs.Common.{inl, inr}
-use Rattle.cov_loop.proofs.Kept.{nothing_added}
+use Rattle.std.proofs.Common.{inl, inr, refl}
+use Rattle.cov_loop.proofs.Kept.{kept_adds_none, nothing_added}
 use Rattle.cov_loop.proofs.Moments.{left_now}
 use Rattle.cov_loop.proofs.line.serve_line.Goals as goal
 use Rattle.cov_loop.specs.Keeping.{IsEither}
@@ -13,3 +13,16 @@ returns-in-Err-clause-acknowledged g c before all was is image here =
       | inl old ↦ g.met.V.LineServer.stored_told (g.V.LineServer.state_of c.args.server.now) c.args.line.now image (nothing_added before step.reply (cc)) old
       | inr new ↦ new
     ]
+
+pub returns-in-Ok-clause-refused : goal.returns-in-Ok-clause-refused
+returns-in-Ok-clause-refused g c refused =
+    let state = g.V.LineServer.state_of c.args.server.now in
+    c.answer.ensures.unwritten (kept_adds_none g.V.LineServer.count state (g.V.LineServer.step state c.args.line.now) (g.met.V.LineServer.refused_kept state c.args.line.now refused))
+
+pub returns-in-Err-clause-refused : goal.returns-in-Err-clause-refused
+returns-in-Err-clause-refused g c refused =
+    let state = g.V.LineServer.state_of c.args.server.now in
+    c.answer.ensures.unwritten (kept_adds_none g.V.LineServer.count state (g.V.LineServer.step state c.args.line.now) (g.met.V.LineServer.refused_kept state c.args.line.now refused))
+
+pub returns-then-is_passed_over-clause-settled : goal.returns-then-is_passed_over-clause-settled
+returns-then-is_passed_over-clause-settled g c all = inr (inl refl)

@@ -1,4 +1,4 @@
-use Rattle.std.proofs.Common.{rules}
+use Rattle.std.proofs.Common.{refl, rules}
 use Rattle.cov_base.specs.Lines.{lines_of}
 use Rattle.cov_loop.specs.Keeping.{Reaches}
 use Rattle.cov_loop.specs.Outcome.{answers}
@@ -6,7 +6,7 @@ use Rattle.cov_loop.specs.Turns.{ahead_of, output}
 use Rattle.cov_loop.proofs.Appending.{front_of, told_all}
 use Rattle.cov_loop.proofs.Counting.{counted_then, given_then}
 use Rattle.cov_loop.proofs.Kept.{keeps_all, reaches_none}
-use Rattle.cov_loop.proofs.LoopInvariant.{all_amid, at_end, begins, ended, ends_whole, goes_on, has_rows, has_stored, keeps_on, left_is_empty, moments_on, reads_out, stopped}
+use Rattle.cov_loop.proofs.LoopInvariant.{all_amid, at_end, begins, ended, ends_whole, goes_on, has_rows, has_stored, keeps_on, left_is_empty, moments_on, reads_out, stopped, unwritten_on}
 use Rattle.cov_loop.proofs.Moments.{uncalled}
 use Rattle.cov_loop.proofs.turn.serve_all.Goals as goal
 
@@ -20,6 +20,7 @@ turns-init g c = record {
   any_moment = λ text ahead all.
       uncalled g.D.Disk.moment g.D.Disk.images_since g.D.Disk.images g.met.D.Disk.only_now c.args.disk.now (Reaches g.V.LineServer.step g.V.LineServer.stored (g.V.LineServer.state_of c.args.server.now) (lines_of text))
       (λ image here. reaches_none g.V.LineServer.step g.V.LineServer.stored (g.V.LineServer.state_of c.args.server.now) (lines_of text) image (all image here));
+  unwritten = λ text ahead none. refl;
   counted = search rules;
   left = search rules;
 }
@@ -37,6 +38,9 @@ turns-preserved g c = record {
       moments_on g.V.LineServer.step g.V.LineServer.stored g.D.Disk.moment g.D.Disk.images_since c.args.disk.now c.turns.disk c.serve_next.new.disk
       (c.turns.invariant.told text ahead) (c.turns.invariant.any_moment text ahead all)
       (λ t a. c.serve_next.ensures.any_moment t a (c.turns.invariant.durable all));
+  unwritten = λ text ahead none.
+      unwritten_on g.V.LineServer.step g.V.LineServer.count g.met.V.LineServer.counts_rise c.args.disk.now c.turns.disk c.serve_next.new.disk
+      (c.turns.invariant.told text ahead) (c.turns.invariant.unwritten text ahead none) (λ t a. c.serve_next.ensures.unwritten t a) none;
   counted = counted_then c.turns.invariant.counted c.serve_next.ensures.counted;
   left = given_then (g.S.Source.left c.args.script.now) (g.S.Source.left c.turns.script) (g.S.Source.left c.serve_next.new.script)
       (g.S.Source.given c.args.script.now) (g.S.Source.given c.turns.script) (g.S.Source.given c.serve_next.new.script)
@@ -147,3 +151,13 @@ returns-in-Ended-clause-gate g c = rw c.ending_at_end.ensures (at_end c.turns.re
 
 pub returns-in-Ended-clause-durable : goal.returns-in-Ended-clause-durable
 returns-in-Ended-clause-durable g c all = rw c.ending_at_end.ensures (at_end c.turns.refused _ (c.in-Ok.ensures.durable (c.turns.invariant.durable all)))
+
+pub returns-in-Ended-clause-unwritten : goal.returns-in-Ended-clause-unwritten
+returns-in-Ended-clause-unwritten g c text ahead none =
+    unwritten_on g.V.LineServer.step g.V.LineServer.count g.met.V.LineServer.counts_rise c.args.disk.now c.turns.disk c.serve_next.new.disk
+    (c.turns.invariant.told text ahead) (c.turns.invariant.unwritten text ahead none) (λ t a. c.serve_next.ensures.unwritten t a) none
+
+pub returns-in-Err-clause-unwritten : goal.returns-in-Err-clause-unwritten
+returns-in-Err-clause-unwritten g c text ahead none =
+    unwritten_on g.V.LineServer.step g.V.LineServer.count g.met.V.LineServer.counts_rise c.args.disk.now c.turns.disk c.serve_next.new.disk
+    (c.turns.invariant.told text ahead) (c.turns.invariant.unwritten text ahead none) (λ t a. c.serve_next.ensures.unwritten t a) none
