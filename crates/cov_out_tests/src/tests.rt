@@ -2,3 +2,4 @@ mod file;
 mod folder;
 mod in_memory;
 mod journal;
+mod standard;

@@ -122,6 +122,11 @@ fn refuses_what_is_no_file(rt: HostRuntime) -> Result<(), Fail> {
     check_closed(&rt, &rt);
     fs::remove_dir(&rt, STORE)?;
 
+    // A device, which takes each write and keeps none.
+    rt.symlink("/dev/null", STORE)?;
+    check_closed(&rt, &rt);
+    fs::remove_file(&rt, STORE)?;
+
     // A link into a directory that isn't there, which stays so.
     rt.symlink("missing/store", STORE)?;
     check_closed(&rt, &rt);
