@@ -9,6 +9,7 @@ import argparse
 import collections
 import contextlib
 import fcntl
+import functools
 import itertools
 import os
 import pathlib
@@ -17,6 +18,7 @@ import re
 import shutil
 import signal
 import socket
+import stat
 import subprocess
 import tempfile
 import time
@@ -113,7 +115,7 @@ def undisturbed(program, text, place=None):
 
 
 def is_front(rows, whole):
-    """Whether rows of trees are the first of all the rows, in their order, of which the last may have the first of its bytes alone."""
+    """Whether rows of trees are the first of all, in their order; the last of them may lack some of its bytes."""
     paths = sorted(whole)[:len(rows)]
     if sorted(rows) != paths or any(rows[path] != whole[path] for path in paths[:-1]):
         return False
@@ -201,8 +203,8 @@ def fail_each(program, text):
 
 
 def fail_openings(program):
-    """How many runs there are without a command, over a store, a damaged one and none, in each of which one call fails; and how many of them
-    changed its bytes. What is told is told whole or not at all, and no tree is made."""
+    """How many runs there are without a command, over a store, a damaged one and none, in each of which one call fails; and how many of
+    them changed its bytes. What is told is told whole or not at all, and no tree is made."""
     with elsewhere():
         subprocess.run([program, 'run'], input=FURTHER, stdout=subprocess.DEVNULL, check=True)
         store = pathlib.Path(STORE).read_bytes()
@@ -335,36 +337,65 @@ def misled(program):
     return len(runs), runs.count(False)
 
 
+def unsynced(program):
+    """How many empty stores there are, with or without a file, and over how many of them the folder isn't synced behind the header, by
+    which alone a crash leaves a new file in it."""
+    images, wrong = (None, b'', journal.HEADER, journal.EMPTY, bytes(len(journal.EMPTY))), 0
+    for image in images:
+        with over(image):
+            ended, lines = traced([program, 'run'], b'', '-e', 'trace=write,fsync')
+            assert ended.returncode == WELL, ended
+            header = max(at for at, line in enumerate(lines) if line.startswith('write('))
+            wrong += not any(re.match(r'fsync\(\d+<%s>' % re.escape(os.getcwd()), line) for line in lines[header:])
+    return len(images), wrong
+
+
 def make_socket():
     with socket.socket(socket.AF_UNIX) as made:
         made.bind(STORE)
 
 
-# What isn't a regular file, in the place of the store's file.
-OTHERS = (lambda: os.mkdir(STORE), lambda: os.mkfifo(STORE), make_socket, lambda: os.symlink('/dev/null', STORE),
-          lambda: os.symlink('/dev/zero', STORE), lambda: os.symlink('/dev/full', STORE), lambda: os.symlink('.', STORE))
+@contextlib.contextmanager
+def block_device():
+    """The path of a block device whose bytes are all 0, or None where the system lets none be made, as for another user than root."""
+    with tempfile.NamedTemporaryFile() as below:
+        below.truncate(1 << 20)
+        made = shutil.which('losetup') and subprocess.run(['losetup', '--find', '--show', below.name], capture_output=True, text=True)
+        if not made or made.returncode != 0:
+            yield None
+            return
+        path = made.stdout.strip()
+        try:
+            yield path
+        finally:
+            subprocess.run(['losetup', '--detach', path], check=True)
 
 
 def seen():
-    """What stands in the current folder and in the place of the store's file."""
+    """What stands in the current folder and in the place of the store's file, with its first bytes if it is a block device."""
     about = os.lstat(STORE)
-    return os.listdir(), about.st_mode, about.st_ino, about.st_size, about.st_mtime_ns
+    front = pathlib.Path(STORE).open('rb').read(64) if stat.S_ISBLK(os.stat(STORE).st_mode) else b''
+    return os.listdir(), about.st_mode, about.st_ino, about.st_size, about.st_mtime_ns, front
 
 
 def take_others(program):
-    """How many times each word was tried on each of these, and how often that didn't end at once with the status of the store's file,
-    without a word, and with all as it was."""
-    wrong, tried = 0, list(itertools.product(OTHERS, WORDS))
-    for make, words in tried:
-        with elsewhere():
-            make()
-            before = seen()
-            try:
-                ended = subprocess.run([program, *words], input=PLAIN, capture_output=True, timeout=10)
-                wrong += (ended.returncode, ended.stdout, seen()) != (NO_STORE, b'', before)
-            except subprocess.TimeoutExpired:
-                wrong += 1
-    return len(tried), wrong
+    """How many times each word was tried on what is no regular file in the place of the store's, and how often that didn't end at once with
+    the status of the store's file, without a word, and with all as it was; and whether one of these was a block device."""
+    with block_device() as block:
+        targets = ['.', '/dev/null', '/dev/zero', '/dev/full'] + ([block] if block else [])
+        makers = [lambda: os.mkdir(STORE), lambda: os.mkfifo(STORE), make_socket,
+                  *(functools.partial(os.symlink, target, STORE) for target in targets)]
+        wrong, tried = 0, list(itertools.product(makers, WORDS))
+        for make, words in tried:
+            with elsewhere():
+                make()
+                before = seen()
+                try:
+                    ended = subprocess.run([program, *words], input=PLAIN, capture_output=True, timeout=10)
+                    wrong += (ended.returncode, ended.stdout, seen()) != (NO_STORE, b'', before)
+                except subprocess.TimeoutExpired:
+                    wrong += 1
+    return len(tried), wrong, block is not None
 
 
 def of_runs(name, runs, parts=''):
@@ -385,14 +416,17 @@ def figures(program, kills=KILLS):
                ('by an allocation that fails with options and directories', starve_each(program, FURTHER)),
                ('by an allocation that fails in a line with a sweep', starve_each(program, swept, before))]
     opened, changed = fail_openings(program)
-    tried, taken = take_others(program)
+    begun, lost = unsynced(program)
+    tried, taken, has_block = take_others(program)
     at_once, away = run_two_at_once(program)
     fronts, wrong = misled(program)
     killed, missed = kill_often(program, kills)
     return [*(of_runs(name, runs) for name, runs, _ in failed),
             at_most('runs that an interrupted read or write of standard input or output ended', sum(ended for _, _, ended in failed), 0),
             at_most('runs without a command that changed a store, by a failing call', changed, 0, parts='of %d' % opened),
-            at_most('runs that took for a store what is no regular file', taken, 0, parts='of %d' % tried),
+            at_most('runs that wrote a header and didn\'t sync the folder behind it', lost, 0, parts='of %d' % begun),
+            at_most('runs that took for a store what is no regular file', taken, 0,
+                    parts='of %d, %s' % (tried, 'a block device too' if has_block else 'but no block device')),
             *(of_runs(name, runs) for name, runs in starved),
             of_runs('by a run at the same time', at_once, '; in %d a run was turned away' % away),
             at_most('runs of `covstore` that told or left anything else than they are to', wrong, 0, parts='of %d' % fronts),
