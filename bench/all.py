@@ -12,6 +12,7 @@ import comments
 import commits
 import completion
 import conjunction
+import damage
 import demo
 import directories
 import durable
@@ -35,7 +36,8 @@ from timing import Figure, built_in, row, spelt, whether_met
 BENCHES = ((comments, 'cov_cli'), (conjunction, 'cov_bench'), (sweeping, 'cov_bench'), (completion, 'cov_cli'), (memo, 'cov_cli'),
            (order, 'cov_order_bench'), (plans, 'cov_tree_bench'), (lines, 'cov_cli'), (commits, 'cov_cli'), (inserts, 'cov_cli'),
            (renames, 'cov_cli'), (directories, 'cov_cli'), (overtaking, 'cov_cli'), (sessions, 'cov_cli'), (touched, 'cov_cli'), (variants, 'cov_cli'), (demo, 'cov_cli'),
-           (checkout, 'cov_cli'), (projection, 'cov_cli'), (durable, 'cov_cli'), (opening, 'cov_cli'), (stops, 'cov_cli'))
+           (checkout, 'cov_cli'), (projection, 'cov_cli'), (durable, 'cov_cli'), (opening, 'cov_cli'), (stops, 'cov_cli'),
+           (damage, 'cov_cli'))
 
 
 def words():

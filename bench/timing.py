@@ -72,10 +72,10 @@ def tell(figures):
         print(row(figure.name, spelt(figure), figure.limit, whether_met(figure)))
 
 
-def build():
-    """The built program: the script's argument, or else the one here, which is proved and built if that isn't done."""
-    if len(sys.argv) > 1:
-        return os.path.abspath(sys.argv[1])
+def build(words=tuple(sys.argv[1:])):
+    """The built program: the first of the script's arguments, or else the one here, which is proved and built if that isn't done."""
+    if words:
+        return os.path.abspath(words[0])
     with elsewhere():
         subprocess.run([COVSTORE, 'run'], stdin=subprocess.DEVNULL, check=True)
     return built_in(os.path.join(TOP, 'crates'), 'cov_cli')
