@@ -2,6 +2,7 @@
 use Rattle.std.proofs.Common.{◌≡◌, ◌⊎◌, inl, inr, refl, ℕ, zero, suc, ◌<◌, ◌≤◌, true, false, [], ◌∷◌, slice_index, Some, arith}
 use Rattle.cov_base.specs.Texts.{Written}
 use Rattle.cov_disk.specs.Images.{Torn}
+use Rattle.cov_disk.specs.Generated.{torn_image}
 use Rattle.cov_disk.specs.Kept.{undone, unsynced, IsImageNow}
 use Rattle.cov_io.specs.InMemory.{fails_next}
 use Rattle.cov_disk.specs.declared.kept.Logged.TheVariants.{Wrote, Missed, Synced}
@@ -22,6 +23,10 @@ cut_short = record { before = refl; after = refl; no_shorter = omega arith; no_l
 since_the_sync : unsynced (Missed 1 1 ∷ Wrote 2 2 (3 ∷ []) ∷ Synced ∷ []) (1 ∷ 2 ∷ 8 ∷ 9 ∷ [])
     ≡ record { synced = 1 ∷ 2 ∷ 3 ∷ []; greatest = 4; ranges = (1, 1) ∷ (2, 2) ∷ [] }
 since_the_sync = refl
+
+-- the seed 3 makes drawn bytes of both ranges, and then a length of five, which wants one byte more
+torn_of_seed : torn_image 3 3 (Missed 3 3 ∷ Wrote 2 2 (3 ∷ []) ∷ Synced ∷ []) (1 ∷ 2 ∷ 8 ∷ 9 ∷ []) ≡ 1 ∷ 2 ∷ 251 ∷ 67 ∷ 52 ∷ []
+torn_of_seed = refl
 
 -- of a disk whose second write failed after one that was synced, a crash may leave other bytes in the range that failed
 failed_range : IsImageNow (Missed 1 1 ∷ Synced ∷ []) (1 ∷ 2 ∷ []) (1 ∷ 7 ∷ [])

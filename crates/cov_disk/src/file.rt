@@ -17,34 +17,33 @@ const AHEAD: u64 = 65536;
 #[derive(Drop)]
 pub(crate) struct StoreFile<F> {
     file: F,
-    /// How many bytes it has, once that was asked.
-    length: Option<u64>,
+    /// How many bytes it has.
+    length: u64,
+    /// Whether its first byte was written since the last sync.
+    is_begun: bool,
     /// Bytes that were read and not written over, and where they begin.
     ahead: Vec<u8>,
     from: u64,
 }
 
 impl<F: Read + Write + Seek + OpenFile> StoreFile<F> {
-    /// Opens the file, which is made empty where it isn't there.
+    /// Opens the file, which is made empty where it isn't there. What is no regular file is refused.
     pub(crate) fn open<R: Files<File = F>>(
         files: &R,
         alloc: Global,
     ) -> Result<StoreFile<F>, Failed> {
+        let (file, length) = open_or_make(files).map_err(|_| Failed)?;
         Ok(StoreFile {
-            file: open_or_make(files).map_err(|_| Failed)?,
-            length: None,
+            file,
+            length,
+            is_begun: false,
             ahead: Vec::new(alloc),
             from: 0,
         })
     }
 
-    pub(crate) fn length(&mut self) -> Result<u64, Failed> {
-        if let Some(length) = self.length {
-            return Ok(length);
-        }
-        let length = self.file.metadata().map_err(|_| Failed)?.len();
-        self.length = Some(length);
-        Ok(length)
+    pub(crate) fn length(&self) -> u64 {
+        self.length
     }
 
     /// Reads a range, and some bytes behind it for the next reads.
@@ -71,7 +70,7 @@ impl<F: Read + Write + Seek + OpenFile> StoreFile<F> {
 
     // Reads from a place on, at least so many bytes.
     fn read_ahead(&mut self, at: u64, count: u64) -> Result<(), Failed> {
-        let left = self.length()?.checked_sub(at).ok_or(Failed)?;
+        let left = self.length.checked_sub(at).ok_or(Failed)?;
         if left < count {
             return Err(Failed);
         }
@@ -88,32 +87,48 @@ impl<F: Read + Write + Seek + OpenFile> StoreFile<F> {
 
     /// Writes within the bytes that are there and past their end, but not behind it.
     pub(crate) fn write_at(&mut self, at: u64, bytes: &[u8]) -> Result<(), Failed> {
-        let length = self.length()?;
-        if length < at {
+        if self.length < at {
             return Err(Failed);
+        }
+        if at == 0 {
+            self.is_begun = true;
         }
         self.ahead.clear();
         self.file.seek(SeekFrom::Start(at)).map_err(|_| Failed)?;
         self.file.write_all(bytes).map_err(|_| Failed)?;
-        self.length = Some(length.max(at.saturating_add(bytes.len() as u64)));
+        self.length = self.length.max(at.saturating_add(bytes.len() as u64));
         Ok(())
     }
 
-    pub(crate) fn sync(&mut self) -> Result<(), Failed> {
-        self.file.sync_data().map_err(|_| Failed)
+    /// Syncs the file, and where its first byte was written since the last sync the directory behind it: so whatever run writes the
+    /// header of a file that is new, a crash leaves it there.
+    pub(crate) fn sync<R: Files<File = F>>(&mut self, files: &R) -> Result<(), Failed> {
+        self.file.sync_data().map_err(|_| Failed)?;
+        if self.is_begun {
+            sync_directory(files).map_err(|_| Failed)?;
+            self.is_begun = false;
+        }
+        Ok(())
     }
 }
 
-// Where the file is made, the directory is synced, so that a crash leaves it there.
-fn open_or_make<R: Files>(files: &R) -> io::Result<R::File> {
+// The file, with how many bytes it has.
+fn open_or_make<R: Files>(files: &R) -> io::Result<(R::File, u64)> {
     let mut how = File::options();
     how.read(true).write(true);
-    match how.open(files, STORE) {
+    let file = match how.open(files, STORE) {
         Err(error) if error.kind() == ErrorKind::NotFound => {
-            let file = how.create(true).open(files, STORE)?;
-            File::open(files, ".")?.sync_all()?;
-            Ok(file)
+            how.create(true).open(files, STORE)?
         }
-        answer => answer,
+        answer => answer?,
+    };
+    let metadata = file.metadata()?;
+    if !metadata.is_file() {
+        return Err(io::Error::from(ErrorKind::Unsupported));
     }
+    Ok((file, metadata.len()))
+}
+
+fn sync_directory<R: Files>(files: &R) -> io::Result<()> {
+    File::open(files, ".")?.sync_all()
 }

@@ -11,7 +11,8 @@ use std::marker::Model;
 use std::rt::Files;
 
 /// A disk over the file `store.cov` of the directory that the program runs in; the first call opens it, or makes it empty where it
-/// isn't there. Each error of the system and want of memory is a fault; the file is then closed, and each later call is a fault too.
+/// isn't there. What is no regular file, each error of the system and want of memory are faults; the file is then closed, and each
+/// later call is a fault too.
 /// What the system does with the file is trusted to be what a disk does, and no contents are told; contracts see the disk as its
 /// count of faults.
 #[derive(Drop)]
@@ -107,7 +108,7 @@ impl<R: Files + AllocGlobal> Disk for FileDisk<R> {
         ensures counted { self.new ≡ (if is_err result then raised self.old else self.old) }
     {
         let answer = match opened(&self.rt, &mut self.state) {
-            Ok(file) => file.length(),
+            Ok(file) => Ok(file.length()),
             Err(Failed) => Err(Failed),
         };
         self.counted(answer)
@@ -149,7 +150,7 @@ impl<R: Files + AllocGlobal> Disk for FileDisk<R> {
         ensures counted { self.new ≡ (if is_err result then raised self.old else self.old) }
     {
         let answer = match opened(&self.rt, &mut self.state) {
-            Ok(file) => file.sync(),
+            Ok(file) => file.sync(&self.rt),
             Err(Failed) => Err(Failed),
         };
         self.counted(answer)

@@ -1,18 +1,23 @@
 // Images that are torn where bytes were written since the last sync.
 ghost use Rattle.std.specs.Prelude.{◌≡◌, ◌≤◌, ◌<◌, ◌+◌, ◌⊎◌, ℕ, length, reverse, slice_index, max, IfOk};
 ghost use Rattle.cov_disk.specs.Kept.{Tears};
+ghost use Rattle.cov_disk.specs.Generated.{next_state, byte_of, state_after, places, scrambled, tearing, torn_by, between, resized, cut_at};
 
 use crate::kept::{Logged, undone};
 use cov_base::Memory;
 
 /// The state of the generator after one.
-fn state_after(state: u64) -> u64 {
+fn next_state(state: u64) -> u64
+    ensures { result ≡ next_state state }
+{
     state
         .wrapping_mul(6364136223846793005)
         .wrapping_add(1442695040888963407)
 }
 
-fn byte_of(state: u64) -> u8 {
+fn byte_of(state: u64) -> u8
+    ensures { result ≡ byte_of state }
+{
     ((state >> 33) % 256) as u8
 }
 
@@ -21,11 +26,13 @@ fn scramble(image: &mut Vec<u8>, at: usize, count: usize, state: u64) -> u64
     ensures size { length image.new.items ≡ length image.old.items }
     ensures outside { (i : ℕ) → (i < at) ⊎ (at + count ≤ i) →
         slice_index image.new.items i ≡ slice_index image.old.items i }
+    ensures scrambled { image.new.items ≡ scrambled at count state image.old.items }
+    ensures state { result ≡ state_after (places at count (length image.old.items)) state }
 {
     let mut state = state;
     let end = at.saturating_add(count).min(image.len());
     for i in at..end {
-        state = state_after(state);
+        state = next_state(state);
         image[i] = byte_of(state);
     }
     state
@@ -46,8 +53,10 @@ pub(crate) fn tear(
     image: &mut Vec<u8>,
     seed: u64,
 ) -> Result<Reached, Memory>
-    ensures { IfOk result (λ r. Tears (reverse log.items) bytes.items image.old.items
+    ensures tears { IfOk result (λ r. Tears (reverse log.items) bytes.items image.old.items
         image.new.items r.synced r.reach) }
+    ensures torn { IfOk result (λ r. tearing image.new.items r.reach r.state ≡
+        torn_by (reverse log.items) (tearing image.old.items 0 seed)) }
 {
     let mut bytes = bytes;
     let mut log = log;
@@ -85,6 +94,7 @@ fn between(low: usize, high: usize, state: u64) -> usize
     requires { low ≤ high }
     ensures low { low ≤ result }
     ensures high { result ≤ high }
+    ensures drawn { result ≡ between low high state }
 {
     let room = (high - low).saturating_add(1);
     low + (state >> 33) as usize % room
@@ -96,8 +106,10 @@ pub(crate) fn cut(image: Vec<u8>, reached: Reached) -> Result<Vec<u8>, Memory>
     ensures high { IfOk result (λ torn. length torn.items ≤ max reached.synced reached.reach) }
     ensures same { IfOk result (λ torn. (i : ℕ) → i < reached.synced → i < length image.items →
         slice_index torn.items i ≡ slice_index image.items i) }
+    ensures cut { IfOk result (λ torn. torn.items ≡
+        cut_at reached.synced (tearing image.items reached.reach reached.state)) }
 {
-    let state = state_after(reached.state);
+    let state = next_state(reached.state);
     let wanted = between(reached.synced, reached.synced.max(reached.reach), state);
     resized(image, wanted, state)
 }
@@ -106,12 +118,13 @@ fn resized(image: Vec<u8>, wanted: usize, state: u64) -> Result<Vec<u8>, Memory>
     ensures size { IfOk result (λ torn. length torn.items ≡ wanted) }
     ensures same { IfOk result (λ torn. (i : ℕ) → i < wanted → i < length image.items →
         slice_index torn.items i ≡ slice_index image.items i) }
+    ensures resized { IfOk result (λ torn. torn.items ≡ resized image.items wanted state) }
 {
     let mut image = image;
     let mut state = state;
     image.truncate(wanted);
     for _at in image.len()..wanted {
-        state = state_after(state);
+        state = next_state(state);
         image.push(byte_of(state))?;
     }
     Ok(image)

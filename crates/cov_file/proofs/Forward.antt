@@ -11,7 +11,8 @@ use Rattle.cov_base.specs.declared.file_row.FileRow.{FileRow}
 use Rattle.cov_order.specs.Orders.{has_line, AreLines}
 use Rattle.cov_file.specs.Dated.{DatedLine, newest_vis, newest_of, file_row_of, line_numbers_of, with_line, with_change, AreAlike}
 use Rattle.cov_file.specs.Forward.{is_shown_by}
-use Rattle.cov_file.specs.Sights.{rows_by, Agrees, IsSight, AreSights}
+use Rattle.cov_file.specs.Sights.{rows_by, IsSight, AreSights}
+use Rattle.cov_file.specs.Values.{Agrees}
 use Rattle.cov_file.specs.declared.sights.Kept.{Kept}
 
 -- rows without those of a line
@@ -186,7 +187,7 @@ none_taken_out line rows h = each rows (none-placed (λ (r : FileRow). nat_eq r.
 
 -- a kept list that is found is right
 pub sight_found : (f : ℕ → Bool) (ls : List DatedLine) (ks : List Kept) (at : ℕ) (rows : List FileRow) → option_map (λ (k : Kept). k.rows) (slice_get ks at) ≡ Some (Some rows)
-    → ((k : Kept) → slice_get ks at ≡ Some k → Agrees f k.values.items) → AreSights ls ks → rows_by f ls ≡ rows
+    → ((k : Kept) → slice_get ks at ≡ Some k → Agrees f k.values) → AreSights ls ks → rows_by f ls ≡ rows
 sight_found f ls [] at rows is agrees h = absurd (none-some (Some rows) is)
 sight_found f ls (k ∷ ks) zero rows is agrees h = subst (λ o. IfSome o (λ rs. rows_by f ls ≡ rs)) (same_Some k.rows (Some rows) is) (h.0 f (agrees k refl))
 sight_found f ls (k ∷ ks) (suc at) rows is agrees h = sight_found f ls ks at rows is agrees h.1

@@ -7,6 +7,7 @@ pub mod Forward
 pub mod Later
 pub mod Redating
 pub mod Renumbering
+pub mod Replaced
 pub mod Rooms
 pub mod Shown
 pub mod Showing

@@ -4,14 +4,16 @@ use Rattle.std.proofs.Common.{◌≡◌, ℕ, ◌<◌, ◌≤◌, Bool, true, fa
 use Rattle.std.specs.List.{AllByRecursion}
 use Rattle.std.specs.Option.{IfSome}
 use Rattle.std.specs.Map.{keys_of}
-use Rattle.cov_file.specs.declared.sights.Evaluated.{Evaluated}
+use Rattle.cov_file.specs.declared.values.Evaluated.{Evaluated}
 use Rattle.cov_base.specs.declared.file_row.FileRow.{FileRow}
+use Rattle.cov_base.proofs.CallerLemmas.{rest-is, rest_of}
 use Rattle.cov_file.specs.Dated.{DatedLine, vis_at, newest_vis, file_row_of, is_visible}
 use Rattle.cov_file.specs.declared.changes.Change.{Change}
 use Rattle.cov_file.specs.declared.sights.Kept.{Kept}
 use Rattle.cov_file.specs.Kept.{changes_before, changes_of, changes_in, dated_in, dated_lines, row_in}
 use Rattle.cov_file.proofs.Later.{reached}
-use Rattle.cov_file.specs.Sights.{ShownByValues, rows_by, Agrees, AreSights, on_choice, AreNewest}
+use Rattle.cov_file.specs.Sights.{ShownByValues, rows_by, AreSights, AreNewest}
+use Rattle.cov_file.specs.Values.{Agrees, on_choice}
 
 -- lines that two tests tell apart alike are shown by both alike
 same_filter : (s t : DatedLine → Bool) (ls : List DatedLine) → AllByRecursion (λ l. s l ≡ t l) ls → map file_row_of (filter s ls) ≡ map file_row_of (filter t ls)
@@ -105,7 +107,12 @@ pub if_some : {A : Type 0} (o : Option A) (P Q : A → Type 0) → ((x : A) → 
 if_some None P Q f h = h
 if_some (Some x) P Q f h = f x h
 
--- no values agree with any in which FALSE is false
-pub no_values : (f : ℕ → Bool) (es : List Evaluated) → length es < 1 → f 0 ≡ false → Agrees f es
-no_values f [] none h = (h, tt)
-no_values f (e ∷ es) none h = absurd (omega (arith, none))
+-- what holds of the first and of all others holds of all
+pub all-with : {X : Type 0} (P : X → Type 0) (xs : List X) (d : X) → 1 ≤ length xs → P (slice_index_or xs 0 d) → AllByRecursion P (rest_of xs) → AllByRecursion P xs
+all-with P [] d some first rest = absurd (omega (arith, some))
+all-with P (x ∷ xs) d some first rest = (first, subst (AllByRecursion P) (rest-is x xs) rest)
+
+-- of nothing all holds
+pub all-none : {X : Type 0} (P : X → Type 0) (xs : List X) → length xs < 1 → AllByRecursion P xs
+all-none P [] none = tt
+all-none P (x ∷ xs) none = absurd (omega (arith, none))

@@ -1,12 +1,11 @@
 -- What a file shows, by the values of the nodes of its lines.
-use Rattle.std.specs.Prelude.{◌≡◌, ℕ, ◌≤◌, Bool, false, List, map}
+use Rattle.std.specs.Prelude.{◌≡◌, ℕ, ◌≤◌, Bool, List, map}
 use Rattle.std.specs.List.{AllByRecursion, filter}
 use Rattle.std.specs.Option.{IfSome}
 use Rattle.cov_base.specs.declared.file_row.FileRow.{FileRow}
 use Rattle.cov_dd.specs.declared.triple.Triple.{Triple}
-use Rattle.cov_dd.specs.Diagrams.{value_in}
 use Rattle.cov_file.specs.Dated.{DatedLine, newest_vis, file_row_of, is_visible, rows_at}
-use Rattle.cov_file.specs.declared.sights.Evaluated.{Evaluated}
+use Rattle.cov_file.specs.Values.{on_choice, Agrees}
 use Rattle.cov_file.specs.declared.sights.Kept.{Kept}
 
 -- two choices, or two positions, on which each line's node has the same value show the same lines
@@ -18,26 +17,14 @@ ShownByValues = (table before : List Triple) (c d : List Bool) (p q : ℕ) (ls :
 abbrev pub rows_by : (ℕ → Bool) → List DatedLine → List FileRow
 rows_by f ls = map file_row_of (filter (λ l. f (newest_vis l.changes)) ls)
 
--- values of nodes in which these nodes have these values, and FALSE is false
-abbrev pub Agrees : (ℕ → Bool) → List Evaluated → Type 0
-Agrees f values = (f 0 ≡ false) × AllByRecursion (λ e. f e.node ≡ e.value) values
-
 -- a kept list, if it wasn't let go, is what is shown by any values of nodes in which its nodes have theirs
 abbrev pub IsSight : List DatedLine → Kept → Type 0
-IsSight ls k = (f : ℕ → Bool) → Agrees f k.values.items → IfSome k.rows (λ rows. rows_by f ls ≡ rows)
+IsSight ls k = (f : ℕ → Bool) → Agrees f k.values → IfSome k.rows (λ rows. rows_by f ls ≡ rows)
 
 -- each kept list is
 abbrev pub AreSights : List DatedLine → List Kept → Type 0
 AreSights ls ks = AllByRecursion (IsSight ls) ks
 
--- the values of nodes on a choice
-abbrev pub on_choice : List Triple → List Bool → ℕ → Bool
-on_choice table c n = value_in table n c
-
 -- from the newest change on, each line has its newest node
 abbrev pub AreNewest : ℕ → List DatedLine → Type 0
 AreNewest newest ls = (table : List Triple) (c : List Bool) (p : ℕ) → newest ≤ p → rows_at table c p ls ≡ rows_by (on_choice table c) ls
-
--- in any values of nodes in which these have theirs, a node has this value
-abbrev pub IsKnown : List Evaluated → ℕ → Bool → Type 0
-IsKnown values node value = (f : ℕ → Bool) → Agrees f values → f node ≡ value

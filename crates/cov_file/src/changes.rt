@@ -1,11 +1,14 @@
 // The changes of the visibilities of lines.
-ghost use Rattle.std.specs.Prelude.{◌≡◌, ◌<◌, ◌≤◌, ◌+◌, ◌-◌, ◌^◌, ℕ, [], ◌∷◌, ◌++◌, true, false, length, map, reverse, set, slice_get, take, drop, vec_len, vec_capacity, OnOk, OnErr, IfSome, if◌then◌else◌, refl};
+ghost use Rattle.std.specs.Prelude.{◌≡◌, ◌<◌, ◌≤◌, ◌+◌, ◌-◌, ◌^◌, ℕ, List, [], ◌∷◌, ◌++◌, true, false, length, map, reverse, set, slice_get, take, drop, vec_len, vec_capacity, OnOk, OnErr, IfSome, if◌then◌else◌, refl};
 ghost use Rattle.std.specs.Option.{option_map, option_map_or};
-ghost use Rattle.std.specs.List.{AllByRecursion};
+ghost use Rattle.std.specs.List.{AllByRecursion, AllZip};
 ghost use Rattle.cov_file.specs.Dated.{vis_at, newest_vis};
 ghost use Rattle.cov_file.specs.Kept.{changes_before, changes_of, AreLinked, changes_at, is_at, with_node};
 ghost use Rattle.cov_file.specs.Renumbered.{AddsNode, dates_of, having_node, node_of, AreAllListed, AreRenumberedLists};
+ghost use Rattle.cov_file.specs.Replaced.{AreReplaced, IsNewestReplaced};
+ghost use Rattle.cov_file.specs.declared.replacing.Replaced.{Replaced};
 
+use crate::replacing::{NOT_REPLACED, Replacements};
 use cov_base::{Memory, Position};
 use cov_dd::{FALSE, HasNode, Node, Nodes, append_nodes, renumber_nodes};
 use std::alloc::Global;
@@ -170,6 +173,9 @@ impl Changes {
         ensures lists { AreRenumberedLists self.old.nodes self.new.nodes
             self.old.lists self.new.lists }
         ensures all { AreAllListed self.old.nodes self.old.lists }
+        ensures replaced { (rs : List Replaced) →
+            AreReplaced rs (map newest_vis self.old.lists) (drop first from.now) →
+            AllZip (IsNewestReplaced rs) self.old.lists self.new.lists }
         ensures dates { map dates_of self.new.lists ≡ map dates_of self.old.lists }
         ensures newest { self.new.newest ≡ self.old.newest }
         ensures inserts { self.new.inserts ≡ self.old.inserts }
@@ -179,6 +185,21 @@ impl Changes {
         let nodes = from.as_slice();
         let middle = renumber_nodes(&mut self.newest, nodes, first);
         renumber_nodes(&mut self.earlier, nodes, middle)
+    }
+
+    /// Which node takes the place of the newest of each line, where those of a list from a place on take the places of all nodes in
+    /// the order of `nodes`. None where one node would get two others, where they are too many, or where there is no memory.
+    pub(crate) fn replacements(&self, from: &Nodes, first: u64) -> Option<Replacements>
+        requires { first + length self.now.nodes ≤ length from.now }
+        ensures { IfSome result (λ rs.
+            AreReplaced rs (map newest_vis self.now.lists) (drop first from.now)) }
+    {
+        let nodes = from.as_slice();
+        let mut rs = Replacements::new(*self.newest.allocator());
+        match put_all(&mut rs, self.newest.as_slice(), &nodes[first as usize..]) {
+            true => Some(rs),
+            false => None,
+        }
     }
 
     // The changes that come are at a position, and only there is room for them.
@@ -251,6 +272,27 @@ impl HasNode for Change {
     }
 
     ghost has_that_node = { λ n x. refl };
+}
+
+// Has the nodes of a list take the places of those of changes, one after another. Whether they do: a node may take one place alone.
+fn put_all(replacements: &mut Replacements, changes: &[Change], nodes: &[Node]) -> bool
+    ensures { result ≡ true →
+        AreReplaced replacements.new (map node_of changes.now) nodes.now }
+{
+    let mut last = NOT_REPLACED;
+    let mut ahead = changes;
+    let mut to = nodes;
+    while let [change, more @ ..] = ahead {
+        let [node, others @ ..] = to else {
+            return false;
+        };
+        if !replacements.put_next(change.node, *node, &mut last) {
+            return false;
+        }
+        ahead = more;
+        to = others;
+    }
+    true
 }
 
 // Puts a change behind the earlier ones, and answers how many there are then.

@@ -5,6 +5,8 @@ mod changes;
 mod coming;
 pub mod laws;
 mod lines;
+mod replacing;
 mod sights;
+mod values;
 
 pub use lines::FileLines;

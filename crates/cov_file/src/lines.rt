@@ -1,5 +1,5 @@
 // The lines of a file.
-ghost use Rattle.std.specs.Prelude.{◌≡◌, ℕ, List, ◌<◌, ◌≤◌, ◌+◌, ◌-◌, ◌^◌, ◌++◌, ◌∷◌, [], true, false, Bool, nat_eq, length, position, take, drop, Some, IfOk, IfSome, OnOk, OnErr, if◌then◌else◌};
+ghost use Rattle.std.specs.Prelude.{◌≡◌, ℕ, List, ◌<◌, ◌≤◌, ◌+◌, ◌-◌, ◌^◌, ◌++◌, ◌∷◌, [], true, false, Bool, nat_eq, length, map, position, take, drop, Some, IfOk, IfSome, OnOk, OnErr, if◌then◌else◌};
 ghost use Rattle.std.specs.List.{list_any};
 ghost use Rattle.std.specs.Map.{keys_of};
 ghost use Rattle.std.specs.Option.{option_map};
@@ -7,15 +7,19 @@ ghost use Rattle.indexmap.specs.IndexMap.{get};
 ghost use Rattle.cov_base.specs.Addresses.{after_anchor};
 ghost use Rattle.cov_dd.specs.Diagrams.{value_in};
 ghost use Rattle.cov_order.specs.Orders.{has_line, is_anchor};
-ghost use Rattle.cov_file.specs.Dated.{line_numbers_of, new_line, with_line, with_change, rows_at, all_rows, newest_of, vis_of, AreAlike};
+ghost use Rattle.cov_file.specs.Dated.{DatedLine, line_numbers_of, new_line, with_line, with_change, rows_at, all_rows, newest_of, newest_vis, vis_of, AreAlike};
 ghost use Rattle.cov_file.specs.Renumbered.{AddsNode, AreAllNodes, AreRenumberedLines};
 ghost use Rattle.cov_file.specs.Rooms.{is_room_at, IsMade, IsLeft};
 ghost use Rattle.cov_file.specs.Kept.{row_in, dated_lines};
-ghost use Rattle.cov_file.specs.Sights.{rows_by, Agrees, IsKnown, IsSight};
+ghost use Rattle.cov_file.specs.Replaced.{AreReplaced, AreReplacedLines};
+ghost use Rattle.cov_file.specs.Sights.{rows_by, AreSights, IsSight};
+ghost use Rattle.cov_file.specs.Values.{Agrees, IsKnown};
+ghost use Rattle.cov_file.specs.declared.replacing.Replaced.{Replaced};
 
 use crate::changes::Changes;
 use crate::coming::Coming;
-use crate::sights::{Evaluated, Kept, LineChange, Sights, value_of};
+use crate::sights::{Kept, LineChange, Sights};
+use crate::values::Values;
 use cov_base::{
     Choice, FileRow, FileRows, LineNo, LineNos, Memory, Position, Shared, SharedRows, Text,
 };
@@ -24,6 +28,9 @@ use cov_order::Order;
 use indexmap::IndexMap;
 use std::alloc::Global;
 use std::marker::Model;
+
+/// By how many inserts, and by how many deletes, of one commit the lists that are kept are brought forward.
+const MOST_FORWARD: usize = 32;
 
 /// The lines that were ever inserted into a file. Contracts see them in order, each with its text and with the node on whose
 /// choices it is visible from each position of a change on, the newest first; the room for changes that take no memory; and the
@@ -154,6 +161,7 @@ impl FileLines {
         self.order.reserve(self.coming.inserts)?;
         self.texts.reserve(self.coming.inserts as usize)?;
         let deletes = self.coming.deletes.len();
+        expect(&mut self.sights, self.coming.inserts, deletes);
         self.changes.prepare(self.coming.inserts, deletes)
     }
 
@@ -228,12 +236,12 @@ impl FileLines {
     pub fn keep(&mut self, table: &Table, choice: Choice)
         ensures { self.new ≡ self.old }
     {
-        if self.sights.turn_to(table, choice) {
+        if !self.sights.wants(table, choice) {
             return;
         }
         match self.seen(table, choice) {
             Ok(kept) => self.sights.keep(kept),
-            Err(_) => (),
+            Err(_) => self.sights.rest(),
         }
     }
 
@@ -316,7 +324,7 @@ impl FileLines {
     }
 
     /// Puts the nodes of a list from a place on in the places of those that the lines have, in the order of `nodes`. It answers the
-    /// place after the last, and takes no memory.
+    /// place after the last, and takes no memory but for what is kept, where want of it is passed over.
     pub fn renumber(&mut self, from: &Nodes, first: u64) -> u64
         requires { first + length self.old.nodes ≤ length from.now }
         ensures next { result ≡ first + length self.old.nodes }
@@ -327,7 +335,7 @@ impl FileLines {
         ensures room { self.new.room ≡ self.old.room }
         ensures coming { self.new.coming ≡ self.old.coming }
     {
-        self.sights = Sights::new(*self.texts.allocator());
+        renumber_sights(&mut self.sights, &self.changes, from, first);
         self.changes.renumber(from, first)
     }
 
@@ -343,6 +351,34 @@ impl FileLines {
     }
 }
 
+// Lets what is kept go where many changes are expected, since each takes time in the lines of each list.
+fn expect(sights: &mut Sights, inserts: u32, deletes: usize)
+    ensures { (ls : List DatedLine) → AreSights ls sights.old → AreSights ls sights.new }
+{
+    if inserts as usize > MOST_FORWARD || deletes > MOST_FORWARD {
+        sights.let_go();
+    }
+}
+
+// Has what is kept go with the nodes of a list from a place on, which are about to take the places of those of changes, or lets it go.
+fn renumber_sights(sights: &mut Sights, changes: &Changes, from: &Nodes, first: u64)
+    requires { first + length changes.now.nodes ≤ length from.now }
+    ensures { (ls ls' : List DatedLine) →
+        ((rs : List Replaced) →
+        AreReplaced rs (map newest_vis changes.now.lists) (drop first from.now) →
+        AreReplacedLines rs ls ls') →
+        AreSights ls sights.old → AreSights ls' sights.new }
+{
+    if sights.is_empty() {
+        sights.let_go();
+        return;
+    }
+    match changes.replacements(from, first) {
+        Some(by) => sights.renumber(&by),
+        None => sights.let_go(),
+    }
+}
+
 // What lines are asked for: those that are visible on a choice at a position, by the nodes of a table.
 #[derive(Drop)]
 struct Sight<'a> {
@@ -351,10 +387,11 @@ struct Sight<'a> {
     at: Position,
 }
 
-// What was looked at last: the index of a line, and a node with its value on a choice.
+// What was looked at last: the index of a line, the one where the next line is looked for, and a node with its value on a choice.
 #[derive(Clone, Copy)]
 struct Last {
     index: usize,
+    next: usize,
     node: Node,
     value: bool,
 }
@@ -362,6 +399,7 @@ struct Last {
 // What was looked at before the first line.
 const NOTHING: Last = Last {
     index: 0,
+    next: 0,
     node: FALSE,
     value: false,
 };
@@ -402,7 +440,7 @@ fn seen_newest(
     // What `len` ensures bounds the index for the proof.
     let _count = lines.len();
     let mut rows = FileRows::new(*texts.allocator());
-    let mut values = Vec::new(*texts.allocator());
+    let mut values = Values::new(*texts.allocator());
     let mut last = NOTHING;
     let mut index = 0;
     while let Some(line) = lines.get(index) {
@@ -428,22 +466,22 @@ fn seen_newest(
 // Adds a line, if it is shown by its newest node, whose value is among the values then.
 fn add_seen(
     rows: &mut FileRows,
-    values: &mut Vec<Evaluated>,
+    values: &mut Values,
     texts: &IndexMap<LineNo, Text>,
     changes: &Changes,
     line: LineNo,
     sight: &Sight<'_>,
     last: &mut Last,
 ) -> Result<(), Memory>
-    requires last { IsKnown values.old.items last.old.node last.old.value }
-    ensures rows { OnOk result ((f : ℕ → Bool) → Agrees f values.new.items →
+    requires last { IsKnown values.old last.old.node last.old.value }
+    ensures rows { OnOk result ((f : ℕ → Bool) → Agrees f values.new →
         rows.new ≡ rows.old ++
         rows_by f (dated_lines texts.now.entries changes.now.lists (line ∷ []))) }
-    ensures grows { OnOk result ((f : ℕ → Bool) → Agrees f values.new.items →
-        Agrees f values.old.items) }
-    ensures last { OnOk result (IsKnown values.new.items last.new.node last.new.value) }
+    ensures grows { OnOk result ((f : ℕ → Bool) → Agrees f values.new →
+        Agrees f values.old) }
+    ensures last { OnOk result (IsKnown values.new last.new.node last.new.value) }
 {
-    match find(texts, line, last.index) {
+    match find(texts, line, last.next) {
         Some((index, text)) => {
             let seen = note(values, index, changes.newest_node(index), sight, last)?;
             *last = seen;
@@ -456,27 +494,23 @@ fn add_seen(
 // A node with its value, which is among the values then, at the index of its line. They are looked through only where the node
 // isn't the last one.
 fn note(
-    values: &mut Vec<Evaluated>,
+    values: &mut Values,
     index: usize,
     node: Node,
     sight: &Sight<'_>,
     last: &Last,
 ) -> Result<Last, Memory>
-    requires last { IsKnown values.old.items last.now.node last.now.value }
+    requires last { IsKnown values.old last.now.node last.now.value }
     ensures node { IfOk result (λ seen. seen.node ≡ node) }
-    ensures value { IfOk result (λ seen. IsKnown values.new.items node seen.value) }
-    ensures grows { OnOk result ((f : ℕ → Bool) → Agrees f values.new.items →
-        Agrees f values.old.items) }
+    ensures value { IfOk result (λ seen. IsKnown values.new node seen.value) }
+    ensures grows { OnOk result ((f : ℕ → Bool) → Agrees f values.new →
+        Agrees f values.old) }
 {
     if last.node == node {
-        return Ok(Last {
-            index,
-            node,
-            value: last.value,
-        });
+        return Ok(after(last, index, node, last.value));
     }
-    let value = value_of(values, node, sight.table, sight.choice)?;
-    Ok(Last { index, node, value })
+    let value = values.evaluate(node, sight.table, sight.choice)?;
+    Ok(after(last, index, node, value))
 }
 
 // Adds a line, if it is asked for. It looks the line up once, first behind the one that was looked at last.
@@ -495,7 +529,7 @@ fn add_visible(
         (dated_lines texts.now.entries changes.now.lists (line ∷ []))) }
     ensures last { last.new.value ≡ value_in sight.now.table.now last.new.node sight.now.choice }
 {
-    match find(texts, line, last.index) {
+    match find(texts, line, last.next) {
         Some((index, text)) => {
             *last = look(sight, index, changes.at(index, sight.at), last);
             add_shown(rows, line, text, last.value)
@@ -504,17 +538,14 @@ fn add_visible(
     }
 }
 
-// The index of a line with its text. Lines that stand together were mostly inserted one after another, so it is first looked for
-// behind the one that was found last, and then before it.
-fn find(texts: &IndexMap<LineNo, Text>, line: LineNo, last: usize) -> Option<(usize, &Text)>
+// The index of a line with its text. Lines that stand together were mostly inserted one after another, in the one direction or in the
+// other, so it is first looked for at one index.
+fn find(texts: &IndexMap<LineNo, Text>, line: LineNo, first: usize) -> Option<(usize, &Text)>
     ensures index { option_map (λ p. p.0) result ≡
         position (nat_eq line) (keys_of texts.now.entries) }
     ensures text { option_map (λ p. p.1.now) result ≡ get nat_eq texts.now line }
 {
-    if let Some(found) = at_index(texts, line, last.saturating_add(1)) {
-        return Some(found);
-    }
-    if let Some(found) = at_index(texts, line, last.saturating_sub(1)) {
+    if let Some(found) = at_index(texts, line, first) {
         return Some(found);
     }
     match texts.get_full(&line) {
@@ -548,7 +579,25 @@ fn look(sight: &Sight<'_>, index: usize, node: Node, last: &Last) -> Last
     } else {
         sight.table.value(node, sight.choice)
     };
-    Last { index, node, value }
+    after(last, index, node, value)
+}
+
+// What was looked at after what was looked at last. The next line is looked for in the direction of the step between the two.
+fn after(last: &Last, index: usize, node: Node, value: bool) -> Last
+    ensures node { result.node ≡ node }
+    ensures value { result.value ≡ value }
+{
+    let next = if index < last.index {
+        index.saturating_sub(1)
+    } else {
+        index.saturating_add(1)
+    };
+    Last {
+        index,
+        next,
+        node,
+        value,
+    }
 }
 
 // Adds a line, if it is shown.

@@ -5,9 +5,13 @@ ghost use Rattle.std.specs.Option.{option_map};
 ghost use Rattle.cov_order.specs.Orders.{AreLines};
 ghost use Rattle.cov_file.specs.Dated.{DatedLine, file_row_of, line_numbers_of, new_line, newest_of, newest_vis, with_change, with_line};
 ghost use Rattle.cov_file.specs.declared.sights.Kept.{Kept};
-ghost use Rattle.cov_file.specs.Sights.{rows_by, on_choice, Agrees, AreSights, IsSight};
+ghost use Rattle.cov_file.specs.Sights.{rows_by, AreSights, IsSight};
+ghost use Rattle.cov_file.specs.Values.{on_choice, Agrees};
+ghost use Rattle.cov_file.specs.Replaced.{AreReplacedLines};
 ghost use Rattle.cov_file.specs.Forward.{is_shown_by, lines_after, AreRowsAfter, IsBroughtForward, IsChangeOf};
 
+use crate::replacing::Replacements;
+use crate::values::Values;
 use cov_base::{Choice, FileRow, FileRows, LineNo, Memory, Shared, SharedRows, Text};
 use cov_dd::{Node, Table};
 use std::alloc::Global;
@@ -16,22 +20,12 @@ use std::marker::Model;
 /// How many lists are kept of one file.
 const MOST_KEPT: usize = 8;
 
-/// Of how many nodes the values are kept with a list.
-const MOST_VALUES: usize = 64;
-
-/// A node with its value on a choice.
-#[derive(Clone, Copy)]
-pub(crate) struct Evaluated {
-    pub(crate) node: Node,
-    pub(crate) value: bool,
-}
-
 /// What a file shows where certain nodes have certain values, as they have on a choice; None once it was let go. Many lines share a
 /// node, so these are few.
 #[derive(Drop)]
 pub(crate) struct Kept {
     pub(crate) choice: Choice,
-    pub(crate) values: Vec<Evaluated>,
+    pub(crate) values: Values,
     pub(crate) rows: Option<SharedRows>,
 }
 
@@ -54,10 +48,12 @@ pub(crate) enum LineChange<'a> {
     },
 }
 
-/// The lists that are kept of a file. The one that was right last is asked first.
+/// The lists that are kept of a file. The one that was right last is asked first. Once one couldn't be kept, none is until the nodes
+/// are renumbered.
 pub(crate) struct Sights {
     kept: Vec<Kept>,
     last: usize,
+    rests: bool,
 }
 
 impl Model for Sights {
@@ -72,8 +68,8 @@ impl Model for Sights {
 // They are dropped by a call, so that whoever drops a file needn't know what is kept of it.
 impl Drop for Sights {
     fn drop(self) {
-        let Sights { kept, last } = self;
-        drop(last);
+        let Sights { kept, last, rests } = self;
+        drop((last, rests));
         drop(kept);
     }
 }
@@ -85,6 +81,7 @@ impl Sights {
         Sights {
             kept: Vec::new(alloc),
             last: 0,
+            rests: false,
         }
     }
 
@@ -111,25 +108,12 @@ impl Sights {
         }
     }
 
-    /// Whether a list is right on a choice. If so, it is the one that is asked first from now on.
-    pub(crate) fn turn_to(&mut self, table: &Table, choice: Choice) -> bool
-        ensures { self.new ≡ self.old }
-    {
-        match self.place(table, choice) {
-            Some(at) => {
-                self.last = at;
-                true
-            }
-            None => false,
-        }
-    }
-
     // Where a list is that is right on a choice.
     fn place(&self, table: &Table, choice: Choice) -> Option<usize>
         ensures within { IfSome result (λ at. at < length self.now) }
         ensures agrees { IfSome result (λ at.
             (k : Kept) → slice_get self.now at ≡ Some k →
-            Agrees (on_choice table.now choice) k.values.items) }
+            Agrees (on_choice table.now choice) k.values) }
     {
         if self.fits(self.last, table, choice) {
             return Some(self.last);
@@ -149,28 +133,72 @@ impl Sights {
         ensures within { result ≡ true → at < length self.now }
         ensures agrees { result ≡ true →
             (k : Kept) → slice_get self.now at ≡ Some k →
-            Agrees (on_choice table.now choice) k.values.items }
+            Agrees (on_choice table.now choice) k.values }
     {
         match self.kept.get(at) {
-            Some(kept) => kept.rows.is_some() && agrees(kept.values.as_slice(), table, choice),
+            Some(kept) => kept.rows.is_some() && kept.values.agree(table, choice),
             None => false,
         }
     }
 
-    /// Keeps a list more, the only one where there were as many as may be. It is asked first from now on, and passed over where
-    /// there is no memory.
+    /// Whether no list is right on a choice, and one may be kept. If one is right, it is the one that is asked first from now on.
+    pub(crate) fn wants(&mut self, table: &Table, choice: Choice) -> bool
+        ensures { self.new ≡ self.old }
+    {
+        match self.place(table, choice) {
+            Some(at) => {
+                self.last = at;
+                false
+            }
+            None => !self.rests,
+        }
+    }
+
+    /// Keeps a list more, in the place of one that was let go or, where there are as many as may be, of the next one. It is asked
+    /// first from now on, and passed over where there is no memory.
     pub(crate) fn keep(&mut self, kept: Kept)
         ensures { (ls : List DatedLine) → AreSights ls self.old → IsSight ls kept →
             AreSights ls self.new }
     {
-        if self.kept.len() >= MOST_KEPT {
-            self.let_go();
+        let at = self.place_for_more();
+        self.last = at;
+        if at < self.kept.len() {
+            self.kept[at] = kept;
+            return;
         }
-        self.last = self.kept.len();
         match self.kept.push(kept) {
             Ok(()) => (),
-            Err(_) => (),
+            Err(_) => self.rest(),
         }
+    }
+
+    // The place of a list that was let go, else one behind the others or, where there are as many as may be, the next one.
+    fn place_for_more(&self) -> usize {
+        let mut at = 0;
+        while at < self.kept.len() {
+            if self.kept[at].rows.is_none() {
+                return at;
+            }
+            at += 1;
+        }
+        if at < MOST_KEPT {
+            return at;
+        }
+        self.last.wrapping_add(1) % MOST_KEPT
+    }
+
+    /// Keeps no list more until the nodes are renumbered.
+    pub(crate) fn rest(&mut self)
+        ensures { self.new ≡ self.old }
+    {
+        self.rests = true;
+    }
+
+    /// Whether there is none.
+    pub(crate) fn is_empty(&self) -> bool
+        ensures { result ≡ true → self.now ≡ [] }
+    {
+        self.kept.is_empty()
     }
 
     /// Lets the lists go. It takes no memory.
@@ -178,6 +206,16 @@ impl Sights {
         ensures { self.new ≡ [] }
     {
         self.kept.clear();
+        self.rests = false;
+    }
+
+    /// Has each list go with nodes that take the places of those that it goes with, or lets it go.
+    pub(crate) fn renumber(&mut self, by: &Replacements)
+        ensures { (ls ls' : List DatedLine) → AreReplacedLines by.now ls ls' →
+            AreSights ls self.old → AreSights ls' self.new }
+    {
+        renumber_all(self.kept.as_mut_slice(), by);
+        self.rests = false;
     }
 
     /// Has the value of a node with each list, as lines are about to get it. A list for which there is no memory is let go.
@@ -210,13 +248,30 @@ fn note_all(kept: &mut [Kept], table: &Table, node: Node)
 fn note_in(kept: &mut Kept, table: &Table, node: Node)
     ensures { (ls : List DatedLine) → IsSight ls kept.old → IsSight ls kept.new }
 {
-    if kept.values.len() >= MOST_VALUES {
-        kept.rows = None;
-        return;
-    }
-    match value_of(&mut kept.values, node, table, kept.choice) {
+    match kept.values.evaluate(node, table, kept.choice) {
         Ok(_) => (),
         Err(_) => kept.rows = None,
+    }
+}
+
+fn renumber_all(kept: &mut [Kept], by: &Replacements)
+    ensures { (ls ls' : List DatedLine) → AreReplacedLines by.now ls ls' →
+        AreSights ls kept.old → AreSights ls' kept.new }
+{
+    let mut index = 0;
+    while index < kept.len() {
+        renumber_in(&mut kept[index], by);
+        index += 1;
+    }
+}
+
+fn renumber_in(kept: &mut Kept, by: &Replacements)
+    ensures { (ls ls' : List DatedLine) → AreReplacedLines by.now ls ls' →
+        IsSight ls kept.old → IsSight ls' kept.new }
+{
+    match kept.values.renumbered(by) {
+        Some(values) => kept.values = values,
+        None => kept.rows = None,
     }
 }
 
@@ -235,13 +290,13 @@ fn change_in(kept: &mut Kept, change: &LineChange<'_>)
     ensures { IsBroughtForward change.now kept.old kept.new }
 {
     match kept.rows.take() {
-        Some(rows) => kept.rows = rows_after(rows, kept.values.as_slice(), change),
+        Some(rows) => kept.rows = rows_after(rows, &kept.values, change),
         None => (),
     }
 }
 
 // What a list is after a change of the lines, None where it is let go.
-fn rows_after(rows: SharedRows, values: &[Evaluated], change: &LineChange<'_>) -> Option<SharedRows>
+fn rows_after(rows: SharedRows, values: &Values, change: &LineChange<'_>) -> Option<SharedRows>
     ensures { IfSome result (AreRowsAfter change.now values.now rows) }
 {
     match change {
@@ -260,7 +315,7 @@ fn rows_after(rows: SharedRows, values: &[Evaluated], change: &LineChange<'_>) -
 
 fn after_insert(
     rows: SharedRows,
-    values: &[Evaluated],
+    values: &Values,
     anchor: LineNo,
     beside: Option<Node>,
     line: LineNo,
@@ -271,7 +326,7 @@ fn after_insert(
         Agrees f values.now → newest_of anchor ls ≡ beside → rows_by f ls ≡ rows →
         rows_by f (with_line anchor (new_line line text.now vis at) ls) ≡ after) }
 {
-    let Some(is_shown) = found(values, vis) else {
+    let Some(is_shown) = values.get(vis) else {
         return None;
     };
     if !is_shown {
@@ -285,7 +340,7 @@ fn after_insert(
 
 fn after_delete(
     rows: SharedRows,
-    values: &[Evaluated],
+    values: &Values,
     line: LineNo,
     before: Option<Node>,
     vis: Node,
@@ -294,7 +349,7 @@ fn after_delete(
         Agrees f values.now → newest_of line ls ≡ before → AreLines (line_numbers_of ls) →
         rows_by f ls ≡ rows → rows_by f (with_change line vis at ls) ≡ after) }
 {
-    let Some(is_shown) = found(values, vis) else {
+    let Some(is_shown) = values.get(vis) else {
         return None;
     };
     if !is_shown {
@@ -307,20 +362,11 @@ fn after_delete(
 }
 
 // Whether a node is known to be true.
-fn is_true(values: &[Evaluated], node: Option<Node>) -> bool
+fn is_true(values: &Values, node: Option<Node>) -> bool
     ensures { result ≡ true → (f : ℕ → Bool) → Agrees f values.now → is_shown_by f node ≡ true }
 {
     match node {
-        Some(node) => is_known_true(values, node),
-        None => false,
-    }
-}
-
-fn is_known_true(values: &[Evaluated], node: Node) -> bool
-    ensures { result ≡ true → (f : ℕ → Bool) → Agrees f values.now → f node ≡ true }
-{
-    match found(values, node) {
-        Some(value) => value,
+        Some(node) => values.is_true(node),
         None => false,
     }
 }
@@ -328,7 +374,7 @@ fn is_known_true(values: &[Evaluated], node: Node) -> bool
 // Where a list has what stands directly after an anchor, None where the anchor isn't known to be shown.
 fn place_behind(
     rows: &[FileRow],
-    values: &[Evaluated],
+    values: &Values,
     anchor: LineNo,
     beside: Option<Node>,
 ) -> Option<usize>
@@ -431,48 +477,6 @@ fn take_out(rows: &mut FileRows, line: LineNo)
     rows.retain(|row| !is_line(row, line));
 }
 
-/// The value of a node, which is among the values then. Its diagram is walked only where it wasn't.
-pub(crate) fn value_of(
-    values: &mut Vec<Evaluated>,
-    node: Node,
-    table: &Table,
-    choice: Choice,
-) -> Result<bool, Memory>
-    ensures value { IfOk result (λ b. (f : ℕ → Bool) → Agrees f values.new.items → f node ≡ b) }
-    ensures grows { OnOk result ((f : ℕ → Bool) → Agrees f values.new.items →
-        Agrees f values.old.items) }
-{
-    if let Some(value) = found(values.as_slice(), node) {
-        return Ok(value);
-    }
-    let value = table.value(node, choice);
-    values.push(Evaluated { node, value })?;
-    Ok(value)
-}
-
-// The value of a node that is among these.
-fn found(values: &[Evaluated], node: Node) -> Option<bool>
-    ensures { IfSome result (λ b. (f : ℕ → Bool) → Agrees f values.now → f node ≡ b) }
-{
-    let mut ahead = values;
-    while let [first, rest @ ..] = ahead {
-        if first.node == node {
-            return Some(first.value);
-        }
-        ahead = rest;
-    }
-    None
-}
-
-// Whether a node has its value on a choice.
-fn has_value(evaluated: &Evaluated, table: &Table, choice: Choice) -> bool
-    ensures { result ≡ true →
-        on_choice table.now choice evaluated.now.node ≡ evaluated.now.value }
-{
-    let value = table.value(evaluated.node, choice);
-    value == evaluated.value
-}
-
 // One more owner of a list, None where it was let go or its owners can't be counted.
 fn shared(kept: &Kept) -> Option<SharedRows>
     ensures { IfSome result (λ more. kept.now.rows ≡ Some more) }
@@ -484,18 +488,4 @@ fn shared(kept: &Kept) -> Option<SharedRows>
         },
         None => None,
     }
-}
-
-// Whether nodes have these values on a choice. It walks the diagram of each node, up to the first that hasn't.
-fn agrees(values: &[Evaluated], table: &Table, choice: Choice) -> bool
-    ensures { result ≡ true → Agrees (on_choice table.now choice) values.now }
-{
-    let mut ahead = values;
-    while let [first, rest @ ..] = ahead {
-        if !has_value(first, table, choice) {
-            return false;
-        }
-        ahead = rest;
-    }
-    true
 }

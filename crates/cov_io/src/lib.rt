@@ -7,6 +7,7 @@ mod count;
 mod device;
 mod in_memory;
 mod reading;
+mod retried;
 mod standard;
 
 pub use calls::Calls;

@@ -3,14 +3,15 @@ ghost use Rattle.std.specs.Prelude.{◌≡◌, OnOk, OnErr};
 ghost use Rattle.cov_io.specs.Devices.{AppendsAll, AppendsSome};
 
 use crate::count::{ends_after, raised};
+use crate::retried::{read_retried, write_retried};
 use crate::{Sink, Source};
 use cov_base::Failed;
 use std::io::{Read, Write};
 
-/// A source over a reader, of which each error is a fault. It tells the bytes that the reader tells:
-/// all of them over a slice, and none over a file, a pipe or a terminal, where what the system gives
-/// is trusted to be the input. That a reader answers no more than the buffer holds is a clause of
-/// std's `Read`. A read that could pass the greatest count of bytes fails before the reader is asked.
+/// A source over a reader, of which each error is a fault; a read that a signal interrupted is made anew. It tells the bytes that
+/// the reader tells: all of them over a slice, and none over a file, a pipe or a terminal, where what the system gives is trusted to
+/// be the input. That a reader answers no more than the buffer holds is a clause of std's `Read`. A read that could pass the greatest
+/// count of bytes fails before the reader is asked.
 #[derive(Debug, Drop)]
 pub struct StdSource<R> {
     reader: R,
@@ -49,7 +50,7 @@ impl<R: Read> Source for StdSource<R> {
             self.faults = raised(self.faults);
             return Err(Failed);
         }
-        match self.reader.read(into) {
+        match read_retried(&mut self.reader, into) {
             Ok(count) => {
                 self.given += count as u64;
                 self.ends = ends_after(self.ends, count);
@@ -63,9 +64,9 @@ impl<R: Read> Source for StdSource<R> {
     }
 }
 
-/// A sink over a writer, which writes and flushes in each `put`, and of which each error is a fault.
-/// It tells the bytes that the writer tells: none over a file, a pipe or a terminal, where what was
-/// written is trusted to arrive.
+/// A sink over a writer, which writes and flushes in each `put`, and of which each error is a fault; a write that a signal
+/// interrupted is made anew. It tells the bytes that the writer tells: none over a file, a pipe or a terminal, where what was written
+/// is trusted to arrive.
 #[derive(Debug, Drop)]
 pub struct StdSink<W> {
     writer: W,
@@ -106,7 +107,7 @@ fn write_whole<W: Write>(writer: &mut W, bytes: &[u8]) -> Result<(), Failed>
 {
     let mut rest = bytes;
     while !rest.is_empty() {
-        match writer.write(rest) {
+        match write_retried(writer, rest) {
             Ok(0) => return Err(Failed),
             Ok(count) => rest = &rest[count..],
             Err(_) => return Err(Failed),

@@ -5,7 +5,7 @@ ghost use Rattle.cov_base.specs.Texts.{Written};
 ghost use Rattle.cov_disk.specs.Images.{Told, Only, LeavesOnly};
 ghost use Rattle.cov_journal.specs.Gates.{HasGate};
 ghost use Rattle.cov_journal.specs.Moments.{IsTornFrom};
-ghost use Rattle.cov_journal.specs.Journal.{next_digest, body, IsWritten, FitsState};
+ghost use Rattle.cov_journal.specs.Journal.{next_digest, body, IsWritten, FitsState, AppendsRecord};
 
 use crate::writing::write_synced;
 use cov_base::{Failed, Memory};
@@ -119,7 +119,8 @@ impl Journal {
         Ok(())
     }
 
-    /// Appends a record: at every moment the disk holds the payloads from before the call, with the new one or without.
+    /// Appends a record: at every moment the disk holds the payloads from before the call, with the new one or without. It writes
+    /// the record and the closed gate behind it, and nothing else.
     /// At `Err` the journal is gone, and the disk is to be opened again.
     pub fn append<D: Disk>(mut self, disk: &mut D, payload: &[u8]) -> Result<Journal, Failed>
         requires payload { length payload.now < 2 ^ 32 }
@@ -141,6 +142,11 @@ impl Journal {
             ((c : List ℕ) → D.images disk.old c → IsWritten c payloads) →
             LeavesOnly D.moment D.images_since disk.old disk.new
             (λ c. IsWritten c payloads ⊎ IsWritten c (payloads ++ payload.now ∷ [])) }
+        ensures pinned { OnOk result (Told (AppendsRecord self payload.now)
+            (D.contents disk.old) (D.contents disk.new)) }
+        ensures only { OnOk result (Only (D.contents disk.new) (D.images disk.new)) }
+        ensures outside { LeavesOnly D.moment D.images_since disk.old disk.new
+            (IsTornFrom (D.images disk.old) self.at (length payload.now + 38)) }
         ensures cause { HasCause (D.faults disk.old) (D.faults disk.new) result }
     {
         self.extend(disk, payload)?;
@@ -148,8 +154,8 @@ impl Journal {
     }
 
     /// Appends a record to a journal that is lent, which then goes on behind it: at every moment the disk
-    /// holds the payloads from before the call, with the new one or without. At `Err` the journal is to be
-    /// given up, and the disk opened again.
+    /// holds the payloads from before the call, with the new one or without. It writes the record and the
+    /// closed gate behind it, and nothing else. At `Err` the journal is to be given up, and the disk opened again.
     pub fn extend<D: Disk>(&mut self, disk: &mut D, payload: &[u8]) -> Result<(), Failed>
         requires payload { length payload.now < 2 ^ 32 }
         requires room { length payload.now + 37 ≤ self.old.spare }
@@ -170,6 +176,11 @@ impl Journal {
             ((c : List ℕ) → D.images disk.old c → IsWritten c payloads) →
             LeavesOnly D.moment D.images_since disk.old disk.new
             (λ c. IsWritten c payloads ⊎ IsWritten c (payloads ++ payload.now ∷ [])) }
+        ensures pinned { OnOk result (Told (AppendsRecord self.old payload.now)
+            (D.contents disk.old) (D.contents disk.new)) }
+        ensures only { OnOk result (Only (D.contents disk.new) (D.images disk.new)) }
+        ensures outside { LeavesOnly D.moment D.images_since disk.old disk.new
+            (IsTornFrom (D.images disk.old) self.old.at (length payload.now + 38)) }
         ensures cause { HasCause (D.faults disk.old) (D.faults disk.new) result }
     {
         let digest = next_digest(&self.digest, payload);

@@ -9,5 +9,5 @@ loop-rest-preserved g c =
     let contents = g.W.Write.contents in (
       before.0 ++ take c.in-Ok.count rest,
       parts_more c.args.bytes.now before.0 rest c.in-Ok.count before.1,
-      appends_more before.0 (take c.in-Ok.count rest) (contents c.args.writer.now) (contents c.loop-rest.writer) (contents c.write.new.self) before.2 c.in-Ok.ensures.bytes,
+      appends_more before.0 (take c.in-Ok.count rest) (contents c.args.writer.now) (contents c.loop-rest.writer) (contents c.write_retried.new.writer) before.2 c.in-Ok.ensures.bytes,
     )

@@ -1,7 +1,11 @@
-use Rattle.std.proofs.Common.{◌≡◌, ◌≤◌, ◌+◌, ◌∙◌, ap, sym, map, length, take, drop, arith}
+use Rattle.std.proofs.Common.{◌≡◌, ◌≤◌, ◌+◌, ◌∙◌, ap, sym, subst, map, length, reverse, take, drop, arith}
 use Rattle.cov_base.specs.Replacing.{having}
 use Rattle.cov_file.specs.Kept.{LineChanges, lists_of}
 use Rattle.cov_file.specs.Renumbered.{nodes_of, having_node, renumbered_changes, dates_of}
+use Rattle.std.specs.List.{AllZip}
+use Rattle.cov_file.specs.Dated.{newest_vis}
+use Rattle.cov_file.specs.Replaced.{AreReplaced, IsNewestReplaced}
+use Rattle.cov_file.proofs.Replaced.{newest_replaced}
 use Rattle.cov_file.proofs.Redating.{changes_same, dates_same, same-having}
 use Rattle.cov_file.proofs.Renumbering.{nodes_after, lists_after, all-listed}
 use Rattle.cov_file.proofs.changes.Changes.renumber.Goals as goal
@@ -36,6 +40,13 @@ returns-clause-lists c = λ by is.
     ∙ lists_after c.self.inside.newest.items c.self.inside.earlier.items c.args.from.now c.args.first c.renumber_nodes-middle.result (enough c) c.renumber_nodes-middle.ensures.next by
     ((λ j. nodes_of (sym (newest_are c) j) (sym (earlier_are c) j)) ∙ is ∙ ap (λ (v : LineChanges). map by v.nodes) (sym c.self.view_is))
     ∙ ap (λ (v : LineChanges). map (renumbered_changes by) v.lists) c.self.view_is
+
+pub returns-clause-replaced : goal.returns-clause-replaced
+returns-clause-replaced c = λ rs is.
+    subst (λ (v : LineChanges). AllZip (IsNewestReplaced rs) v.lists (lists_of c.renumber_nodes-middle.new.items.items c.renumber_nodes.new.items.items)) c.self.view_is
+    (subst (λ items. AllZip (IsNewestReplaced rs) (lists_of c.self.inside.newest.items c.self.inside.earlier.items) (lists_of items c.renumber_nodes.new.items.items)) (sym (newest_are c))
+    (newest_replaced rs (reverse c.self.inside.earlier.items) (reverse c.renumber_nodes.new.items.items) c.self.inside.newest.items (drop c.args.first c.args.from.now)
+    (subst (λ (v : LineChanges). AreReplaced rs (map newest_vis v.lists) (drop c.args.first c.args.from.now)) (sym c.self.view_is) is)))
 
 pub returns-clause-dates : goal.returns-clause-dates
 returns-clause-dates c =

@@ -3,6 +3,7 @@ use Rattle.std.specs.Map.{keys_of}
 use Rattle.std.proofs.Math.Nat.{le-min}
 use Rattle.std.specs.Prelude.{OnOk}
 use Rattle.cov_order.specs.Orders.{has_line}
+use Rattle.cov_file.specs.Kept.{dated_lines}
 use Rattle.cov_file.proofs.Changing.{numbers}
 use Rattle.cov_file.proofs.Showing.{sights_stay}
 use Rattle.cov_file.proofs.Rooms.{kept_moved, kept_prepared, on_ok, changeable_expected}
@@ -15,7 +16,8 @@ invariant_of-self-2 c = (
       (kept_prepared c.prepare.result c.self.inside.order.lines c.self.inside.texts.entries c.self.inside.changes c.prepare.new.self c.self.inside.coming.deletes.items c.self.invariant.0
       c.prepare.ensures.lists c.prepare.ensures.newest c.prepare.ensures.kept
       (subst (λ n. OnOk c.prepare.result (n ≤ c.prepare.new.self.room)) (c.len-deletes.ensures ∙ c.self.inside.coming.deletes.ok.0) c.prepare.ensures.room) c.prepare.ensures.err),
-  sights_stay c.self.inside.texts.entries c.reserve-2.new.self.entries c.self.inside.changes.lists c.prepare.new.self.lists c.self.inside.order.lines c.reserve.new.self.lines c.self.inside.sights c.reserve-2.ensures.entries c.prepare.ensures.lists c.reserve.ensures.same c.self.invariant.1,
+  sights_stay c.self.inside.texts.entries c.reserve-2.new.self.entries c.self.inside.changes.lists c.prepare.new.self.lists c.self.inside.order.lines c.reserve.new.self.lines c.expect.new.sights c.reserve-2.ensures.entries c.prepare.ensures.lists c.reserve.ensures.same
+      (c.expect.ensures (dated_lines c.self.inside.texts.entries c.self.inside.changes.lists c.self.inside.order.lines) c.self.invariant.1),
 )
 
 pub returns-clause-room : goal.returns-clause-room

@@ -1,12 +1,15 @@
 use Rattle.std.proofs.Common.{◌∙◌, ap, sym, [], map, length, subst, min, ◌≤◌, ◌+◌}
 use Rattle.std.specs.Map.{keys_of}
 use Rattle.indexmap.specs.IndexMap.{spare}
-use Rattle.cov_file.specs.Kept.{position_of}
+use Rattle.cov_file.specs.Kept.{dated_lines, position_of}
 use Rattle.cov_file.specs.Renumbered.{renumbered_line}
 use Rattle.cov_file.specs.Rooms.{DatedFile}
-use Rattle.cov_file.proofs.Showing.{none_kept}
+use Rattle.cov_file.proofs.Replaced.{lines_replaced}
 use Rattle.cov_file.proofs.Redating.{changeable_as_before, kept_renumbered, lines_pass, lines_renumbered}
 use Rattle.cov_file.proofs.lines.FileLines.renumber.Goals as goal
+
+pub renumber_sights-requires : goal.renumber_sights-requires
+renumber_sights-requires c = subst (λ (f : DatedFile). c.args.first + length f.nodes ≤ length c.args.from.now) (sym c.self.view_is) c.requires
 
 pub renumber-requires : goal.renumber-requires
 renumber-requires c = subst (λ (f : DatedFile). c.args.first + length f.nodes ≤ length c.args.from.now) (sym c.self.view_is) c.requires
@@ -15,7 +18,8 @@ pub invariant_of-self : goal.invariant_of-self
 invariant_of-self c = (
   kept_renumbered c.self.inside.changes c.renumber.new.self c.renumber.ensures.dates c.renumber.ensures.newest c.renumber.ensures.open
       c.self.inside.order.lines c.self.inside.texts.entries c.self.inside.coming.deletes.items c.renumber.ensures.room c.self.invariant.0,
-  none_kept _ c.new.result c.new.ensures,
+  c.renumber_sights.ensures _ (dated_lines c.self.inside.texts.entries c.renumber.new.self.lists c.self.inside.order.lines)
+      (λ rs is. lines_replaced rs c.self.inside.texts.entries c.self.inside.changes.lists c.renumber.new.self.lists (c.renumber.ensures.replaced rs is) c.self.inside.order.lines) c.self.invariant.1,
 )
 
 pub returns-clause-lines : goal.returns-clause-lines

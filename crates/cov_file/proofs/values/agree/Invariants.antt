@@ -1,6 +1,6 @@
 use Rattle.std.proofs.Common.{length}
-use Rattle.cov_file.specs.Sights.{Agrees, on_choice}
-use Rattle.cov_file.proofs.sights.agrees.Given as goal
+use Rattle.cov_file.specs.Values.{Agrees, on_choice}
+use Rattle.cov_file.proofs.values.agree.Given as goal
 
 abbrev pub invariant-loop-ahead : goal.invariant-loop-ahead
 invariant-loop-ahead l = record {
