@@ -2,7 +2,7 @@
 use Rattle.std.proofs.Common.{◌≡◌, ◌∙◌, refl, sym, ap, subst, ℕ, ◌⊎◌, inl, inr, ◌+◌, ◌≤◌, arith, List, [], ◌∷◌, ◌++◌, length, length-append, append-nil, append_assoc, Option, Some, Result, Ok, Err, OnErr}
 use Rattle.std.proofs.lemmas.List.{append_cancel_left, nil_from_length}
 use Rattle.cov_io.specs.Devices.{AppendsSome}
-use Rattle.cov_loop.specs.Keeping.{AddsNoCommand, AreAll, IsEither, KeepsAnswered, Reaches}
+use Rattle.cov_loop.specs.Keeping.{AddsNoCommand, AreAll, FirstAddsNone, IsEither, KeepsAnswered, Reaches}
 use Rattle.cov_loop.specs.Outcome.{Outcome, answers}
 use Rattle.cov_loop.specs.Turns.{turn_of}
 use Rattle.cov_loop.specs.declared.answer.Answer.{Answer}
@@ -25,22 +25,21 @@ kept_adds_none count state o is = omega (arith, ap count is)
 
 -- lines that add no command, none of which takes one away
 module _ {S : Type 0} (step : S → List ℕ → Outcome S) (count : S → ℕ) (rise : (s : S) (line : List ℕ) → count s ≤ count (step s line).state) where
-  rise_all : (s : S) (ls : List (List ℕ)) → count s ≤ count (answers step s ls).state
+  pub rise_all : (s : S) (ls : List (List ℕ)) → count s ≤ count (answers step s ls).state
   rise_all s [] = omega arith
   rise_all s (l ∷ ls) = omega (arith, rise s l, rise_all (step s l).state ls)
 
   -- the first adds none
-  pub first_adds_none : (start : S) (line : List ℕ) (lines rest : List (List ℕ)) → lines ≡ line ∷ rest → AddsNoCommand count start (answers step start lines) → AddsNoCommand count start (step start line)
-  first_adds_none start line lines rest e none =
-      let o : Outcome S = step start line in
-      omega (arith, ap (λ ls. count (answers step start ls).state) e, rise_all o.state rest, none)
+  pub first_adds_none : (start : S) (lines : List (List ℕ)) → AddsNoCommand count start (answers step start lines) → FirstAddsNone step count start lines
+  first_adds_none start [] none = tt
+  first_adds_none start (line ∷ rest) none = omega (arith, rise_all (step start line).state rest, none)
 
-  -- the others add none
+  -- those that were served have added none, and the others add none
   pub later_adds_none : (start state : S) (lines served more : List (List ℕ)) → lines ≡ served ++ more → state ≡ (answers step start served).state
-      → AddsNoCommand count start (answers step start lines) → AddsNoCommand count state (answers step state more)
+      → AddsNoCommand count start (answers step start lines) → (count state ≤ count start) × AddsNoCommand count state (answers step state more)
   later_adds_none start state lines served more e is none =
       let same : count (answers step start lines).state ≡ count (answers step state more).state = ap (λ ls. count (answers step start ls).state) e ∙ ap count (state_later step start state served more is) in
-      omega (arith, same, none, rise_all start served, ap count is)
+      (omega (arith, same, none, rise_all state more), omega (arith, same, none, rise_all start served, ap count is))
 
 module _ {S : Type 0} (step : S → List ℕ → Outcome S) (stored : S → List ℕ → Type 0) where
   -- before the first line

@@ -1,17 +1,17 @@
 -- The loop's invariant: it is kept by one line more, and at the end of the script or at a stop it gives what was written, the state and the ending.
-use Rattle.std.proofs.Common.{◌≡◌, ◌≢◌, ◌∙◌, refl, sym, ap, subst, ℕ, ◌⊎◌, inl, inr, ◌+◌, ◌≤◌, arith, Bool, true, false, ◌||◌, List, [], ◌∷◌, ◌++◌, length, length-append, append-nil, append_assoc, Option, Some, None, IfSome}
+use Rattle.std.proofs.Common.{◌≡◌, ◌≢◌, ◌∙◌, refl, sym, ap, subst, ℕ, ◌⊎◌, inl, inr, ◌+◌, ◌<◌, ◌≤◌, arith, Bool, true, false, ◌||◌, List, [], ◌∷◌, ◌++◌, length, length-append, append-nil, append_assoc, Option, Some, None, IfSome}
 use Rattle.std.proofs.lemmas.List.{append_cancel_left}
 use Rattle.cov_base.specs.Lines.{lines_of}
 use Rattle.cov_disk.specs.Images.{LeavesOnly}
 use Rattle.cov_io.specs.Progress.{Progress}
-use Rattle.cov_io.specs.Devices.{AppendsSome}
+use Rattle.cov_io.specs.Devices.{AppendsAll, AppendsSome}
 use Rattle.cov_loop.specs.Answers.{is_refusal, kind_of}
-use Rattle.cov_loop.specs.Keeping.{AddsNoCommand, AreAll, KeepsAnswered, Reaches}
+use Rattle.cov_loop.specs.Keeping.{AddsNoCommand, AreAll, FirstAddsNone, KeepsAnswered, Reaches}
 use Rattle.cov_loop.specs.Outcome.{Outcome, answers, followed_by}
 use Rattle.cov_loop.specs.Turns.{AtEnd, EndsWith, ServesNone, GoesOn, HasRows, HasStored, ReadsOut, IsWhole, Output, RowsComeFirst, ServesFirst, StopsAmid, WritesAll, ahead_of, ending_at_end}
 use Rattle.cov_loop.specs.declared.answer.Answer.{Answer}
 use Rattle.cov_loop.proofs.Appending.{all_some, all_then, all_then_some, same_all, told_all}
-use Rattle.cov_loop.proofs.Kept.{keeps_later, later_adds_none, reaches_later}
+use Rattle.cov_loop.proofs.Kept.{first_adds_none, keeps_later, later_adds_none, reaches_later, rise_all}
 use Rattle.cov_disk.proofs.CallerLemmas.{joined, weakened}
 use Rattle.cov_loop.proofs.Outcomes.{answers_append, answers_last, cut_twice, nothing_next}
 use Rattle.cov_out.specs.declared.row.OutRow.{OutRow}
@@ -185,15 +185,88 @@ moments_on step stored moment images_since first mid new {start} {text} {state} 
     (weakened moment images_since mid new (Reaches step stored state (lines_of so_far.rest)) (Reaches step stored start (lines_of text))
     (reaches_later step stored start state (lines_of text) so_far.served (lines_of so_far.rest) so_far.lines so_far.state_is) (turn so_far.rest so_far.ahead_is))
 
--- one turn more of a script that adds no command
+-- one turn more by which no command is added
 pub unwritten_on : {S D : Type 0} (step : S → List ℕ → Outcome S) (count : S → ℕ) → ((s : S) (line : List ℕ) → count s ≤ count (step s line).state) → (first mid new : D)
+    (next : S) (answer : Answer) (ahead' : Option (List ℕ)) (later : Output)
     {start : S} {text : List ℕ} {state : S} {was : Bool} {ahead : Option (List ℕ)} {old now : Output}
     → GoesOn step start text state was ahead old now
-    → mid ≡ first
-    → ((t : List ℕ) → ahead ≡ Some t → AddsNoCommand count state (answers step state (lines_of t)) → new ≡ mid)
+    → (count state ≤ count start → mid ≡ first)
+    → ((t : List ℕ) → ahead ≡ Some t → ServesFirst step state t next answer ahead' now later)
+    → ((t : List ℕ) → ahead ≡ Some t → FirstAddsNone step count state (lines_of t) → new ≡ mid)
+    → count next ≤ count start → new ≡ first
+unwritten_on step count rise first mid new next answer ahead' later {start} {text} {state} {was} {ahead} {old} {now} so_far before turn same few =
+    let s : ServesFirst step state so_far.rest next answer ahead' now later = turn so_far.rest so_far.ahead_is in
+    let is : count next ≡ count (step state s.line).state = ap count s.served.state_is in
+    let none : AddsNoCommand count state (step state s.line) = omega (arith, is, few, rise_all step count rise start so_far.served, ap count so_far.state_is) in
+    same so_far.rest so_far.ahead_is (subst (FirstAddsNone step count state) (sym s.lines) none) ∙ before (omega (arith, is, few, rise state s.line))
+
+-- the last turn of a script that adds no command
+pub unwritten_amid : {S D : Type 0} (step : S → List ℕ → Outcome S) (count : S → ℕ) → ((s : S) (line : List ℕ) → count s ≤ count (step s line).state) → (first mid new : D)
+    {start : S} {text : List ℕ} {state : S} {was : Bool} {ahead : Option (List ℕ)} {old now : Output}
+    → GoesOn step start text state was ahead old now
+    → (count state ≤ count start → mid ≡ first)
+    → ((t : List ℕ) → ahead ≡ Some t → FirstAddsNone step count state (lines_of t) → new ≡ mid)
     → AddsNoCommand count start (answers step start (lines_of text)) → new ≡ first
-unwritten_on step count rise first mid new {start} {text} {state} so_far before turn none =
-    turn so_far.rest so_far.ahead_is (later_adds_none step count rise start state (lines_of text) so_far.served (lines_of so_far.rest) so_far.lines so_far.state_is none) ∙ before
+unwritten_amid step count rise first mid new {start} {text} {state} so_far before same none =
+    let later = later_adds_none step count rise start state (lines_of text) so_far.served (lines_of so_far.rest) so_far.lines so_far.state_is none in
+    same so_far.rest so_far.ahead_is (first_adds_none step count rise state (lines_of so_far.rest) later.1) ∙ before later.0
+
+-- the first few of some lines have no longer replies than all
+fewer_replies : {S : Type 0} (step : S → List ℕ → Outcome S) (start : S) (lines ls ms : List (List ℕ)) → lines ≡ ls ++ ms
+    → length (answers step start ls).reply ≤ length (answers step start lines).reply
+fewer_replies {S} step start lines ls ms e =
+    let first : Outcome S = answers step start ls in
+    let rest : Outcome S = answers step first.state ms in
+    let size : length (answers step start lines).reply ≡ length (first.reply ++ rest.reply) =
+    ap (λ all. length (answers step start all).reply) e ∙ ap (λ (o : Outcome S). length o.reply) (answers_append step start ls ms) in
+    omega (arith, size, length-append first.reply rest.reply)
+
+-- where the replies to all lines are written, no fewer bytes are than those of the first few
+pub all_sent : {S D : Type 0} (step : S → List ℕ → Outcome S) (start : S) (first disk : D) (lines : List (List ℕ)) (before bytes : List ℕ) (old new : Option (List ℕ))
+    → AppendsAll (answers step start lines).reply old new → old ≡ Some before → new ≡ Some (before ++ bytes)
+    → (ls ms : List (List ℕ)) → lines ≡ ls ++ ms → length bytes < length (answers step start ls).reply → disk ≡ first
+all_sent step start first disk lines before bytes old new all was is ls ms e short =
+    let replies : List ℕ = (answers step start lines).reply in
+    let now : new ≡ Some (before ++ replies) = told_all replies before old new all was in
+    let same : before ++ bytes ≡ before ++ replies = cc in
+    absurd (omega (arith, ap length (append_cancel_left before bytes replies same), short, fewer_replies step start lines ls ms e))
+
+-- some lines were served, and the replies to the first few aren't all written
+module _ {S D : Type 0} (step : S → List ℕ → Outcome S) (count : S → ℕ) (rise : (s : S) (line : List ℕ) → count s ≤ count (step s line).state)
+    (start state : S) (served more : List (List ℕ)) (is : state ≡ (answers step start served).state) (sent : ℕ) (enough : length (answers step start served).reply ≤ sent)
+    (first mid new : D) (before : count state ≤ count start → mid ≡ first) (same : FirstAddsNone step count state more → new ≡ mid) where
+  come_to : (k ms : List (List ℕ)) → more ≡ k ++ ms → AddsNoCommand count start (answers step start (served ++ k)) → sent < length (answers step start (served ++ k)).reply → new ≡ first
+  come_to [] ms e none short = absurd (omega (arith, enough, short, ap (λ ls. length (answers step start ls).reply) (append-nil served)))
+  come_to (line ∷ k) ms e none short =
+      let later = later_adds_none step count rise start state (served ++ line ∷ k) served (line ∷ k) refl is none in
+      let one : AddsNoCommand count state (step state line) = first_adds_none step count rise state (line ∷ k) later.1 in
+      same (subst (FirstAddsNone step count state) (sym e) one) ∙ before later.0
+
+  untouched_by : (ls ms : List (List ℕ)) → ((k : List (List ℕ)) × (served ≡ ls ++ k)) ⊎ ((k : List (List ℕ)) × (ls ≡ served ++ k) × (more ≡ k ++ ms))
+      → AddsNoCommand count start (answers step start ls) → sent < length (answers step start ls).reply → new ≡ first
+  untouched_by ls ms (inl c) none short = absurd (omega (arith, short, enough, fewer_replies step start served ls c.0 c.1))
+  untouched_by ls ms (inr c) none short =
+      come_to c.0 ms c.2 (subst (λ zs. AddsNoCommand count start (answers step start zs)) c.1 none) (subst (λ zs. sent < length (answers step start zs).reply) c.1 short)
+
+pub untouched_amid : {S D : Type 0} (step : S → List ℕ → Outcome S) (count : S → ℕ) → ((s : S) (line : List ℕ) → count s ≤ count (step s line).state) → (first mid new : D)
+    (before bytes : List ℕ) (later : Output)
+    {start : S} {text : List ℕ} {state : S} {was : Bool} {ahead : Option (List ℕ)} {old now : Output}
+    → GoesOn step start text state was ahead old now
+    → (count state ≤ count start → mid ≡ first)
+    → ((t : List ℕ) → ahead ≡ Some t → FirstAddsNone step count state (lines_of t) → new ≡ mid)
+    → ((t : List ℕ) → ahead ≡ Some t → StopsAmid step state t now later)
+    → old.bytes ≡ Some before → later.bytes ≡ Some (before ++ bytes)
+    → (ls ms : List (List ℕ)) → lines_of text ≡ ls ++ ms → AddsNoCommand count start (answers step start ls) → length bytes < length (answers step start ls).reply → new ≡ first
+untouched_amid step count rise first mid new before bytes later {start} {text} {state} {was} {ahead} {old} {now} so_far kept same turn told is ls ms e none short =
+    let replies : List ℕ = (answers step start so_far.served).reply in
+    let sent : now.bytes ≡ Some (before ++ replies) = told_all replies before old.bytes now.bytes so_far.written.bytes told in
+    let amid : StopsAmid step state so_far.rest now later = turn so_far.rest so_far.ahead_is in
+    let part : AppendsSome (answers step state (lines_of so_far.rest)).reply (Some (before ++ replies)) later.bytes = rw sent at amid.bytes in
+    let all : before ++ bytes ≡ (before ++ replies) ++ part.0 = cc in
+    let enough : length replies ≤ length bytes =
+    omega (arith, ap length (append_cancel_left before bytes (replies ++ part.0) (all ∙ append_assoc before replies part.0)), length-append replies part.0) in
+    untouched_by step count rise start state so_far.served (lines_of so_far.rest) so_far.state_is (length bytes) enough first mid new kept (same so_far.rest so_far.ahead_is) ls ms
+    (cut_twice so_far.served (lines_of so_far.rest) ls ms (sym so_far.lines ∙ e)) none short
 
 -- the run stopped within a line, and each image has every command that is answered
 pub keeps_on : {S : Type 0} (step : S → List ℕ → Outcome S) (stored : S → List ℕ → Type 0) (count : S → ℕ)

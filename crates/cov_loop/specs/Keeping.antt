@@ -1,5 +1,5 @@
 -- What a disk keeps while lines are served.
-use Rattle.std.specs.Prelude.{◌≡◌, ◌⊎◌, ◌≤◌, ℕ, List, ◌++◌, length}
+use Rattle.std.specs.Prelude.{◌≡◌, ◌⊎◌, ◌≤◌, ℕ, List, [], ◌∷◌, ◌++◌, length}
 use Rattle.cov_loop.specs.Outcome.{Outcome, answers}
 
 -- each image has this
@@ -9,6 +9,11 @@ AreAll P images = (image : List ℕ) → images image → P image
 -- an outcome has no more commands than the state before
 abbrev pub AddsNoCommand : {S : Type 0} → (S → ℕ) → S → Outcome S → Type 0
 AddsNoCommand count before outcome = count outcome.state ≤ count before
+
+-- the first of some lines adds no command, if there is one
+abbrev pub FirstAddsNone : {S : Type 0} → (S → List ℕ → Outcome S) → (S → ℕ) → S → List (List ℕ) → Type 0
+FirstAddsNone step count state [] = Unit {0}
+FirstAddsNone step count state (line ∷ lines) = AddsNoCommand count state (step state line)
 
 -- bytes have one of these two
 abbrev pub IsEither : (List ℕ → Type 0) → (List ℕ → Type 0) → List ℕ → Type 0

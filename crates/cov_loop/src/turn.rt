@@ -1,11 +1,11 @@
 // One line after another, to the end of a script.
-ghost use Rattle.std.specs.Prelude.{◌≡◌, ◌||◌, ◌≤◌, ◌++◌, List, ℕ, Some, IfOk, OnOk, IfErr, IfSome, OnErr};
+ghost use Rattle.std.specs.Prelude.{◌≡◌, ◌||◌, ◌<◌, ◌≤◌, ◌++◌, List, ℕ, Some, length, IfOk, OnOk, IfErr, IfSome, OnErr};
 ghost use Rattle.cov_base.specs.Lines.{lines_of};
 ghost use Rattle.cov_disk.specs.Images.{LeavesOnly};
 ghost use Rattle.cov_io.specs.Progress.{CountsGiven};
 ghost use Rattle.cov_loop.specs.Answers.{is_refusal};
 ghost use Rattle.cov_loop.specs.Counts.{Counted, Later, counts};
-ghost use Rattle.cov_loop.specs.Keeping.{AddsNoCommand, AreAll, KeepsAnswered, Reaches};
+ghost use Rattle.cov_loop.specs.Keeping.{AddsNoCommand, AreAll, FirstAddsNone, KeepsAnswered, Reaches};
 ghost use Rattle.cov_loop.specs.Outcome.{answers};
 ghost use Rattle.cov_loop.specs.Turns.{AtEnd, Falls, HasRows, HasStored, ReadsOut, IsWhole, RowsComeFirst, StopsScript, StopsTurn, Turns, WritesFront, ahead_of, ending_at_end, ending_of, output, turn_of};
 ghost use Rattle.cov_out.specs.declared.row.OutRow.{OutRow};
@@ -60,8 +60,8 @@ fn serve_next<V: LineServer, S: Source, K: Sink, D: Disk, T: Trees>(
         (lines_of text) bytes)
         (D.images disk.new)) }
     ensures unwritten { (text : List ℕ) → ahead_of lines.old (S.left script.old) ≡ Some text →
-        AddsNoCommand V.count (V.state_of server.old)
-        (answers V.step (V.state_of server.old) (lines_of text)) → disk.new ≡ disk.old }
+        FirstAddsNone V.step V.count (V.state_of server.old) (lines_of text) →
+        disk.new ≡ disk.old }
     ensures counted { Counted lines.old lines.new
         (counts (S.faults script.old) (K.faults out.old) (D.faults disk.old) (T.faults trees.old)
         (S.given script.old) (S.ends script.old))
@@ -161,11 +161,19 @@ pub fn serve_all<V: LineServer, S: Source, K: Sink, D: Disk, T: Trees>(
         AreAll (KeepsAnswered V.step V.stored V.count (V.state_of server.old) (lines_of text) bytes)
         (D.images disk.new) }
 
-    // A script that adds no command leaves the disk as it is, however the run ends.
+    // A script that adds no command leaves the disk as it is, however the run ends, and so do the lines that add none before the first
+    // that does: the disk has changed only where their replies are written whole.
     ensures unwritten { (text : List ℕ) →
         ahead_of lines.old (S.left script.old) ≡ Some text →
         AddsNoCommand V.count (V.state_of server.old)
         (answers V.step (V.state_of server.old) (lines_of text)) → disk.new ≡ disk.old }
+    ensures untouched { (text before bytes : List ℕ) (first rest : List (List ℕ)) →
+        ahead_of lines.old (S.left script.old) ≡ Some text → lines_of text ≡ first ++ rest →
+        AddsNoCommand V.count (V.state_of server.old)
+        (answers V.step (V.state_of server.old) first) →
+        K.written out.old ≡ Some before → K.written out.new ≡ Some (before ++ bytes) →
+        length bytes < length (answers V.step (V.state_of server.old) first).reply →
+        disk.new ≡ disk.old }
 
     // At the end of the script, the server has the state that the whole script gives, and another script can be served.
     ensures state { (text : List ℕ) →

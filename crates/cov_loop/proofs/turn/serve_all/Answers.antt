@@ -6,7 +6,7 @@ use Rattle.cov_loop.specs.Turns.{ahead_of, output}
 use Rattle.cov_loop.proofs.Appending.{front_of, told_all}
 use Rattle.cov_loop.proofs.Counting.{counted_then, given_then}
 use Rattle.cov_loop.proofs.Kept.{keeps_all, reaches_none}
-use Rattle.cov_loop.proofs.LoopInvariant.{all_amid, at_end, begins, ended, ends_whole, goes_on, has_rows, has_stored, keeps_on, left_is_empty, moments_on, reads_out, stopped, unwritten_on}
+use Rattle.cov_loop.proofs.LoopInvariant.{all_amid, all_sent, at_end, begins, ended, ends_whole, goes_on, has_rows, has_stored, keeps_on, left_is_empty, moments_on, reads_out, stopped, untouched_amid, unwritten_amid, unwritten_on}
 use Rattle.cov_loop.proofs.Moments.{uncalled}
 use Rattle.cov_loop.proofs.turn.serve_all.Goals as goal
 
@@ -20,7 +20,7 @@ turns-init g c = record {
   any_moment = λ text ahead all.
       uncalled g.D.Disk.moment g.D.Disk.images_since g.D.Disk.images g.met.D.Disk.only_now c.args.disk.now (Reaches g.V.LineServer.step g.V.LineServer.stored (g.V.LineServer.state_of c.args.server.now) (lines_of text))
       (λ image here. reaches_none g.V.LineServer.step g.V.LineServer.stored (g.V.LineServer.state_of c.args.server.now) (lines_of text) image (all image here));
-  unwritten = λ text ahead none. refl;
+  unwritten = λ text ahead few. refl;
   counted = search rules;
   left = search rules;
 }
@@ -38,9 +38,10 @@ turns-preserved g c = record {
       moments_on g.V.LineServer.step g.V.LineServer.stored g.D.Disk.moment g.D.Disk.images_since c.args.disk.now c.turns.disk c.serve_next.new.disk
       (c.turns.invariant.told text ahead) (c.turns.invariant.any_moment text ahead all)
       (λ t a. c.serve_next.ensures.any_moment t a (c.turns.invariant.durable all));
-  unwritten = λ text ahead none.
+  unwritten = λ text ahead few.
       unwritten_on g.V.LineServer.step g.V.LineServer.count g.met.V.LineServer.counts_rise c.args.disk.now c.turns.disk c.serve_next.new.disk
-      (c.turns.invariant.told text ahead) (c.turns.invariant.unwritten text ahead none) (λ t a. c.serve_next.ensures.unwritten t a) none;
+      (g.V.LineServer.state_of c.serve_next.new.server) c.in-Served.answer (ahead_of c.serve_next.new.lines (g.S.Source.left c.serve_next.new.script)) (output (g.K.Sink.written c.serve_next.new.out) (g.T.Trees.rows c.serve_next.new.trees))
+      (c.turns.invariant.told text ahead) (c.turns.invariant.unwritten text ahead) (λ t a. rw c.in-Served.is at (c.in-Ok.ensures.told t a)) c.serve_next.ensures.unwritten few;
   counted = counted_then c.turns.invariant.counted c.serve_next.ensures.counted;
   left = given_then (g.S.Source.left c.args.script.now) (g.S.Source.left c.turns.script) (g.S.Source.left c.serve_next.new.script)
       (g.S.Source.given c.args.script.now) (g.S.Source.given c.turns.script) (g.S.Source.given c.serve_next.new.script)
@@ -154,10 +155,22 @@ returns-in-Ended-clause-durable g c all = rw c.ending_at_end.ensures (at_end c.t
 
 pub returns-in-Ended-clause-unwritten : goal.returns-in-Ended-clause-unwritten
 returns-in-Ended-clause-unwritten g c text ahead none =
-    unwritten_on g.V.LineServer.step g.V.LineServer.count g.met.V.LineServer.counts_rise c.args.disk.now c.turns.disk c.serve_next.new.disk
-    (c.turns.invariant.told text ahead) (c.turns.invariant.unwritten text ahead none) (λ t a. c.serve_next.ensures.unwritten t a) none
+    unwritten_amid g.V.LineServer.step g.V.LineServer.count g.met.V.LineServer.counts_rise c.args.disk.now c.turns.disk c.serve_next.new.disk
+    (c.turns.invariant.told text ahead) (c.turns.invariant.unwritten text ahead) c.serve_next.ensures.unwritten none
 
 pub returns-in-Err-clause-unwritten : goal.returns-in-Err-clause-unwritten
 returns-in-Err-clause-unwritten g c text ahead none =
-    unwritten_on g.V.LineServer.step g.V.LineServer.count g.met.V.LineServer.counts_rise c.args.disk.now c.turns.disk c.serve_next.new.disk
-    (c.turns.invariant.told text ahead) (c.turns.invariant.unwritten text ahead none) (λ t a. c.serve_next.ensures.unwritten t a) none
+    unwritten_amid g.V.LineServer.step g.V.LineServer.count g.met.V.LineServer.counts_rise c.args.disk.now c.turns.disk c.serve_next.new.disk
+    (c.turns.invariant.told text ahead) (c.turns.invariant.unwritten text ahead) c.serve_next.ensures.unwritten none
+
+pub returns-in-Ended-clause-untouched : goal.returns-in-Ended-clause-untouched
+returns-in-Ended-clause-untouched g c text before bytes first rest ahead lines none was is short =
+    let e = ended (g.V.LineServer.state_of c.serve_next.new.server) (ahead_of c.serve_next.new.lines (g.S.Source.left c.serve_next.new.script)) (output (g.K.Sink.written c.serve_next.new.out) (g.T.Trees.rows c.serve_next.new.trees))
+    (c.turns.invariant.told text ahead) (λ t a. rw c.in-Ended.is at (c.in-Ok.ensures.told t a)) in
+    all_sent g.V.LineServer.step (g.V.LineServer.state_of c.args.server.now) c.args.disk.now c.serve_next.new.disk (lines_of text) before bytes (g.K.Sink.written c.args.out.now) (g.K.Sink.written c.serve_next.new.out) e.written.bytes was is first rest lines short
+
+pub returns-in-Err-clause-untouched : goal.returns-in-Err-clause-untouched
+returns-in-Err-clause-untouched g c text before bytes first rest ahead lines none was is short =
+    untouched_amid g.V.LineServer.step g.V.LineServer.count g.met.V.LineServer.counts_rise c.args.disk.now c.turns.disk c.serve_next.new.disk before bytes
+    (output (g.K.Sink.written c.serve_next.new.out) (g.T.Trees.rows c.serve_next.new.trees))
+    (c.turns.invariant.told text ahead) (c.turns.invariant.unwritten text ahead) c.serve_next.ensures.unwritten c.in-Err.ensures.told was is first rest lines none short

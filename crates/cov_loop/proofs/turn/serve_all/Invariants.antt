@@ -1,10 +1,9 @@
-use Rattle.std.proofs.Common.{◌≡◌, List, ℕ, Some, IfSome}
+use Rattle.std.proofs.Common.{◌≡◌, ◌≤◌, List, ℕ, Some, IfSome}
 use Rattle.cov_base.specs.Lines.{lines_of}
 use Rattle.cov_disk.specs.Images.{LeavesOnly}
 use Rattle.cov_io.specs.Progress.{CountsGiven, potential}
 use Rattle.cov_loop.specs.Counts.{Counted, counts}
-use Rattle.cov_loop.specs.Keeping.{AddsNoCommand, AreAll, Reaches}
-use Rattle.cov_loop.specs.Outcome.{answers}
+use Rattle.cov_loop.specs.Keeping.{AreAll, Reaches}
 use Rattle.cov_loop.specs.Turns.{GoesOn, ahead_of, output}
 use Rattle.cov_loop.proofs.turn.serve_all.Given as goal
 
@@ -19,7 +18,7 @@ invariant-turns g l = record {
   any_moment : (text : List ℕ) → ahead_of l.fn.lines (g.S.Source.left l.fn.script) ≡ Some text → AreAll (g.V.LineServer.stored (g.V.LineServer.state_of l.fn.server)) (g.D.Disk.images l.fn.disk)
       → LeavesOnly g.D.Disk.moment g.D.Disk.images_since l.fn.disk l.disk (Reaches g.V.LineServer.step g.V.LineServer.stored (g.V.LineServer.state_of l.fn.server) (lines_of text));
   unwritten : (text : List ℕ) → ahead_of l.fn.lines (g.S.Source.left l.fn.script) ≡ Some text
-      → AddsNoCommand g.V.LineServer.count (g.V.LineServer.state_of l.fn.server) (answers g.V.LineServer.step (g.V.LineServer.state_of l.fn.server) (lines_of text)) → l.disk ≡ l.fn.disk;
+      → g.V.LineServer.count (g.V.LineServer.state_of l.server) ≤ g.V.LineServer.count (g.V.LineServer.state_of l.fn.server) → l.disk ≡ l.fn.disk;
   counted : Counted l.fn.lines l.lines
       (counts (g.S.Source.faults l.fn.script) (g.K.Sink.faults l.fn.out) (g.D.Disk.faults l.fn.disk) (g.T.Trees.faults l.fn.trees) (g.S.Source.given l.fn.script) (g.S.Source.ends l.fn.script))
       (counts (g.S.Source.faults l.script) (g.K.Sink.faults l.out) (g.D.Disk.faults l.disk) (g.T.Trees.faults l.trees) (g.S.Source.given l.script) (g.S.Source.ends l.script));

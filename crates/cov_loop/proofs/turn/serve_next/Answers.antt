@@ -1,9 +1,9 @@
-use Rattle.std.proofs.Common.{◌≡◌, ◌++◌, ap, inl, inr}
+use Rattle.std.proofs.Common.{◌≡◌, ◌++◌, ap, inl, inr, subst}
 use Rattle.std.proofs.lemmas.Result.{on_err_weaker}
 use Rattle.cov_base.specs.Lines.{lines_of}
-use Rattle.cov_loop.specs.Keeping.{IsEither, Reaches}
+use Rattle.cov_loop.specs.Keeping.{FirstAddsNone, IsEither, Reaches}
 use Rattle.cov_loop.specs.Turns.{output}
-use Rattle.cov_loop.proofs.Kept.{first_adds_none, keeps_none, line_keeps, nothing_added, reaches_first}
+use Rattle.cov_loop.proofs.Kept.{keeps_none, line_keeps, nothing_added, reaches_first}
 use Rattle.cov_disk.proofs.CallerLemmas.{weakened}
 use Rattle.cov_loop.proofs.Moments.{left_now}
 use Rattle.cov_loop.proofs.Turning.{fault_turn, line_turn, next_line, next_long, turn_stopped}
@@ -101,5 +101,4 @@ returns-in-Ok-Line-clause-unwritten g c text ahead none =
     let line = c.as_slice.result.now in
     let first = next_line text line c.args.lines.now c.next.new.self (g.S.Source.left c.args.script.now) (g.S.Source.left c.next.new.source)
     (rw (c.as_slice.ensures, ← c.in-Ok-Line.field-0-is) c.in-Ok-Line.ensures.items) ahead in
-    c.serve_line.ensures.unwritten
-    (first_adds_none g.V.LineServer.step g.V.LineServer.count g.met.V.LineServer.counts_rise (g.V.LineServer.state_of c.args.server.now) line (lines_of text) (lines_of first.rest) first.lines none)
+    c.serve_line.ensures.unwritten (subst (FirstAddsNone g.V.LineServer.step g.V.LineServer.count (g.V.LineServer.state_of c.args.server.now)) first.lines none)
