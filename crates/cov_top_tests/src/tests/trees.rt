@@ -2,7 +2,8 @@
 ghost use Rattle.std.specs.Prelude.{◌≤◌};
 
 use crate::tests::running::{
-    Case, DONE, SERVED, SOME_REFUSED, Setting, Step, expect_over, list_of, replies_of, script_of,
+    Case, DONE, SERVED, SERVED_BY_BYTES, SOME_REFUSED, Setting, Step, expect_over, list_of,
+    replies_of, script_of,
 };
 use cov_base::Text;
 use cov_out::{MemoryTrees, OutRow, OutRows};
@@ -300,6 +301,7 @@ fn trees_are_written(rt: HostRuntime) -> Result<(), Fail> {
         let written = replies_of(alloc, &[steps])?;
         let case = (script.as_slice(), written.as_slice(), status);
         expect_rows(&rt, alloc, SERVED, &[], case, rows)?;
+        expect_rows(&rt, alloc, SERVED_BY_BYTES, &[], case, rows)?;
     }
     Ok(())
 }
