@@ -12,24 +12,26 @@ use std::test::Fail;
 
 /// Which call fails, the status, how many bytes of replies and how many rows are written, what is on the disk, and how many commits are
 /// told of it then. A read gives 64 bytes of the 142 of the script.
-const FAULTS: [(Device, u64, u8, usize, usize, Stored, usize); 17] = [
-    (Device::Sink, 1, 5, 0, 0, NEW, 0),
-    (Device::Sink, 2, 5, 12, 0, NEW, 0),
-    (Device::Sink, 3, 5, 15, 0, NEW, 0),
-    (Device::Sink, 4, 5, 21, 0, FIRST, 1),
-    (Device::Sink, 5, 5, 33, 0, FIRST, 1),
-    (Device::Sink, 6, 5, 45, 0, FIRST, 1),
-    (Device::Sink, 7, 5, 51, 0, FIRST, 1),
-    (Device::Sink, 8, 5, 69, 0, BOTH, 2),
-    (Device::Sink, 9, 5, 81, 0, BOTH, 2),
-    (Device::Sink, 10, 5, 98, 0, BOTH, 2),
-    (Device::Sink, 11, 5, 105, 2, BOTH, 2),
-    (Device::Source, 1, 4, 0, 0, NEW, 0),
-    (Device::Source, 2, 4, 33, 0, FIRST, 1),
-    (Device::Source, 3, 4, 98, 0, BOTH, 2),
-    (Device::Source, 4, 4, 188, 2, BOTH, 2),
-    (Device::Trees, 1, 7, 105, 0, BOTH, 2),
-    (Device::Trees, 2, 7, 105, 1, BOTH, 2),
+type Fault = (Device, u64, u8, usize, usize, &'static Stored, usize);
+
+const FAULTS: [Fault; 17] = [
+    (Device::Sink, 1, 5, 0, 0, &NEW, 0),
+    (Device::Sink, 2, 5, 12, 0, &NEW, 0),
+    (Device::Sink, 3, 5, 15, 0, &NEW, 0),
+    (Device::Sink, 4, 5, 21, 0, &FIRST, 1),
+    (Device::Sink, 5, 5, 33, 0, &FIRST, 1),
+    (Device::Sink, 6, 5, 45, 0, &FIRST, 1),
+    (Device::Sink, 7, 5, 51, 0, &FIRST, 1),
+    (Device::Sink, 8, 5, 69, 0, &BOTH, 2),
+    (Device::Sink, 9, 5, 81, 0, &BOTH, 2),
+    (Device::Sink, 10, 5, 98, 0, &BOTH, 2),
+    (Device::Sink, 11, 5, 105, 2, &BOTH, 2),
+    (Device::Source, 1, 4, 0, 0, &NEW, 0),
+    (Device::Source, 2, 4, 33, 0, &FIRST, 1),
+    (Device::Source, 3, 4, 98, 0, &BOTH, 2),
+    (Device::Source, 4, 4, 188, 2, &BOTH, 2),
+    (Device::Trees, 1, 7, 105, 0, &BOTH, 2),
+    (Device::Trees, 2, 7, 105, 1, &BOTH, 2),
 ];
 
 // The end with this status and so many bytes and rows.
@@ -50,14 +52,30 @@ fn image_after(alloc: Global, fails: Fails) -> Result<(End, Text), Memory> {
     Ok((end?, image?))
 }
 
+// How such a run ends, whether these bytes are on the disk then, and how many commits are told of it.
+fn left_after(
+    alloc: Global,
+    fails: Fails,
+    after: &Stored,
+) -> Result<(End, bool, Option<usize>), Memory> {
+    let after = bytes_of(alloc, after)?;
+    let (end, image) = image_after(alloc, fails)?;
+    let same = image.as_slice() == after.as_slice();
+    Ok((end, same, commits_in(alloc, image)?))
+}
+
+fn check_fault(rt: &impl Abort, alloc: Global, fault: &Fault) -> Result<(), Memory> {
+    let (device, call, code, written, rows, after, commits) = *fault;
+    let left = left_after(alloc, failing(device, call), after)?;
+    let wanted = (end_with(code, written, rows), true, Some(commits));
+    assert_eq!(rt; left, wanted);
+    Ok(())
+}
+
 #[test]
 fn the_first_failing_call_ends_the_run(rt: HostRuntime) -> Result<(), Fail> {
-    let alloc = rt.alloc();
-    for (device, call, code, written, rows, after, commits) in &FAULTS {
-        let (end, image) = image_after(alloc, failing(*device, *call))?;
-        assert_eq!(rt; end, end_with(*code, *written, *rows));
-        assert!(rt; image.as_slice() == bytes_of(alloc, after)?.as_slice());
-        assert_eq!(rt; commits_in(alloc, image)?, Some(*commits));
+    for fault in &FAULTS {
+        check_fault(&rt, rt.alloc(), fault)?;
     }
     Ok(())
 }
@@ -92,14 +110,24 @@ const STOPS: [(u8, usize, usize, usize); 9] = [
     (0, 188, 2, 2),
 ];
 
+fn check_stop(
+    rt: &impl Abort,
+    alloc: Global,
+    call: u64,
+    wanted: (End, Option<usize>),
+) -> Result<(), Memory> {
+    assert_eq!(rt; stopped(alloc, call)?, wanted);
+    Ok(())
+}
+
 fn check_stops(rt: &impl Abort, alloc: Global) -> Result<(), Memory> {
     let mut call = calls_before(alloc)?;
     for opening in 1..call {
-        assert_eq!(rt; stopped(alloc, opening)?, (end_with(6, 0, 0), Some(0)));
+        check_stop(rt, alloc, opening, (end_with(6, 0, 0), Some(0)))?;
     }
     for (code, written, rows, commits) in &STOPS {
-        let wanted = end_with(*code, *written, *rows);
-        assert_eq!(rt; stopped(alloc, call)?, (wanted, Some(*commits)));
+        let wanted = (end_with(*code, *written, *rows), Some(*commits));
+        check_stop(rt, alloc, call, wanted)?;
         call = call.saturating_add(1);
     }
     Ok(())

@@ -224,19 +224,19 @@ const CHECKED: Case = Case {
     rows: &[],
 };
 
-// Runs the program over a disk of this image, and whether it stays as it is.
-fn end_on(alloc: Global, case: &Case, image: &Text) -> Result<(End, bool), Memory> {
-    let mut disk = disk_of(alloc, image.copy()?, 0)?;
+// Runs the program over a disk of this image, and tells whether it stays as it is.
+fn end_on(alloc: Global, case: &Case, image: Text) -> Result<(End, bool), Memory> {
+    let before = image.copy()?;
+    let mut disk = disk_of(alloc, image, 0)?;
     let end = end_over(alloc, case, UNASKED, &mut disk);
-    let same = disk.bytes() == image.as_slice();
+    let same = disk.bytes() == before.as_slice();
     drop(disk);
     Ok((end?, same))
 }
 
 #[test]
 fn a_commit_of_too_many_edits_is_told(rt: HostRuntime) -> Result<(), Fail> {
-    let image = crowded(rt.alloc())?;
-    let end = end_on(rt.alloc(), &CHECKED, &image)?;
+    let end = end_on(rt.alloc(), &CHECKED, crowded(rt.alloc())?)?;
     assert_eq!(rt; end, (CHECKED.end(9), true));
     Ok(())
 }
@@ -287,22 +287,13 @@ const CHECKOUT: Case = Case {
     rows: &[],
 };
 
-// Two bytes that are no text.
-const NO_TEXT: Case = Case {
-    words: &["run"],
-    script: b"\xff\xfe",
-    replies: b"refused syntax 0\n",
-    rows: &[],
-};
-
 /// Which call fails, the status, how many bytes are written, and what is on the disk.
-const FAULTS: [(Case, Device, u64, u8, usize, Stored); 6] = [
+const FAULTS: [(Case, Device, u64, u8, usize, Stored); 5] = [
     (SHORT_SCRIPT, Device::Sink, 2, 5, 12, OPTIONS),
     (SHORT_SCRIPT, Device::Source, 1, 4, 0, NEW),
     (SHORT_SCRIPT, Device::Disk, 1, 6, 0, EMPTY),
     (CHECKOUT, Device::Trees, 1, 7, 0, NEW),
     (SHORT_SCRIPT, Device::Sink, 0, 1, 45, OPTIONS),
-    (NO_TEXT, Device::Sink, 0, 1, 17, NEW),
 ];
 
 #[test]
@@ -316,5 +307,20 @@ fn faults_are_told(rt: HostRuntime) -> Result<(), Fail> {
         };
         assert_eq!(rt; end, (wanted, true));
     }
+    Ok(())
+}
+
+/// Two bytes that are no text.
+const NO_TEXT: Case = Case {
+    words: &["run"],
+    script: b"\xff\xfe",
+    replies: b"refused syntax 0\n",
+    rows: &[],
+};
+
+#[test]
+fn bytes_that_are_no_text_are_refused(rt: HostRuntime) -> Result<(), Fail> {
+    let end = end_from(rt.alloc(), &NO_TEXT, NONE_FAILS, &EMPTY, &NEW)?;
+    assert_eq!(rt; end, (NO_TEXT.end(1), true));
     Ok(())
 }
