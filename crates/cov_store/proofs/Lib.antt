@@ -1,4 +1,5 @@
 mod Applies
+pub mod CallerLemmas
 mod Framing
 mod Legal
 mod Opens

@@ -10,7 +10,7 @@ use Rattle.cov_journal.specs.Moments.{KeepsImages}
 use Rattle.cov_journal.specs.Reading.{IsOpened}
 use Rattle.cov_journal.proofs.CallerLemmas.{holds_none, joined, one_journal, only_has, weakened}
 use Rattle.cov_store.specs.Damages.{HasDamage, IsDamagedAfter}
-use Rattle.cov_store.specs.Opening.{GivesHistory, HasReason, IsImageFaultOf, OnImageRefused, TellsDamage}
+use Rattle.cov_store.specs.Opening.{GivesHistory, HasReason, IsImageFaultOf, TellsDamage}
 use Rattle.cov_store.specs.Replaying.{IsFoundIn, Replays}
 use Rattle.cov_store.specs.Stands.{payloads, IsStored, StandsFor}
 use Rattle.cov_store.specs.declared.damage.StoreDamage.{StoreDamage}
@@ -60,19 +60,6 @@ module _ (old mid : Option (List ℕ)) (told : Told IsOpened old mid) where
   pub opened_faulty : (result : Result EngineValue StoreFault) → Replays mid result → IfErr result (λ fault. IfSome old (λ image. IsImageFaultOf image fault))
   opened_faulty (Ok store) ends = tt
   opened_faulty (Err fault) found = told_before IsOpened (λ image. IsImageFaultOf image fault) (λ image. IsFoundIn image fault) (was_fault fault) old mid told found
-
--- a disk with damage is left as it was
-same_if : (d c : List ℕ) (now : Option (List ℕ)) (fault : StoreFault) → now ≡ Some c → IsOpened d c → IsFoundIn c fault → OnImageRefused fault (now ≡ Some d)
-same_if d c now faults.NotAStore is opened found = absurd found
-same_if d c now (faults.Damaged number cause options) is opened found = is ∙ ap Some (was_large found.0 cause d c opened found.2).1
-same_if d c now faults.DiskFault is opened found = tt
-same_if d c now faults.Memory is opened found = tt
-
-pub same_where_refused : (old mid now : Option (List ℕ)) (result : Result EngineValue StoreFault) → Told IsOpened old mid → now ≡ mid → Replays mid result → IfErr result (λ fault. IfSome old (λ image. OnImageRefused fault (now ≡ old)))
-same_where_refused old mid now (Ok store) told is ends = tt
-same_where_refused None mid now (Err fault) told is found = tt
-same_where_refused (Some d) None now (Err fault) told is found = absurd told
-same_where_refused (Some d) (Some c) now (Err fault) told is found = same_if d c now fault is told found
 
 -- an image holds one list of payloads at most
 not_both : (image : List ℕ) → Holds image [] → Holds image ([] ∷ []) → ⊥

@@ -1,10 +1,10 @@
 -- The first damage of an image that stands for no history.
-use Rattle.std.specs.Prelude.{◌≡◌, ◌≢◌, ℕ, ◌+◌, ◌<◌, ◌^◌, List, ◌∷◌, ◌++◌, length, Some}
+use Rattle.std.specs.Prelude.{◌≡◌, ◌≢◌, ◌⊎◌, ℕ, ◌+◌, ◌<◌, ◌^◌, List, ◌∷◌, ◌++◌, length, Some}
 use Rattle.std.specs.List.{AllByRecursion}
 use Rattle.cov_edit.specs.declared.command.Command.{Command}
 use Rattle.cov_history.specs.Verdict.{verdict, IsLegal}
 use Rattle.cov_journal.specs.Journal.{no_digest, next_digest, last_digest, body, stored}
-use Rattle.cov_journal.specs.Reading.{IsCut}
+use Rattle.cov_journal.specs.Reading.{IsCut, IsNoStore}
 use Rattle.cov_record.specs.FitsRecord.{FitsRecord}
 use Rattle.cov_record.specs.Laws.{IsNoRecord}
 use Rattle.cov_record.specs.Payload.{payload}
@@ -42,3 +42,7 @@ pub record HasDamage (image : List ℕ) (number : ℕ) (cause : StoreDamage) : T
   pub long : 13 < length image
   pub number_is : number ≡ length history + 1
   pub after : IsDamagedAfter history image cause
+
+-- no store is opened from the image: it is none, or a record of it is damaged
+abbrev pub IsUnopened : List ℕ → Type 0
+IsUnopened image = IsNoStore image ⊎ ((number : ℕ) × (cause : StoreDamage) × HasDamage image number cause)

@@ -45,13 +45,6 @@ abbrev pub IsOfVerdict : StoreFault → Type 0
 IsOfVerdict (faults.Damaged number (damages.Refused refusal) options) = IsRefusedAfter options.names refusal
 IsOfVerdict fault = Unit {0}
 
--- what holds where the disk is refused for what it holds
-abbrev pub OnImageRefused : StoreFault → Type 0 → Type 0
-OnImageRefused faults.NotAStore P = P
-OnImageRefused (faults.Damaged number cause options) P = P
-OnImageRefused faults.DiskFault P = Unit {0}
-OnImageRefused faults.Memory P = Unit {0}
-
 -- the disk may fail, and memory may be wanting
 abbrev pub MayStop : ℕ → ℕ → StoreFault → Type 0
 MayStop before now faults.NotAStore = ⊥

@@ -1,5 +1,5 @@
 // A history on a disk.
-ghost use Rattle.std.specs.Prelude.{◌≡◌, ◌⊎◌, ◌<◌, ◌≤◌, ◌+◌, ◌++◌, ◌∷◌, [], List, ℕ, None, length, IfOk, IfErr, IfSome, OnOk};
+ghost use Rattle.std.specs.Prelude.{◌≡◌, ◌⊎◌, ◌<◌, ◌≤◌, ◌+◌, ◌++◌, ◌∷◌, [], List, ℕ, Some, None, length, IfOk, IfErr, IfSome, OnOk};
 ghost use Rattle.cov_base.specs.Causes.{Rose};
 ghost use Rattle.cov_dd.specs.Diagrams.{Extends};
 ghost use Rattle.cov_disk.specs.Images.{LeavesOnly};
@@ -7,10 +7,11 @@ ghost use Rattle.cov_edit.specs.declared.command.Command.{Command};
 ghost use Rattle.cov_engine.specs.States.{receipt_number};
 ghost use Rattle.cov_history.specs.Verdict.{verdict};
 ghost use Rattle.cov_journal.specs.Gates.{HasGate};
+ghost use Rattle.cov_journal.specs.Moments.{KeepsImages};
 ghost use Rattle.cov_journal.specs.Reading.{IsNoStore};
 ghost use Rattle.cov_store.specs.Applying.{IsRefusedBy, HandsBack, OnCommandRefused, OnDiskFault};
 ghost use Rattle.cov_store.specs.Damages.{HasDamage};
-ghost use Rattle.cov_store.specs.Opening.{IsImageFaultOf, HasReason, IsOfVerdict, OnImageRefused, GivesHistory, TellsDamage, TellsNoStore};
+ghost use Rattle.cov_store.specs.Opening.{IsImageFaultOf, HasReason, IsOfVerdict, GivesHistory, TellsDamage, TellsNoStore};
 ghost use Rattle.cov_store.specs.Stands.{StandsFor, IsStored, IsJournalOf, gate_of};
 ghost use Rattle.cov_store.specs.declared.damage.StoreDamage.{StoreDamage};
 
@@ -58,7 +59,8 @@ pub enum ApplyFault {
 
 impl Store {
     /// Opens a disk as a store: syncs, makes a disk of at most 13 bytes anew, and accepts the commands of the records one after
-    /// another. A disk that is refused is left as it was. It takes time in the records and in what their commands take.
+    /// another. A disk of more bytes is left as it was, however the opening ends. It takes time in the records and in what their
+    /// commands take.
     pub fn open<D: Disk>(alloc: Global, disk: &mut D) -> Result<Store, StoreFault>
         ensures stands { (history : List Command) →
             IfSome (D.contents disk.old) (λ image. StandsFor image history →
@@ -79,9 +81,10 @@ impl Store {
             IfSome (D.contents disk.new) (λ image. IsStored image store.history)) }
         ensures gate { IfOk result (λ store.
             HasGate (D.contents disk.new) (gate_of store.history)) }
-        ensures kept { IfErr result (λ fault.
-            IfSome (D.contents disk.old)
-            (λ image. OnImageRefused fault (D.contents disk.new ≡ D.contents disk.old))) }
+        ensures kept { IfSome (D.contents disk.old) (λ image. 13 < length image →
+            D.contents disk.new ≡ Some image) }
+        ensures images { IfSome (D.contents disk.old) (λ image. 13 < length image →
+            KeepsImages D.images D.moment D.images_since disk.old disk.new) }
         ensures stays { (history : List Command) →
             IfSome (D.contents disk.old) (λ image. StandsFor image history →
             IfSome (D.contents disk.new) (λ now. StandsFor now history)) }

@@ -1,5 +1,8 @@
+use Rattle.std.proofs.Common.{◌≡◌, ◌∙◌, ◌<◌, Some, length}
+use Rattle.cov_journal.specs.Moments.{KeepsImages}
+use Rattle.cov_journal.proofs.CallerLemmas.{keeps_both, some_to}
 use Rattle.cov_store.specs.Stands.{StandsFor}
-use Rattle.cov_store.proofs.Opens.{gives, kept_on, opened_faulty, opened_stands, reason_since, same_where_refused, stands_later, stands_on, stands_since, stored_now, tells}
+use Rattle.cov_store.proofs.Opens.{gives, kept_on, opened_faulty, opened_stands, reason_since, stands_later, stands_on, stands_since, stored_now, tells}
 use Rattle.cov_store.proofs.store.Store.open.Goals as goal
 
 pub returns-in-Ok-clause-cause : goal.returns-in-Ok-clause-cause
@@ -32,7 +35,15 @@ returns-in-Ok-clause-faulty g c =
 
 pub returns-in-Ok-clause-kept : goal.returns-in-Ok-clause-kept
 returns-in-Ok-clause-kept g c =
-    same_where_refused (g.D.Disk.contents c.args.disk.now) (g.D.Disk.contents c.open.new.disk) (g.D.Disk.contents c.replay_all.new.disk) c.replay_all.result c.in-Ok.ensures.contents c.replay_all.ensures.same c.replay_all.ensures.replays
+    some_to (λ image. 13 < length image → g.D.Disk.contents c.open.new.disk ≡ Some image) (λ image. 13 < length image → g.D.Disk.contents c.replay_all.new.disk ≡ Some image)
+    (λ image kept long. c.replay_all.ensures.same ∙ kept long) (g.D.Disk.contents c.args.disk.now) c.open.ensures.kept
+
+pub returns-in-Ok-clause-images : goal.returns-in-Ok-clause-images
+returns-in-Ok-clause-images g c =
+    some_to (λ image. 13 < length image → KeepsImages g.D.Disk.images g.D.Disk.moment g.D.Disk.images_since c.args.disk.now c.open.new.disk)
+    (λ image. 13 < length image → KeepsImages g.D.Disk.images g.D.Disk.moment g.D.Disk.images_since c.args.disk.now c.replay_all.new.disk)
+    (λ image keeps long. keeps_both g.D.Disk.images g.D.Disk.moment g.D.Disk.images_since c.args.disk.now c.open.new.disk c.replay_all.new.disk (keeps long) c.replay_all.ensures.images)
+    (g.D.Disk.contents c.args.disk.now) c.open.ensures.images
 
 pub returns-in-Ok-clause-stored : goal.returns-in-Ok-clause-stored
 returns-in-Ok-clause-stored g c =
