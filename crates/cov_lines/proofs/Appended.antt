@@ -1,5 +1,5 @@
 -- What the appending of a command comes to.
-use Rattle.std.proofs.Common.{◌≡◌, refl, sym, ap, subst, ℕ, ◌+◌, ◌<◌, ◌≤◌, List, [], ◌∷◌, ◌++◌, length, None, option_map, Result, Ok, Err, arith}
+use Rattle.std.proofs.Common.{◌≡◌, ◌⊎◌, inl, inr, refl, sym, ap, subst, ℕ, ◌+◌, ◌<◌, ◌≤◌, List, [], ◌∷◌, ◌++◌, length, None, option_map, Result, Ok, Err, arith}
 use Rattle.std.specs.Prelude.{IfErr, IfOk, OnOk}
 use Rattle.std.proofs.lemmas.List.{length-append}
 use Rattle.cov_base.specs.Causes.{Rose}
@@ -27,10 +27,10 @@ use Rattle.cov_lines.specs.Acting.{Changes, Stops}
 use Rattle.cov_lines.specs.Adding.{HasReceipt, added_as}
 use Rattle.cov_lines.specs.States.{State, with_command}
 use Rattle.cov_lines.specs.Step.{appended}
-use Rattle.cov_lines.specs.Storing.{grown, stored}
+use Rattle.cov_lines.specs.Storing.{IsNotGrown, grown, stored}
 use Rattle.cov_lines.proofs.Additions.{appended-as}
 use Rattle.cov_lines.proofs.Growing.{stay-open}
-use Rattle.cov_lines.proofs.Leaving.{leaves-grown, leaves-same}
+use Rattle.cov_lines.proofs.Leaving.{accepted-grown, leaves-grown, leaves-same}
 
 -- a command that is refused changes nothing
 refusal-stops : (st : State) (k : Command) (r : Refusal) → RefusedBy r (verdict st.history k) → Stops (appended st k) st st (refusal_stop r)
@@ -66,6 +66,25 @@ module _ (history : List Command) (k : Command) (now : List Command) where
   fewer-commits commits (Ok receipt) leaves few = omega (arith, ap length leaves, length-append history (k ∷ []), few)
   fewer-commits commits (Err faults.DiskFault) leaves few = tt
   fewer-commits commits (Err (faults.Refused refusal)) leaves few = tt
+
+-- a command that isn't added is refused, and then the disk is as it was
+module _ {D : Type 0} (history : List Command) (k : Command) (old new : D) where
+  none-added : verdict history k ≡ None → IsNotGrown history k → ⊥
+  none-added accepted none = omega (arith, ap length (accepted-grown history k accepted), length-append history (k ∷ []), none)
+
+  pub unwritten : (r : Result Receipt AppendFault) → OnOk r (verdict history k ≡ None) → IfErr r (IsAppendFaultOf (verdict history k)) → IfErr r (λ fault. OnRefusal fault (new ≡ old))
+      → IsNotGrown history k → new ≡ old
+  unwritten (Ok receipt) accepted refused same none = absurd (none-added accepted none)
+  unwritten (Err faults.DiskFault) accepted refused same none = absurd (none-added refused none)
+  unwritten (Err (faults.Refused refusal)) accepted refused same none = same
+
+  -- the disk failed, or it is as it was, or the command is stored
+  pub settled : (images : D → List ℕ → Type 0) (before count : ℕ) (r : Result Receipt AppendFault) → OnOk r (verdict history k ≡ None) → IfErr r (λ fault. OnRefusal fault (new ≡ old))
+      → IfErr r (λ fault. OnWriteFault fault (Rose before count)) → OnOk r (AreAll (λ image. IsStored image (history ++ k ∷ [])) (images new))
+      → Rose before count ⊎ (new ≡ old) ⊎ AreAll (λ image. IsStored image (grown history k)) (images new)
+  settled images before count (Ok receipt) accepted same failed stored = inr (inr (subst (λ h. AreAll (λ image. IsStored image h) (images new)) (accepted-grown history k accepted) stored))
+  settled images before count (Err faults.DiskFault) accepted same failed stored = inl failed
+  settled images before count (Err (faults.Refused refusal)) accepted same failed stored = inr (inl same)
 
 module _ (st : State) (k : Command) (now : List Command) where
   -- the state is the one that is wanted

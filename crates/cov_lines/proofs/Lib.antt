@@ -19,6 +19,7 @@ pub mod OthersLines
 pub mod OwnActs
 pub mod OwnLines
 pub mod References
+pub mod Refusals
 pub mod SessionFaults
 pub mod Spoken
 pub mod ToldFiles

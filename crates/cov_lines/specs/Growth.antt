@@ -1,5 +1,6 @@
--- How a line changes the history: not at all, or by one command; and that each but a silent one has a reply.
-use Rattle.std.specs.Prelude.{◌≡◌, ◌≢◌, ◌⊎◌, ℕ, ◌≤◌, Bool, true, false, nat_lt, List, [], ◌∷◌, ◌++◌, length, Option, Some, None, ok_or, option_map, Result, Ok, Err, if◌then◌else◌}
+-- How a line changes the history: not at all, or by one command; and that each but a silent one has a reply, which says ok unless the line is refused.
+use Rattle.std.specs.Prelude.{◌≡◌, ◌≢◌, ◌⊎◌, ℕ, ◌≤◌, Bool, true, false, nat_lt, List, [], ◌∷◌, ◌++◌, codes, length, take, Option, Some, None, ok_or, option_map, Result, Ok, Err, if◌then◌else◌}
+use Rattle.std.specs.Str.{bytes_eq}
 use Rattle.std.proofs.Common.{inl, inr, ◌∙◌, refl, sym, ap, subst, arith}
 use Rattle.std.proofs.lemmas.Bool.{false≢true}
 use Rattle.std.proofs.lemmas.List.{length-append}
@@ -52,6 +53,10 @@ abbrev pub no_reply : List ℕ → Bool
 no_reply [] = true
 no_reply (b ∷ bs) = false
 
+-- whether a reply begins with ok
+abbrev pub says_ok : List ℕ → Bool
+says_ok reply = bytes_eq (take 2 reply) (codes "ok")
+
 -- a silent line does nothing
 pub nothing_served : (st : State) → served st groups.Silent ≡ Ok (record { state = st; reply = []; rows = [] })
 unfolding served
@@ -63,23 +68,23 @@ silent_is_nothing lines.Nothing h = refl
 silent_is_nothing form h = absurd (cc)
 
 module _ (st : State) where
-  -- what is done keeps the history, and has a reply
+  -- what is done keeps the history, and its reply says ok
   abbrev pub Keeps : Act → Type 0
-  Keeps (Ok done) = (done.0.history ≡ st.history) × (no_reply done.1 ≡ false)
+  Keeps (Ok done) = (done.0.history ≡ st.history) × (says_ok done.1 ≡ true)
   Keeps (Err code) = Unit {0}
 
-  -- what is done adds a command, and has a reply
+  -- what is done adds a command, and its reply says ok
   abbrev Adds : Act → Type 0
-  Adds (Ok done) = (command : Command) × (done.0.history ≡ st.history ++ command ∷ []) × (no_reply done.1 ≡ false)
+  Adds (Ok done) = (command : Command) × (done.0.history ≡ st.history ++ command ∷ []) × (says_ok done.1 ≡ true)
   Adds (Err code) = Unit {0}
 
   -- a state has the same history, or one command more
   abbrev IsGrown : State → Type 0
   IsGrown next = (next.history ≡ st.history) ⊎ ((command : Command) × (next.history ≡ st.history ++ command ∷ []))
 
-  -- what is done keeps the history or adds a command, and has a reply
+  -- what is done keeps the history or adds a command, and its reply says ok
   abbrev Grows : Found Done → Type 0
-  Grows (Ok done) = IsGrown done.state × (no_reply done.reply ≡ false)
+  Grows (Ok done) = IsGrown done.state × (says_ok done.reply ≡ true)
   Grows (Err code) = Unit {0}
 
   found_keeps : {X : Type 0} (found : Found X) (later : X → Act) → ((x : X) → Keeps (later x)) → Keeps (found >>= later)
@@ -101,18 +106,18 @@ module _ (st : State) where
       at None = h
       at (Some refusal) = tt
 
-  edits_keep : (name : List ℕ) (es : List Edit) (reply : List ℕ) → no_reply reply ≡ false → Keeps (added st name es >>= (λ next. Ok (next, reply)))
+  edits_keep : (name : List ℕ) (es : List Edit) (reply : List ℕ) → says_ok reply ≡ true → Keeps (added st name es >>= (λ next. Ok (next, reply)))
   edits_keep name es reply told = at (taken st.history st.sessions name es)
     where
       at : (left : Result (List NamedSession) SessionFault) → Keeps ((by_code session_code left >>= (λ ss. Ok (with_sessions st ss))) >>= (λ next. Ok (next, reply)))
       at (Ok ss) = (refl, told)
       at (Err fault) = tt
 
-  told_keeps : (b : Bool) (code : Code) (reply : List ℕ) → no_reply reply ≡ false → Keeps (if b then Err code else Ok (st, reply))
+  told_keeps : (b : Bool) (code : Code) (reply : List ℕ) → says_ok reply ≡ true → Keeps (if b then Err code else Ok (st, reply))
   told_keeps true code reply told = tt
   told_keeps false code reply told = (refl, told)
 
-  listed_keeps : (b : Bool) (code : Code) (reply : List ℕ) → no_reply reply ≡ false → Keeps (if b then Ok (st, reply) else Err code)
+  listed_keeps : (b : Bool) (code : Code) (reply : List ℕ) → says_ok reply ≡ true → Keeps (if b then Ok (st, reply) else Err code)
   listed_keeps true code reply told = (refl, told)
   listed_keeps false code reply told = tt
 
@@ -194,7 +199,7 @@ module _ (st : State) where
   served_grows (groups.Question question) = inr (kept_grows (served_question st question) (question_keeps question))
   served_grows (groups.Checkout tree bindings) = inr (checkout_grows tree bindings)
 
-  -- a line is silent and does nothing, or keeps the history or adds a command, and has a reply
+  -- a line is silent and does nothing, or keeps the history or adds a command, and its reply says ok
   acted_grows : (line : List ℕ) → ((form_of line ≡ Ok lines.Nothing) × (acted st line ≡ Ok (record { state = st; reply = []; rows = [] }))) ⊎ Grows (acted st line)
   unfolding acted
   acted_grows line = at (nat_lt MOST_SCRIPT_LINE_BYTES (length line))
@@ -220,13 +225,27 @@ module _ (st : State) where
   step_comes line = of (acted_grows line)
     where
       at : (act : Found Done) → Grows act → IsGrown (as_outcome st act).state × ((as_outcome st act).reply ≢ [])
-      at (Ok done) h = (h.0, λ e. false≢true (subst (λ r. false ≡ no_reply r) e (sym h.1)))
+      at (Ok done) h = (h.0, λ e. false≢true (ap says_ok (sym e) ∙ h.1))
       at (Err code) h = (inl refl, λ e. false≢true (ap no_reply e))
 
       of : ((form_of line ≡ Ok lines.Nothing) × (acted st line ≡ Ok (record { state = st; reply = []; rows = [] }))) ⊎ Grows (acted st line)
           → ((form_of line ≡ Ok lines.Nothing) × (as_outcome st (acted st line) ≡ unchanged st)) ⊎ (IsGrown (as_outcome st (acted st line)).state × ((as_outcome st (acted st line)).reply ≢ []))
       of (inl (form, same)) = inl (form, ap (as_outcome st) same)
       of (inr grows) = inr (at (acted st line) grows)
+
+  -- the reply to a line that is accepted says ok, if there is one
+  pub accepted_says_ok : (line : List ℕ) → (step st line).is_refused ≡ false → ((step st line).reply ≡ []) ⊎ (says_ok (step st line).reply ≡ true)
+  unfolding step
+  accepted_says_ok line h = of (acted_grows line)
+    where
+      at : (act : Found Done) → (as_outcome st act).is_refused ≡ false → Grows act → says_ok (as_outcome st act).reply ≡ true
+      at (Ok done) accepted grows = grows.1
+      at (Err code) accepted grows = absurd (false≢true (sym accepted))
+
+      of : ((form_of line ≡ Ok lines.Nothing) × (acted st line ≡ Ok (record { state = st; reply = []; rows = [] }))) ⊎ Grows (acted st line)
+          → ((as_outcome st (acted st line)).reply ≡ []) ⊎ (says_ok (as_outcome st (acted st line)).reply ≡ true)
+      of (inl silent) = inl (ap (λ act. (as_outcome st act).reply) silent.1)
+      of (inr grows) = inr (at (acted st line) h grows)
 
   -- a line without a reply is silent, and does nothing
   pub without_reply : (line : List ℕ) → (step st line).reply ≡ [] → (form_of line ≡ Ok lines.Nothing) × (step st line ≡ unchanged st)

@@ -1,5 +1,5 @@
 -- Laws of the model's step.
-use Rattle.std.specs.Prelude.{◌≡◌, ◌≢◌, ℕ, ◌<◌, true, false, nat_le, nat_lt, List, [], ◌∷◌, length, Ok, Err, if◌then◌else◌}
+use Rattle.std.specs.Prelude.{◌≡◌, ◌≢◌, ◌↔◌, ℕ, ◌<◌, true, false, nat_le, nat_lt, List, [], ◌∷◌, codes, length, take, Ok, Err, if◌then◌else◌}
 use Rattle.cov_base.specs.declared.limits.TheConstants.{MOST_SCRIPT_LINE_BYTES}
 use Rattle.std.proofs.Common.{ap, arith, refl, ◌∙◌}
 use Rattle.std.proofs.lemmas.Bool.{and_parts, false≢true}
@@ -8,7 +8,8 @@ use Rattle.cov_script.specs.Grouping.{grouped}
 use Rattle.cov_script.specs.Lines.{form_of, spoken}
 use Rattle.cov_script.specs.declared.code.Code.TheVariants.{Long}
 use Rattle.cov_script.specs.declared.line.Line.TheVariants as lines
-use Rattle.cov_loop.specs.Answers.{is_silent, is_passed_over}
+use Rattle.cov_loop.specs.Answers.{answer_of, is_silent, is_passed_over}
+use Rattle.cov_loop.specs.declared.answer.Answer.TheVariants.{Refused}
 use Rattle.cov_loop.specs.Outcome.{Outcome, unchanged}
 use Rattle.cov_codes.specs.Codes.{syntax_code}
 use Rattle.cov_lines.specs.Finding.{Found, ◌>>=◌, by_code}
@@ -19,6 +20,15 @@ use Rattle.cov_lines.specs.Step.{Done, acted, as_outcome, refused, served, step}
 told_so : (st : State) (act : Found Done) → (as_outcome st act).is_refused ≡ true → (as_outcome st act).reply ≢ []
 told_so st (Ok done) h = λ e. false≢true h
 told_so st (Err code) h = λ e. false≢true (ap no_reply e)
+
+kept_so : (st : State) (act : Found Done) → (as_outcome st act).is_refused ≡ true → (as_outcome st act).state ≡ st
+kept_so st (Ok done) h = absurd (false≢true h)
+kept_so st (Err code) h = refl
+
+-- a refused line changes nothing
+pub refused_kept : (st : State) (line : List ℕ) → (step st line).is_refused ≡ true → (step st line).state ≡ st
+unfolding step
+refused_kept st line h = kept_so st (acted st line) h
 
 -- a refused line has a reply
 pub refusal_told : (st : State) (line : List ℕ) → (step st line).is_refused ≡ true → (step st line).reply ≢ []
@@ -60,3 +70,7 @@ silent_kept st line passed =
 -- a line of each form but that of the empty line and the comment has a reply
 abbrev pub FormsAreAnswered : Type 0
 FormsAreAnswered = (st : State) (line : List ℕ) → form_of line ≢ Ok lines.Nothing → (step st line).reply ≢ []
+
+-- a reply begins with the word refused exactly where the line is refused
+abbrev pub RefusalsSaySo : Type 0
+RefusalsSaySo = (st : State) (line : List ℕ) → (answer_of (step st line) ≡ Refused) ↔ (take 7 (step st line).reply ≡ codes "refused")

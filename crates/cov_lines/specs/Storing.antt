@@ -1,5 +1,5 @@
 -- What a disk keeps of a run.
-use Rattle.std.specs.Prelude.{ℕ, ◌<◌, List, [], ◌∷◌, ◌++◌, length, Option, Some, None}
+use Rattle.std.specs.Prelude.{ℕ, ◌<◌, ◌≤◌, List, [], ◌∷◌, ◌++◌, length, Option, Some, None}
 use Rattle.cov_edit.specs.declared.command.Command.{Command}
 use Rattle.cov_history.specs.Verdict.{verdict}
 use Rattle.cov_history.specs.declared.refusal.Refusal.{Refusal}
@@ -26,3 +26,7 @@ unless_refused (Some refusal) history command = history
 -- the history with one command more, unless it refuses it
 abbrev pub grown : List Command → Command → List Command
 grown history command = unless_refused (verdict history command) history command
+
+-- the history has no command more, since it refuses this one
+abbrev pub IsNotGrown : List Command → Command → Type 0
+IsNotGrown history command = length (grown history command) ≤ length history

@@ -1,10 +1,11 @@
 // How a command is added: to the history and to the disk, before there is a reply.
-ghost use Rattle.std.specs.Prelude.{◌≡◌, ◌<◌, ◌≤◌, true, length, is_some, IfOk, OnOk, IfErr, IfSome};
+ghost use Rattle.std.specs.Prelude.{◌≡◌, ◌⊎◌, ◌<◌, ◌≤◌, true, length, is_some, IfOk, OnOk, IfErr, IfSome};
+ghost use Rattle.cov_base.specs.Causes.{Rose};
 ghost use Rattle.cov_disk.specs.Images.{LeavesOnly};
 ghost use Rattle.cov_lines.specs.Acting.{Changes};
 ghost use Rattle.cov_lines.specs.Adding.{HasReceipt, added_as, ended_by, confirmed};
 ghost use Rattle.cov_lines.specs.Step.{appended};
-ghost use Rattle.cov_lines.specs.Storing.{gated, grown, stored};
+ghost use Rattle.cov_lines.specs.Storing.{IsNotGrown, gated, grown, stored};
 ghost use Rattle.cov_loop.specs.Answers.{StopsAnswer};
 ghost use Rattle.cov_loop.specs.Keeping.{AreAll, IsEither};
 ghost use Rattle.cov_session.specs.Named.{named};
@@ -50,6 +51,11 @@ impl Server {
             (λ image. IsStored image (grown self.old.state.history command))) }
         ensures durable { AreAll (stored self.old.state) (D.images disk.old) →
             OnOk result (AreAll (stored self.new.state) (D.images disk.new)) }
+        ensures unwritten { IsNotGrown self.old.state.history command → disk.new ≡ disk.old }
+        ensures settled { AreAll (stored self.old.state) (D.images disk.old) →
+            Rose (D.faults disk.old) (D.faults disk.new) ⊎ (disk.new ≡ disk.old)
+            ⊎ AreAll (λ image. IsStored image (grown self.old.state.history command))
+            (D.images disk.new) }
         ensures stopped { IfErr result (λ ending.
             StopsAnswer ending (D.faults disk.old) (D.faults disk.new)) }
         ensures later { D.faults disk.old ≤ D.faults disk.new }

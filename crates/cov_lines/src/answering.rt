@@ -1,11 +1,12 @@
 // How a line is answered: what it adds is stored before there is a reply.
-ghost use Rattle.std.specs.Prelude.{◌≡◌, ◌<◌, ◌≤◌, ℕ, true, length, is_some, IfOk, OnOk, IfErr, IfSome};
+ghost use Rattle.std.specs.Prelude.{◌≡◌, ◌⊎◌, ◌<◌, ◌≤◌, ℕ, true, length, is_some, IfOk, OnOk, IfErr, IfSome};
+ghost use Rattle.cov_base.specs.Causes.{Rose};
 ghost use Rattle.cov_disk.specs.Images.{LeavesOnly};
 ghost use Rattle.cov_edit.specs.History.{option_count};
 ghost use Rattle.cov_lines.specs.Acting.{CanBeTold, Handles, IsPlain, Refuses};
 ghost use Rattle.cov_lines.specs.Adding.{command_added, ended_by, confirmed};
 ghost use Rattle.cov_lines.specs.Step.{acted, as_outcome, plainly, refused};
-ghost use Rattle.cov_lines.specs.Storing.{gated, grown, stored};
+ghost use Rattle.cov_lines.specs.Storing.{IsNotGrown, gated, grown, stored};
 ghost use Rattle.cov_lines.specs.Sweeping.{GoesOn, HasCounted};
 ghost use Rattle.cov_loop.specs.Answers.{Gives, StopsAnswer};
 ghost use Rattle.cov_loop.specs.Keeping.{AreAll, IsEither};
@@ -27,7 +28,7 @@ use std::alloc::Global;
 
 impl LineServer for Server {
     ghost use Rattle.cov_lines.specs.Growth.{commands_told, counts_rise, stored_told};
-    ghost use Rattle.cov_lines.specs.Laws.{long_kept, silent_kept, refusal_told, rows_told};
+    ghost use Rattle.cov_lines.specs.Laws.{long_kept, silent_kept, refusal_told, refused_kept, rows_told};
     ghost use Rattle.cov_lines.specs.States.{State};
     ghost use Rattle.cov_lines.specs.Step.{step};
     ghost use Rattle.cov_lines.specs.Sweeping.{GoesOn, goes_on_same};
@@ -61,6 +62,8 @@ impl LineServer for Server {
     }
 
     ghost refusal_told = { refusal_told };
+
+    ghost refused_kept = { refused_kept };
 
     ghost rows_told = { rows_told };
 
@@ -105,6 +108,12 @@ impl Server {
             (λ image. IsStored image (grown self.old.state.history addition.command))) }
         ensures durable { AreAll (stored self.old.state) (D.images disk.old) →
             OnOk result (AreAll (stored self.new.state) (D.images disk.new)) }
+        ensures unwritten { IsNotGrown self.old.state.history addition.command →
+            disk.new ≡ disk.old }
+        ensures settled { AreAll (stored self.old.state) (D.images disk.old) →
+            Rose (D.faults disk.old) (D.faults disk.new) ⊎ (disk.new ≡ disk.old)
+            ⊎ AreAll (λ image. IsStored image (grown self.old.state.history addition.command))
+            (D.images disk.new) }
         ensures stopped { IfErr result (λ ending.
             StopsAnswer ending (D.faults disk.old) (D.faults disk.new)) }
         ensures later { D.faults disk.old ≤ D.faults disk.new }

@@ -1,14 +1,15 @@
 // The server of a run, and how it is opened.
-ghost use Rattle.std.specs.Prelude.{◌≡◌, ◌≤◌, List, ℕ, length, IfOk, IfErr, IfSome};
+ghost use Rattle.std.specs.Prelude.{◌≡◌, ◌<◌, ◌≤◌, List, ℕ, Some, length, IfOk, IfErr, IfSome};
 ghost use Rattle.cov_disk.specs.Images.{LeavesOnly};
 ghost use Rattle.cov_edit.specs.declared.command.Command.{Command};
 ghost use Rattle.cov_journal.specs.Gates.{HasGate};
+ghost use Rattle.cov_journal.specs.Moments.{KeepsImages};
 ghost use Rattle.cov_journal.specs.Reading.{IsNoStore};
 ghost use Rattle.cov_lines.specs.Opening.{BeginsWith};
 ghost use Rattle.cov_lines.specs.States.{starting};
 ghost use Rattle.cov_lines.specs.Sweeping.{IsSwept};
 ghost use Rattle.cov_store.specs.Damages.{HasDamage};
-ghost use Rattle.cov_store.specs.Opening.{IsImageFaultOf, HasReason, IsOfVerdict, OnImageRefused, TellsDamage, TellsNoStore};
+ghost use Rattle.cov_store.specs.Opening.{IsImageFaultOf, HasReason, IsOfVerdict, TellsDamage, TellsNoStore};
 ghost use Rattle.cov_store.specs.Stands.{StandsFor, IsStored, gate_of};
 ghost use Rattle.cov_store.specs.declared.damage.StoreDamage.{StoreDamage};
 
@@ -88,9 +89,10 @@ impl Server {
             IfSome (D.contents disk.new) (λ image. IsStored image server.state.history)) }
         ensures gate { IfOk result (λ server.
             HasGate (D.contents disk.new) (gate_of server.state.history)) }
-        ensures kept { IfErr result (λ fault.
-            IfSome (D.contents disk.old) (λ image.
-            OnImageRefused fault (D.contents disk.new ≡ D.contents disk.old))) }
+        ensures kept { IfSome (D.contents disk.old) (λ image. 13 < length image →
+            D.contents disk.new ≡ Some image) }
+        ensures images { IfSome (D.contents disk.old) (λ image. 13 < length image →
+            KeepsImages D.images D.moment D.images_since disk.old disk.new) }
         ensures stays { (history : List Command) →
             IfSome (D.contents disk.old) (λ image. StandsFor image history →
             IfSome (D.contents disk.new) (λ now. StandsFor now history)) }

@@ -1,13 +1,15 @@
-use Rattle.std.proofs.Common.{◌∙◌, sym, ap, subst, Ok}
+use Rattle.std.proofs.Common.{◌≡◌, ◌⊎◌, ◌∙◌, ◌≤◌, inl, inr, refl, sym, ap, subst, length, Ok}
 use Rattle.std.specs.Prelude.{IfOk}
 use Rattle.std.proofs.lemmas.Result.{on_ok_weaker}
+use Rattle.cov_base.specs.Causes.{Rose}
 use Rattle.cov_loop.specs.Answers.{Gives}
 use Rattle.cov_loop.specs.Keeping.{AreAll}
 use Rattle.cov_lines.specs.Acting.{Handles, Stops}
 use Rattle.cov_lines.specs.Adding.{command_added}
 use Rattle.cov_lines.specs.States.{State}
 use Rattle.cov_lines.specs.Step.{acted, as_outcome, plainly, refused, step}
-use Rattle.cov_lines.specs.Storing.{grown, stored}
+use Rattle.cov_lines.specs.Storing.{IsNotGrown, grown, stored}
+use Rattle.cov_store.specs.Stands.{IsStored}
 use Rattle.cov_lines.specs.declared.handled.Handled.{Handled}
 use Rattle.cov_codes.specs.declared.stop.Stop.{Stop}
 use Rattle.cov_lines.proofs.Additions.{done-gives, refused-step, replied, step-added, step-grown}
@@ -85,3 +87,33 @@ returns-in-Err-Refused-clause-durable g c = λ all.
     let line = c.args.line.now in
     let stops = subst (λ (s : Stop). Stops (acted st line) st c.act.new.self.state s) c.in-Err-Refused.field-0-is c.in-Err-Refused.ensures.handles in
     replied c.refuse.result (subst (λ (t : State). AreAll (stored t) (g.D.Disk.images c.args.disk.now)) (sym stops.same) all)
+
+pub returns-in-Ok-Adds-clause-unwritten : goal.returns-in-Ok-Adds-clause-unwritten
+returns-in-Ok-Adds-clause-unwritten g c none =
+    let st = c.args.self.now.state in
+    let line = c.args.line.now in
+    let a = c.in-Ok-Adds.addition in
+    let adding = subst (λ (h : Handled). Handles (acted st line) st c.act.new.self.state (Ok h)) c.in-Ok-Adds.field-0-is c.in-Ok-Adds.ensures.handles in
+    c.add.ensures.unwritten
+    (subst (λ (t : State). IsNotGrown t.history a.command) (sym adding.same) (subst (λ h. length h ≤ length st.history) (step-grown st a line adding.is) none))
+
+pub returns-in-Ok-Adds-clause-settled : goal.returns-in-Ok-Adds-clause-settled
+returns-in-Ok-Adds-clause-settled g c all =
+    let st = c.args.self.now.state in
+    let line = c.args.line.now in
+    let a = c.in-Ok-Adds.addition in
+    let old = c.args.disk.now in
+    let new = c.add.new.disk in
+    let adding = subst (λ (h : Handled). Handles (acted st line) st c.act.new.self.state (Ok h)) c.in-Ok-Adds.field-0-is c.in-Ok-Adds.ensures.handles in
+    subst (λ h. Rose (g.D.Disk.faults old) (g.D.Disk.faults new) ⊎ (new ≡ old) ⊎ AreAll (λ image. IsStored image h) (g.D.Disk.images new))
+    (ap (λ (t : State). grown t.history a.command) adding.same ∙ sym (step-grown st a line adding.is))
+    (c.add.ensures.settled (subst (λ (t : State). AreAll (stored t) (g.D.Disk.images old)) (sym adding.same) all))
+
+pub returns-in-Ok-Done-clause-settled : goal.returns-in-Ok-Done-clause-settled
+returns-in-Ok-Done-clause-settled g c all = inr (inl refl)
+
+pub returns-in-Err-Refused-clause-settled : goal.returns-in-Err-Refused-clause-settled
+returns-in-Err-Refused-clause-settled g c all = inr (inl refl)
+
+pub returns-in-Err-Memory-clause-settled : goal.returns-in-Err-Memory-clause-settled
+returns-in-Err-Memory-clause-settled g c all = inr (inl refl)

@@ -1,5 +1,6 @@
-use Rattle.std.proofs.Common.{◌≡◌, ◌∙◌, sym, ap, subst, ℕ, ◌<◌, ◌≤◌, List, length, map, arith}
+use Rattle.std.proofs.Common.{◌≡◌, ◌⊎◌, ◌∙◌, sym, ap, subst, ℕ, ◌<◌, ◌≤◌, List, length, map, arith}
 use Rattle.std.specs.Prelude.{IfErr, IfOk, IfSome, OnOk}
+use Rattle.cov_base.specs.Causes.{Rose}
 use Rattle.cov_disk.specs.Images.{LeavesOnly}
 use Rattle.cov_loop.specs.Answers.{StopsAnswer}
 use Rattle.cov_loop.specs.Keeping.{AreAll, IsEither}
@@ -9,8 +10,8 @@ use Rattle.cov_lines.specs.Acting.{Changes}
 use Rattle.cov_lines.specs.Adding.{HasReceipt, added_as}
 use Rattle.cov_lines.specs.States.{Serving, ServerValue, State}
 use Rattle.cov_lines.specs.Step.{appended}
-use Rattle.cov_lines.specs.Storing.{gated, grown, stored}
-use Rattle.cov_lines.proofs.Appended.{appends, carried, fewer-commits, has-receipt, moments, no-shorter, still-open, with_history, write-stops}
+use Rattle.cov_lines.specs.Storing.{IsNotGrown, gated, grown, stored}
+use Rattle.cov_lines.proofs.Appended.{appends, carried, fewer-commits, has-receipt, moments, no-shorter, settled, still-open, unwritten, with_history, write-stops}
 use Rattle.cov_lines.proofs.server.Server.append.Goals as goal
 
 pub invariant_of-state : goal.invariant_of-state
@@ -116,3 +117,22 @@ returns-clause-stopped g c =
     let new = c.append.new.disk in
     subst (λ res. IfErr res (λ ending. StopsAnswer ending (g.D.Disk.faults old) (g.D.Disk.faults new))) (sym c.as_added.ensures)
     (write-stops (g.D.Disk.faults old) (g.D.Disk.faults new) r c.append.ensures.failed)
+
+pub returns-clause-unwritten : goal.returns-clause-unwritten
+returns-clause-unwritten g c none =
+    let st : State = record { history = c.state.inside.engine.history; sessions = map as_named c.state.inside.sessions; trees = c.state.inside.trees } in
+    let is : st ≡ c.args.self.now.state = ap (λ (v : Serving). v.state) c.state.view_is ∙ ap (λ (v : ServerValue). v.state) c.self.view_is in
+    let k = c.args.command in
+    unwritten st.history k c.args.disk.now c.append.new.disk c.append.result c.append.ensures.accepted c.append.ensures.refused c.append.ensures.same
+    (subst (λ (t : State). IsNotGrown t.history k) (sym is) none)
+
+pub returns-clause-settled : goal.returns-clause-settled
+returns-clause-settled g c all =
+    let st : State = record { history = c.state.inside.engine.history; sessions = map as_named c.state.inside.sessions; trees = c.state.inside.trees } in
+    let is : st ≡ c.args.self.now.state = ap (λ (v : Serving). v.state) c.state.view_is ∙ ap (λ (v : ServerValue). v.state) c.self.view_is in
+    let k = c.args.command in
+    let old = c.args.disk.now in
+    let new = c.append.new.disk in
+    subst (λ (t : State). Rose (g.D.Disk.faults old) (g.D.Disk.faults new) ⊎ (new ≡ old) ⊎ AreAll (λ image. IsStored image (grown t.history k)) (g.D.Disk.images new)) is
+    (settled st.history k old new g.D.Disk.images (g.D.Disk.faults old) (g.D.Disk.faults new) c.append.result c.append.ensures.accepted c.append.ensures.same c.append.ensures.failed
+    (c.append.ensures.stored (subst (λ (t : State). AreAll (stored t) (g.D.Disk.images old)) (sym is) all)))
