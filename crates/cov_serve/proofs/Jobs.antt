@@ -9,10 +9,10 @@ use Rattle.cov_loop.specs.Counts.{Counts}
 use Rattle.cov_loop.specs.Turns.{WritesFront, output}
 use Rattle.cov_loop.proofs.CallerLemmas.{fault_turn}
 use Rattle.cov_out.specs.declared.row.OutRow.{OutRow}
-use Rattle.cov_serve.specs.Jobs.{ComesTo, EndsAs, IsCaused, IsSettled, IsShort, JobOutcome, NoneRose, OnEnd, RowsPrecede, StandsForFront, StandsForTold, StartsFrom, TellsUnopened, history_after, outcome, replies, rows_of, served_demo, served_script, served_status}
+use Rattle.cov_serve.specs.Jobs.{ComesTo, EndsAs, IsCaused, IsSettled, IsShort, IsStore, JobOutcome, NoneRose, OnEnd, RowsPrecede, StandsForFront, StandsForTold, StartsFrom, TellsUnopened, history_after, outcome, replies, rows_of, served_demo, served_script, served_status}
 use Rattle.cov_script.specs.Demonstration.{checkout_lines, made_lines}
 use Rattle.cov_lines.specs.Laws.{rows_told}
-use Rattle.cov_serve.specs.Program.{EndsServed, OnServed, OnUnopened, PutsLast, ReadsAs, StopsDemo, StopsServing, TellsFault, check_line, demo_line, usage_line}
+use Rattle.cov_serve.specs.Program.{EndsServed, OnServed, PutsLast, ReadsAs, StopsDemo, StopsServing, TellsFault, check_line, demo_line, usage_line}
 use Rattle.cov_lines.specs.States.{starting}
 use Rattle.cov_lines.specs.Step.{model, step}
 use Rattle.cov_serve.specs.TextServing.{rows_after}
@@ -163,24 +163,19 @@ module _ (old new : Counts) where
   served_end (statuses.Damaged number cause) Q P s h to = absurd s
   served_end status Q P s h to = tt
 
-  pub served_kept : (status : Status) (P : Type 0) → StopsServing old new status → OnUnopened status P
-  served_kept statuses.NotAStore P s = absurd s
-  served_kept (statuses.Damaged number cause) P s = absurd s
-  served_kept status P s = tt
-
   turned : (most was now : ℕ) → most + was ≤ 0 + now → was + most ≤ now
   turned most was now h = omega (arith, h)
 
-  pub served_caused : (contents : Option (List ℕ)) (status : Status) → StopsServing old new status → IsCaused (OnStore Run) contents old new status
-  served_caused contents statuses.Done h = refl
-  served_caused contents statuses.SomeRefused h = refl
-  served_caused contents statuses.NoMemory h = tt
-  served_caused contents statuses.ReadFault h = (refl, h)
-  served_caused contents statuses.WriteFault h = h
-  served_caused contents statuses.DiskFault h = (refl, h)
-  served_caused contents statuses.TreesFault h = (refl, h)
-  served_caused contents statuses.TooMuch (given, ended, ends) = (refl, turned TOO_MANY_SCRIPT_BYTES old.given new.given given, ends)
-  served_caused contents status h = absurd h
+  pub served_caused : (contents : Option (List ℕ)) (status : Status) → IfSome contents IsStore → StopsServing old new status → IsCaused (OnStore Run) contents old new status
+  served_caused contents statuses.Done store h = (refl, store)
+  served_caused contents statuses.SomeRefused store h = (refl, store)
+  served_caused contents statuses.NoMemory store h = tt
+  served_caused contents statuses.ReadFault store h = (refl, h)
+  served_caused contents statuses.WriteFault store h = h
+  served_caused contents statuses.DiskFault store h = (refl, h)
+  served_caused contents statuses.TreesFault store h = (refl, h)
+  served_caused contents statuses.TooMuch store (given, ended, ends) = (refl, turned TOO_MANY_SCRIPT_BYTES old.given new.given given, ends)
+  served_caused contents status store h = absurd h
 
   given_few : (left left' : Option (List ℕ)) (text : List ℕ) → CountsGiven left left' old.given new.given → left ≡ Some text → new.given ≤ length text + old.given
   given_few None left' text h e = absurd (cc)
@@ -240,24 +235,19 @@ demo_end sink sink' disk disk' trees trees' status P s to = tt
 pub served_done : (status : Status) (P : Type 0) → OnServed status (λ refused. P) → status ≡ statuses.Done → P
 served_done status P h e = served_on status P h (subst EndsServed (sym e) tt)
 
-pub demo_kept : (sink sink' disk disk' trees trees' : ℕ) (status : Status) (P : Type 0) → StopsDemo status sink sink' disk disk' trees trees' → OnUnopened status P
-demo_kept sink sink' disk disk' trees trees' statuses.NotAStore P s = absurd s
-demo_kept sink sink' disk disk' trees trees' (statuses.Damaged number cause) P s = absurd s
-demo_kept sink sink' disk disk' trees trees' status P s = tt
-
 -- the disk may have failed before
 pub demo_later : (sink sink' disk disk1 disk' trees trees' : ℕ) (status : Status) → disk ≤ disk1 → StopsDemo status sink sink' disk1 disk' trees trees' → StopsDemo status sink sink' disk disk' trees trees'
 demo_later sink sink' disk disk1 disk' trees trees' statuses.DiskFault le h = omega (arith, le, h)
 demo_later sink sink' disk disk1 disk' trees trees' status le h = h
 
-pub demo_caused : (number : ℕ) (contents : Option (List ℕ)) (old new : Counts) (status : Status) → StopsDemo status old.sink new.sink old.disk new.disk old.trees new.trees
-    → IsCaused (OnStore (Demo number)) contents old new status
-demo_caused number contents old new statuses.Done h = refl
-demo_caused number contents old new statuses.NoMemory h = tt
-demo_caused number contents old new statuses.WriteFault h = h
-demo_caused number contents old new statuses.DiskFault h = (refl, h)
-demo_caused number contents old new statuses.TreesFault h = (refl, h)
-demo_caused number contents old new status h = absurd h
+pub demo_caused : (number : ℕ) (contents : Option (List ℕ)) (old new : Counts) (status : Status) → IfSome contents IsStore
+    → StopsDemo status old.sink new.sink old.disk new.disk old.trees new.trees → IsCaused (OnStore (Demo number)) contents old new status
+demo_caused number contents old new statuses.Done store h = (refl, store)
+demo_caused number contents old new statuses.NoMemory store h = tt
+demo_caused number contents old new statuses.WriteFault store h = h
+demo_caused number contents old new statuses.DiskFault store h = (refl, h)
+demo_caused number contents old new statuses.TreesFault store h = (refl, h)
+demo_caused number contents old new status store h = absurd h
 
 pub demo_unless : (number : ℕ) (history : List Command) (old new : Counts) (status : Status) → StopsDemo status old.sink new.sink old.disk new.disk old.trees new.trees
     → NoneRose (OnStore (Demo number)) (served_demo history number) old new → (status ≡ statuses.Done) ⊎ (status ≡ statuses.NoMemory)

@@ -4,6 +4,7 @@ pub mod DemoParts
 pub mod DemoScript
 pub mod Endings
 pub mod Jobs
+pub mod Kept
 pub mod TextServing
 pub mod Turns
 pub mod Runs

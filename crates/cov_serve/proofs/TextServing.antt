@@ -2,14 +2,15 @@
 use Rattle.std.proofs.Common.{◌≡◌, ◌∙◌, refl, sym, ap, ℕ, ◌≤◌, arith, true, false, List, [], ◌∷◌, ◌++◌, append-nil, append_assoc, length, Option, Some, IfSome}
 use Rattle.std.proofs.lemmas.Bool.{false≢true}
 use Rattle.std.proofs.lemmas.List.{nil_from_length}
-use Rattle.cov_loop.specs.Keeping.{KeepsAnswered}
+use Rattle.cov_base.specs.Lines.{lines_of}
+use Rattle.cov_loop.specs.Keeping.{AddsNoCommand, KeepsAnswered}
 use Rattle.cov_loop.specs.Outcome.{Outcome, answers}
 use Rattle.cov_loop.specs.Turns.{AtEnd, HasRows, HasStored, IsWhole, WritesFront}
 use Rattle.cov_loop.specs.declared.ending.Ending.{Ending}
 use Rattle.cov_loop.specs.declared.ending.Ending.TheVariants as endings
 use Rattle.cov_loop.proofs.CallerLemmas.{nothing_first, nothing_next}
 use Rattle.cov_out.specs.declared.row.OutRow.{OutRow}
-use Rattle.cov_serve.specs.TextServing.{is_end}
+use Rattle.cov_serve.specs.TextServing.{answers_after, is_end}
 
 -- what holds at the end of a script, at the end
 pub at_end : (ending : Ending) (P : Type 0) → is_end ending ≡ true → AtEnd ending P → P
@@ -65,6 +66,20 @@ module _ {S : Type 0} (step : S → List ℕ → Outcome S) (stored : S → List
     stands = is;
     answered = λ ls ms e short. quiet_all start ls (nil_from_length (answers step start ls).reply (omega (arith, short, ap length none)));
   }
+
+module _ {S : Type 0} (step : S → List ℕ → Outcome S) (count : S → ℕ) (rises : (s : S) (line : List ℕ) → count s ≤ count (step s line).state) where
+  -- no lines take a command away
+  all_rise : (s : S) (ls : List (List ℕ)) → count s ≤ count (answers step s ls).state
+  all_rise s [] = omega arith
+  all_rise s (l ∷ ls) = omega (arith, rises s l, all_rise (step s l).state ls)
+
+  -- where two texts add no command, neither does the first, nor the second
+  pub first_adds_none : (start : S) (made told : List ℕ) → AddsNoCommand count start (answers_after step start made told) → AddsNoCommand count start (answers step start (lines_of made))
+  first_adds_none start made told few = omega (arith, few, all_rise (answers step start (lines_of made)).state (lines_of told))
+
+  pub second_adds_none : (start : S) (made told : List ℕ) → AddsNoCommand count start (answers_after step start made told)
+      → AddsNoCommand count (answers step start (lines_of made)).state (answers_after step start made told)
+  second_adds_none start made told few = omega (arith, few, all_rise start (lines_of made))
 
 -- what is written of the first of two lists is of both
 pub front_first_of : {X : Type 0} (before xs ys : List X) (written : Option (List X)) → WritesFront before xs written → WritesFront before (xs ++ ys) written

@@ -12,8 +12,8 @@ use Rattle.cov_loop.specs.Counts.{Counts}
 use Rattle.cov_loop.specs.Turns.{WritesFront}
 use Rattle.cov_out.specs.declared.row.OutRow.{OutRow}
 use Rattle.cov_script.specs.Replies.{IsCodeOf}
-use Rattle.cov_serve.specs.Jobs.{EndsAs, IsCaused, JobOutcome, OnEnd, RowsPrecede, TellsUnopened, replies, rows_of, told_line, told_of_none}
-use Rattle.cov_serve.specs.Program.{DamageCanBeTold, EndsServed, EndsWithLine, OnServed, OnUnopened, PutsLast, ReadsAs, TellsFault, damaged_line, not_a_store_line}
+use Rattle.cov_serve.specs.Jobs.{EndsAs, IsCaused, IsStore, JobOutcome, OnEnd, RowsPrecede, TellsUnopened, replies, rows_of, told_line, told_of_none}
+use Rattle.cov_serve.specs.Program.{DamageCanBeTold, EndsServed, EndsWithLine, OnServed, PutsLast, ReadsAs, TellsFault, damaged_line, not_a_store_line}
 use Rattle.cov_lines.specs.States.{State}
 use Rattle.cov_serve.specs.declared.job.Job.{Job}
 use Rattle.cov_serve.specs.declared.job.Job.TheVariants.{OnStore}
@@ -21,7 +21,7 @@ use Rattle.cov_serve.specs.declared.job.StoreJob.{StoreJob}
 use Rattle.cov_serve.specs.declared.status.Status.{Status}
 use Rattle.cov_serve.specs.declared.status.Status.TheVariants as statuses
 use Rattle.cov_store.specs.Damages.{HasDamage}
-use Rattle.cov_store.specs.Opening.{HasReason, IsImageFaultOf, IsOfVerdict, MayStop, OnImageRefused, TellsDamage, TellsNoStore}
+use Rattle.cov_store.specs.Opening.{HasReason, IsImageFaultOf, IsOfVerdict, MayStop, TellsDamage, TellsNoStore}
 use Rattle.cov_store.specs.Stands.{StandsFor}
 use Rattle.cov_store.specs.declared.damage.StoreDamage.{StoreDamage}
 use Rattle.cov_store.specs.declared.damage.StoreDamage.TheVariants as damages
@@ -37,6 +37,11 @@ reads_gives (Some image) history P reads all = all reads
 pub reads_as : (o : Option (List ℕ)) (history : List Command) → ReadsAs o history → IfSome o (λ image. StandsFor image history)
 reads_as None history reads = absurd reads
 reads_as (Some image) history reads = reads
+
+-- a disk that is opened is a store, if it tells its bytes
+pub a_store : (o : Option (List ℕ)) (history : List Command) → IfSome o (λ image. StandsFor image history) → IfSome o IsStore
+a_store None history h = tt
+a_store (Some image) history h = (history, h)
 
 -- a fault can be told where its refusal is one of the verdict
 pub can_be_told : (fault : StoreFault) → IsOfVerdict fault → DamageCanBeTold fault
@@ -74,11 +79,6 @@ on_any_end statuses.Usage P h = h
 on_any_end statuses.NotAStore P h = h
 on_any_end (statuses.Damaged number cause) P h = h
 on_any_end status P h = tt
-
-on_unopened : (status : Status) (P : Type 0) → P → OnUnopened status P
-on_unopened statuses.NotAStore P h = h
-on_unopened (statuses.Damaged number cause) P h = h
-on_unopened status P h = tt
 
 -- a run is cut short: memory is wanting, or the sink or the disk failed
 abbrev pub IsCut : ℕ → ℕ → ℕ → ℕ → Status → Type 0
@@ -141,12 +141,6 @@ pub line_served : (sink sink' : ℕ) (status : Status) (P : Type 0) → EndsWith
 line_served sink sink' statuses.Done P e to = to refl
 line_served sink sink' statuses.SomeRefused P e to = let other : statuses.SomeRefused ≡ statuses.Done = e in absurd (cc)
 line_served sink sink' status P e to = tt
-
--- no line but that of a disk that isn't opened ends a run with its status
-pub line_kept : (wanted status : Status) (sink sink' : ℕ) (P : Type 0) → OnUnopened wanted P → EndsWithLine wanted sink sink' status → OnUnopened status P
-line_kept wanted statuses.NoMemory sink sink' P h e = tt
-line_kept wanted statuses.WriteFault sink sink' P h e = tt
-line_kept wanted status sink sink' P h e = subst (λ s. OnUnopened s P) (sym e) h
 
 -- no byte more is written, and no row
 pub none_written : {X : Type 0} (before all : List X) (written : Option (List X)) → written ≡ Some before → WritesFront before all written
@@ -274,17 +268,6 @@ module _ (all : JobOutcome) (sink sink' disk disk' : ℕ) (old new : Option (Lis
         at (faults.Damaged number cause options) h t = absurd h
         at faults.DiskFault h t = (subst (IsCut sink sink' disk disk') (sym t.is) h, t.same)
         at faults.Memory h t = (subst (IsCut sink sink' disk disk') (sym t.is) tt, t.same)
-
-    -- the disk is as before where it is refused for what it holds
-    pub fault_kept : (contents contents' : Option (List ℕ)) → IfSome contents (λ image. OnImageRefused fault (contents' ≡ contents)) → OnUnopened status (IfSome contents (λ image. contents' ≡ Some image))
-    fault_kept None contents' h = on_unopened status (Unit {0}) tt
-    fault_kept (Some image) contents' h = at fault h t
-      where
-        at : (fault : StoreFault) → OnImageRefused fault (contents' ≡ Some image) → TellsFault fault old new sink sink' status → OnUnopened status (contents' ≡ Some image)
-        at faults.NotAStore h t = on_unopened status (contents' ≡ Some image) h
-        at (faults.Damaged number cause options) h t = on_unopened status (contents' ≡ Some image) h
-        at faults.DiskFault h t = subst (λ s. OnUnopened s (contents' ≡ Some image)) (sym t.is) tt
-        at faults.Memory h t = subst (λ s. OnUnopened s (contents' ≡ Some image)) (sym t.is) tt
 
 -- the cause of the status
 pub fault_caused : (job : StoreJob) (contents : Option (List ℕ)) (old new : Counts) (before now : Option (List ℕ)) (status : Status) (fault : StoreFault)

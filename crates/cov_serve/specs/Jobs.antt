@@ -18,7 +18,7 @@ use Rattle.cov_serve.specs.declared.job.Job.TheVariants.{OnStore, Unknown}
 use Rattle.cov_serve.specs.declared.job.StoreJob.TheVariants.{Run, Check, Demo}
 use Rattle.cov_serve.specs.declared.status.Status.{Status}
 use Rattle.cov_serve.specs.declared.status.Status.TheVariants as statuses
-use Rattle.cov_store.specs.Damages.{HasDamage}
+use Rattle.cov_store.specs.Damages.{HasDamage, IsUnopened}
 use Rattle.cov_store.specs.Stands.{StandsFor}
 use Rattle.cov_store.specs.declared.damage.StoreDamage.{StoreDamage}
 
@@ -178,6 +178,15 @@ abbrev pub TellsUnopened : Option (List ℕ) → JobOutcome → Type 0
 TellsUnopened None all = ⊥
 TellsUnopened (Some image) all = TellsImage image all
 
+-- a job leaves a disk as it is: the disk can't be opened, or it has over 13 bytes, so that it isn't made anew, and the job adds no
+-- command to its history
+abbrev pub LeavesDisk : Job → Option (List ℕ) → Option (List ℕ) → Type 0
+LeavesDisk job None left = ⊥
+LeavesDisk job (Some image) left =
+    IsUnopened image
+    ⊎ ((history : List Command) × (text : List ℕ) × StartsFrom job (Some image) left history text
+    × (13 < length image) × (length (history_after history (outcome job history text).turns) ≤ length history))
+
 -- what a job comes to over its devices
 abbrev pub ComesTo : Job → Option (List ℕ) → Option (List ℕ) → JobOutcome → Type 0
 ComesTo job contents left all =
@@ -239,10 +248,14 @@ pub record StandsForTold (history : List Command) (turns : List Turn) (bytes ima
   pub told : (ts us : List Turn) → turns ≡ ts ++ us
       → length (replies ts) ≤ length bytes → length (history_after history ts) ≤ front.count
 
+-- an image is that of a store: it stands for a history
+abbrev pub IsStore : List ℕ → Type 0
+IsStore image = (history : List Command) × StandsFor image history
+
 -- the cause of each status, whatever the disk holds
 abbrev pub IsCaused : Job → Option (List ℕ) → Counts → Counts → Status → Type 0
-IsCaused job contents old new statuses.Done = opens_disk job ≡ true
-IsCaused job contents old new statuses.SomeRefused = can_refuse job ≡ true
+IsCaused job contents old new statuses.Done = (opens_disk job ≡ true) × IfSome contents IsStore
+IsCaused job contents old new statuses.SomeRefused = (can_refuse job ≡ true) × IfSome contents IsStore
 IsCaused job contents old new statuses.Usage = job ≡ Unknown
 IsCaused job contents old new statuses.NoMemory = Unit {0}
 IsCaused job contents old new statuses.ReadFault = (reads_source job ≡ true) × Rose old.source new.source

@@ -77,12 +77,6 @@ OnServed statuses.Done P = P false
 OnServed statuses.SomeRefused P = P true
 OnServed status P = Unit {0}
 
--- what holds with the status of a disk that is no store or has damage
-abbrev pub OnUnopened : Status → Type 0 → Type 0
-OnUnopened statuses.NotAStore P = P
-OnUnopened (statuses.Damaged number cause) P = P
-OnUnopened status P = Unit {0}
-
 -- a run ends with the status that its last line has, unless the sink fails or memory is wanting
 abbrev pub EndsWithLine : Status → ℕ → ℕ → Status → Type 0
 EndsWithLine wanted sink sink' statuses.NoMemory = Unit {0}

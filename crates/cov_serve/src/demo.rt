@@ -79,6 +79,9 @@ pub(crate) fn serve_demo<K: Sink, D: Disk, T: Trees>(
         0 < length bytes →
         AreAll (λ image. StandsFor image (history_after history (served_demo history number).turns))
         (D.images disk.new) }
+    ensures unwritten { (history : List Command) → server.state ≡ starting history →
+        length (history_after history (served_demo history number).turns) ≤ length history →
+        disk.new ≡ disk.old }
     ensures stopped { StopsDemo result (K.faults out.old) (K.faults out.new)
         (D.faults disk.old) (D.faults disk.new) (T.faults trees.old) (T.faults trees.new) }
     ensures later { K.faults out.old ≤ K.faults out.new }

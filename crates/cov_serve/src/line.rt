@@ -1,13 +1,13 @@
 // One line: what it does, what it stores, the rows that it writes and its reply.
-ghost use Rattle.std.specs.Prelude.{◌≡◌, ◌⊎◌, ◌≤◌, ◌++◌, List, ℕ, Some, IfOk, OnOk, OnErr, IfErr, IfSome};
+ghost use Rattle.std.specs.Prelude.{◌≡◌, ◌⊎◌, ◌≤◌, ◌++◌, List, ℕ, Some, true, IfOk, OnOk, OnErr, IfErr, IfSome};
 ghost use Rattle.cov_disk.specs.Images.{LeavesOnly};
 ghost use Rattle.cov_io.specs.Devices.{AppendsAll, AppendsSome};
 ghost use Rattle.cov_journal.specs.Gates.{HasGate};
 ghost use Rattle.cov_lines.specs.Step.{step};
-ghost use Rattle.cov_lines.specs.Storing.{stored};
+ghost use Rattle.cov_lines.specs.Storing.{count, stored};
 ghost use Rattle.cov_lines.specs.Sweeping.{GoesOn};
 ghost use Rattle.cov_loop.specs.Answers.{IsServed};
-ghost use Rattle.cov_loop.specs.Keeping.{AreAll, IsEither};
+ghost use Rattle.cov_loop.specs.Keeping.{AddsNoCommand, AreAll, IsEither};
 ghost use Rattle.cov_serve.specs.Statuses.{StopsWithStatus};
 ghost use Rattle.cov_store.specs.Stands.{gate_of};
 
@@ -20,7 +20,7 @@ use cov_out::Trees;
 
 /// Serves one line: stores the command that it adds on the disk, writes its rows of trees, one call each, and then puts its reply in one
 /// call. The server counts the commit that a line adds, and with each 64th of its run the engine is swept: then each entry of its table
-/// is reached from a node that is kept. At an `Err` the server is gone and the run ends.
+/// is reached from a node that is kept. A line that adds no command leaves the disk as it is. At an `Err` the server is gone and the run ends.
 pub fn serve_line<K: Sink, D: Disk, T: Trees>(
     mut server: Server,
     line: &[u8],
@@ -59,6 +59,11 @@ pub fn serve_line<K: Sink, D: Disk, T: Trees>(
         K.written out.old ≡ Some before →
         K.written out.new ≡ Some (before ++ (step server.state line.now).reply) →
         AreAll (stored (step server.state line.now).state) (D.images disk.new) }
+
+    // A line that adds no command, as one that is refused, leaves the disk as it is, at an `Err` too.
+    ensures unwritten { AddsNoCommand count server.state (step server.state line.now) →
+        disk.new ≡ disk.old }
+    ensures refused { (step server.state line.now).is_refused ≡ true → disk.new ≡ disk.old }
 
     ensures goes_on { IfOk result (λ next. GoesOn server next.0) }
 

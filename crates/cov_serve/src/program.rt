@@ -5,14 +5,16 @@ ghost use Rattle.cov_disk.specs.Images.{LeavesOnly};
 ghost use Rattle.cov_edit.specs.declared.command.Command.{Command};
 ghost use Rattle.cov_io.specs.Progress.{CountsGiven};
 ghost use Rattle.cov_journal.specs.Gates.{HasGate};
+ghost use Rattle.cov_journal.specs.Moments.{KeepsImages};
 ghost use Rattle.cov_lines.specs.States.{starting};
 ghost use Rattle.cov_lines.specs.Step.{model, step};
+ghost use Rattle.cov_lines.specs.Storing.{count};
 ghost use Rattle.cov_loop.specs.Counts.{Later, counts};
-ghost use Rattle.cov_loop.specs.Keeping.{AreAll};
+ghost use Rattle.cov_loop.specs.Keeping.{AddsNoCommand, AreAll};
 ghost use Rattle.cov_loop.specs.Turns.{RowsComeFirst, WritesFront};
 ghost use Rattle.cov_out.specs.declared.row.OutRow.{OutRow};
-ghost use Rattle.cov_serve.specs.Jobs.{ComesTo, EndsAs, IsCaused, IsSettled, IsShort, JobOutcome, NoneRose, OnEnd, RowsPrecede, StandsForFront, StandsForTold, StartsFrom, TellsUnopened, history_after, job_of, opens_disk, outcome, reads_source, replies, rows_of, served_script, stores_first, writes_trees};
-ghost use Rattle.cov_serve.specs.Program.{OnServed, OnUnopened, PutsLast, ReadsAs, StopsServing, check_line};
+ghost use Rattle.cov_serve.specs.Jobs.{ComesTo, EndsAs, IsCaused, IsSettled, IsShort, JobOutcome, LeavesDisk, NoneRose, OnEnd, RowsPrecede, StandsForFront, StandsForTold, StartsFrom, TellsUnopened, history_after, job_of, opens_disk, outcome, reads_source, replies, rows_of, served_script, stores_first, writes_trees};
+ghost use Rattle.cov_serve.specs.Program.{OnServed, PutsLast, ReadsAs, StopsServing, check_line};
 ghost use Rattle.cov_serve.specs.declared.status.Status.TheVariants.{Done, NoMemory};
 ghost use Rattle.cov_store.specs.Stands.{StandsFor, IsStored, gate_of};
 
@@ -73,15 +75,17 @@ pub fn run<S: Source, K: Sink, D: Disk, T: Trees>(
         K.written out.old ≡ Some before → T.rows trees.old ≡ Some rows →
         RowsPrecede all.turns before rows (K.written out.new) (T.rows trees.new) }
 
-    // A read of the disk gives the history that the job leaves. A disk that isn't opened reads as before.
+    // A read of the disk gives the history that the job leaves. A disk that can't be opened, and one of over 13 bytes to which the job
+    // adds no command, reads as before and has no image more, with every status.
     ensures stands { (history : List Command) (text : List ℕ) →
         ReadsAs (D.contents disk.old) history →
         StartsFrom (job_of words.now) (D.contents disk.old) (S.left script.old) history text →
         IsSettled (job_of words.now) result →
         IfSome (D.contents disk.new) (λ image.
         StandsFor image (history_after history (outcome (job_of words.now) history text).turns)) }
-    ensures kept { OnUnopened result
-        (IfSome (D.contents disk.old) (λ image. D.contents disk.new ≡ Some image)) }
+    ensures kept { LeavesDisk (job_of words.now) (D.contents disk.old) (S.left script.old) →
+        (D.contents disk.new ≡ D.contents disk.old)
+        × KeepsImages D.images D.moment D.images_since disk.old disk.new }
 
     // A crash at any moment leaves the history with the first few of the commands that the job adds; at the return, with at
     // least those of the turns whose whole replies are among the bytes written.
@@ -205,6 +209,9 @@ fn serve_opened<S: Source, K: Sink, D: Disk, T: Trees>(
         K.written out.old ≡ Some before → K.written out.new ≡ Some (before ++ bytes) →
         AreAll (StandsForTold history (served_script history text).turns bytes)
         (D.images disk.new) }
+    ensures unwritten { (history : List Command) (text : List ℕ) →
+        server.state ≡ starting history → S.left script.old ≡ Some text →
+        AddsNoCommand count (starting history) (model history text) → disk.new ≡ disk.old }
     ensures later { Later
         (counts (S.faults script.old) (K.faults out.old) (D.faults disk.old) (T.faults trees.old)
         (S.given script.old) (S.ends script.old))

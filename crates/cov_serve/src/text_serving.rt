@@ -3,7 +3,7 @@ ghost use Rattle.std.specs.Prelude.{◌≡◌, ◌≤◌, ◌<◌, ◌++◌, Lis
 ghost use Rattle.cov_base.specs.Lines.{lines_of};
 ghost use Rattle.cov_base.specs.declared.limits.TheConstants.{TOO_MANY_SCRIPT_BYTES};
 ghost use Rattle.cov_disk.specs.Images.{LeavesOnly};
-ghost use Rattle.cov_loop.specs.Keeping.{AreAll, KeepsAnswered, Reaches};
+ghost use Rattle.cov_loop.specs.Keeping.{AddsNoCommand, AreAll, KeepsAnswered, Reaches};
 ghost use Rattle.cov_loop.specs.Outcome.{answers};
 ghost use Rattle.cov_loop.specs.Turns.{AtEnd, HasRows, HasStored, RowsComeFirst, WritesFront};
 ghost use Rattle.cov_out.specs.declared.row.OutRow.{OutRow};
@@ -60,6 +60,8 @@ fn serve_text<V: LineServer, K: Sink, D: Disk, T: Trees>(
     ensures gate { AtEnd result (IfSome (D.contents disk.new) (V.gate (V.state_of server.new))) }
     ensures durable { AreAll (V.stored (V.state_of server.old)) (D.images disk.old) →
         AtEnd result (AreAll (V.stored (V.state_of server.new)) (D.images disk.new)) }
+    ensures unwritten { AddsNoCommand V.count (V.state_of server.old)
+        (answers V.step (V.state_of server.old) (lines_of text)) → disk.new ≡ disk.old }
     ensures stopped { StopsText result (K.faults out.old) (K.faults out.new)
         (D.faults disk.old) (D.faults disk.new) (T.faults trees.old) (T.faults trees.new) }
     ensures later { K.faults out.old ≤ K.faults out.new }
@@ -120,6 +122,8 @@ pub(crate) fn serve_after<V: LineServer, K: Sink, D: Disk, T: Trees>(
         AtEnd result (AreAll
         (V.stored (answers_after V.step (V.state_of server.old) made told).state)
         (D.images disk.new)) }
+    ensures unwritten { AddsNoCommand V.count (V.state_of server.old)
+        (answers_after V.step (V.state_of server.old) made told) → disk.new ≡ disk.old }
     ensures stopped { StopsText result (K.faults out.old) (K.faults out.new)
         (D.faults disk.old) (D.faults disk.new) (T.faults trees.old) (T.faults trees.new) }
     ensures later { K.faults out.old ≤ K.faults out.new }

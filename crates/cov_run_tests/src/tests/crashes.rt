@@ -42,8 +42,8 @@ fn asked(
     Ok(commits)
 }
 
-// How many commits of the plain script an image holds.
-fn commits_in(alloc: Global, image: Text) -> Result<Option<usize>, Memory> {
+/// How many commits of the plain script an image holds.
+pub(crate) fn commits_in(alloc: Global, image: Text) -> Result<Option<usize>, Memory> {
     let mut trees = MemoryTrees::new(alloc, Numbers::new(alloc));
     let mut disk = disk(alloc, image, None);
     let commits = asked(alloc, &mut disk, &mut trees);

@@ -1,9 +1,9 @@
 // Words of no form, disks that can't be opened, and faults of a short script.
 use crate::tests::running::{
-    Case, Device, End, Fails, NONE_FAILS, Stored, UNASKED, end_from, failing,
+    Case, Device, End, Fails, NONE_FAILS, Stored, UNASKED, disk_of, end_from, end_over, failing,
 };
 use crate::tests::stores::{EMPTY, NEW, OPTION};
-use cov_base::Memory;
+use cov_base::{Memory, Text};
 use std::alloc::Global;
 use std::process::Abort;
 use std::test::Fail;
@@ -47,8 +47,22 @@ fn other_words_are_told_the_words(rt: HostRuntime) -> Result<(), Fail> {
     Ok(())
 }
 
+/// A record of an expression of 257 parts, which is one more than it may have.
+const PARTS: [u8; 296] = [
+    1, 0, 0, 1, 2, 2, 3, 3, 3, 3, 3, 3, 3, 3, 3, 3, 3, 3, 3, 3, 3, 3, 3, 3, 3, 3, 3, 3, 3, 3, 3, 3,
+    3, 3, 3, 3, 3, 3, 3, 3, 3, 3, 3, 3, 3, 3, 3, 3, 3, 3, 3, 3, 3, 3, 3, 3, 3, 3, 3, 3, 3, 3, 3, 3,
+    3, 3, 3, 3, 3, 3, 3, 3, 3, 3, 3, 3, 3, 3, 3, 3, 3, 3, 3, 3, 3, 3, 3, 3, 3, 3, 3, 3, 3, 3, 3, 3,
+    3, 3, 3, 3, 3, 3, 3, 3, 3, 3, 3, 3, 3, 3, 3, 3, 3, 3, 3, 3, 3, 3, 3, 3, 3, 3, 3, 3, 3, 3, 3, 3,
+    3, 3, 3, 3, 3, 3, 3, 3, 3, 3, 3, 3, 3, 3, 3, 3, 3, 3, 3, 3, 3, 3, 3, 3, 3, 3, 3, 3, 3, 3, 3, 3,
+    3, 3, 3, 3, 3, 3, 3, 3, 3, 3, 3, 3, 3, 3, 3, 3, 3, 3, 3, 3, 3, 3, 3, 3, 3, 3, 3, 3, 3, 3, 3, 3,
+    3, 3, 3, 3, 3, 3, 3, 3, 3, 3, 3, 3, 3, 3, 3, 3, 3, 3, 3, 3, 3, 3, 3, 3, 3, 3, 3, 3, 3, 3, 3, 3,
+    3, 3, 3, 3, 3, 3, 3, 3, 3, 3, 3, 3, 3, 3, 3, 3, 3, 3, 3, 3, 3, 3, 3, 3, 3, 3, 3, 3, 3, 3, 3, 3,
+    3, 3, 3, 3, 3, 3, 1, 150, 39, 183, 182, 53, 21, 156, 66, 181, 15, 53, 77, 148, 39, 91, 202, 72,
+    118, 69, 119, 51, 209, 172, 92, 123, 236, 145, 199, 115, 6, 175, 38, 0,
+];
+
 /// Disks that can't be opened: so many bytes of the store of an option, what stands behind them, and what is told.
-const DISKS: [(usize, &[u8], &[u8]); 14] = [
+const DISKS: [(usize, &[u8], &[u8]); 23] = [
     (0, b"hello hello hello he", b"not-a-store\n"),
     (14, b"", b"damaged 1 cut\n"),
     (52, b"", b"damaged 1 cut\n"),
@@ -103,6 +117,39 @@ const DISKS: [(usize, &[u8], &[u8]); 14] = [
         b"\x01\0\0\0\x0c\x05\0\0\0\x01\x01\x01\x01\0\0\0\0\x04\x11~B\x94\x8c\xf4e\xf0\x1aT\x09\x82\x87\xb6\xcf\xc1T9yJ\xc4\xf3\xf1\x89\x92\xc9]\xe0;\x97f\0",
         b"damaged 2 refused empty\n",
     ),
+    (12, b"\x01\xff\xff\xff\xffhello", b"damaged 1 cut\n"),
+    (8, b"\0\0\0\x02\0\0\0\0\0\0\0\0", b"not-a-store\n"),
+    (
+        12,
+        b"\x01\0\0\0\x03\x02\x02\0p\"\x8c\xfe|\xefi\xc83n\xdd\xc6w&Z\x1a\x8aH\n\xb4%x\xc1'>\x0dI1\xef\xb0\xd0\xc3\0",
+        b"damaged 1 refused bad-option\n",
+    ),
+    (
+        12,
+        b"\x01\0\0\0\x0b\x05\0\0\0\x05\0\x01\0\0\0\0\xf7:&*\xd6L;3Y\x08\xd8\x84\x99\xb1Q\xed}\xf7`xazQ\xf5\xcd\x9d\x85\x9bR\xad\xe1\xf1\0",
+        b"damaged 1 refused bad-base\n",
+    ),
+    (
+        12,
+        b"\x01\0\0\0\x0b\x05\0\0\0\0\0\0\0\0\0\0/Um\x94\x9d&\xe0\xc1\x93\xbaf\x12\xe2\xf23\xfa\xa8b\x89A\x98d\xb6\x9d\x01\x1f/\xbcn\xa8f\xe4\0",
+        b"damaged 1 refused outside-ambition\n",
+    ),
+    (
+        12,
+        b"\x01\0\0\0\x0b\x05\0\0\0\0\0\x01\0\0\0\0\x84\xa5\xb6\xe3\xc6\x94zq\xe2\x02\xc3\xfc8\x11r\xb9\x09\x08^\xf3?i>\xaew\xfda{;\x0b\x94\xc3\0",
+        b"damaged 1 refused empty\n",
+    ),
+    (
+        12,
+        b"\x01\0\0\0\x16\x05\0\0\0\0\0\x01\0\0\0\x01\x03\0\0\0\0\x01\0\0\0\0\x01\xd2\x18\xa0\x18P\xec\xd5\x0cK\x10\x19uT\xd0\x05.M\xacJ\xe6\xf5s\xe8i\x04\xab\xb0\xfd\xb8z\xdc\x9f\0",
+        b"damaged 1 refused bad-record 0\n",
+    ),
+    (
+        12,
+        b"\x01\0\0\0\x03\x01\x01a\x93\xf75[\xe3\xf1\xd5\xd3\xc4\xd8\xeb\x8f\xa4\x17\xae\xd2\x03g\x051\x97\xce\xaf\xe0})\x0d\xdc\xb3\xf1\xfb\xdd\x01\0\0\0\x03\x02\x02\0\xac\xd5\xe1s\xecXz\xde\x7f_u\xf4\x99\xa5?\xa7\xd3=T\x8c\x94\xfef\x0dxG=\xf870Mv\x01\0\0\0\x0c\x05\0\0\0\x02\x01\0\x01\0\0\0\0,n\x93k\x90[\x81\x0f\x1a\x95\xa7\xfc\xa5b\xbf\xcdUiH\x8f\x86\x9b\xe3a\x90\xf6\xecA\xa7\xc9\xc6.\0",
+        b"damaged 3 refused invalid 1\n",
+    ),
+    (12, &PARTS, b"damaged 1 record\n"),
 ];
 
 // The status of a disk that can't be opened.
@@ -143,6 +190,54 @@ fn what_cant_be_opened_is_told_and_kept(rt: HostRuntime) -> Result<(), Fail> {
         check_words(&rt, rt.alloc(), &["run"], &disk, told)?;
         check_words(&rt, rt.alloc(), &["check"], &disk, told)?;
     }
+    Ok(())
+}
+
+/// A commit of more deletes than it may have edits: what comes before them, each of them, and what comes behind.
+const CROWDED: ([u8; 28], [u8; 11], [u8; 33]) = (
+    [
+        67, 79, 86, 83, 84, 79, 82, 69, 0, 0, 0, 1, 1, 0, 2, 192, 22, 5, 0, 0, 0, 0, 0, 1, 0, 0,
+        64, 1,
+    ],
+    [3, 0, 0, 0, 0, 1, 0, 0, 0, 0, 1],
+    [
+        91, 220, 69, 210, 24, 32, 238, 7, 46, 248, 213, 181, 69, 244, 219, 31, 205, 91, 141, 238,
+        57, 241, 75, 96, 203, 21, 121, 233, 59, 221, 88, 117, 0,
+    ],
+);
+
+fn crowded(alloc: Global) -> Result<Text, Memory> {
+    let (first, delete, last) = &CROWDED;
+    let mut image = Text::from_slice(alloc, first.as_slice())?;
+    for _ in 0..16385 {
+        image.append(delete.as_slice())?;
+    }
+    image.append(last.as_slice())?;
+    Ok(image)
+}
+
+/// Asks how many records there are.
+const CHECKED: Case = Case {
+    words: &["check"],
+    script: b"",
+    replies: b"damaged 1 refused too-many-edits\n",
+    rows: &[],
+};
+
+// Runs the program over a disk of this image, and tells whether it stays as it is.
+fn end_on(alloc: Global, case: &Case, image: Text) -> Result<(End, bool), Memory> {
+    let before = image.copy()?;
+    let mut disk = disk_of(alloc, image, 0)?;
+    let end = end_over(alloc, case, UNASKED, &mut disk);
+    let same = disk.bytes() == before.as_slice();
+    drop(disk);
+    Ok((end?, same))
+}
+
+#[test]
+fn a_commit_of_too_many_edits_is_told(rt: HostRuntime) -> Result<(), Fail> {
+    let end = end_on(rt.alloc(), &CHECKED, crowded(rt.alloc())?)?;
+    assert_eq!(rt; end, (CHECKED.end(9), true));
     Ok(())
 }
 
@@ -212,5 +307,20 @@ fn faults_are_told(rt: HostRuntime) -> Result<(), Fail> {
         };
         assert_eq!(rt; end, (wanted, true));
     }
+    Ok(())
+}
+
+/// Two bytes that are no text.
+const NO_TEXT: Case = Case {
+    words: &["run"],
+    script: b"\xff\xfe",
+    replies: b"refused syntax 0\n",
+    rows: &[],
+};
+
+#[test]
+fn bytes_that_are_no_text_are_refused(rt: HostRuntime) -> Result<(), Fail> {
+    let end = end_from(rt.alloc(), &NO_TEXT, NONE_FAILS, &EMPTY, &NEW)?;
+    assert_eq!(rt; end, (NO_TEXT.end(1), true));
     Ok(())
 }

@@ -180,7 +180,8 @@ pub(crate) struct Stored {
     pub(crate) behind: &'static [u8],
 }
 
-fn bytes_of(alloc: Global, stored: &Stored) -> Result<Text, Memory> {
+/// These bytes.
+pub(crate) fn bytes_of(alloc: Global, stored: &Stored) -> Result<Text, Memory> {
     let mut bytes = Text::new(alloc);
     if let Some(first) = stored.whole.get(..stored.count) {
         bytes.append(first)?;
@@ -189,7 +190,8 @@ fn bytes_of(alloc: Global, stored: &Stored) -> Result<Text, Memory> {
     Ok(bytes)
 }
 
-fn disk_of(alloc: Global, bytes: Text, fails: u64) -> Result<MemoryDisk, Memory> {
+/// A disk of these bytes, of which this call fails.
+pub(crate) fn disk_of(alloc: Global, bytes: Text, fails: u64) -> Result<MemoryDisk, Memory> {
     let fail = only(alloc, fails)?;
     Ok(MemoryDisk::new(alloc, bytes, fail, None))
 }

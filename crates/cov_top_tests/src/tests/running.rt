@@ -153,6 +153,9 @@ pub(crate) fn expect(
 /// The script is read in large pieces, and no call fails.
 pub(crate) const SERVED: Setting = (&["run"], 65536, &[], &[]);
 
+/// The same, each read giving one byte.
+pub(crate) const SERVED_BY_BYTES: Setting = (&["run"], 1, &[], &[]);
+
 // Runs the program on each of these scripts.
 pub(crate) fn are_served(
     rt: &impl Abort,

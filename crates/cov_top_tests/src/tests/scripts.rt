@@ -1,5 +1,5 @@
 // Scripts that a whole run serves, with their replies.
-use crate::tests::running::{Case, DONE, SERVED, SOME_REFUSED, are_served};
+use crate::tests::running::{Case, DONE, SERVED, SERVED_BY_BYTES, SOME_REFUSED, are_served};
 use std::test::Fail;
 
 const CASES: [Case; 7] = [
@@ -35,7 +35,7 @@ const CASES: [Case; 7] = [
 #[test]
 fn scripts_are_served(rt: HostRuntime) -> Result<(), Fail> {
     are_served(&rt, rt.alloc(), SERVED, &CASES)?;
-    are_served(&rt, rt.alloc(), (&["run"], 1, &[], &[]), &CASES)
+    are_served(&rt, rt.alloc(), SERVED_BY_BYTES, &CASES)
 }
 
 const RULES: [Case; 6] = [

@@ -1,6 +1,7 @@
 // Each device of a run that fails once, at each of its calls.
 use crate::tests::running::{
-    READ_FAULT, SOME_REFUSED, Step, TREES_FAULT, WRITE_FAULT, replies_of, script_of,
+    READ_FAULT, SERVED_BY_BYTES, SOME_REFUSED, Step, TREES_FAULT, WRITE_FAULT, replies_of,
+    script_of,
 };
 use crate::tests::trees::{Row, expect_rows};
 use std::alloc::Global;
@@ -119,5 +120,5 @@ fn a_call_of_the_trees_fails(rt: HostRuntime) -> Result<(), Fail> {
         )?;
     }
     let first: (&[u8], &[u8], u8) = (b"checkout t -\n", b"", TREES_FAULT);
-    expect_rows(&rt, alloc, (&["run"], 1, &[], &[]), &[1], first, &[])
+    expect_rows(&rt, alloc, SERVED_BY_BYTES, &[1], first, &[])
 }

@@ -2,7 +2,8 @@
 ghost use Rattle.std.specs.Prelude.{◌≤◌};
 
 use crate::tests::running::{
-    Case, DONE, SERVED, SOME_REFUSED, Setting, Step, expect_over, list_of, replies_of, script_of,
+    Case, DONE, SERVED, SERVED_BY_BYTES, SOME_REFUSED, Setting, Step, expect_over, list_of,
+    replies_of, script_of,
 };
 use cov_base::Text;
 use cov_out::{MemoryTrees, OutRow, OutRows};
@@ -292,14 +293,33 @@ const CASES: [(&[Step], u8, &[Row]); 6] = [
     (&BYTES, DONE, &BYTES_ROWS),
 ];
 
+// Runs the program on these steps.
+fn check_steps(
+    rt: &impl Abort,
+    alloc: Global,
+    setting: Setting,
+    case: (&[Step], u8, &[Row]),
+) -> Result<(), Fail>
+    requires { 1 ≤ setting.1 }
+{
+    let (steps, status, rows) = case;
+    let script = script_of(alloc, &[steps])?;
+    let written = replies_of(alloc, &[steps])?;
+    let case = (script.as_slice(), written.as_slice(), status);
+    expect_rows(rt, alloc, setting, &[], case, rows)
+}
+
 #[test]
 fn trees_are_written(rt: HostRuntime) -> Result<(), Fail> {
-    let alloc = rt.alloc();
-    for (steps, status, rows) in CASES {
-        let script = script_of(alloc, &[steps])?;
-        let written = replies_of(alloc, &[steps])?;
-        let case = (script.as_slice(), written.as_slice(), status);
-        expect_rows(&rt, alloc, SERVED, &[], case, rows)?;
+    for case in &CASES {
+        check_steps(&rt, rt.alloc(), SERVED, *case)?;
     }
     Ok(())
+}
+
+// A read gives one byte.
+#[test]
+fn trees_are_written_byte_by_byte(rt: HostRuntime) -> Result<(), Fail> {
+    let case: (&[Step], u8, &[Row]) = (&PLAIN, DONE, &PLAIN_ROWS);
+    check_steps(&rt, rt.alloc(), SERVED_BY_BYTES, case)
 }

@@ -1,8 +1,8 @@
-use Rattle.std.proofs.Common.{◌≡◌, ◌∙◌, ◌++◌, inl, refl, sym, ap, subst, arith, ℕ, true, List, length, Some, IfSome}
+use Rattle.std.proofs.Common.{◌≡◌, ◌∙◌, ◌++◌, inl, refl, sym, ap, subst, arith, ℕ, ◌≤◌, true, List, length, Some, IfSome}
 use Rattle.cov_disk.specs.Images.{LeavesOnly}
 use Rattle.cov_edit.specs.declared.command.Command.{Command}
 use Rattle.cov_journal.proofs.CallerLemmas.{some_to, started}
-use Rattle.cov_loop.specs.Keeping.{AreAll}
+use Rattle.cov_loop.specs.Keeping.{AddsNoCommand, AreAll}
 use Rattle.cov_loop.specs.Turns.{AtEnd, WritesFront}
 use Rattle.cov_out.specs.declared.row.OutRow.{OutRow}
 use Rattle.cov_script.specs.Demonstration.{checkout_lines, made_lines}
@@ -150,6 +150,17 @@ returns-then-is_end-clause-stored_first g c history before bytes begins all wrot
     subst (StandsFor image) (sym (last_are history (made_lines arm.args.number) checkout_lines (demo_line arm.args.number)))
     (stands_for image (end_of history arm.args.number) (then_durable g arm history begins all image now))
 
+-- what the texts leave where they add no command
+texts_add_none : (history : List Command) (number : ℕ) → length (history_after history (served_demo history number).turns) ≤ length history
+    → AddsNoCommand count (starting history) (answers_after step (starting history) (made_lines number) checkout_lines)
+texts_add_none history number few = subst (λ (h : List Command). length h ≤ length history) (last_are history (made_lines number) checkout_lines (demo_line number)) few
+
+pub returns-then-is_end-clause-unwritten : goal.returns-then-is_end-clause-unwritten
+returns-then-is_end-clause-unwritten g c history begins few =
+    let arm = (goal.at.returns-then-is_end-clause-unwritten g c).After-put_demo in
+    then_texts g arm history begins (λ s m t. AddsNoCommand count s (answers_after step s m t) → arm.serve_after-ending.new.disk ≡ arm.args.disk.now)
+    arm.serve_after-ending.ensures.unwritten (texts_add_none history arm.args.number few)
+
 -- it was not: its texts, and what is left and written
 else_texts : (g : Over) (c : After-from g) (history : List Command) → c.args.server.state ≡ starting history → (P : State → List ℕ → List ℕ → Type 0)
     → P c.args.server.state c.in-Ok.made c.in-Ok.told → P (starting history) (made_lines c.args.number) checkout_lines
@@ -217,6 +228,12 @@ returns-else-is_end-clause-stored_first g c history before bytes begins all wrot
     let arm = (goal.at.returns-else-is_end-clause-stored_first g c).After-from in
     let made = made_lines arm.args.number in
     stands_whole history made checkout_lines (demo_line arm.args.number) (checkouts_keep (model history made).state) bytes image some (else_keeps g arm history before bytes begins all wrote writes image now)
+
+pub returns-else-is_end-clause-unwritten : goal.returns-else-is_end-clause-unwritten
+returns-else-is_end-clause-unwritten g c history begins few =
+    let arm = (goal.at.returns-else-is_end-clause-unwritten g c).After-from in
+    else_texts g arm history begins (λ s m t. AddsNoCommand count s (answers_after step s m t) → arm.serve_after-ending.new.disk ≡ arm.args.disk.now)
+    arm.serve_after-ending.ensures.unwritten (texts_add_none history arm.args.number few)
 
 -- no memory is to be had for the script
 pub returns-in-Err-clause-rows_first : goal.returns-in-Err-clause-rows_first

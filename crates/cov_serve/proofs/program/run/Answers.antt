@@ -1,13 +1,14 @@
-use Rattle.std.proofs.Common.{◌≡◌, ◌∙◌, ◌⊎◌, refl, sym, ap, subst, arith, ℕ, Bool, List, [], ◌++◌, length, Some, IfSome}
+use Rattle.std.proofs.Common.{◌≡◌, ◌∙◌, ◌⊎◌, refl, sym, ap, subst, arith, ℕ, ◌≤◌, Bool, List, [], ◌++◌, length, Some, IfSome}
 use Rattle.std.proofs.lemmas.Bool.{false≢true}
 use Rattle.cov_disk.specs.Images.{LeavesOnly}
 use Rattle.cov_base.specs.Lines.{lines_of}
 use Rattle.cov_edit.specs.declared.command.Command.{Command}
+use Rattle.cov_journal.specs.Moments.{KeepsImages}
 use Rattle.cov_journal.proofs.CallerLemmas.{joined, some_to, started}
 use Rattle.cov_loop.specs.Counts.{Counts, counts}
 use Rattle.cov_loop.specs.Keeping.{AreAll}
 use Rattle.cov_loop.specs.Turns.{WritesFront}
-use Rattle.cov_serve.specs.Jobs.{ComesTo, EndsAs, IsCaused, IsSettled, IsShort, JobOutcome, NoneRose, OnEnd, RowsPrecede, StandsForFront, StandsForTold, StartsFrom, history_after, job_of, opens_disk, outcome, reads_source, replies, rows_of, served_demo, served_script, served_status, stores_first, writes_trees}
+use Rattle.cov_serve.specs.Jobs.{ComesTo, EndsAs, IsCaused, IsSettled, IsShort, JobOutcome, LeavesDisk, NoneRose, OnEnd, RowsPrecede, StandsForFront, StandsForTold, StartsFrom, history_after, job_of, opens_disk, outcome, reads_source, replies, rows_of, served_demo, served_script, served_status, stores_first, writes_trees}
 use Rattle.cov_serve.specs.Program.{OnServed, PutsLast, ReadsAs, StopsDemo, StopsServing, check_line, usage_line}
 use Rattle.cov_lines.specs.States.{State, starting}
 use Rattle.cov_lines.specs.Step.{model}
@@ -16,10 +17,11 @@ use Rattle.cov_serve.specs.declared.job.StoreJob.TheVariants.{Run, Check, Demo}
 use Rattle.cov_serve.specs.declared.status.Status.TheVariants.{Done, Usage, NoMemory}
 use Rattle.cov_store.specs.Stands.{IsStored, StandsFor}
 use Rattle.cov_serve.proofs.Crashing.{front_first}
-use Rattle.cov_serve.proofs.Jobs.{Demonstrates, Fell, Serves, check_tells, demo_caused, demo_end, demo_kept, demo_later, demo_unless, demonstrates, failed, failed_ends, failed_front, failed_rows, failed_rows_first, failed_unless, failed_whole, front_at_start, reads_of, served_caused, served_done, served_end, served_kept, served_on, served_unless, serves, stopped_stands, told_at_start, usage_is, usage_tells}
+use Rattle.cov_serve.proofs.Jobs.{Demonstrates, Fell, Serves, check_tells, demo_caused, demo_end, demo_later, demo_unless, demonstrates, failed, failed_ends, failed_front, failed_rows, failed_rows_first, failed_unless, failed_whole, front_at_start, reads_of, served_caused, served_done, served_end, served_on, served_unless, serves, stopped_stands, told_at_start, usage_is, usage_tells}
+use Rattle.cov_serve.proofs.Kept.{opened_adds, opening_leaves, uncalled}
 use Rattle.cov_serve.proofs.Runs.{leaves_weaker, none_more, serving_later}
 use Rattle.cov_serve.proofs.Turns.{front_served, front_stands_told, last_is, replies_as, rows_as, rows_precede, rows_served, told_stands_told}
-use Rattle.cov_serve.proofs.Unopened.{Fails, IsCut, Tells, can_be_told, fails_stops, fault_caused, fault_kept, line_caused, line_kept, line_unless, none_written, not_unopened, reads_as, reads_gives, tells_ends, tells_front, tells_rows, tells_rows_first, tells_unless, tells_whole}
+use Rattle.cov_serve.proofs.Unopened.{Fails, IsCut, Tells, a_store, can_be_told, fails_stops, fault_caused, line_caused, line_unless, none_written, not_unopened, reads_as, reads_gives, tells_ends, tells_front, tells_rows, tells_rows_first, tells_unless, tells_whole}
 use Rattle.cov_serve.proofs.program.run.Given.{Over}
 use Rattle.cov_serve.proofs.program.run.Goals as goal
 use Rattle.cov_serve.proofs.program.run.Goals.{After-serve_opened, After-serve_demo, After-put_checked, After-tell_fault, After-put_last}
@@ -132,9 +134,15 @@ returns-in-Run-clause-stands g c history text reads starts settled =
     (subst (λ j. IsSettled j arm.serve_opened.result) (run_is g arm) settled)))
 
 pub returns-in-Run-clause-kept : goal.returns-in-Run-clause-kept
-returns-in-Run-clause-kept g c =
+returns-in-Run-clause-kept g c leaves =
     let arm = (goal.at.returns-in-Run-clause-kept g c).After-serve_opened in
-    served_kept (run_old g arm) (run_new g arm) arm.serve_opened.result (IfSome (g.D.Disk.contents arm.args.disk.now) (λ image. g.D.Disk.contents arm.serve_opened.new.disk ≡ Some image)) (run_stops g arm)
+    let contents = g.D.Disk.contents arm.args.disk.now in
+    let left = g.S.Source.left arm.args.script.now in
+    let adds = opened_adds (OnStore Run) contents left arm.in-Ok.ensures.no_store arm.in-Ok.ensures.damage (subst (λ j. LeavesDisk j contents left) (run_is g arm) leaves) in
+    subst (λ d. (g.D.Disk.contents d ≡ contents) × KeepsImages g.D.Disk.images g.D.Disk.moment g.D.Disk.images_since arm.args.disk.now d)
+    (sym (arm.serve_opened.ensures.unwritten adds.history adds.text (run_begins g arm adds.history adds.starts.0) adds.starts.1
+    (subst (λ (h : List Command). length h ≤ length adds.history) (last_is adds.history adds.text) adds.few)))
+    (opening_leaves (job_of arm.args.words.now) contents (g.D.Disk.contents arm.open.new.disk) left (KeepsImages g.D.Disk.images g.D.Disk.moment g.D.Disk.images_since arm.args.disk.now arm.open.new.disk) arm.open.ensures.kept arm.open.ensures.images leaves)
 
 pub returns-in-Run-clause-any_moment : goal.returns-in-Run-clause-any_moment
 returns-in-Run-clause-any_moment g c history text images starts =
@@ -176,7 +184,7 @@ returns-in-Run-clause-cause g c =
     let arm = (goal.at.returns-in-Run-clause-cause g c).After-serve_opened in
     let contents = g.D.Disk.contents arm.args.disk.now in
     subst (λ j. IsCaused j contents (run_old g arm) (run_new g arm) arm.serve_opened.result) (sym (run_is g arm))
-    (served_caused (run_old g arm) (run_new g arm) contents arm.serve_opened.result (run_stops g arm))
+    (served_caused (run_old g arm) (run_new g arm) contents arm.serve_opened.result (a_store contents arm.in-Ok.server.state.history arm.in-Ok.ensures.opened) (run_stops g arm))
 
 pub returns-in-Run-clause-complete : goal.returns-in-Run-clause-complete
 returns-in-Run-clause-complete g c all comes short none =
@@ -233,8 +241,9 @@ returns-in-Check-clause-stands g c history text reads starts settled =
     (reads_gives (g.D.Disk.contents arm.args.disk.now) history (IfSome after (λ image. StandsFor image history)) reads (arm.open.ensures.stays history))
 
 pub returns-in-Check-clause-kept : goal.returns-in-Check-clause-kept
-returns-in-Check-clause-kept g c =
-    line_kept Done c.put_checked.result (g.K.Sink.faults c.args.out.now) (g.K.Sink.faults c.put_checked.new.out) (IfSome (g.D.Disk.contents c.args.disk.now) (λ image. g.D.Disk.contents c.open.new.disk ≡ Some image)) tt c.put_checked.ensures.puts.ends
+returns-in-Check-clause-kept g c leaves =
+    opening_leaves (job_of c.args.words.now) (g.D.Disk.contents c.args.disk.now) (g.D.Disk.contents c.open.new.disk) (g.S.Source.left c.args.script.now)
+    (KeepsImages g.D.Disk.images g.D.Disk.moment g.D.Disk.images_since c.args.disk.now c.open.new.disk) c.open.ensures.kept c.open.ensures.images leaves
 
 pub returns-in-Check-clause-any_moment : goal.returns-in-Check-clause-any_moment
 returns-in-Check-clause-any_moment g c history text images starts =
@@ -267,7 +276,7 @@ returns-in-Check-clause-cause g c =
     let contents = g.D.Disk.contents c.args.disk.now in
     let old = (counts (g.S.Source.faults c.args.script.now) (g.K.Sink.faults c.args.out.now) (g.D.Disk.faults c.args.disk.now) (g.T.Trees.faults c.args.trees.now) (g.S.Source.given c.args.script.now) (g.S.Source.ends c.args.script.now)) in
     let new = (counts (g.S.Source.faults c.args.script.now) (g.K.Sink.faults c.put_checked.new.out) (g.D.Disk.faults c.open.new.disk) (g.T.Trees.faults c.args.trees.now) (g.S.Source.given c.args.script.now) (g.S.Source.ends c.args.script.now)) in
-    subst (λ j. IsCaused j contents old new c.put_checked.result) (sym (check_is g arm)) (line_caused (OnStore Check) contents old new Done c.put_checked.result refl c.put_checked.ensures.puts.ends)
+    subst (λ j. IsCaused j contents old new c.put_checked.result) (sym (check_is g arm)) (line_caused (OnStore Check) contents old new Done c.put_checked.result (refl, a_store contents arm.in-Ok.server.state.history arm.in-Ok.ensures.opened) c.put_checked.ensures.puts.ends)
 
 pub returns-in-Check-clause-complete : goal.returns-in-Check-clause-complete
 returns-in-Check-clause-complete g c all comes short none =
@@ -366,10 +375,14 @@ returns-in-Demo-clause-stands g c history text reads starts settled =
     (subst (λ j. IsSettled j arm.serve_demo.result) (demo_is g arm) settled))
 
 pub returns-in-Demo-clause-kept : goal.returns-in-Demo-clause-kept
-returns-in-Demo-clause-kept g c =
+returns-in-Demo-clause-kept g c leaves =
     let arm = (goal.at.returns-in-Demo-clause-kept g c).After-serve_demo in
-    demo_kept (g.K.Sink.faults arm.args.out.now) (g.K.Sink.faults arm.serve_demo.new.out) (g.D.Disk.faults arm.args.disk.now) (g.D.Disk.faults arm.serve_demo.new.disk) (g.T.Trees.faults arm.args.trees.now) (g.T.Trees.faults arm.serve_demo.new.trees)
-    arm.serve_demo.result (IfSome (g.D.Disk.contents arm.args.disk.now) (λ image. g.D.Disk.contents arm.serve_demo.new.disk ≡ Some image)) (demo_stops g arm)
+    let contents = g.D.Disk.contents arm.args.disk.now in
+    let left = g.S.Source.left arm.args.script.now in
+    let adds = opened_adds (OnStore (Demo arm.in-Demo.number)) contents left arm.in-Ok.ensures.no_store arm.in-Ok.ensures.damage (subst (λ j. LeavesDisk j contents left) (demo_is g arm) leaves) in
+    subst (λ d. (g.D.Disk.contents d ≡ contents) × KeepsImages g.D.Disk.images g.D.Disk.moment g.D.Disk.images_since arm.args.disk.now d)
+    (sym (arm.serve_demo.ensures.unwritten adds.history (demo_begins g arm adds.history adds.starts) adds.few))
+    (opening_leaves (job_of arm.args.words.now) contents (g.D.Disk.contents arm.open.new.disk) left (KeepsImages g.D.Disk.images g.D.Disk.moment g.D.Disk.images_since arm.args.disk.now arm.open.new.disk) arm.open.ensures.kept arm.open.ensures.images leaves)
 
 pub returns-in-Demo-clause-any_moment : goal.returns-in-Demo-clause-any_moment
 returns-in-Demo-clause-any_moment g c history text images starts =
@@ -415,7 +428,7 @@ returns-in-Demo-clause-cause g c =
     let arm = (goal.at.returns-in-Demo-clause-cause g c).After-serve_demo in
     let contents = g.D.Disk.contents arm.args.disk.now in
     subst (λ j. IsCaused j contents (demo_old g arm) (demo_new g arm) arm.serve_demo.result) (sym (demo_is g arm))
-    (demo_caused arm.in-Demo.number contents (demo_old g arm) (demo_new g arm) arm.serve_demo.result (demo_stops g arm))
+    (demo_caused arm.in-Demo.number contents (demo_old g arm) (demo_new g arm) arm.serve_demo.result (a_store contents arm.in-Ok.server.state.history arm.in-Ok.ensures.opened) (demo_stops g arm))
 
 pub returns-in-Demo-clause-complete : goal.returns-in-Demo-clause-complete
 returns-in-Demo-clause-complete g c all comes short none =
@@ -485,9 +498,9 @@ returns-in-Err-clause-stands g c history text reads starts settled =
     (subst (λ j. IsSettled j arm.tell_fault.result) (opening_is g arm) settled))
 
 pub returns-in-Err-clause-kept : goal.returns-in-Err-clause-kept
-returns-in-Err-clause-kept g c =
-    fault_kept (outcome Unknown [] []) (g.K.Sink.faults c.args.out.now) (g.K.Sink.faults c.tell_fault.new.out) (g.D.Disk.faults c.args.disk.now) (g.D.Disk.faults c.open.new.disk)
-    (g.K.Sink.written c.args.out.now) (g.K.Sink.written c.tell_fault.new.out) c.tell_fault.result c.in-Err.fault c.tell_fault.ensures.told (g.D.Disk.contents c.args.disk.now) (g.D.Disk.contents c.open.new.disk) c.in-Err.ensures.kept
+returns-in-Err-clause-kept g c leaves =
+    opening_leaves (job_of c.args.words.now) (g.D.Disk.contents c.args.disk.now) (g.D.Disk.contents c.open.new.disk) (g.S.Source.left c.args.script.now)
+    (KeepsImages g.D.Disk.images g.D.Disk.moment g.D.Disk.images_since c.args.disk.now c.open.new.disk) c.open.ensures.kept c.open.ensures.images leaves
 
 pub returns-in-Err-clause-any_moment : goal.returns-in-Err-clause-any_moment
 returns-in-Err-clause-any_moment g c history text images starts =
@@ -569,6 +582,10 @@ returns-in-Unknown-clause-stands g c history text reads starts settled =
     let contents = g.D.Disk.contents c.args.disk.now in
     subst (λ j. IfSome contents (λ image. StandsFor image (history_after history (outcome j history text).turns))) (sym (unknown_is g (goal.at.returns-in-Unknown-clause-stands g c).After-put_last))
     (reads_as contents history reads)
+
+pub returns-in-Unknown-clause-kept : goal.returns-in-Unknown-clause-kept
+returns-in-Unknown-clause-kept g c leaves =
+    (refl, uncalled g.D.Disk.images g.D.Disk.moment g.D.Disk.images_since c.args.disk.now (g.met.D.Disk.only_now c.args.disk.now))
 
 pub returns-in-Unknown-clause-any_moment : goal.returns-in-Unknown-clause-any_moment
 returns-in-Unknown-clause-any_moment g c history text images starts =

@@ -2,7 +2,7 @@ use Rattle.std.proofs.Common.{◌≡◌, ◌++◌, refl, sym, subst, [], Some, I
 use Rattle.cov_base.specs.Lines.{lines_of}
 use Rattle.cov_disk.specs.Images.{LeavesOnly}
 use Rattle.cov_journal.proofs.CallerLemmas.{some_to, started}
-use Rattle.cov_loop.specs.Keeping.{KeepsAnswered, Reaches}
+use Rattle.cov_loop.specs.Keeping.{AddsNoCommand, KeepsAnswered, Reaches}
 use Rattle.cov_loop.specs.Outcome.{answers}
 use Rattle.cov_loop.specs.Turns.{HasRows, HasStored, IsWhole, ReadsOut, output}
 use Rattle.cov_loop.proofs.CallerLemmas.{fault_turn}
@@ -72,6 +72,11 @@ returns-in-Ok-clause-acknowledged g c history text before bytes begins left all 
     told_reached history text bytes image
     (subst (λ s. KeepsAnswered step stored count s (lines_of text) bytes image) begins
     (c.serve_all-ending.ensures.acknowledged text before bytes ahead (λ i was. subst (λ s. stored s i) (sym begins) (all i was)) wrote writes image now))
+
+pub returns-in-Ok-clause-unwritten : goal.returns-in-Ok-clause-unwritten
+returns-in-Ok-clause-unwritten g c history text begins left few =
+    let ahead = ahead_first c.in-Ok.lines (g.S.Source.left c.args.script.now) text c.in-Ok.ensures left in
+    c.serve_all-ending.ensures.unwritten text ahead (subst (λ s. AddsNoCommand count s (answers step s (lines_of text))) (sym begins) few)
 
 pub returns-in-Err-clause-rows_first : goal.returns-in-Err-clause-rows_first
 returns-in-Err-clause-rows_first g c history text before rows begins left wrote grew =

@@ -1,11 +1,12 @@
 use Rattle.std.proofs.Common.{◌≡◌, ◌∙◌, ◌++◌, inl, inr, sym, ap, subst, append_assoc, List, true, refl, Some}
 use Rattle.cov_base.specs.Lines.{lines_of}
+use Rattle.cov_loop.specs.Keeping.{AddsNoCommand}
 use Rattle.cov_loop.specs.Outcome.{Outcome, answers}
 use Rattle.cov_loop.specs.Turns.{HasRows, RowsComeFirst, WritesFront}
 use Rattle.cov_out.specs.declared.row.OutRow.{OutRow}
 use Rattle.cov_serve.specs.TextServing.{answers_after, is_end}
 use Rattle.cov_serve.proofs.Runs.{none_more}
-use Rattle.cov_serve.proofs.TextServing.{at_end, end_to, front_first_of, front_second_of, rows_end}
+use Rattle.cov_serve.proofs.TextServing.{at_end, end_to, first_adds_none, front_first_of, front_second_of, rows_end, second_adds_none}
 use Rattle.cov_serve.proofs.text_serving.serve_after.Given.{Over}
 use Rattle.cov_serve.proofs.text_serving.serve_after.Goals as goal
 use Rattle.cov_serve.proofs.text_serving.serve_after.Goals.{After-serve_text}
@@ -62,6 +63,22 @@ returns-then-is_end-clause-rows_first g c before rows wrote grew =
     let grown = g.T.Trees.rows arm.serve_text.new.trees in
     inr (subst (λ s. RowsComeFirst g.V.LineServer.step s (lines_of arm.args.told) before (rows ++ first.rows) written grown) (then_state g arm)
     (arm.serve_text.ensures.rows_first before (rows ++ first.rows) wrote (then_rows g arm rows grew)))
+
+pub returns-then-is_end-clause-unwritten : goal.returns-then-is_end-clause-unwritten
+returns-then-is_end-clause-unwritten g c few =
+    let arm = (goal.at.returns-then-is_end-clause-unwritten g c).After-serve_text in
+    let server = g.V.LineServer in
+    let start = server.state_of arm.args.server.now in
+    let rises = g.met.V.LineServer.counts_rise in
+    arm.serve_text.ensures.unwritten
+    (subst (λ s. AddsNoCommand server.count s (told_gives g arm s)) (sym (then_state g arm)) (second_adds_none server.step server.count rises start arm.args.made arm.args.told few))
+    ∙ arm.serve_text-ending.ensures.unwritten (first_adds_none server.step server.count rises start arm.args.made arm.args.told few)
+
+pub returns-clause-unwritten : goal.returns-clause-unwritten
+returns-clause-unwritten g c few =
+    let server = g.V.LineServer in
+    c.serve_text-ending.ensures.unwritten
+    (first_adds_none server.step server.count g.met.V.LineServer.counts_rise (server.state_of c.args.server.now) c.args.made c.args.told few)
 
 pub returns-clause-rows : goal.returns-clause-rows
 returns-clause-rows g c before grew =

@@ -13,6 +13,10 @@ returns-in-Ok-clause-whole g c before wrote =
     whole_end c.serve_all.result (answers g.V.LineServer.step (g.V.LineServer.state_of c.args.server.now) (lines_of text)) before (Some c.serve_all.new.script.left) (g.K.Sink.written c.serve_all.new.out)
     (c.serve_all.ensures.whole text before (ahead_first c.in-Ok.lines (Some c.new-source.result.left) text c.in-Ok.ensures (ap Some c.new-source.ensures)) wrote)
 
+pub returns-in-Ok-clause-unwritten : goal.returns-in-Ok-clause-unwritten
+returns-in-Ok-clause-unwritten g c few =
+    c.serve_all.ensures.unwritten c.args.text (ahead_first c.in-Ok.lines (Some c.new-source.result.left) c.args.text c.in-Ok.ensures (ap Some c.new-source.ensures)) few
+
 pub returns-in-Err-clause-rows_first : goal.returns-in-Err-clause-rows_first
 returns-in-Err-clause-rows_first g c before rows wrote grew =
     (fault_turn g.V.LineServer.step g.met.V.LineServer.rows_told (g.V.LineServer.state_of c.args.server.now) c.args.text (output (g.K.Sink.written c.args.out.now) (g.T.Trees.rows c.args.trees.now))).first before rows wrote grew
