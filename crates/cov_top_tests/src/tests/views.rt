@@ -29,3 +29,17 @@ const CHOICES: [Case; 1] = [
 fn sixty_four_sessions_edit_on_as_many_choices(rt: HostRuntime) -> Result<(), Fail> {
     are_served(&rt, rt.alloc(), SERVED, &CHOICES)
 }
+
+const DIRECTORIES: [Case; 1] = [
+    // Four sessions on one choice, and one on another, see one tree. Each moves, removes, renames or makes nodes of its own.
+    (
+        b"option d\nopen s d=off for true\nmkdir s /a\nmkdir s /a/b\nmkdir s /c\nmkfile s /a/m\nmkfile s /a/b/n\nmkfile s /c/o\ninsert s /a/m 0 one\ninsert s /a/b/n 0 two\ninsert s /c/o 0 three\ncommit s\nopen v d=off for true\nopen w d=off for true\nopen x d=off for true\nopen y d=off for true\nopen z d=on for d\nmove v /a/b /c\nlist v /a\nlist v /c\nlist v /c/b\nshow v /c/b/n\nshow v /a/b/n\ninsert v /c/b/n 2 four\nshow v /c/b/n\nremove w /a/m\nlist w /a\nshow w /a/m\nmkfile w /a/m\nlist w /a\nshow w /a/m\ninsert w /a/m 0 five\nshow w /a/m\nrename x /a/m p\nlist x /a\nshow x /a/p\nshow x /a/m\nmkfile x /a/m\nlist x /a\nmove y /c/o /a\nremove y /c\nlist y /\nlist y /a\nshow y /a/o\nshow y /c/o\nmove y /a/o /a/b\nrename y /a/b/o m\nlist y /a/b\nremove y /a/b/m\nremove y /a/b/n\nremove y /a/b\nlist y /a\nshow y /a/m\ndelete z /a/m 1\nlist z /a\nlist z /c\nshow z /a/m\nshow z /a/b/n\nshow z /c/o\nlist v /\nlist w /\nlist x /\nlist y /\ncommit z\ncommit w\nlist v /a\nrefresh v\nlist v /a\nlist v /c\nshow v /c/b/n\ncommit v\ncommit x\nrefresh x\nrefresh y\ndrop y\nopen q d=off for true\nlist q /\nlist q /a\nlist q /c\nlist q /c/b\nopen r d=on for true\nlist r /a\nlist r /c\nshow r /c/b/n\ncat d=on /c/b/n\ncat d=off /a/m\n",
+        b"ok option 0\nok open 1 d=off\nok\nok\nok\nok\nok\nok\nok +0\nok +1\nok +2\nok commit 2\nok open 2 d=off\nok open 2 d=off\nok open 2 d=off\nok open 2 d=off\nok open 2 d=on\nok\nok 1\nf m\nok 2\nd b\nf o\nok 1\nf n\nok 1\n2 two\nrefused no-such-path\nok +0\nok 2\n2 two\n+0 four\nok\nok 1\nd b\nrefused no-such-path\nok\nok 2\nd b\nf m\nok 0\nok +0\nok 1\n+0 five\nok\nok 2\nd b\nf p\nok 1\n1 one\nrefused no-such-path\nok\nok 3\nd b\nf m\nf p\nok\nok\nok 1\nd a\nok 3\nd b\nf m\nf o\nok 1\n3 three\nrefused no-such-path\nok\nok\nok 2\nf m\nf n\nok\nok\nok\nok 1\nf m\nok 1\n1 one\nok\nok 2\nd b\nf m\nok 1\nf o\nok 0\nok 1\n2 two\nok 1\n3 three\nok 2\nd a\nd c\nok 2\nd a\nd c\nok 2\nd a\nd c\nok 1\nd a\nok commit 3\nrefused overtaken 3\nok 1\nf m\nok refresh 3 d=off\nok 1\nf m\nok 2\nd b\nf o\nok 2\n2 two\n+0 four\nok commit 4\nrefused overtaken 3\nok refresh 4 d=off\nrefused edit-lost 1\nok\nok open 4 d=off\nok 2\nd a\nd c\nok 1\nf m\nok 2\nd b\nf o\nok 1\nf n\nok open 4 d=on\nok 1\nf m\nok 2\nd b\nf o\nok 2\n2 two\n4 four\nok 2\n2 two\n4 four\nok 1\n1 one\n",
+        SOME_REFUSED,
+    ),
+];
+
+#[test]
+fn a_tree_stays_while_others_change_theirs(rt: HostRuntime) -> Result<(), Fail> {
+    are_served(&rt, rt.alloc(), SERVED, &DIRECTORIES)
+}
