@@ -19,7 +19,7 @@ use Rattle.cov_order.specs.Orders.{has_line, AreLines}
 use Rattle.cov_base.specs.Rows.{has_node}
 use Rattle.cov_history.specs.FileNodes.{files_of}
 use Rattle.cov_visible.specs.Parts.{part_node}
-use Rattle.cov_history.specs.Files.{DatedLine, dated_number, dated, file_dated, file_order}
+use Rattle.cov_history.specs.Files.{DatedLine, dated_number, dated, file_dated}
 use Rattle.cov_engine.specs.Holdings.{IsFileOf}
 use Rattle.cov_history.specs.Kept.{Kept, seen_at, kept_number, kept_of, file_kept}
 use Rattle.cov_visible.specs.Nodes.{own_node, old_node, IsWithout, IsTaken}
@@ -33,7 +33,7 @@ use Rattle.cov_engine.proofs.MidCommit.{IsRight, AreRight}
 use Rattle.cov_engine.proofs.Committed.{numbers-dated, in-range}
 use Rattle.cov_engine.proofs.Conditions.{each-stands, own-low}
 use Rattle.cov_engine.proofs.Dating.{AreOnce, IsLeftBy, left_by, node-right, node-low}
-use Rattle.cov_history.proofs.CallerLemmas.{legal-in_files, lines-held, any-none, any-mapped}
+use Rattle.cov_history.proofs.CallerLemmas.{legal-in_files, lines-held}
 use Rattle.cov_visible.proofs.CallerLemmas.{resolved-by}
 use Rattle.cov_engine.proofs.FileOfLine.{none-kept}
 
