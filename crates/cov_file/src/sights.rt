@@ -53,7 +53,7 @@ pub(crate) enum LineChange<'a> {
 pub(crate) struct Sights {
     kept: Vec<Kept>,
     last: usize,
-    rests: bool,
+    is_stopped: bool,
 }
 
 impl Model for Sights {
@@ -68,8 +68,12 @@ impl Model for Sights {
 // They are dropped by a call, so that whoever drops a file needn't know what is kept of it.
 impl Drop for Sights {
     fn drop(self) {
-        let Sights { kept, last, rests } = self;
-        drop((last, rests));
+        let Sights {
+            kept,
+            last,
+            is_stopped,
+        } = self;
+        drop((last, is_stopped));
         drop(kept);
     }
 }
@@ -81,7 +85,7 @@ impl Sights {
         Sights {
             kept: Vec::new(alloc),
             last: 0,
-            rests: false,
+            is_stopped: false,
         }
     }
 
@@ -150,7 +154,7 @@ impl Sights {
                 self.last = at;
                 false
             }
-            None => !self.rests,
+            None => !self.is_stopped,
         }
     }
 
@@ -168,7 +172,7 @@ impl Sights {
         }
         match self.kept.push(kept) {
             Ok(()) => (),
-            Err(_) => self.rest(),
+            Err(_) => self.stop_keeping(),
         }
     }
 
@@ -188,10 +192,10 @@ impl Sights {
     }
 
     /// Keeps no list more until the nodes are renumbered.
-    pub(crate) fn rest(&mut self)
+    pub(crate) fn stop_keeping(&mut self)
         ensures { self.new ≡ self.old }
     {
-        self.rests = true;
+        self.is_stopped = true;
     }
 
     /// Whether there is none.
@@ -206,7 +210,7 @@ impl Sights {
         ensures { self.new ≡ [] }
     {
         self.kept.clear();
-        self.rests = false;
+        self.is_stopped = false;
     }
 
     /// Has each list go with nodes that take the places of those that it goes with, or lets it go.
@@ -215,7 +219,7 @@ impl Sights {
             AreSights ls self.old → AreSights ls' self.new }
     {
         renumber_all(self.kept.as_mut_slice(), by);
-        self.rests = false;
+        self.is_stopped = false;
     }
 
     /// Has the value of a node with each list, as lines are about to get it. A list for which there is no memory is let go.
