@@ -11,20 +11,21 @@ ghost use Rattle.cov_file.specs.Dated.{DatedLine, line_numbers_of, new_line, wit
 ghost use Rattle.cov_file.specs.Renumbered.{AddsNode, AreAllNodes, AreRenumberedLines};
 ghost use Rattle.cov_file.specs.Rooms.{is_room_at, IsMade, IsLeft};
 ghost use Rattle.cov_file.specs.Kept.{row_in, dated_lines};
-ghost use Rattle.cov_file.specs.Replaced.{AreReplaced, AreReplacedLines};
+ghost use Rattle.cov_file.specs.Replaced.{AreReplacedLines};
+ghost use Rattle.cov_values.specs.Replaced.{AreReplaced};
 ghost use Rattle.cov_file.specs.Sights.{rows_by, AreSights, IsSight};
-ghost use Rattle.cov_file.specs.Values.{Agrees, IsKnown};
-ghost use Rattle.cov_file.specs.declared.replacing.Replaced.{Replaced};
+ghost use Rattle.cov_values.specs.Values.{Agrees, IsKnown};
+ghost use Rattle.cov_values.specs.declared.replacing.Replaced.{Replaced};
 
 use crate::changes::Changes;
 use crate::coming::Coming;
 use crate::sights::{Kept, LineChange, Sights};
-use crate::values::Values;
 use cov_base::{
     Choice, FileRow, FileRows, LineNo, LineNos, Memory, Position, Shared, SharedRows, Text,
 };
 use cov_dd::{FALSE, Node, Nodes, Table};
 use cov_order::Order;
+use cov_values::Values;
 use indexmap::IndexMap;
 use std::alloc::Global;
 use std::marker::Model;

@@ -6,14 +6,13 @@ ghost use Rattle.cov_order.specs.Orders.{AreLines};
 ghost use Rattle.cov_file.specs.Dated.{DatedLine, file_row_of, line_numbers_of, new_line, newest_of, newest_vis, with_change, with_line};
 ghost use Rattle.cov_file.specs.declared.sights.Kept.{Kept};
 ghost use Rattle.cov_file.specs.Sights.{rows_by, AreSights, IsSight};
-ghost use Rattle.cov_file.specs.Values.{on_choice, Agrees};
+ghost use Rattle.cov_values.specs.Values.{on_choice, Agrees};
 ghost use Rattle.cov_file.specs.Replaced.{AreReplacedLines};
 ghost use Rattle.cov_file.specs.Forward.{is_shown_by, lines_after, AreRowsAfter, IsBroughtForward, IsChangeOf};
 
-use crate::replacing::Replacements;
-use crate::values::Values;
 use cov_base::{Choice, FileRow, FileRows, LineNo, Memory, Shared, SharedRows, Text};
 use cov_dd::{Node, Table};
+use cov_values::{Replacements, Values};
 use std::alloc::Global;
 use std::marker::Model;
 
