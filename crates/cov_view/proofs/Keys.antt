@@ -30,7 +30,7 @@ module _ (e : NodeRef → NodeRef → Bool) (agrees : (a b : NodeRef) → e a b 
   pub keyed : (rows : List ViewRow) → position (e node) (keys_of rows) ≡ position (λ r. same_node r.node node) rows
   keyed rows i = cond (nat_lt (place_or_len rows i) (length-map rows (λ row. row.node) i)) (Some (place_or_len rows i)) None
 
-  any-key : (rows : List ViewRow) → list_any (e node) (keys_of rows) ≡ has_row rows node
+  pub any-key : (rows : List ViewRow) → list_any (e node) (keys_of rows) ≡ has_row rows node
   any-key [] = refl
   any-key (r ∷ rows) = ap (λ b. b || list_any (e node) (keys_of rows)) (agrees node r.node) ∙ ap (λ b. same_node r.node node || b) (any-key rows)
 

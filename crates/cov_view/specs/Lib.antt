@@ -10,6 +10,7 @@ pub mod References
 pub mod Refusals
 pub mod Seen
 pub mod SeenTree
+pub mod Shown
 pub mod Soundness
 pub mod Tree
 pub mod Views

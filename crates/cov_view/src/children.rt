@@ -1,8 +1,8 @@
 // The names in directories, each found with one look-up.
 ghost use Rattle.std.specs.Prelude.{◌≡◌, ◌∷◌, ◌++◌, [], true, false, None, IfSome, OnOk, OnErr, position};
-ghost use Rattle.cov_view.specs.Keys.{is_child, indexed, IsIndex, RemovesName};
+ghost use Rattle.cov_view.specs.Keys.{is_child, indexed, IsIndex, JoinsNames, RemovesName};
 ghost use Rattle.cov_view.specs.References.{same_node};
-ghost use Rattle.cov_view.specs.Seen.{has_row, child_in, at_row, with_name_by, with_parent_by, without_node, StandOnce};
+ghost use Rattle.cov_view.specs.Seen.{child_in, at_row, with_name_by, with_parent_by, without_node, StandOnce};
 
 use crate::row::{ViewRow, same_node};
 use cov_base::{Memory, NodeRef};
@@ -75,23 +75,22 @@ impl Children {
         self.nodes.get(&ChildKey { dir: *dir, name }).copied()
     }
 
-    /// Notes the row of a node that joins others.
-    pub(crate) fn note(&mut self, rows: &[ViewRow], row: &ViewRow) -> Result<(), Memory>
-        requires index { IsIndex self.old.is_kept rows.now self.old.nodes.entries }
-        requires fresh { has_row rows.now row.now.node ≡ false }
-        ensures ok { OnOk result (IsIndex self.new.is_kept (rows.now ++ row.now ∷ [])
-            self.new.nodes.entries) }
-        ensures err { OnErr result (IsIndex self.new.is_kept rows.now self.new.nodes.entries) }
+    /// Notes the node of a name in a directory, whose row joins others.
+    pub(crate) fn note(&mut self, node: &NodeRef, dir: &NodeRef, name: &[u8]) -> Result<(), Memory>
+        ensures ok { OnOk result (JoinsNames node.now dir.now name.now self.old.is_kept
+            self.old.nodes.entries self.new.is_kept self.new.nodes.entries) }
+        ensures kept { OnErr result (self.new.is_kept ≡ self.old.is_kept) }
+        ensures nodes { OnErr result (self.new.nodes.entries ≡ self.old.nodes.entries) }
     {
         if !self.is_kept {
             return Ok(());
         }
         let key = ChildKey {
-            dir: row.parent,
-            name: Vec::from_slice(*self.nodes.allocator(), row.name.as_slice())?,
+            dir: *dir,
+            name: Vec::from_slice(*self.nodes.allocator(), name)?,
         };
         self.make_room()?;
-        self.put(key, &row.node);
+        self.put(key, node);
         Ok(())
     }
 

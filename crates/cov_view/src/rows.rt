@@ -59,7 +59,8 @@ impl Rows {
     {
         self.rows.reserve(1)?;
         self.keys.reserve(1)?;
-        self.children.note(self.rows.as_slice(), &row)?;
+        self.children
+            .note(&row.node, &row.parent, row.name.as_slice())?;
         match self.keys.insert(row.node) {
             Ok(_) => {}
             Err(_) => unreachable!(),

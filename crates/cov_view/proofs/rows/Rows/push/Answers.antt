@@ -1,4 +1,4 @@
-use Rattle.std.proofs.Common.{List, [], ◌∷◌, ◌++◌, ap, sym, subst, ◌∙◌}
+use Rattle.std.proofs.Common.{List, [], ◌∷◌, ◌++◌, refl, ap, sym, subst, ◌∙◌}
 use Rattle.std.proofs.lemmas.List.{map-append}
 use Rattle.indexmap.specs.IndexSet.{insert_key}
 use Rattle.cov_view.specs.Keys.{IsIndex}
@@ -20,5 +20,5 @@ invariant_of-self-2 c =
           ∙ sym (map-append (λ (r : ViewRow). r.node) rows (row ∷ []))
           ∙ ap keys_of (sym joined),
       subst StandOnce (sym joined) (once-append rows row c.self.invariant.1 fresh),
-      subst (λ (rs : List ViewRow). IsIndex c.note.new.self.is_kept rs c.note.new.self.nodes.entries) (ap (λ (rs : List ViewRow). rs ++ row ∷ []) c.as_slice.ensures.value ∙ sym c.push_reserved.ensures.items) c.in_ok-note.ensures.ok,
+      subst (λ (rs : List ViewRow). IsIndex c.note.new.self.is_kept rs c.note.new.self.nodes.entries) (sym joined) (c.in_ok-note.ensures.ok rows row refl refl (sym c.as_slice.ensures.bytes) fresh c.self.invariant.2),
     )
