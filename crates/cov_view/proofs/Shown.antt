@@ -1,6 +1,7 @@
 -- Rows of nodes of a history, as views of them have them.
-use Rattle.std.proofs.Common.{◌≡◌, refl, ap, sym, ◌∙◌, ℕ, zero, suc, Bool, true, false, ◌||◌, nat_eq, List, [], ◌∷◌, map, arith}
+use Rattle.std.proofs.Common.{◌≡◌, refl, ap, sym, ◌∙◌, ℕ, zero, suc, true, false, ◌||◌, nat_eq, List, [], ◌∷◌, map, arith}
 use Rattle.std.specs.List.{list_any}
+use Rattle.std.proofs.lemmas.Bool.{or_parts}
 use Rattle.std.proofs.lemmas.Bool.Decides.{nat_tests}
 use Rattle.cov_base.specs.Rows.{Row, has_node, AreDistinct, AreOnce}
 use Rattle.cov_base.specs.declared.number.NodeRef.TheVariants as nodes
@@ -34,3 +35,13 @@ distinct (r ∷ rows) h = (sym (has-number r.node rows) ∙ h.2, distinct rows h
 -- rows that are shown are of different nodes but the root
 pub once-bare : (rows : List Row) → AreRows 0 (bare_rows rows) → AreOnce rows
 once-bare rows h = (no-root rows h, distinct rows h)
+
+has-none : (node : ℕ) (rows : List Row) → has_node node (map (λ (r : Row). r.node) rows) ≡ false → has_row (bare_rows rows) (nodes.Old node) ≡ false
+has-none node rows h = has-number node rows ∙ h
+
+-- rows of different nodes but the root are those of a view, in which nothing is made
+pub rows-bare : (rows : List Row) → AreOnce rows → AreRows 0 (bare_rows rows)
+rows-bare [] h = tt
+rows-bare (r ∷ rows) h =
+    let parts = or_parts (nat_eq r.node 0) (has_node 0 (map (λ (q : Row). q.node) rows)) h.0 in
+    (root-number r.node ∙ parts.0, refl, has-none r.node rows h.1.0, rows-bare rows (parts.1, h.1.1))

@@ -60,11 +60,11 @@ JoinsNames node dir name kept nodes now_kept now =
     (rows : List ViewRow) (r : ViewRow) → r.node ≡ node → r.parent ≡ dir → r.name ≡ name → has_row rows node ≡ false
     → IsIndex kept rows nodes → IsIndex now_kept (rows ++ r ∷ []) now
 
--- what rows are found by has the place of each, and an index of their names
+-- an index has the place of each row, and the names of all
 abbrev pub IsIndexOf : NodeIndex → List ViewRow → Type 0
 IsIndexOf index rows = (index.places.keys ≡ map (λ r. r.node) rows) × IsIndex index.children.is_kept rows index.children.nodes.entries
 
--- what whatever rows are found by that don't have a node is, after it joined, what these are found by with the node's row
+-- an index of whatever rows that don't have a node becomes one of these with the node's row
 abbrev pub JoinsIndex : NodeRef → NodeRef → List ℕ → NodeIndex → NodeIndex → Type 0
 JoinsIndex node dir name old new =
     (rows : List ViewRow) (r : ViewRow) → r.node ≡ node → r.parent ≡ dir → r.name ≡ name → has_row rows node ≡ false

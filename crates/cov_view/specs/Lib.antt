@@ -1,3 +1,4 @@
+pub mod Finding
 pub mod Held
 pub mod Keys
 pub mod Laws

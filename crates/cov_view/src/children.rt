@@ -63,10 +63,7 @@ impl Children {
         if self.is_kept {
             return self.look_up(dir, name);
         }
-        match find_child(rows, dir, name) {
-            Some(at) => Some(rows[at].node),
-            None => None,
-        }
+        child_among(rows, dir, name)
     }
 
     fn look_up(&self, dir: &NodeRef, name: &[u8]) -> Option<NodeRef>
@@ -200,6 +197,16 @@ impl Children {
             Ok(_) => {}
             Err(_) => unreachable!(),
         }
+    }
+}
+
+/// The node of that name in a directory, which is looked for in the rows.
+pub(crate) fn child_among(rows: &[ViewRow], dir: &NodeRef, name: &[u8]) -> Option<NodeRef>
+    ensures { result ≡ child_in rows.now dir.now name.now }
+{
+    match find_child(rows, dir, name) {
+        Some(at) => Some(rows[at].node),
+        None => None,
     }
 }
 

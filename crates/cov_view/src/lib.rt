@@ -14,6 +14,7 @@ mod listing;
 mod node_index;
 mod node_row;
 mod row;
+mod row_index;
 mod row_lines;
 mod rows;
 mod shown_tree;

@@ -1,8 +1,8 @@
 // What rows are found by.
-ghost use Rattle.std.specs.Prelude.{◌≡◌, [], List, OnOk, OnErr, is_some, position};
+ghost use Rattle.std.specs.Prelude.{◌≡◌, [], List, IfOk, OnOk, OnErr, is_some, position};
 ghost use Rattle.cov_view.specs.Keys.{IsIndexOf, JoinsIndex};
 ghost use Rattle.cov_view.specs.References.{same_node};
-ghost use Rattle.cov_view.specs.Seen.{child_in, has_row};
+ghost use Rattle.cov_view.specs.Seen.{child_in, has_row, at_row, with_name_by, with_parent_by, without_node, StandOnce};
 ghost use Rattle.cov_view.specs.declared.row.ViewRow.{ViewRow};
 
 use crate::children::Children;
@@ -68,5 +68,72 @@ impl NodeIndex {
             Err(_) => unreachable!(),
         }
         Ok(())
+    }
+
+    /// An index of rows.
+    pub(crate) fn of_rows(alloc: Global, rows: &[ViewRow]) -> Result<NodeIndex, Memory>
+        requires { StandOnce rows.now }
+        ensures { IfOk result (λ index. IsIndexOf index rows.now) }
+    {
+        let mut index = NodeIndex::new(alloc);
+        'rows: for row in rows {
+            index.note(&row.node, &row.parent, row.name.as_slice())?;
+        }
+        Ok(index)
+    }
+
+    /// Makes room for another name.
+    pub(crate) fn make_room(&mut self) -> Result<(), Memory>
+        ensures { (rows : List ViewRow) → IsIndexOf self.old rows → IsIndexOf self.new rows }
+    {
+        self.children.make_room()
+    }
+
+    /// Notes that a node, whose row stands at a place, gets another name, as `Children` does.
+    pub(crate) fn change_name(
+        &mut self,
+        rows: &[ViewRow],
+        node: &NodeRef,
+        place: Option<usize>,
+        name: Vec<u8>,
+    )
+        requires index { IsIndexOf self.old rows.now }
+        requires once { StandOnce rows.now }
+        requires place { place ≡ position (λ r. same_node r.node node.now) rows.now }
+        ensures { IsIndexOf self.new (at_row node.now (with_name_by name.items) rows.now) }
+    {
+        self.children.change_name(rows, node, place, name);
+    }
+
+    /// Notes that a node, whose row stands at a place, gets another directory. It takes no memory.
+    pub(crate) fn change_parent(
+        &mut self,
+        rows: &[ViewRow],
+        node: &NodeRef,
+        place: Option<usize>,
+        parent: &NodeRef,
+    )
+        requires index { IsIndexOf self.old rows.now }
+        requires once { StandOnce rows.now }
+        requires place { place ≡ position (λ r. same_node r.node node.now) rows.now }
+        ensures { IsIndexOf self.new (at_row node.now (with_parent_by parent.now) rows.now) }
+    {
+        self.children.change_parent(rows, node, place, parent);
+    }
+
+    /// Notes that the row of a node, which stands at a place, is removed. It takes no memory.
+    pub(crate) fn remove(&mut self, rows: &[ViewRow], node: &NodeRef, place: Option<usize>)
+        requires index { IsIndexOf self.old rows.now }
+        requires once { StandOnce rows.now }
+        requires place { place ≡ position (λ r. same_node r.node node.now) rows.now }
+        ensures { IsIndexOf self.new (without_node node.now rows.now) }
+    {
+        self.children.remove_row(rows, node, place);
+        match place {
+            Some(at) => {
+                self.places.shift_remove_index(at);
+            }
+            None => {}
+        }
     }
 }

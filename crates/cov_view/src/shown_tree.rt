@@ -2,7 +2,6 @@
 ghost use Rattle.std.specs.Prelude.{◌≡◌, ◌++◌, ◌∷◌, [], false, length, not, if◌then◌else◌, IfOk, OnOk, OnErr};
 ghost use Rattle.cov_base.specs.Rows.{is_present, AreOnce};
 ghost use Rattle.cov_view.specs.Keys.{IsIndexOf};
-ghost use Rattle.cov_view.specs.Seen.{AreRows};
 ghost use Rattle.cov_view.specs.Shown.{bare_rows};
 
 use crate::NodeRow;
@@ -22,16 +21,15 @@ pub struct ShownTree {
 
 impl Model for ShownTree {
     ghost use Rattle.std.specs.Prelude.{List};
-    ghost use Rattle.cov_base.specs.Rows.{Row};
+    ghost use Rattle.cov_base.specs.Rows.{Row, AreOnce};
     ghost use Rattle.cov_view.specs.Keys.{IsIndexOf};
-    ghost use Rattle.cov_view.specs.Seen.{AreRows};
     ghost use Rattle.cov_view.specs.Shown.{bare_rows};
 
     ghost Value = { List Row };
 
     ghost view = { λ t. t.rows.items };
 
-    ghost invariant = { λ t. AreRows 0 (bare_rows t.rows.items) ×
+    ghost invariant = { λ t. AreOnce t.rows.items ×
         IsIndexOf t.index (bare_rows t.rows.items) };
 }
 
@@ -123,8 +121,7 @@ impl ShownTree {
 
     /// What the rows are found by.
     pub(crate) fn index(&self) -> &NodeIndex
-        ensures index { IsIndexOf result.now (bare_rows self.now) }
-        ensures rows { AreRows 0 (bare_rows self.now) }
+        ensures { IsIndexOf result.now (bare_rows self.now) }
     {
         &self.index
     }
