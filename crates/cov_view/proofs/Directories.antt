@@ -325,7 +325,7 @@ index-same true rows nodes node f same place h = children_same rows nodes node f
 index-same false rows nodes node f same place h = tt
 
 -- a key is noted, or the index is given up
-abbrev IsPut : Bool → ChildNodes → Key → NodeRef → Bool → ChildNodes → Type 0
+abbrev pub IsPut : Bool → ChildNodes → Key → NodeRef → Bool → ChildNodes → Type 0
 IsPut kept old key node now new = now ≡ true → (kept ≡ true) × (indexed old key.dir key.name.items ≡ None) × (new ≡ old ++ (key, node) ∷ [])
 
 -- an index of rows with one more

@@ -4,7 +4,7 @@ use Rattle.std.specs.List.{find, list_any, position_or_len, remove}
 use Rattle.std.proofs.lemmas.Bool.Decides.{nat_tests}
 use Rattle.std.proofs.lemmas.List.{length-map}
 use Rattle.std.proofs.lemmas.List.Folds.{find_at}
-use Rattle.std.proofs.lemmas.Option.{slice_get-get_or}
+use Rattle.std.proofs.lemmas.Option.{slice_get-get_or, slice_get_within, get_or_from_slice_get}
 use Rattle.indexmap.specs.IndexSet.{insert_key}
 use Rattle.cov_base.specs.declared.number.NodeRef.{NodeRef}
 use Rattle.cov_base.specs.declared.number.NodeRef.TheVariants as nodes
@@ -12,7 +12,7 @@ use Rattle.cov_view.specs.References.{same_node}
 use Rattle.cov_view.specs.Seen.{has_row, at_row, without_node, StandOnce}
 use Rattle.cov_view.specs.declared.row.ViewRow.{ViewRow}
 use Rattle.cov_view.proofs.Naming.{node-same}
-use Rattle.cov_view.proofs.Standing.{none-without}
+use Rattle.cov_view.proofs.Standing.{first-at, none-without}
 use Rattle.cov_base.specs.contracts.number.NodeRefPartialEq.TheImpl.{eq-value}
 
 -- the keys of rows
@@ -30,7 +30,7 @@ module _ (e : NodeRef → NodeRef → Bool) (agrees : (a b : NodeRef) → e a b 
   pub keyed : (rows : List ViewRow) → position (e node) (keys_of rows) ≡ position (λ r. same_node r.node node) rows
   keyed rows i = cond (nat_lt (place_or_len rows i) (length-map rows (λ row. row.node) i)) (Some (place_or_len rows i)) None
 
-  any-key : (rows : List ViewRow) → list_any (e node) (keys_of rows) ≡ has_row rows node
+  pub any-key : (rows : List ViewRow) → list_any (e node) (keys_of rows) ≡ has_row rows node
   any-key [] = refl
   any-key (r ∷ rows) = ap (λ b. b || list_any (e node) (keys_of rows)) (agrees node r.node) ∙ ap (λ b. same_node r.node node || b) (any-key rows)
 
@@ -121,3 +121,11 @@ removed_row node rows i once h = at (nat_lt (position_or_len (λ r. same_node r.
         let same : position_or_len (λ r. same_node r.node node) rows ≡ i = cc in
         ap (remove rows) (sym same) ∙ removed_first node rows once (grind (arith, nat_tests, e))
     at false e k = absurd (cc)
+
+-- the row at an index stands at the place of its node
+pub first_place : (node : NodeRef) (rows : List ViewRow) (i : ℕ) (r : ViewRow) → StandOnce rows → slice_get rows i ≡ Some r → same_node r.node node ≡ true → position (λ q. same_node q.node node) rows ≡ Some i
+first_place node rows i r once at is =
+    let below = slice_get_within rows i r at in
+    let test : nat_lt i (length rows) ≡ true = grind (arith, nat_tests, below) in
+    let first = first-at node rows i r below once (ap (λ (q : ViewRow). same_node q.node node) (get_or_from_slice_get rows i r r at) ∙ is) in
+    (λ j. cond (nat_lt (first j) (length rows)) (Some (first j)) None) ∙ ap (λ b. cond b (Some i) None) test

@@ -24,6 +24,7 @@ pub mod Placed
 pub mod Places
 pub mod Refusing
 pub mod Showing
+pub mod Shown
 pub mod Sorted
 pub mod Standing
 pub mod TreeExamples

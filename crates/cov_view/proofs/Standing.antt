@@ -1,6 +1,6 @@
 -- Rows of nodes that each stand once.
-use Rattle.std.proofs.Common.{◌≡◌, ℕ, Bool, true, false, cond, ◌||◌, not, List, [], ◌∷◌, ◌++◌, Some, None, option_map, refl, sym, ap, ◌∙◌, arith}
-use Rattle.std.specs.List.{AllByRecursion}
+use Rattle.std.proofs.Common.{◌≡◌, ℕ, zero, suc, ◌+◌, ◌<◌, Bool, true, false, cond, ◌||◌, not, List, [], ◌∷◌, ◌++◌, length, take, get_or, Some, None, option_map, true≢false, refl, sym, ap, ◌∙◌, arith}
+use Rattle.std.specs.List.{AllByRecursion, position_or_len}
 use Rattle.std.proofs.lemmas.Bool.{or_from, or_parts}
 use Rattle.std.proofs.lemmas.Bool.Decides.{nat_tests}
 use Rattle.cov_base.specs.declared.number.NodeRef.{NodeRef}
@@ -193,3 +193,32 @@ has_row-last (q ∷ rows) r = at (same_node q.node r.node) (has_row-last rows r)
 pub all-fresh : (rows : List ViewRow) (n : NodeRef) → has_row rows n ≡ false → AllByRecursion (λ r. same_node r.node n ≡ false) rows
 all-fresh [] n h = tt
 all-fresh (r ∷ rows) n h = let parts = or_parts (same_node r.node n) (has_row rows n) h in (parts.0, all-fresh rows n parts.1)
+
+none-at : (rows : List ViewRow) (i : ℕ) (d : ViewRow) (n : NodeRef) → i < length rows → has_row rows n ≡ false → same_node (get_or rows i d).node n ≡ false
+none-at [] i d n below h = absurd (omega (arith, below))
+none-at (r ∷ rows) zero d n below h = (or_parts (same_node r.node n) (has_row rows n) h).0
+none-at (r ∷ rows) (suc i) d n below h = none-at rows i d n (omega (arith, below)) (or_parts (same_node r.node n) (has_row rows n) h).1
+
+-- the row at an index is of no node before it
+pub fresh-at : (rows : List ViewRow) (i : ℕ) (d : ViewRow) → i < length rows → StandOnce rows → has_row (take i rows) (get_or rows i d).node ≡ false
+fresh-at [] i d below once = absurd (omega (arith, below))
+fresh-at (r ∷ rows) zero d below once = refl
+fresh-at (r ∷ rows) (suc i) d below once =
+    let next : i < length rows = omega (arith, below) in
+    let n = (get_or rows i d).node in
+    or_from (same_node r.node n) (has_row (take i rows) n) (same_node-sym r.node n ∙ none-at rows i d r.node next once.0) (fresh-at rows i d next once.1)
+
+-- the row at an index is the first of its node
+pub first-at : (node : NodeRef) (rows : List ViewRow) (i : ℕ) (d : ViewRow) → i < length rows → StandOnce rows → same_node (get_or rows i d).node node ≡ true
+    → position_or_len (λ r. same_node r.node node) rows ≡ i
+first-at node [] i d below once h = absurd (omega (arith, below))
+first-at node (r ∷ rows) zero d below once h = ap (λ b. cond (not b) (1 + position_or_len (λ q. same_node q.node node) rows) 0) h
+first-at node (r ∷ rows) (suc i) d below once h =
+    let next : i < length rows = omega (arith, below) in
+    let one : 1 + i ≡ suc i = omega arith in
+    ap (λ b. cond (not b) (1 + position_or_len (λ q. same_node q.node node) rows) 0) (apart next (same_node r.node node) refl)
+    ∙ ap (λ n. 1 + n) (first-at node rows i d next once.1 h) ∙ one
+  where
+    apart : i < length rows → (b : Bool) → same_node r.node node ≡ b → b ≡ false
+    apart next true e = absurd (true≢false (sym (ap (same_node (get_or rows i d).node) (node-same r.node node e) ∙ h) ∙ none-at rows i d r.node next once.0))
+    apart next false e = refl

@@ -1,6 +1,6 @@
 -- What nodes are found by.
 use Rattle.std.specs.Global.{Vec}
-use Rattle.std.specs.Prelude.{◌≡◌, Bool, true, false, ◌&&◌, ℕ, List, Option, Some, None}
+use Rattle.std.specs.Prelude.{◌≡◌, Bool, true, false, ◌&&◌, ℕ, List, [], ◌∷◌, ◌++◌, map, Option, Some, None}
 use Rattle.std.specs.List.{AllByRecursion}
 use Rattle.std.specs.Map.{lookup}
 use Rattle.std.specs.Str.{bytes_eq}
@@ -8,6 +8,7 @@ use Rattle.cov_base.specs.declared.number.NodeRef.{NodeRef}
 use Rattle.cov_view.specs.References.{same_node}
 use Rattle.cov_view.specs.Seen.{has_row}
 use Rattle.cov_view.specs.declared.children.ChildKey.{ChildKey}
+use Rattle.cov_view.specs.declared.node_index.NodeIndex.{NodeIndex}
 use Rattle.cov_view.specs.declared.row.ViewRow.{ViewRow}
 
 -- whether a key is that of a name in a directory
@@ -52,3 +53,19 @@ abbrev pub RemovesName : NodeRef → List ℕ → ChildNodes → ChildNodes → 
 RemovesName dir name old new =
     (indexed new dir name ≡ None)
     × ((other : NodeRef) (text : List ℕ) → (same_node dir other && bytes_eq name text) ≡ false → indexed new other text ≡ indexed old other text)
+
+-- an index of whatever rows that don't have a node is one of these with the node's row, in a directory and under a name
+abbrev pub JoinsNames : NodeRef → NodeRef → List ℕ → Bool → ChildNodes → Bool → ChildNodes → Type 0
+JoinsNames node dir name kept nodes now_kept now =
+    (rows : List ViewRow) (r : ViewRow) → r.node ≡ node → r.parent ≡ dir → r.name ≡ name → has_row rows node ≡ false
+    → IsIndex kept rows nodes → IsIndex now_kept (rows ++ r ∷ []) now
+
+-- an index has the place of each row, and the names of all
+abbrev pub IsIndexOf : NodeIndex → List ViewRow → Type 0
+IsIndexOf index rows = (index.places.keys ≡ map (λ r. r.node) rows) × IsIndex index.children.is_kept rows index.children.nodes.entries
+
+-- an index of whatever rows that don't have a node becomes one of these with the node's row
+abbrev pub JoinsIndex : NodeRef → NodeRef → List ℕ → NodeIndex → NodeIndex → Type 0
+JoinsIndex node dir name old new =
+    (rows : List ViewRow) (r : ViewRow) → r.node ≡ node → r.parent ≡ dir → r.name ≡ name → has_row rows node ≡ false
+    → IsIndexOf old rows → IsIndexOf new (rows ++ r ∷ [])

@@ -1,3 +1,4 @@
+pub mod Finding
 pub mod Held
 pub mod Keys
 pub mod Laws
@@ -10,6 +11,7 @@ pub mod References
 pub mod Refusals
 pub mod Seen
 pub mod SeenTree
+pub mod Shown
 pub mod Soundness
 pub mod Tree
 pub mod Views

@@ -1,8 +1,8 @@
 // The names in directories, each found with one look-up.
 ghost use Rattle.std.specs.Prelude.{◌≡◌, ◌∷◌, ◌++◌, [], true, false, None, IfSome, OnOk, OnErr, position};
-ghost use Rattle.cov_view.specs.Keys.{is_child, indexed, IsIndex, RemovesName};
+ghost use Rattle.cov_view.specs.Keys.{is_child, indexed, IsIndex, JoinsNames, RemovesName};
 ghost use Rattle.cov_view.specs.References.{same_node};
-ghost use Rattle.cov_view.specs.Seen.{has_row, child_in, at_row, with_name_by, with_parent_by, without_node, StandOnce};
+ghost use Rattle.cov_view.specs.Seen.{child_in, at_row, with_name_by, with_parent_by, without_node, StandOnce};
 
 use crate::row::{ViewRow, same_node};
 use cov_base::{Memory, NodeRef};
@@ -63,10 +63,7 @@ impl Children {
         if self.is_kept {
             return self.look_up(dir, name);
         }
-        match find_child(rows, dir, name) {
-            Some(at) => Some(rows[at].node),
-            None => None,
-        }
+        child_among(rows, dir, name)
     }
 
     fn look_up(&self, dir: &NodeRef, name: &[u8]) -> Option<NodeRef>
@@ -75,23 +72,22 @@ impl Children {
         self.nodes.get(&ChildKey { dir: *dir, name }).copied()
     }
 
-    /// Notes the row of a node that joins others.
-    pub(crate) fn note(&mut self, rows: &[ViewRow], row: &ViewRow) -> Result<(), Memory>
-        requires index { IsIndex self.old.is_kept rows.now self.old.nodes.entries }
-        requires fresh { has_row rows.now row.now.node ≡ false }
-        ensures ok { OnOk result (IsIndex self.new.is_kept (rows.now ++ row.now ∷ [])
-            self.new.nodes.entries) }
-        ensures err { OnErr result (IsIndex self.new.is_kept rows.now self.new.nodes.entries) }
+    /// Notes the node of a name in a directory, whose row joins others.
+    pub(crate) fn note(&mut self, node: &NodeRef, dir: &NodeRef, name: &[u8]) -> Result<(), Memory>
+        ensures ok { OnOk result (JoinsNames node.now dir.now name.now self.old.is_kept
+            self.old.nodes.entries self.new.is_kept self.new.nodes.entries) }
+        ensures kept { OnErr result (self.new.is_kept ≡ self.old.is_kept) }
+        ensures nodes { OnErr result (self.new.nodes.entries ≡ self.old.nodes.entries) }
     {
         if !self.is_kept {
             return Ok(());
         }
         let key = ChildKey {
-            dir: row.parent,
-            name: Vec::from_slice(*self.nodes.allocator(), row.name.as_slice())?,
+            dir: *dir,
+            name: Vec::from_slice(*self.nodes.allocator(), name)?,
         };
         self.make_room()?;
-        self.put(key, &row.node);
+        self.put(key, node);
         Ok(())
     }
 
@@ -201,6 +197,16 @@ impl Children {
             Ok(_) => {}
             Err(_) => unreachable!(),
         }
+    }
+}
+
+/// The node of that name in a directory, which is looked for in the rows.
+pub(crate) fn child_among(rows: &[ViewRow], dir: &NodeRef, name: &[u8]) -> Option<NodeRef>
+    ensures { result ≡ child_in rows.now dir.now name.now }
+{
+    match find_child(rows, dir, name) {
+        Some(at) => Some(rows[at].node),
+        None => None,
     }
 }
 

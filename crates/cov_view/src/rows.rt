@@ -1,39 +1,39 @@
-// The rows of a view, each found by its node with one look-up.
-ghost use Rattle.std.specs.Prelude.{◌≡◌, ◌<◌, [], ◌∷◌, ◌++◌, false, IfSome, OnOk, OnErr, length, map, position, slice_get};
+// The rows of a view.
+ghost use Rattle.std.specs.Prelude.{◌≡◌, ◌<◌, [], ◌∷◌, ◌++◌, false, IfOk, IfSome, OnOk, OnErr, length, map, position, slice_get};
 ghost use Rattle.std.specs.Option.{option_copied};
+ghost use Rattle.cov_base.specs.Rows.{AreOnce};
 ghost use Rattle.cov_view.specs.Lines.{after_ref, without_ref};
 ghost use Rattle.cov_view.specs.References.{same_node};
 ghost use Rattle.cov_view.specs.Seen.{row_at, has_row, kind_in, is_there, has_child, child_in, has_child_beside, has_child_of, has_children, lies_within, StandOnce, at_row, old_line, with_lines_by, with_name_by, with_parent_by, without_node};
+ghost use Rattle.cov_view.specs.Shown.{bare_row, bare_rows};
 
 use crate::changing::{append_lines, delete_line, insert_line, set_name, set_parent, share_lines};
-use crate::children::Children;
 use crate::row::{ViewRow, is_root, same_node};
-use crate::{ViewLine, ViewLines};
+use crate::row_index::RowIndex;
+use crate::row_lines::RowLines;
+use crate::{NodeRow, SharedTree, ShownTree, ViewLine, ViewLines};
 use cov_base::{Kind, LineRef, Memory, Name, NodeRef, SharedRows};
-use indexmap::IndexSet;
 use std::alloc::Global;
 use std::marker::Model;
 
-/// The rows in the order in which they were added; the i-th key is the node of row i, and no node stands twice.
+/// The rows in the order in which they were added, and what they are found by; no node stands twice.
 #[derive(Debug, Drop)]
 pub(crate) struct Rows {
     rows: Vec<ViewRow>,
-    keys: IndexSet<NodeRef>,
-    children: Children,
+    index: RowIndex,
 }
 
 impl Model for Rows {
-    ghost use Rattle.std.specs.Prelude.{◌≡◌, List, map};
+    ghost use Rattle.std.specs.Prelude.{List};
     ghost use Rattle.cov_view.specs.declared.row.ViewRow.{ViewRow};
-    ghost use Rattle.cov_view.specs.Keys.{IsIndex};
+    ghost use Rattle.cov_view.specs.Finding.{Finds};
     ghost use Rattle.cov_view.specs.Seen.{StandOnce};
 
     ghost Value = { List ViewRow };
 
     ghost view = { λ r. r.rows.items };
 
-    ghost invariant = { λ r. (r.keys.keys ≡ map (λ row. row.node) r.rows.items) ×
-        StandOnce r.rows.items × IsIndex r.children.is_kept r.rows.items r.children.nodes.entries };
+    ghost invariant = { λ r. StandOnce r.rows.items × Finds r.index r.rows.items };
 }
 
 impl Rows {
@@ -42,9 +42,20 @@ impl Rows {
     {
         Rows {
             rows: Vec::new(alloc),
-            keys: IndexSet::new(alloc),
-            children: Children::new(alloc),
+            index: RowIndex::new(alloc),
         }
+    }
+
+    /// The rows of a tree, without lines. They share its names and what it is found by.
+    pub(crate) fn of_tree(tree: SharedTree) -> Result<Rows, Memory>
+        ensures rows { IfOk result (λ rows. rows ≡ bare_rows tree) }
+        ensures once { OnOk result (AreOnce tree) }
+    {
+        let rows = bare_rows(tree.lend())?;
+        Ok(Rows {
+            rows,
+            index: RowIndex::shared(tree),
+        })
     }
 
     pub(crate) fn allocator(&self) -> Global {
@@ -58,12 +69,8 @@ impl Rows {
         ensures err { OnErr result (self.new ≡ self.old) }
     {
         self.rows.reserve(1)?;
-        self.keys.reserve(1)?;
-        self.children.note(self.rows.as_slice(), &row)?;
-        match self.keys.insert(row.node) {
-            Ok(_) => {}
-            Err(_) => unreachable!(),
-        }
+        self.index
+            .note(*self.rows.allocator(), self.rows.as_slice(), &row)?;
         self.rows.push_reserved(row);
         Ok(())
     }
@@ -73,7 +80,7 @@ impl Rows {
         ensures place { result ≡ position (λ r. same_node r.node node.now) self.now }
         ensures within { IfSome result (λ at. at < length self.now) }
     {
-        self.keys.get_index_of(node)
+        self.index.place(self.rows.as_slice(), node)
     }
 
     /// The row of a node.
@@ -117,7 +124,7 @@ impl Rows {
     pub(crate) fn child_in(&self, dir: &NodeRef, name: &[u8]) -> Option<NodeRef>
         ensures { result ≡ child_in self.now dir.now name.now }
     {
-        self.children.node(self.rows.as_slice(), dir, name)
+        self.index.child_in(self.rows.as_slice(), dir, name)
     }
 
     /// Whether the directory of a node, if it has a row, has a node of that name.
@@ -165,7 +172,8 @@ impl Rows {
     }
 
     fn row(&self, at: usize) -> Option<&ViewRow>
-        ensures { option_copied result ≡ slice_get self.now at }
+        ensures row { option_copied result ≡ slice_get self.now at }
+        ensures once { StandOnce self.now }
     {
         self.rows.get(at)
     }
@@ -194,13 +202,29 @@ impl Rows {
         append_lines(&mut self.rows, file, place, lines)
     }
 
-    /// Puts shared lines at the end of a file, all of them or none.
-    pub(crate) fn share_lines(&mut self, file: &NodeRef, lines: SharedRows) -> Result<(), Memory>
-        ensures ok { OnOk result (self.new ≡ at_row file.now (with_lines_by (λ ls. ls ++ map old_line lines)) self.old) }
+    /// Puts shared lines at the end of a file, all of them or none. Its row is looked up where it isn't at an index.
+    pub(crate) fn share_lines_at(
+        &mut self,
+        index: usize,
+        file: &NodeRef,
+        lines: SharedRows,
+    ) -> Result<(), Memory>
+        ensures ok { OnOk result (self.new ≡
+            at_row file.now (with_lines_by (λ ls. ls ++ map old_line lines)) self.old) }
         ensures err { OnErr result (self.new ≡ self.old) }
     {
-        let place = self.place(file);
+        let place = self.place_near(index, file);
         share_lines(&mut self.rows, file, place, lines)
+    }
+
+    // Where the row of a node stands, without a look-up where it is at an index.
+    fn place_near(&self, index: usize, node: &NodeRef) -> Option<usize>
+        ensures { result ≡ position (λ r. same_node r.node node.now) self.now }
+    {
+        match self.row(index) {
+            Some(row) if same_node(&row.node, node) => Some(index),
+            _ => self.place(node),
+        }
     }
 
     /// Puts a line directly after its anchor in a file, or first where that is the head.
@@ -231,11 +255,14 @@ impl Rows {
         ensures ok { OnOk result (self.new ≡ at_row node.now (with_name_by name) self.old) }
         ensures err { OnErr result (self.new ≡ self.old) }
     {
-        let key = Vec::from_slice(*self.rows.allocator(), name.as_slice())?;
-        self.children.make_room()?;
         let place = self.place(node);
-        self.children
-            .change_name(self.rows.as_slice(), node, place, key);
+        self.index.change_name(
+            *self.rows.allocator(),
+            self.rows.as_slice(),
+            node,
+            place,
+            name.as_slice(),
+        )?;
         set_name(&mut self.rows, node, place, name);
         Ok(())
     }
@@ -245,8 +272,13 @@ impl Rows {
         ensures { self.new ≡ at_row node.now (with_parent_by parent.now) self.old }
     {
         let place = self.place(node);
-        self.children
-            .change_parent(self.rows.as_slice(), node, place, parent);
+        self.index.change_parent(
+            *self.rows.allocator(),
+            self.rows.as_slice(),
+            node,
+            place,
+            parent,
+        );
         set_parent(&mut self.rows, node, place, parent);
     }
 
@@ -255,13 +287,37 @@ impl Rows {
         ensures { self.new ≡ without_node node.now self.old }
     {
         let place = self.place(node);
-        self.children.remove_row(self.rows.as_slice(), node, place);
+        self.index
+            .remove(*self.rows.allocator(), self.rows.as_slice(), node, place);
         match place {
             Some(at) => {
-                self.keys.shift_remove_index(at);
                 self.rows.remove(at);
             }
             None => {}
         }
     }
+}
+
+// The rows of a tree, without lines. They share its names.
+fn bare_rows(tree: &ShownTree) -> Result<Vec<ViewRow>, Memory>
+    ensures rows { IfOk result (λ rows. rows.items ≡ bare_rows tree.now) }
+    ensures once { OnOk result (AreOnce tree.now) }
+{
+    let mut rows = Vec::with_capacity(tree.allocator(), tree.len())?;
+    'rows: for row in tree.as_slice() {
+        rows.push(bare_row(tree.allocator(), row)?)?;
+    }
+    Ok(rows)
+}
+
+fn bare_row(alloc: Global, row: &NodeRow) -> Result<ViewRow, Memory>
+    ensures { IfOk result (λ bare. bare ≡ bare_row row.now) }
+{
+    Ok(ViewRow {
+        node: NodeRef::Old(row.node),
+        kind: row.kind,
+        parent: NodeRef::Old(row.parent),
+        name: row.name.copy()?,
+        lines: RowLines::new(alloc),
+    })
 }

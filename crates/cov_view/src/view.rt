@@ -15,6 +15,7 @@ ghost use Rattle.cov_view.specs.Refusals.{shows_node, is_dir, refusal, takes_mem
 ghost use Rattle.cov_view.specs.Paths.{path_node, shown_kind, AreLinesOf};
 ghost use Rattle.cov_view.specs.Seen.{Seen, kind_in, node_at, lines_in, has_child, is_there, kind_is_dir, new_fault, line_fault, rename_fault, move_fault, remove_fault, seen_fault, seen_after, at_row, with_lines_by, with_name_by, with_parent_by, with_file_row, without_node, AreRows};
 ghost use Rattle.cov_view.specs.SeenTree.{tree_in};
+ghost use Rattle.cov_view.specs.Shown.{bare_rows};
 ghost use Rattle.cov_view.specs.Soundness.{AreOld, old_row, fault_in};
 ghost use Rattle.cov_view.specs.Tree.{tree_of, IsTreeOf};
 ghost use Rattle.cov_view.specs.Views.{Shows, table_after, next_by_number, FaultBy};
@@ -26,7 +27,10 @@ use crate::row_lines::RowLines;
 use crate::rows::Rows;
 use crate::soundness::first_fault;
 use crate::tree::tree;
-use crate::{DirRows, EditFault, Fault, ListFault, ReadFaultOfView, TreeRows, ViewLine, ViewLines};
+use crate::{
+    DirRows, EditFault, Fault, ListFault, ReadFaultOfView, SharedTree, TreeRows, ViewLine,
+    ViewLines,
+};
 use cov_base::{
     FileRows, Kind, LineNo, LineRef, Memory, Name, NodeNo, NodeRef, Path, SharedRows, Text,
 };
@@ -65,6 +69,19 @@ impl View {
     {
         Ok(View {
             rows: Rows::new(alloc),
+            nodes_made: 0,
+            lines_made: 0,
+        })
+    }
+
+    /// The nodes of a tree without lines, nothing made. It shares their names and what they are found by with the tree, the
+    /// latter until an edit changes the tree, and takes time in the nodes.
+    pub fn of_tree(tree: SharedTree) -> Result<View, Memory>
+        ensures { IfOk result (λ view. view ≡
+            record { rows = bare_rows tree; nodes_made = 0; lines_made = 0 }) }
+    {
+        Ok(View {
+            rows: Rows::of_tree(tree)?,
             nodes_made: 0,
             lines_made: 0,
         })
@@ -144,7 +161,23 @@ impl View {
         ensures lines { self.new.lines_made ≡ self.old.lines_made }
         ensures err { OnErr result (self.new ≡ self.old) }
     {
-        self.rows.share_lines(&NodeRef::Old(file), lines)
+        self.share_lines_at(0, file, lines)
+    }
+
+    /// Shares lines as `share_lines` does, and looks the file up only where it isn't the node of the row at an index.
+    pub fn share_lines_at(
+        &mut self,
+        index: usize,
+        file: NodeNo,
+        lines: SharedRows,
+    ) -> Result<(), Memory>
+        requires { kind_in self.old.rows (NodeRef.Old file) ≡ Some File }
+        ensures rows { OnOk result (self.new.rows ≡ fold (with_file_row file) self.old.rows lines) }
+        ensures nodes { self.new.nodes_made ≡ self.old.nodes_made }
+        ensures lines { self.new.lines_made ≡ self.old.lines_made }
+        ensures err { OnErr result (self.new ≡ self.old) }
+    {
+        self.rows.share_lines_at(index, &NodeRef::Old(file), lines)
     }
 
     /// How many nodes edits have made.

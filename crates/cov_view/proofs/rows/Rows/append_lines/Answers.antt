@@ -5,10 +5,8 @@ use Rattle.cov_view.proofs.rows.Rows.append_lines.Goals as goal
 
 pub invariant_of-self : goal.invariant_of-self
 invariant_of-self c =
-    let keys = c.self.inside.keys.keys in
-    let kept = c.self.inside.children.is_kept in
-    let nodes = c.self.inside.children.nodes.entries in
+    let index = c.self.inside.index in
     let rows = with_items_is c.self.inside.rows c.append_lines.new.rows (c.append_lines.auto.rows ∙ c.deref_mut.ensures.len) in
-    subst (AreHeld keys kept nodes) (sym rows)
-    (held-kept c.append_lines.result keys kept nodes c.args.file.now (λ ls. ls ++ c.args.lines) c.deref_mut.result.now c.append_lines.new.rows c.append_lines.ensures.ok c.append_lines.ensures.err
-    (subst (AreHeld keys kept nodes) (sym c.deref_mut.ensures.value) c.self.invariant))
+    subst (AreHeld index) (sym rows)
+    (held-kept c.append_lines.result index c.args.file.now (λ ls. ls ++ c.args.lines) c.deref_mut.result.now c.append_lines.new.rows c.append_lines.ensures.ok c.append_lines.ensures.err
+    (subst (AreHeld index) (sym c.deref_mut.ensures.value) c.self.invariant))

@@ -1,10 +1,7 @@
 use Rattle.std.proofs.Common.{List, [], ◌∷◌, ◌++◌, ap, sym, subst, ◌∙◌}
-use Rattle.std.proofs.lemmas.List.{map-append}
-use Rattle.indexmap.specs.IndexSet.{insert_key}
-use Rattle.cov_view.specs.Keys.{IsIndex}
+use Rattle.cov_view.specs.Finding.{Finds}
 use Rattle.cov_view.specs.Seen.{has_row, StandOnce}
 use Rattle.cov_view.specs.declared.row.ViewRow.{ViewRow}
-use Rattle.cov_view.proofs.Keys.{keys_of, same_key, agrees, key_added}
 use Rattle.cov_view.proofs.Standing.{once-append}
 use Rattle.cov_view.proofs.rows.Rows.push.Goals as goal
 
@@ -14,11 +11,6 @@ invariant_of-self-2 c =
     let row : ViewRow = c.args.row in
     let joined = c.push_reserved.ensures.items ∙ ap (λ (rs : List ViewRow). rs ++ row ∷ []) c.reserve.ensures.items in
     let fresh = ap (λ (rs : List ViewRow). has_row rs row.node) c.self.view_is ∙ c.requires in (
-      c.in-Ok.ensures.keys
-          ∙ ap (λ ks. insert_key same_key ks row.node) (c.reserve-2.ensures.keys ∙ c.self.invariant.0)
-          ∙ key_added same_key agrees row.node rows fresh
-          ∙ sym (map-append (λ (r : ViewRow). r.node) rows (row ∷ []))
-          ∙ ap keys_of (sym joined),
-      subst StandOnce (sym joined) (once-append rows row c.self.invariant.1 fresh),
-      subst (λ (rs : List ViewRow). IsIndex c.note.new.self.is_kept rs c.note.new.self.nodes.entries) (ap (λ (rs : List ViewRow). rs ++ row ∷ []) c.as_slice.ensures.value ∙ sym c.push_reserved.ensures.items) c.in_ok-note.ensures.ok,
+      subst StandOnce (sym joined) (once-append rows row c.self.invariant.0 fresh),
+      subst (Finds c.note.new.self) (ap (λ (rs : List ViewRow). rs ++ row ∷ []) c.as_slice.ensures.value ∙ sym c.push_reserved.ensures.items) c.in_ok-note.ensures.ok,
     )

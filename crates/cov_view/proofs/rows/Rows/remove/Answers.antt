@@ -1,18 +1,17 @@
 use Rattle.std.proofs.Common.{◌≡◌, List, position, ap, sym, subst, ◌∙◌}
-use Rattle.std.specs.List.{remove}
-use Rattle.cov_view.specs.Keys.{IsIndex}
+use Rattle.cov_view.specs.Finding.{Finds}
 use Rattle.cov_view.specs.References.{same_node}
 use Rattle.cov_view.specs.Seen.{without_node, StandOnce}
 use Rattle.cov_view.specs.declared.row.ViewRow.{ViewRow}
-use Rattle.cov_view.proofs.Keys.{keys_of, keys-remove, no_place, removed_row}
+use Rattle.cov_view.proofs.Keys.{no_place, removed_row}
 use Rattle.cov_view.proofs.Standing.{none-among, none-without, once-without}
 use Rattle.cov_view.proofs.rows.Rows.remove.Goals as goal
 
 -- the rows are those without the node's
-left : (c : goal.After-drop-remove-in-Some) → c.remove.new.self.items ≡ without_node c.args.node.now c.self.inside.rows.items
+left : (c : goal.After-drop-remove-in-Some) → c.remove-in-Some.new.self.items ≡ without_node c.args.node.now c.self.inside.rows.items
 left c =
-    c.remove.ensures.items
-    ∙ removed_row c.args.node.now c.self.inside.rows.items c.in-Some.at c.self.invariant.1
+    c.remove-in-Some.ensures.items
+    ∙ removed_row c.args.node.now c.self.inside.rows.items c.in-Some.at c.self.invariant.0
     (ap (λ (rows : List ViewRow). position (λ r. same_node r.node c.args.node.now) rows) c.self.view_is ∙ sym c.place-place.ensures.place ∙ c.in-Some.is)
 
 -- no row is the node's
@@ -25,16 +24,14 @@ same c =
 
 pub invariant_of-self : goal.invariant_of-self
 invariant_of-self c = (
-  c.shift_remove_index.ensures.keys ∙ ap (λ ks. remove ks c.in-Some.at) c.self.invariant.0 ∙ sym (keys-remove c.self.inside.rows.items c.in-Some.at) ∙ ap keys_of (sym c.remove.ensures.items),
-  subst StandOnce (sym (left c)) (once-without c.args.node.now c.self.inside.rows.items c.self.invariant.1),
-  subst (λ (rows : List ViewRow). IsIndex c.remove_row.new.self.is_kept rows c.remove_row.new.self.nodes.entries) (ap (without_node c.args.node.now) c.as_slice.ensures.value ∙ sym (left c)) c.remove_row.ensures,
+  subst StandOnce (sym (left c)) (once-without c.args.node.now c.self.inside.rows.items c.self.invariant.0),
+  subst (Finds c.remove.new.self) (ap (without_node c.args.node.now) c.as_slice.ensures.value ∙ sym (left c)) c.remove.ensures,
 )
 
 pub invariant_of-self-in-None : goal.invariant_of-self-in-None
 invariant_of-self-in-None c = (
   c.self.invariant.0,
-  c.self.invariant.1,
-  subst (λ (rows : List ViewRow). IsIndex c.remove_row.new.self.is_kept rows c.remove_row.new.self.nodes.entries) (ap (without_node c.args.node.now) c.as_slice.ensures.value ∙ same c) c.remove_row.ensures,
+  subst (Finds c.remove.new.self) (ap (without_node c.args.node.now) c.as_slice.ensures.value ∙ same c) c.remove.ensures,
 )
 
 pub returns-in-Some : goal.returns-in-Some
