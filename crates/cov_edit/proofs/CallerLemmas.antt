@@ -1,6 +1,6 @@
 -- Lemmas on edits and their numbers, for the proofs of callers.
 pub use Rattle.cov_edit.proofs.Examples.{absent_anchor, make_m}
-pub use Rattle.cov_edit.proofs.Replays.{all_within, fold-append, none_outside, numbers_from-append, replay-append, replay-commit}
+pub use Rattle.cov_edit.proofs.Replays.{all-apply, all_within, behind-numbered, changes_within-append, each_change, each_condition, fold-append, none-apply, numbers_from-append, replay-append, replay-commit}
 pub use Rattle.cov_edit.proofs.Rising.{all-rest, opened, rest-is, rest_of}
 pub use Rattle.cov_edit.proofs.TouchedNodes.{touched-rising}
 use Rattle.std.proofs.Common.{◌≡◌, ◌∙◌, refl, ap, ℕ, suc, ◌+◌, ◌≤◌, List, [], ◌∷◌, ◌++◌, length, Option, Some, None, arith}

@@ -1,21 +1,22 @@
 -- Worked histories.
 use Rattle.std.proofs.Common.{◌≡◌, ℕ, Bool, true, false, List, [], ◌∷◌, ◌++◌, map, refl}
 use Rattle.std.specs.Prelude.{codes}
+use Rattle.std.specs.List.{fold}
 use Rattle.cov_base.specs.Addresses.{line_of}
 use Rattle.cov_base.specs.Rows.{Row}
 use Rattle.cov_base.specs.declared.number.Kind.TheVariants as kinds
 use Rattle.cov_base.specs.declared.number.NodeRef.TheVariants as nodes
 use Rattle.cov_base.specs.declared.number.LineRef.TheVariants as lines
-use Rattle.cov_expr.specs.Formula.{True, On, value}
+use Rattle.cov_expr.specs.Formula.{Formula, True, On, Not, value}
 use Rattle.cov_edit.specs.declared.edit.Edit.{Edit}
 use Rattle.cov_edit.specs.declared.edit.Edit.TheVariants as edits
 use Rattle.cov_edit.specs.declared.command.Command.{Command}
 use Rattle.cov_edit.specs.declared.command.Command.TheVariants as commands
 use Rattle.cov_edit.specs.History.{text_bytes}
-use Rattle.cov_edit.specs.Variant.{lines_of}
-use Rattle.cov_edit.specs.Replay.{replay}
+use Rattle.cov_edit.specs.Variant.{bare, lines_of}
+use Rattle.cov_edit.specs.Replay.{changes_within, applied, replay}
 use Rattle.cov_edit.specs.Touched.{touched}
-use Rattle.cov_edit.specs.Numbering.{node_count}
+use Rattle.cov_edit.specs.Numbering.{no_numbers, numbered, node_count}
 
 -- the number and the text of each line of file 1 in the variant of a choice
 abbrev read : List Bool → List Command → List (ℕ × List ℕ)
@@ -83,6 +84,25 @@ own_line_deleted = refl
 
 deleted_text_counts : text_bytes insert_and_delete ≡ 1
 deleted_text_counts = refl
+
+-- the lines of file 1 after edits, each of which applies within the expression at its place
+abbrev read_within : List Bool → List (Formula ℕ) → List Edit → List (ℕ × List ℕ)
+read_within c within es = map (λ l. (line_of l.address, l.text)) (lines_of (fold (applied c) bare (changes_within within (numbered no_numbers es))) 1)
+
+-- a file with two lines, and then the first of them taken out
+abbrev two_and_delete : List Edit
+two_and_delete =
+    make_m ∷ edits.Insert (nodes.New 0) (lines.Old 0) (codes "one") ∷ edits.Insert (nodes.New 0) (lines.New 0) (codes "two") ∷ edits.Delete (nodes.New 0) (lines.New 0) ∷ []
+
+each_where_on : read_within (true ∷ []) (True ∷ True ∷ On 0 ∷ Not (On 0) ∷ []) two_and_delete ≡ (1, codes "one") ∷ (2, codes "two") ∷ []
+each_where_on = refl
+
+each_where_off : read_within (false ∷ []) (True ∷ True ∷ On 0 ∷ Not (On 0) ∷ []) two_and_delete ≡ []
+each_where_off = refl
+
+-- edits of which no expression is given apply nowhere
+nowhere : read_within (true ∷ []) (True ∷ True ∷ []) two_and_delete ≡ (1, codes "one") ∷ []
+nowhere = refl
 
 -- a line is taken out of the file that is named alone
 other_file : read [] (two_lines ++ commands.Commit 2 [] True (edits.Delete (nodes.Old 2) (lines.Old 1) ∷ []) ∷ []) ≡ (1, codes "one") ∷ (2, codes "two") ∷ []

@@ -1,14 +1,14 @@
 -- Replays of longer histories.
-use Rattle.std.proofs.Common.{◌≡◌, ℕ, Bool, true, false, cond, List, [], ◌∷◌, ◌++◌, map, append_assoc, append-nil, refl, sym, ap, ◌∙◌}
-use Rattle.std.specs.List.{fold}
+use Rattle.std.proofs.Common.{◌≡◌, ℕ, Bool, true, false, cond, List, [], ◌∷◌, ◌++◌, length, append_assoc, append-nil, refl, sym, ap, ◌∙◌}
+use Rattle.std.specs.List.{fold, AllByRecursion}
 pub use Rattle.std.proofs.lemmas.List.Sums.{fold-append}
 use Rattle.cov_expr.specs.Formula.{Formula, value}
 use Rattle.cov_edit.specs.declared.edit.Edit.{Edit}
 use Rattle.cov_edit.specs.declared.command.Command.{Command}
 use Rattle.cov_edit.specs.declared.command.Command.TheVariants as commands
-use Rattle.cov_edit.specs.Numbering.{Numbers, NumberedEdit, numbers_from, numbers_after, no_numbers, numbers_of}
+use Rattle.cov_edit.specs.Numbering.{Numbers, NumberedEdit, node_count_after, line_count_after, numbers_from, numbers_after, numbered_from, numbered, no_numbers, numbers_of}
 use Rattle.cov_edit.specs.Variant.{Variant, bare, edited}
-use Rattle.cov_edit.specs.Replay.{applying, commit_changes, changes_from, changes_of, applied, committed, replay}
+use Rattle.cov_edit.specs.Replay.{Change, applying, conditions, first_within, rest_within, within_behind, changes_within, commit_changes, changes_from, changes_of, applied, committed, replay}
 
 pub numbers_from-append : (ns : Numbers) (history later : List Command) → numbers_from ns (history ++ later) ≡ numbers_from (numbers_from ns history) later
 numbers_from-append ns [] later = refl
@@ -39,19 +39,52 @@ pub replay-commit : (c : List Bool) (history : List Command) (base : ℕ) (choic
     → replay c (history ++ commands.Commit base choice ambition es ∷ []) ≡ committed c (replay c history) (numbers_of history) ambition es
 replay-commit c history base choice ambition es = replay-append c history (commands.Commit base choice ambition es ∷ []) ∙ ap (fold (applied c) (replay c history)) (append-nil (commit_changes (numbers_of history) ambition es))
 
-applied_where : (c : List Bool) (v : Variant) (ambition : Formula ℕ) (d : NumberedEdit) → value ambition c ≡ true → applied c v (applying ambition d) ≡ edited v d
-applied_where c v ambition d h = ap (λ b. cond b (edited v d) v) h
+applied_where : (c : List Bool) (v : Variant) (within : Formula ℕ) (d : NumberedEdit) (b : Bool) → value within c ≡ b → applied c v (applying within d) ≡ cond b (edited v d) v
+applied_where c v within d b h = ap (λ t. cond t (edited v d) v) h
 
--- where an expression is true, all edits within it apply
-pub all_within : (c : List Bool) (v : Variant) (ambition : Formula ℕ) (ds : List NumberedEdit) → value ambition c ≡ true
-    → fold (applied c) v (map (applying ambition) ds) ≡ fold edited v ds
-all_within c v ambition [] h = refl
-all_within c v ambition (d ∷ ds) h =
-    ap (λ w. fold (applied c) w (map (applying ambition) ds)) (applied_where c v ambition d h) ∙ all_within c (edited v d) ambition ds h
+-- where the condition of each edit is true, all edits apply
+pub all_within : (c : List Bool) (v : Variant) (within : List (Formula ℕ)) (ds : List NumberedEdit) → AllByRecursion (λ change. value change.within c ≡ true) (changes_within within ds)
+    → fold (applied c) v (changes_within within ds) ≡ fold edited v ds
+all_within c v within [] h = refl
+all_within c v within (d ∷ ds) h =
+    ap (λ w. fold (applied c) w (changes_within (rest_within within) ds)) (applied_where c v (first_within within) d true h.0) ∙ all_within c (edited v d) (rest_within within) ds h.1
 
 -- where it is false, none applies
-pub none_outside : (c : List Bool) (v : Variant) (ambition : Formula ℕ) (ds : List NumberedEdit) → value ambition c ≡ false
-    → fold (applied c) v (map (applying ambition) ds) ≡ v
-none_outside c v ambition [] h = refl
-none_outside c v ambition (d ∷ ds) h =
-    ap (λ w. fold (applied c) w (map (applying ambition) ds)) (ap (λ b. cond b (edited v d) v) h) ∙ none_outside c v ambition ds h
+pub none_outside : (c : List Bool) (v : Variant) (changes : List Change) → AllByRecursion (λ change. value change.within c ≡ false) changes → fold (applied c) v changes ≡ v
+none_outside c v [] h = refl
+none_outside c v (change ∷ changes) h =
+    ap (λ w. fold (applied c) w changes) (applied_where c v change.within change.edit false h.0) ∙ none_outside c v changes h.1
+
+-- edits behind others apply within the expressions at their places
+pub changes_within-append : (within : List (Formula ℕ)) (ds es : List NumberedEdit) → changes_within within (ds ++ es) ≡ changes_within within ds ++ changes_within (within_behind ds within) es
+changes_within-append within [] es = refl
+changes_within-append within (d ∷ ds) es = ap (λ cs. applying (first_within within) d ∷ cs) (changes_within-append (rest_within within) ds es)
+
+pub behind-numbered : (ns : Numbers) (t : List (List ℕ)) (node line : ℕ) (es : List Edit) (within : List (Formula ℕ)) → within_behind (numbered_from ns t node line es) within ≡ within_behind es within
+behind-numbered ns t node line [] within = refl
+behind-numbered ns t node line (e ∷ es) within = behind-numbered ns t (node_count_after node e) (line_count_after line e) es (rest_within within)
+
+module _ (P : Formula ℕ → Type 0) (ambition : Formula ℕ) where
+  -- what holds of the condition of each edit of a commit holds of each change
+  pub each_change : (ns : Numbers) (t : List (List ℕ)) (node line : ℕ) (es : List Edit) → AllByRecursion P (conditions ambition es)
+      → AllByRecursion (λ change. P change.within) (changes_within (conditions ambition es) (numbered_from ns t node line es))
+  each_change ns t node line [] h = tt
+  each_change ns t node line (e ∷ es) h = (h.0, each_change ns t (node_count_after node e) (line_count_after line e) es h.1)
+
+  -- what holds of the ambition holds of each condition
+  pub each_condition : (es : List Edit) → P ambition → AllByRecursion P (conditions ambition es)
+  each_condition [] h = tt
+  each_condition (e ∷ es) h = (h, each_condition es h)
+
+-- where its ambition is true, all edits of a commit apply
+pub all-apply : (c : List Bool) (v : Variant) (ns : Numbers) (ambition : Formula ℕ) (es : List Edit) → value ambition c ≡ true
+    → fold (applied c) v (commit_changes ns ambition es) ≡ fold edited v (numbered ns es)
+all-apply c v ns ambition es h =
+    all_within c v (conditions ambition es) (numbered ns es)
+    (each_change (λ w. value w c ≡ true) ambition ns (numbers_after ns es).addresses ns.nodes (length ns.addresses) es (each_condition (λ w. value w c ≡ true) ambition es h))
+
+-- where it is false, none applies
+pub none-apply : (c : List Bool) (v : Variant) (ns : Numbers) (ambition : Formula ℕ) (es : List Edit) → value ambition c ≡ false → fold (applied c) v (commit_changes ns ambition es) ≡ v
+none-apply c v ns ambition es h =
+    none_outside c v (commit_changes ns ambition es)
+    (each_change (λ w. value w c ≡ false) ambition ns (numbers_after ns es).addresses ns.nodes (length ns.addresses) es (each_condition (λ w. value w c ≡ false) ambition es h))

@@ -11,9 +11,10 @@ use Rattle.cov_edit.specs.declared.command.Command.{Command}
 use Rattle.cov_edit.specs.declared.command.Command.TheVariants as commands
 use Rattle.cov_history.specs.RowChanges.{changes_rows}
 use Rattle.cov_edit.specs.Numbering.{Numbers, node_count_after, line_count_after, numbered_edit, nodes_made, anchors_of, no_numbers, numbers_after, numbers_of, numbered_from}
+use Rattle.cov_edit.specs.Replay.{first_within, rest_within, changes_within}
 use Rattle.cov_edit.specs.Variant.{Line}
 use Rattle.cov_edit.proofs.CallerLemmas.{numbers_from-append}
-use Rattle.cov_history.specs.Kept.{Kept, kept_address, kept_number, kept_after, kept_of, file_kept}
+use Rattle.cov_history.specs.Kept.{Kept, kept_address, kept_number, kept_after, kept_with, kept_of, file_kept}
 use Rattle.cov_history.specs.Files.{dated_number, dated, file_dated}
 use Rattle.cov_history.specs.FileNodes.{files_made}
 use Rattle.cov_history.specs.FileOfLine.{new_file_of_line}
@@ -48,11 +49,11 @@ lines-left q within ns t node line ks (edits.Rename which name) is = refl
 lines-left q within ns t node line ks (edits.Move which parent) is = refl
 lines-left q within ns t node line ks (edits.Remove which) is = refl
 
-pub rows-same : (q : ℕ) (within : Formula ℕ) (ns : Numbers) (t : List (List ℕ)) (node line : ℕ) (ks : List (Kept Line)) (begun : List Edit) (e : Edit) → changes_rows e ≡ true
-    → fold (kept_after q within) ks (numbered_from ns t node line (begun ++ e ∷ [])) ≡ fold (kept_after q within) ks (numbered_from ns t node line begun)
-rows-same q within ns t node line ks [] e is = lines-left q within ns t node line ks e is
+pub rows-same : (q : ℕ) (within : List (Formula ℕ)) (ns : Numbers) (t : List (List ℕ)) (node line : ℕ) (ks : List (Kept Line)) (begun : List Edit) (e : Edit) → changes_rows e ≡ true
+    → fold (kept_with q) ks (changes_within within (numbered_from ns t node line (begun ++ e ∷ []))) ≡ fold (kept_with q) ks (changes_within within (numbered_from ns t node line begun))
+rows-same q within ns t node line ks [] e is = lines-left q (first_within within) ns t node line ks e is
 rows-same q within ns t node line ks (d ∷ begun) e is =
-    rows-same q within ns t (node_count_after node d) (line_count_after line d) (kept_after q within ks (numbered_edit ns t node line d)) begun e is
+    rows-same q (rest_within within) ns t (node_count_after node d) (line_count_after line d) (kept_after q (first_within within) ks (numbered_edit ns t node line d)) begun e is
 
 -- the numbers of the lines in a file of a history
 pub in-range : (history : List Command) (file : ℕ) → AllByRecursion (λ d. (1 ≤ dated_number d) × (dated_number d ≤ length (numbers_of history).addresses)) (file_dated file (kept_of history))

@@ -87,6 +87,19 @@ module _ (ts : List Triple) (count : ℕ) where
   abbrev pub IsGone : Formula ℕ → ℕ → ℕ → ℕ → DatedLine → Type 0
   IsGone within q line vis d = nat_eq d.line line ≡ true → Stands ts vis 0 count (gone within q d)
 
+  -- what is left of a line where a node isn't true
+  abbrev pub left_by : ℕ → ℕ → DatedLine → List Bool → Bool
+  left_by node q d c = value (seen_at d.changes q) c && not (value_in ts node c)
+
+  -- a node is that of a line which is taken out where another is true
+  abbrev pub IsLeftBy : ℕ → ℕ → ℕ → ℕ → DatedLine → Type 0
+  IsLeftBy node q line vis d = nat_eq d.line line ≡ true → Stands ts vis 0 count (left_by node q d)
+
+  -- a node with the values of an expression leaves what that does
+  pub left_by-gone : (node q line vis : ℕ) (within : Formula ℕ) (d : DatedLine) → ((c : List Bool) → value_in ts node c ≡ value within c) → IsLeftBy node q line vis d → IsGone within q line vis d
+  left_by-gone node q line vis within d values h = λ is.
+      stands_weaker 0 count (gone within q d) (omega arith) (omega arith) (λ c. ap (λ b. value (seen_at d.changes q) c && not b) (values c)) (h is)
+
   hidden-one : (q line vis : ℕ) (within : Formula ℕ) (d : DatedLine) (l : FileLine) → IsDated ts count d l → IsGone within q line vis d
       → IsDated ts count (hidden_by line q within d) (changed line vis q l)
   hidden-one q line vis within d l h right = at (nat_eq d.line line) (nat_eq l.line line) refl (ap (λ n. nat_eq n line) (sym h.line))

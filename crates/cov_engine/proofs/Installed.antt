@@ -25,7 +25,7 @@ use Rattle.cov_visible.specs.Parts.{part_node, files_among}
 use Rattle.cov_edit.specs.Touched.{AreRising}
 use Rattle.cov_history.specs.FileNodes.{files_made, files_of}
 use Rattle.cov_history.specs.Sessions.{IsGood, session_of}
-use Rattle.cov_edit.specs.Replay.{replay}
+use Rattle.cov_edit.specs.Replay.{conditions, changes_within, replay}
 use Rattle.cov_view.specs.Refusals.{first_refused}
 use Rattle.cov_history.specs.Verdict.{IsLegal, verdict}
 use Rattle.cov_history.specs.FileOfLine.{new_file_of_line, AreFilesOfLines}
@@ -33,6 +33,7 @@ use Rattle.cov_visible.specs.Staging.{Contents, contents, new_files, AreNear, Ar
 use Rattle.cov_engine.specs.Staged.{IsStaged}
 use Rattle.cov_history.specs.Insertions.{numbered_amid, held_amid}
 use Rattle.cov_visible.specs.Nodes.{AreDated, IsTaken}
+use Rattle.cov_visible.specs.Resolved.{insert_nodes}
 use Rattle.cov_file.specs.Dated.{DatedLine as FileLine}
 use Rattle.cov_dd.specs.declared.triple.Triple.{Triple}
 use Rattle.cov_visible.specs.Carrying.{IsChangedIn, IsCarriedOut, AreCarriedOut, CanCarryOutAll, AreAllCarriedOut, AreInstalled, edited_node, with_other_lines}
@@ -138,6 +139,12 @@ module _ (history : List Command) (base : ℕ) (choice : List Bool) (ambition : 
   abbrev all_commits : List CommitMark
   all_commits = commits ++ mark ∷ []
 
+  abbrev within : List (Formula ℕ)
+  within = conditions ambition es
+
+  abbrev Taken : ℕ → ℕ → ℕ → ℕ → Type 0
+  Taken = IsTaken ts q staged.old_stored (line_count history) (insert_nodes staged.on es)
+
   -- what is stored with the commit is of the files before it and of those that it makes
   pub staged-files : map part_node stored ≡ files_of (history ++ commit ∷ [])
   staged-files = staged-nodes staged.old_stored stored (files_made n es) staged.files ∙ ap (λ files. files ++ files_made n es) staged.held.parts ∙ sym (files-commit history base choice ambition es)
@@ -163,11 +170,11 @@ module _ (history : List Command) (base : ℕ) (choice : List Bool) (ambition : 
       (all-map (λ file. (0 < file) × (file ≤ (numbers_of (history ++ commit ∷ [])).nodes)) (λ file. 0 < file) (λ file h. h.0) (files_of (history ++ commit ∷ [])) (files-rise (history ++ commit ∷ [])).1))
 
   abbrev AreHereNow : List Edit → List ResolvedEdit → List FilePart → Type 0
-  AreHereNow begun left xs = AreHere history base choice ambition es good legal ts mark.node staged.stands begun left xs
+  AreHereNow begun left xs = AreHere history base choice ambition es good legal ts staged.on staged.applies begun left xs
 
   start : AreHereNow [] ss stored
   start =
-      all-both (λ e. (0 < e.node) × HasRoom ss e) (λ e. IsKeptFile (contents e)) (λ e. IsHere history base choice ambition es good legal ts mark.node staged.stands e.node [] ss e.lines)
+      all-both (λ e. (0 < e.node) × HasRoom ss e) (λ e. IsKeptFile (contents e)) (λ e. IsHere history base choice ambition es good legal ts staged.on staged.applies e.node [] ss e.lines)
       (λ e h file. record {
         above = h.0;
         are_dated = file.0;
@@ -182,8 +189,8 @@ module _ (history : List Command) (base : ℕ) (choice : List Bool) (ambition : 
 
   all-carried : CanCarryOutAll q ss stored × ((after : List FilePart) → AreAllCarriedOut q ss stored after → AreHereNow es [] after)
   all-carried =
-      carried history base choice ambition es good legal ts mark.node staged.stands es [] n (line_count history) stored ss refl (omega arith)
-      (resolved-right history base choice ambition es good legal ts mark.node staged.stands staged.old_stored staged.held.parts staged.held.files ss staged.resolved)
+      carried history base choice ambition es good legal ts staged.on staged.applies es [] n (line_count history) stored ss refl (omega arith)
+      (resolved-right history base choice ambition es good legal ts staged.on staged.applies staged.old_stored staged.held.parts staged.held.files ss staged.resolved)
       start
 
   pub staged-plans : CanCarryOutAll q ss stored
@@ -195,8 +202,8 @@ module _ (history : List Command) (base : ℕ) (choice : List Bool) (ambition : 
       let all = declared-less base history in
       omega (arith, own, all)
 
-  lines-now : (held_amid history ambition es es).lines ≡ kept_of (history ++ commit ∷ [])
-  lines-now = lines-edits (length history + 1) ambition (held_by history) (numbered_amid history es es) ∙ sym (commit-lines history base choice ambition es)
+  lines-now : (held_amid history within es es).lines ≡ kept_of (history ++ commit ∷ [])
+  lines-now = lines-edits (length history + 1) (held_by history) (changes_within within (numbered_amid history es es)) ∙ sym (commit-lines history base choice ambition es)
 
   options-now : option_count (history ++ commit ∷ []) ≡ option_count history
   options-now = ap length (options-append history (commit ∷ []) ∙ append-nil (options_of history))
@@ -216,16 +223,16 @@ module _ (history : List Command) (base : ℕ) (choice : List Bool) (ambition : 
       let longer = length_push history commit in
       let count : length commits + 1 ≡ length all_commits = sym one in
       record {
-        of_entries = entries-committed history base choice ambition es ts mark.node staged.stands.value entries plan staged.held.of_entries staged.old_stored ss staged.resolved staged.changes later set;
+        of_entries = entries-committed history base choice ambition es ts staged.on staged.applies entries plan staged.held.of_entries staged.old_stored ss staged.resolved staged.changes later set;
         below = let now = nodes-now in
-            subst (AllByRecursion (λ node. node ≤ (numbers_of (history ++ commit ∷ [])).nodes)) (sym (set.nodes ∙ staged.nodes)) (resolved-most (IsTaken ts q staged.old_stored mark.node) n (line_count history) mark.node (numbers_of (history ++ commit ∷ [])).nodes n (line_count history) es ss (nodes_in entries) (omega (arith, now)) staged.held.below staged.resolved);
-        made = ap files_among (set.kinds ∙ staged.kinds) ∙ resolved-kinds (IsTaken ts q staged.old_stored mark.node) n (line_count history) mark.node n (line_count history) es ss (kinds_in entries) staged.resolved ∙ ap (λ files. files ++ files_made n es) staged.held.made ∙ sym (files-commit history base choice ambition es);
+            subst (AllByRecursion (λ node. node ≤ (numbers_of (history ++ commit ∷ [])).nodes)) (sym (set.nodes ∙ staged.nodes)) (resolved-most Taken n (line_count history) staged.on (numbers_of (history ++ commit ∷ [])).nodes n (line_count history) es ss (nodes_in entries) (omega (arith, now)) staged.held.below staged.resolved);
+        made = ap files_among (set.kinds ∙ staged.kinds) ∙ resolved-kinds Taken n (line_count history) staged.on n (line_count history) es ss (kinds_in entries) staged.resolved ∙ ap (λ files. files ++ files_made n es) staged.held.made ∙ sym (files-commit history base choice ambition es);
         parts = same ∙ staged-files;
         files = files-contents (history ++ commit ∷ []) ts installed.0 after installed.2
-            (all-map (λ e. IsHere history base choice ambition es good legal ts mark.node staged.stands e.node es [] e.lines) (IsFileOf (history ++ commit ∷ []) ts)
+            (all-map (λ e. IsHere history base choice ambition es good legal ts staged.on staged.applies e.node es [] e.lines) (IsFileOf (history ++ commit ∷ []) ts)
             (λ e h. record {
               lines = subst (λ ks. AreDated ts (option_count (history ++ commit ∷ [])) (file_dated e.node ks) e.lines.lines) lines-now
-                  (subst (λ c. AreDated ts c (file_dated e.node (held_amid history ambition es es).lines) e.lines.lines) (sym options-now) h.are_dated);
+                  (subst (λ c. AreDated ts c (file_dated e.node (held_amid history within es es).lines) e.lines.lines) (sym options-now) h.are_dated);
               newest = let low = h.newest in omega (arith, low, longer);
               nodes = h.nodes;
             }) installed.0 (all-carried.1 installed.0 installed.1));

@@ -12,7 +12,7 @@ use Rattle.cov_edit.specs.declared.command.Command.{Command}
 use Rattle.cov_edit.specs.declared.command.Command.TheVariants as commands
 use Rattle.cov_edit.specs.History.{option_count, is_valid_in}
 use Rattle.cov_edit.specs.Numbering.{numbers_of, line_count}
-use Rattle.cov_edit.specs.Replay.{replay}
+use Rattle.cov_edit.specs.Replay.{conditions, replay}
 use Rattle.cov_tree.specs.declared.entry.Entry.{Entry}
 use Rattle.cov_tree.specs.Carried.{AreOnceWith, AreUnreadWith}
 use Rattle.cov_tree.specs.Changes.{Makes}
@@ -25,6 +25,7 @@ use Rattle.cov_history.specs.Verdict.{IsLegal}
 use Rattle.cov_history.proofs.CallerLemmas.{commit-unread, lines-sound, refusal-by_rows, replay-once}
 use Rattle.cov_engine.specs.Evidence.{refusal_for}
 use Rattle.cov_engine.specs.Holdings.{AreEntriesOf}
+use Rattle.cov_engine.specs.Staged.{StandFor}
 use Rattle.cov_visible.specs.Resolved.{AreResolved}
 use Rattle.cov_visible.specs.RowPlans.{row_changes}
 use Rattle.cov_visible.specs.declared.file_part.FilePart.{FilePart}
@@ -40,11 +41,11 @@ refusal-told c (Some (Orphan node)) = refl
 refusal-told c (Some (Loop node)) = refl
 
 module _ (history : List Command) (ts : List Triple) (entries : Dated) (ambition : Formula ℕ) (node : ℕ) (es : List Edit) (plan : List Entry) (of_entries : AreEntriesOf history ts entries)
-    (stands : Stands ts node 0 (option_count history) (value ambition))
-    (stored : List FilePart) (ss : List ResolvedEdit) (resolved : AreResolved (length history + 1) stored (numbers_of history).nodes (line_count history) node ts es ss)
+    (stands : Stands ts node 0 (option_count history) (value ambition)) (on : List ℕ) (applies : StandFor ts (option_count history) (conditions ambition es) on)
+    (stored : List FilePart) (ss : List ResolvedEdit) (resolved : AreResolved (length history + 1) stored (numbers_of history).nodes (line_count history) on ts es ss)
     (changes : Makes ts entries plan (row_changes ss)) where
   rows : (base : ℕ) (choice : List Bool) (c : List Bool) → rows_with ts c plan entries ≡ (replay c (history ++ commands.Commit base choice ambition es ∷ [])).rows
-  rows base choice = planned-rows history base choice ambition es ts node stands.value entries plan of_entries stored ss resolved changes
+  rows base choice = planned-rows history base choice ambition es ts on applies entries plan of_entries stored ss resolved changes
 
   -- on each choice the rows with a plan of a commit are of different nodes but the root
   pub once-with : AreOnceWith ts plan entries

@@ -1,6 +1,7 @@
 pub mod After
 pub mod CallerLemmas
 pub mod Committed
+pub mod Conditions
 pub mod Dating
 pub mod Deciding
 pub mod FileLines

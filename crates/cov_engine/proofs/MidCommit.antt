@@ -1,5 +1,5 @@
 -- What stored files have when the first edits of a commit are done.
-use Rattle.std.proofs.Common.{◌≡◌, ℕ, zero, suc, ◌+◌, ◌<◌, ◌≤◌, Bool, true, false, cond, ◌&&◌, ◌||◌, not, nat_eq, nat_le, List, [], ◌∷◌, ◌++◌, length, length-append, map, append_assoc, append-nil, refl, sym, ap, subst, ◌∙◌, arith}
+use Rattle.std.proofs.Common.{◌≡◌, ℕ, zero, suc, ◌+◌, ◌<◌, ◌≤◌, ◌-◌, Bool, true, false, cond, ◌&&◌, ◌||◌, not, nat_eq, nat_le, List, [], ◌∷◌, ◌++◌, length, length-append, map, append_assoc, append-nil, refl, sym, ap, subst, ◌∙◌, arith}
 use Rattle.std.specs.List.{list_any, AllByRecursion}
 use Rattle.std.proofs.lemmas.Bool.{and_from, or_left, or_right}
 use Rattle.std.proofs.lemmas.Bool.Decides.{nat_tests}
@@ -9,7 +9,7 @@ use Rattle.cov_base.proofs.CallerLemmas.{all-map}
 use Rattle.cov_base.specs.declared.number.NodeRef.{NodeRef}
 use Rattle.cov_base.specs.declared.number.LineRef.{LineRef}
 use Rattle.cov_dd.specs.declared.triple.Triple.{Triple}
-use Rattle.cov_dd.specs.Diagrams.{diagram_size, Stands}
+use Rattle.cov_dd.specs.Diagrams.{diagram_size, value_in, Stands}
 use Rattle.cov_dd.proofs.CallerLemmas.{stands_weaker}
 use Rattle.cov_expr.specs.Formula.{Formula, Not, And, value}
 use Rattle.cov_edit.specs.declared.edit.Edit.{Edit}
@@ -17,6 +17,7 @@ use Rattle.cov_edit.specs.declared.edit.Edit.TheVariants as edits
 use Rattle.cov_edit.specs.declared.command.Command.{Command}
 use Rattle.cov_edit.specs.History.{option_count}
 use Rattle.cov_edit.specs.Numbering.{node_number, line_number, anchors_of, numbers_of}
+use Rattle.cov_edit.specs.Replay.{conditions, first_within, within_behind, changes_within}
 use Rattle.cov_edit.specs.Variant.{Line}
 use Rattle.cov_file.specs.Dated.{DatedLine as FileLine, line_numbers_of as file_numbers, new_line, with_line, with_change, AreAlike}
 use Rattle.cov_file.specs.Rooms.{DatedFile, is_room_at, IsLeft}
@@ -31,18 +32,20 @@ use Rattle.cov_history.specs.Files.{DatedLine, dated_number, dated, file_dated, 
 use Rattle.cov_history.specs.Insertions.{Insertion, table_of, lines_amid, held_amid, numbered_amid, IsHeldAmid, held_next}
 use Rattle.cov_history.specs.RowChanges.{changes_rows}
 use Rattle.cov_history.specs.Kept.{Kept, Holding, seen_at, kept_number, kept_of, held_by, file_kept, is_kept_anchor}
-use Rattle.cov_visible.specs.Nodes.{AreDated}
+use Rattle.cov_visible.specs.Nodes.{own_node, AreDated}
 use Rattle.cov_history.specs.Sessions.{IsGood, session_of}
 use Rattle.cov_history.specs.Verdict.{IsLegal}
 use Rattle.cov_visible.specs.Carrying.{CanInsert, CanDelete, CanCarryOut, IsCarriedOut, IsChangedIn, AreCarriedOut, CanCarryOutIn, CanCarryOutAll, AreAllCarriedOut, edited_node}
-use Rattle.cov_visible.specs.Resolved.{AreResolvedBy}
+use Rattle.cov_visible.specs.Resolved.{first_node, rest_nodes, insert_nodes, AreResolvedBy}
 use Rattle.cov_visible.specs.declared.file_part.FilePart.{FilePart}
 use Rattle.cov_visible.specs.declared.resolved_edit.ResolvedEdit.{ResolvedEdit}
 use Rattle.cov_visible.specs.declared.resolved_edit.ResolvedEdit.TheVariants as resolved
 use Rattle.cov_history.proofs.CallerLemmas.{files_of_lines-stay, file_of_line-more, lines-edits, delete-dated, delete-elsewhere, delete-order, anchor-below, anchors-append, anchors-stay, anchor-known, insert-elsewhere, is_table-of, amid-goes_on, amid-within, stands-amid, any-mapped, insert-dated, order-takes, accepted-anchored, accepted-there, all-mapped}
+use Rattle.cov_engine.specs.Staged.{StandFor}
 use Rattle.cov_engine.proofs.Committed.{numbers-dated, rows-same}
-use Rattle.cov_visible.proofs.CallerLemmas.{all-pairs, resolved-by}
-use Rattle.cov_engine.proofs.Dating.{IsGone, gone, dated-numbers, insert-lines, delete-lines, all-after}
+use Rattle.cov_engine.proofs.Conditions.{ambition-behind, each-stands, insert-node, nodes-more, nodes_behind, stands-behind, stands-first}
+use Rattle.cov_visible.proofs.CallerLemmas.{AllOn, all-pairs, resolved-by}
+use Rattle.cov_engine.proofs.Dating.{IsGone, IsLeftBy, left_by, left_by-gone, dated-numbers, insert-lines, delete-lines, all-after}
 
 alike-numbers : (ls ms : List FileLine) → AreAlike ls ms → file_numbers ls ≡ file_numbers ms
 alike-numbers [] [] h = refl
@@ -85,12 +88,12 @@ numbers-changed line vis q (l ∷ ls) = ap (λ n. n ∷ file_numbers (with_chang
     at false = refl
 
 -- a line of a file has at most the number of lines that are made
-line-below : (history : List Command) (ambition : Formula ℕ) (begun later : List Edit) (file line : ℕ)
-    → has_line line (file_order file (held_amid history ambition (begun ++ later) begun).lines) ≡ true → line ≤ lines_amid history begun
-line-below history ambition begun later file line h =
-    let held = held_amid history ambition (begun ++ later) begun in
+line-below : (history : List Command) (within : List (Formula ℕ)) (begun later : List Edit) (file line : ℕ)
+    → has_line line (file_order file (held_amid history within (begun ++ later) begun).lines) ≡ true → line ≤ lines_amid history begun
+line-below history within begun later file line h =
+    let held = held_amid history within (begun ++ later) begun in
     anchor-below (table_of history (begun ++ later)) (lines_amid history begun) (length history + 1) file line held (is_table-of history (begun ++ later)) (amid-within history begun later)
-    (stands-amid history begun later ambition)
+    (stands-amid history begun later within)
     (or_right (nat_eq line 0) (list_any (λ k. nat_eq (kept_number k) line) (file_kept file held.lines)) (sym (any-mapped kept_number line (file_kept file held.lines)) ∙ h))
 
 module _ (history : List Command) (base : ℕ) (choice : List Bool) (ambition : Formula ℕ) (es : List Edit)
@@ -104,31 +107,39 @@ module _ (history : List Command) (base : ℕ) (choice : List Bool) (ambition : 
   abbrev q : ℕ
   q = length history + 1
 
+  -- where each edit applies
+  abbrev each_within : List (Formula ℕ)
+  each_within = conditions ambition es
+
+  -- where the edit behind some applies
+  abbrev within_at : List Edit → Formula ℕ
+  within_at begun = first_within (within_behind begun each_within)
+
   -- what is held when the first edits are done
   abbrev held_at : List Edit → Holding
-  held_at begun = held_amid history ambition es begun
+  held_at begun = held_amid history each_within es begun
 
   -- the lines that are kept then
   abbrev pub lines_at : List Edit → List (Kept Line)
   lines_at begun = (held_at begun).lines
 
   stands-at : (begun later : List Edit) → begun ++ later ≡ es → IsHeldAmid history (begun ++ later) begun (held_at begun)
-  stands-at begun later all = subst (λ some. IsHeldAmid history (begun ++ later) begun (held_amid history ambition some begun)) all (stands-amid history begun later ambition)
+  stands-at begun later all = subst (λ some. IsHeldAmid history (begun ++ later) begun (held_amid history each_within some begun)) all (stands-amid history begun later each_within)
 
   -- the lines that are kept when the next edit is done
-  next-at : (begun later : List Edit) (e : Edit) → begun ++ e ∷ later ≡ es → lines_at (begun ++ e ∷ []) ≡ (held_next history (begun ++ e ∷ later) begun (held_at begun) ambition e).lines
+  next-at : (begun later : List Edit) (e : Edit) → begun ++ e ∷ later ≡ es → lines_at (begun ++ e ∷ []) ≡ (held_next history (begun ++ e ∷ later) begun (held_at begun) (within_at begun) e).lines
   next-at begun later e all =
-      ap (λ (held : Holding). held.lines) (amid-goes_on history ambition es begun e) ∙ ap (λ some. (held_next history some begun (held_at begun) ambition e).lines) (sym all)
+      ap (λ (held : Holding). held.lines) (amid-goes_on history each_within es begun e) ∙ ap (λ some. (held_next history some begun (held_at begun) (within_at begun) e).lines) (sym all)
 
-  abbrev new_dated : ℕ → List ℕ → DatedLine
-  new_dated number text = record { line = number; text = text; changes = (q, ambition) ∷ [] }
+  abbrev new_dated : Formula ℕ → ℕ → List ℕ → DatedLine
+  new_dated within number text = record { line = number; text = text; changes = (q, within) ∷ [] }
 
   -- an edit that changes rows leaves them
   rows-leave : (begun : List Edit) (e : Edit) → changes_rows e ≡ true → lines_at (begun ++ e ∷ []) ≡ lines_at begun
   rows-leave begun e is =
-      lines-edits q ambition (held_by history) (numbered_amid history es (begun ++ e ∷ []))
-      ∙ rows-same q ambition (numbers_of history) _ n m (kept_of history) begun e is
-      ∙ sym (lines-edits q ambition (held_by history) (numbered_amid history es begun))
+      lines-edits q (held_by history) (changes_within each_within (numbered_amid history es (begun ++ e ∷ [])))
+      ∙ rows-same q each_within (numbers_of history) _ n m (kept_of history) begun e is
+      ∙ sym (lines-edits q (held_by history) (changes_within each_within (numbered_amid history es begun)))
 
   begun-few : (begun later : List Edit) → begun ++ later ≡ es → lines_amid history begun ≤ lines_amid history es
   begun-few begun later all =
@@ -144,38 +155,38 @@ module _ (history : List Command) (base : ℕ) (choice : List Bool) (ambition : 
     insert-stands : IsHeldAmid history (begun ++ edits.Insert file after text ∷ later) begun (held_at begun)
     insert-stands = stands-at begun (edits.Insert file after text ∷ later) all
 
-    insert-behind : lines_at (begun ++ edits.Insert file after text ∷ []) ≡ (held_next history (begun ++ edits.Insert file after text ∷ later) begun (held_at begun) ambition (edits.Insert file after text)).lines
+    insert-behind : lines_at (begun ++ edits.Insert file after text ∷ []) ≡ (held_next history (begun ++ edits.Insert file after text ∷ later) begun (held_at begun) (within_at begun) (edits.Insert file after text)).lines
     insert-behind = next-at begun later (edits.Insert file after text) all
 
     anchored : is_kept_anchor (node_number n file) (line_number m after) (lines_at begun) ≡ true
     anchored =
-        subst (λ some. is_kept_anchor (node_number n file) (line_number m after) (held_amid history ambition some begun).lines ≡ true) all
+        subst (λ some. is_kept_anchor (node_number n file) (line_number m after) (held_amid history each_within some begun).lines ≡ true) all
         (accepted-anchored history (session_of base choice ambition es) legal good i all)
 
     insert-here : file_dated (node_number n file) (lines_at (begun ++ edits.Insert file after text ∷ []))
-        ≡ after_anchor_by dated_number (line_number m after) (new_dated (lines_amid history begun + 1) text) (file_dated (node_number n file) (lines_at begun))
-    insert-here = ap (file_dated (node_number n file)) insert-behind ∙ insert-dated history (held_at begun) ambition i insert-stands anchored
+        ≡ after_anchor_by dated_number (line_number m after) (new_dated (within_at begun) (lines_amid history begun + 1) text) (file_dated (node_number n file) (lines_at begun))
+    insert-here = ap (file_dated (node_number n file)) insert-behind ∙ insert-dated history (held_at begun) (within_at begun) i insert-stands anchored
 
     insert-there : (other : ℕ) → nat_eq (node_number n file) other ≡ false → file_dated other (lines_at (begun ++ edits.Insert file after text ∷ [])) ≡ file_dated other (lines_at begun)
-    insert-there other differs = ap (file_dated other) insert-behind ∙ ap (map dated) (insert-elsewhere history (held_at begun) ambition i other insert-stands differs)
+    insert-there other differs = ap (file_dated other) insert-behind ∙ ap (map dated) (insert-elsewhere history (held_at begun) (within_at begun) i other insert-stands differs)
 
     insert-takes : Takes (file_order (node_number n file) (lines_at begun)) (line_number m after) (lines_amid history begun + 1)
-    insert-takes = (order-takes history (held_at begun) ambition i insert-stands anchored).0
+    insert-takes = (order-takes history (held_at begun) (within_at begun) i insert-stands anchored).0
 
     insert-stays : (other line : ℕ) → is_kept_anchor other line (lines_at begun) ≡ true → is_kept_anchor other line (lines_at (begun ++ edits.Insert file after text ∷ [])) ≡ true
-    insert-stays other line h = ap (is_kept_anchor other line) insert-behind ∙ (anchors-stay history (held_at begun) ambition i).0 other line h
+    insert-stays other line h = ap (is_kept_anchor other line) insert-behind ∙ (anchors-stay history (held_at begun) (within_at begun) i).0 other line h
 
     insert-new : is_kept_anchor (node_number n file) (lines_amid history begun + 1) (lines_at (begun ++ edits.Insert file after text ∷ [])) ≡ true
-    insert-new = ap (is_kept_anchor (node_number n file) (lines_amid history begun + 1)) insert-behind ∙ (anchors-stay history (held_at begun) ambition i).1
+    insert-new = ap (is_kept_anchor (node_number n file) (lines_amid history begun + 1)) insert-behind ∙ (anchors-stay history (held_at begun) (within_at begun) i).1
 
   module _ (begun later : List Edit) (file : NodeRef) (line : LineRef) (all : begun ++ edits.Delete file line ∷ later ≡ es) where
     abbrev gone_line : Deletion
     gone_line = record { begun = begun; file = file; line = line; later = later }
 
-    delete-before : (held_amid history ambition (begun ++ edits.Delete file line ∷ later) begun).lines ≡ lines_at begun
-    delete-before = ap (λ some. (held_amid history ambition some begun).lines) all
+    delete-before : (held_amid history each_within (begun ++ edits.Delete file line ∷ later) begun).lines ≡ lines_at begun
+    delete-before = ap (λ some. (held_amid history each_within some begun).lines) all
 
-    delete-behind : lines_at (begun ++ edits.Delete file line ∷ []) ≡ (held_next history (begun ++ edits.Delete file line ∷ later) begun (held_at begun) ambition (edits.Delete file line)).lines
+    delete-behind : lines_at (begun ++ edits.Delete file line ∷ []) ≡ (held_next history (begun ++ edits.Delete file line ∷ later) begun (held_at begun) (within_at begun) (edits.Delete file line)).lines
     delete-behind = next-at begun later (edits.Delete file line) all
 
     pub delete-there : has_line (line_number m line) (file_order (node_number n file) (lines_at begun)) ≡ true
@@ -184,20 +195,49 @@ module _ (history : List Command) (base : ℕ) (choice : List Bool) (ambition : 
         ∙ accepted-there history (session_of base choice ambition es) legal good gone_line all
 
     delete-here : file_dated (node_number n file) (lines_at (begun ++ edits.Delete file line ∷ []))
-        ≡ map (hidden_by (line_number m line) q ambition) (file_dated (node_number n file) (lines_at begun))
+        ≡ map (hidden_by (line_number m line) q (within_at begun)) (file_dated (node_number n file) (lines_at begun))
     delete-here =
         ap (file_dated (node_number n file)) delete-behind
-        ∙ delete-dated history (held_at begun) ambition gone_line (stands-at begun (edits.Delete file line ∷ later) all)
+        ∙ delete-dated history (held_at begun) (within_at begun) gone_line (stands-at begun (edits.Delete file line ∷ later) all)
 
     delete-out : (other : ℕ) → nat_eq (node_number n file) other ≡ false → file_dated other (lines_at (begun ++ edits.Delete file line ∷ [])) ≡ file_dated other (lines_at begun)
-    delete-out other differs = ap (file_dated other) delete-behind ∙ ap (map dated) (delete-elsewhere history (held_at begun) ambition gone_line other differs)
+    delete-out other differs = ap (file_dated other) delete-behind ∙ ap (map dated) (delete-elsewhere history (held_at begun) (within_at begun) gone_line other differs)
 
     delete-stays : (other some : ℕ) → is_kept_anchor other some (lines_at begun) ≡ true → is_kept_anchor other some (lines_at (begun ++ edits.Delete file line ∷ [])) ≡ true
-    delete-stays other some h = ap (is_kept_anchor other some) delete-behind ∙ (delete-order history (held_at begun) ambition gone_line other).1 some ∙ h
+    delete-stays other some h = ap (is_kept_anchor other some) delete-behind ∙ (delete-order history (held_at begun) (within_at begun) gone_line other).1 some ∙ h
 
-  module _ (ts : List Triple) (a : ℕ) (stands : Stands ts a 0 (option_count history) (value ambition)) where
+  module _ (ts : List Triple) (on : List ℕ) (applies : StandFor ts (option_count history) (conditions ambition es) on) where
     abbrev count : ℕ
     count = option_count history
+
+    -- the nodes where the edits behind some apply, and that of the first of them
+    abbrev nodes_at : List Edit → List ℕ
+    nodes_at begun = nodes_behind begun on
+
+    abbrev node_at : List Edit → ℕ
+    node_at begun = first_node (nodes_at begun)
+
+    stands_at : (begun : List Edit) → Stands ts (node_at begun) 0 count (value (within_at begun))
+    stands_at begun = stands-first ts count (within_behind begun each_within) (nodes_at begun) (stands-behind ts count begun each_within on applies)
+
+    -- a node of an edit stands for the ambition
+    abbrev StandsOne : Edit → ℕ → Type 0
+    StandsOne e node = Stands ts node 0 count (value ambition)
+
+    all-one : (begun later : List Edit) → begun ++ later ≡ es → AllOn StandsOne (nodes_at begun) later
+    all-one begun later all =
+        each-stands ts count ambition later (nodes_at begun)
+        (subst (λ within. StandFor ts count within (nodes_at begun)) (ap (λ some. within_behind begun (conditions ambition some)) (sym all) ∙ ambition-behind ambition begun later)
+        (stands-behind ts count begun each_within on applies))
+
+    -- the node of a line that the commit inserts is that of the edit
+    insert-own : (begun later : List Edit) (file : NodeRef) (after : LineRef) (text : List ℕ) → begun ++ edits.Insert file after text ∷ later ≡ es
+        → own_node (insert_nodes on es) (lines_amid history begun + 1 - m - 1) ≡ node_at begun
+    insert-own begun later file after text all =
+        let place : lines_amid history begun + 1 - m - 1 ≡ length (anchors_of m begun) = omega arith in
+        ap (own_node (insert_nodes on es)) place
+        ∙ ap (λ some. own_node (insert_nodes on some) (length (anchors_of m begun))) (sym all)
+        ∙ insert-node m on begun file after text later
 
     -- a file has its lines, and room for the edits that are left
     pub record IsHere (node : ℕ) (begun : List Edit) (left : List ResolvedEdit) (file : DatedFile) : Type 0 where
@@ -209,73 +249,83 @@ module _ (history : List Command) (base : ℕ) (choice : List Bool) (ambition : 
       pub changes : (line : ℕ) → deletes_from node line left ≡ true → has_line line (file_numbers file.lines) ≡ true → has_line line file.room.changes ≡ true
       pub position : touches node left ≡ true → is_room_at q file.room ≡ true
 
-    -- a node is that of a line that is taken out, and FALSE if the line isn't made yet
-    pub record IsRight (ks : List (Kept Line)) (file line vis : ℕ) : Type 0 where
-      pub taken : 0 < file → AllByRecursion (IsGone ts count ambition q line vis) (file_dated file ks)
-      pub fresh : m < line → Stands ts vis 0 count (λ c. false)
+    -- a node is that of a line that is taken out where another is true; that of its insert, if the commit inserts it
+    pub record IsRight (ks : List (Kept Line)) (node file line vis : ℕ) : Type 0 where
+      pub taken : 0 < file → AllByRecursion (IsLeftBy ts count node q line vis) (file_dated file ks)
+      pub own : m < line → Stands ts vis 0 count (λ c. value_in ts (own_node (insert_nodes on es) (line - m - 1)) c && not (value_in ts node c))
       pub within : vis < diagram_size ts
 
-    -- edits by numbers, so many nodes and lines having been made before these
-    abbrev pub AreRight : List (Kept Line) → ℕ → ℕ → List Edit → List ResolvedEdit → Type 0
-    AreRight ks nodes lines later ss = AreResolvedBy (IsRight ks) n m a nodes lines later ss
+    -- edits by numbers, each with the node at its place, so many nodes and lines having been made before these
+    abbrev pub AreRight : List (Kept Line) → List ℕ → ℕ → ℕ → List Edit → List ResolvedEdit → Type 0
+    AreRight ks ns nodes lines later ss = AreResolvedBy (IsRight ks) n m ns nodes lines later ss
 
-    new-gone : (number line vis : ℕ) (text : List ℕ) → m < number → (m < line → Stands ts vis 0 count (λ c. false)) → IsGone ts count ambition q line vis (new_dated number text)
-    new-gone number line vis text above fresh is =
+    new-left : (within : Formula ℕ) (its node number line vis : ℕ) (text : List ℕ) → m < number → own_node (insert_nodes on es) (number - m - 1) ≡ its → ((c : List Bool) → value_in ts its c ≡ value within c)
+        → (m < line → Stands ts vis 0 count (λ c. value_in ts (own_node (insert_nodes on es) (line - m - 1)) c && not (value_in ts node c))) → IsLeftBy ts count node q line vis (new_dated within number text)
+    new-left within its node number line vis text above place values own is =
         let same : number ≡ line = grind (arith, nat_tests, is) in
-        stands_weaker 0 count (gone ts count ambition q (new_dated number text)) (omega arith) (omega arith)
-        (λ c. sym (ap (λ b. value (cond b ambition (seen_at [] q)) c && not (value ambition c)) (reflexive q) ∙ never (value ambition c))) (fresh (omega (arith, same, above)))
-      where
-        never : (b : Bool) → (b && not b) ≡ false
-        never true = refl
-        never false = refl
+        stands_weaker 0 count (left_by ts count node q (new_dated within number text)) (omega arith) (omega arith)
+        (λ c. ap (λ b. b && not (value_in ts node c))
+        (ap (λ k. value_in ts (own_node (insert_nodes on es) (k - m - 1)) c) (sym same) ∙ ap (λ r. value_in ts r c) place ∙ values c
+        ∙ sym (ap (λ b. value (cond b within (seen_at [] q)) c) (reflexive q)))) (own (omega (arith, same, above)))
 
-    hidden-gone : (k line vis : ℕ) (d : DatedLine) → IsGone ts count ambition q line vis d → IsGone ts count ambition q line vis (hidden_by k q ambition d)
-    hidden-gone k line vis d h = at (nat_eq d.line k)
+    hidden-left : (within : Formula ℕ) (k node line vis : ℕ) (d : DatedLine) → ((c : List Bool) → value within c ≡ value_in ts node c) → IsLeftBy ts count node q line vis d → IsLeftBy ts count node q line vis (hidden_by k q within d)
+    hidden-left within k node line vis d again h = at (nat_eq d.line k)
       where
         hid : DatedLine
-        hid = record { line = d.line; text = d.text; changes = (q, And (seen_at d.changes q) (Not ambition)) ∷ d.changes }
+        hid = record { line = d.line; text = d.text; changes = (q, And (seen_at d.changes q) (Not within)) ∷ d.changes }
 
         twice : (x y : Bool) → (x && not y) ≡ ((x && not y) && not y)
         twice true true = refl
         twice true false = refl
         twice false y = refl
 
-        at : (b : Bool) → IsGone ts count ambition q line vis (cond b hid d)
+        at : (b : Bool) → IsLeftBy ts count node q line vis (cond b hid d)
         at true is =
-            stands_weaker 0 count (gone ts count ambition q hid) (omega arith) (omega arith)
-            (λ c. twice (value (seen_at d.changes q) c) (value ambition c)
-            ∙ sym (ap (λ b. value (cond b (And (seen_at d.changes q) (Not ambition)) (seen_at d.changes q)) c && not (value ambition c)) (reflexive q))) (h is)
+            stands_weaker 0 count (left_by ts count node q hid) (omega arith) (omega arith)
+            (λ c. twice (value (seen_at d.changes q) c) (value_in ts node c)
+            ∙ ap (λ b. (value (seen_at d.changes q) c && not b) && not (value_in ts node c)) (sym (again c))
+            ∙ sym (ap (λ b. value (cond b (And (seen_at d.changes q) (Not within)) (seen_at d.changes q)) c && not (value_in ts node c)) (reflexive q))) (h is)
         at false is = h is
 
     -- what is right stays so when a line is put in
-    insert-right : (begun later : List Edit) (file : NodeRef) (after : LineRef) (text : List ℕ) (all : begun ++ edits.Insert file after text ∷ later ≡ es) (other line vis : ℕ)
-        → IsRight (lines_at begun) other line vis → IsRight (lines_at (begun ++ edits.Insert file after text ∷ [])) other line vis
-    insert-right begun later file after text all other line vis h = record { taken = λ above. by above (nat_eq (node_number n file) other) refl; fresh = h.fresh; within = h.within }
+    insert-right : (begun later : List Edit) (file : NodeRef) (after : LineRef) (text : List ℕ) (all : begun ++ edits.Insert file after text ∷ later ≡ es) (node other line vis : ℕ)
+        → IsRight (lines_at begun) node other line vis → IsRight (lines_at (begun ++ edits.Insert file after text ∷ [])) node other line vis
+    insert-right begun later file after text all node other line vis h = record { taken = λ above. by above (nat_eq (node_number n file) other) refl; own = h.own; within = h.within }
       where
-        by : 0 < other → (b : Bool) → nat_eq (node_number n file) other ≡ b → AllByRecursion (IsGone ts count ambition q line vis) (file_dated other (lines_at (begun ++ edits.Insert file after text ∷ [])))
+        by : 0 < other → (b : Bool) → nat_eq (node_number n file) other ≡ b → AllByRecursion (IsLeftBy ts count node q line vis) (file_dated other (lines_at (begun ++ edits.Insert file after text ∷ [])))
         by above true is =
             let same : node_number n file ≡ other = grind (arith, nat_tests, is) in
-            subst (λ f. AllByRecursion (IsGone ts count ambition q line vis) (file_dated f (lines_at (begun ++ edits.Insert file after text ∷ [])))) same
-            (subst (AllByRecursion (IsGone ts count ambition q line vis)) (sym (insert-here begun later file after text all))
-            (all-after (IsGone ts count ambition q line vis) dated_number (new_dated (lines_amid history begun + 1) text)
-            (new-gone (lines_amid history begun + 1) line vis text (omega arith) h.fresh) (line_number m after) (file_dated (node_number n file) (lines_at begun))
-            (subst (λ f. AllByRecursion (IsGone ts count ambition q line vis) (file_dated f (lines_at begun))) (sym same) (h.taken above))))
-        by above false is = subst (AllByRecursion (IsGone ts count ambition q line vis)) (sym (insert-there begun later file after text all other is)) (h.taken above)
+            subst (λ f. AllByRecursion (IsLeftBy ts count node q line vis) (file_dated f (lines_at (begun ++ edits.Insert file after text ∷ [])))) same
+            (subst (AllByRecursion (IsLeftBy ts count node q line vis)) (sym (insert-here begun later file after text all))
+            (all-after (IsLeftBy ts count node q line vis) dated_number (new_dated (within_at begun) (lines_amid history begun + 1) text)
+            (new-left (within_at begun) (node_at begun) node (lines_amid history begun + 1) line vis text (omega arith) (insert-own begun later file after text all) (stands_at begun).value h.own)
+            (line_number m after) (file_dated (node_number n file) (lines_at begun))
+            (subst (λ f. AllByRecursion (IsLeftBy ts count node q line vis) (file_dated f (lines_at begun))) (sym same) (h.taken above))))
+        by above false is = subst (AllByRecursion (IsLeftBy ts count node q line vis)) (sym (insert-there begun later file after text all other is)) (h.taken above)
 
-    -- and when a line is taken out
-    delete-right : (begun later : List Edit) (file : NodeRef) (gone : LineRef) (all : begun ++ edits.Delete file gone ∷ later ≡ es) (other line vis : ℕ)
-        → IsRight (lines_at begun) other line vis → IsRight (lines_at (begun ++ edits.Delete file gone ∷ [])) other line vis
-    delete-right begun later file which all other line vis h = record { taken = λ above. by above (nat_eq (node_number n file) other) refl; fresh = h.fresh; within = h.within }
+    -- and when a line is taken out, since all edits apply within the ambition
+    delete-right : (begun later : List Edit) (file : NodeRef) (gone : LineRef) (all : begun ++ edits.Delete file gone ∷ later ≡ es) (node other line vis : ℕ) → Stands ts node 0 count (value ambition)
+        → IsRight (lines_at begun) node other line vis → IsRight (lines_at (begun ++ edits.Delete file gone ∷ [])) node other line vis
+    delete-right begun later file which all node other line vis one h = record { taken = λ above. by above (nat_eq (node_number n file) other) refl; own = h.own; within = h.within }
       where
-        by : 0 < other → (b : Bool) → nat_eq (node_number n file) other ≡ b → AllByRecursion (IsGone ts count ambition q line vis) (file_dated other (lines_at (begun ++ edits.Delete file which ∷ [])))
+        again : (c : List Bool) → value (within_at begun) c ≡ value_in ts node c
+        again c = sym ((stands_at begun).value c) ∙ (all-one begun (edits.Delete file which ∷ later) all).0.value c ∙ sym (one.value c)
+
+        by : 0 < other → (b : Bool) → nat_eq (node_number n file) other ≡ b → AllByRecursion (IsLeftBy ts count node q line vis) (file_dated other (lines_at (begun ++ edits.Delete file which ∷ [])))
         by above true is =
             let same : node_number n file ≡ other = grind (arith, nat_tests, is) in
-            subst (λ f. AllByRecursion (IsGone ts count ambition q line vis) (file_dated f (lines_at (begun ++ edits.Delete file which ∷ [])))) same
-            (subst (AllByRecursion (IsGone ts count ambition q line vis)) (sym (delete-here begun later file which all))
-            (all-mapped (IsGone ts count ambition q line vis) (IsGone ts count ambition q line vis) (hidden_by (line_number m which) q ambition) (hidden-gone (line_number m which) line vis)
+            subst (λ f. AllByRecursion (IsLeftBy ts count node q line vis) (file_dated f (lines_at (begun ++ edits.Delete file which ∷ [])))) same
+            (subst (AllByRecursion (IsLeftBy ts count node q line vis)) (sym (delete-here begun later file which all))
+            (all-mapped (IsLeftBy ts count node q line vis) (IsLeftBy ts count node q line vis) (hidden_by (line_number m which) q (within_at begun))
+            (λ d own. hidden-left (within_at begun) (line_number m which) node line vis d again own)
             (file_dated (node_number n file) (lines_at begun))
-            (subst (λ f. AllByRecursion (IsGone ts count ambition q line vis) (file_dated f (lines_at begun))) (sym same) (h.taken above))))
-        by above false is = subst (AllByRecursion (IsGone ts count ambition q line vis)) (sym (delete-out begun later file which all other is)) (h.taken above)
+            (subst (λ f. AllByRecursion (IsLeftBy ts count node q line vis) (file_dated f (lines_at begun))) (sym same) (h.taken above))))
+        by above false is = subst (AllByRecursion (IsLeftBy ts count node q line vis)) (sym (delete-out begun later file which all other is)) (h.taken above)
+
+    -- the other edits are right when the first of them is done
+    next-right : (begun : List Edit) (e : Edit) (ks : List (Kept Line)) (nodes lines : ℕ) (later : List Edit) (ss : List ResolvedEdit) → AreRight ks (rest_nodes (nodes_at begun)) nodes lines later ss
+        → AreRight ks (nodes_at (begun ++ e ∷ [])) nodes lines later ss
+    next-right begun e ks nodes lines later ss h = subst (λ ns. AreRight ks ns nodes lines later ss) (sym (nodes-more begun e on)) h
 
     pub numbers-here : (node : ℕ) (begun : List Edit) (left : List ResolvedEdit) (file : DatedFile) → IsHere node begun left file → file_numbers file.lines ≡ file_order node (lines_at begun)
     numbers-here node begun left file h = dated-numbers ts count (file_dated node (lines_at begun)) file.lines h.are_dated ∙ numbers-dated (file_kept node (lines_at begun))
@@ -289,6 +339,9 @@ module _ (history : List Command) (base : ℕ) (choice : List Bool) (ambition : 
 
       abbrev had : ℕ
       had = lines_amid history begun
+
+      abbrev a : ℕ
+      a = node_at begun
 
       abbrev put : ResolvedEdit
       put = resolved.Insert f anchor (had + 1) text a
@@ -324,9 +377,9 @@ module _ (history : List Command) (base : ℕ) (choice : List Bool) (ambition : 
           record {
             above = h.above;
             are_dated = subst (λ ds. AreDated ts count ds new.lines) (sym (insert-here begun later file after text all))
-                (insert-lines ts count q anchor (had + 1) a text ambition (file_dated f (lines_at begun)) old.lines new.lines stands h.are_dated alike);
+                (insert-lines ts count q anchor (had + 1) a text (within_at begun) (file_dated f (lines_at begun)) old.lines new.lines (stands_at begun) h.are_dated alike);
             newest = omega (arith, at);
-            nodes = added_below (diagram_size ts) a old.nodes new.nodes adds h.nodes stands.within;
+            nodes = added_below (diagram_size ts) a old.nodes new.nodes adds h.nodes (stands_at begun).within;
             inserts = omega (arith, some, less);
             changes = λ line gone there. by line gone (nat_eq (had + 1) line) refl (sym (has_new line) ∙ there);
             position = λ t. fewer.position;
@@ -390,7 +443,7 @@ module _ (history : List Command) (base : ℕ) (choice : List Bool) (ambition : 
           }
 
       -- and hasn't it then
-      deleted-here : (old new : DatedFile) → IsRight (lines_at begun) df k vis → IsHere df begun (out ∷ left) old → AreAlike new.lines (with_change k vis q old.lines)
+      deleted-here : (old new : DatedFile) → IsRight (lines_at begun) (node_at begun) df k vis → IsHere df begun (out ∷ left) old → AreAlike new.lines (with_change k vis q old.lines)
           → IsLeft old.room new.room q 0 → new.newest ≡ q → AddsNode vis old.nodes new.nodes → IsHere df (begun ++ edits.Delete file line ∷ []) left new
       deleted-here old new right h alike fewer at adds =
           let some = h.inserts in
@@ -398,7 +451,9 @@ module _ (history : List Command) (base : ℕ) (choice : List Bool) (ambition : 
           record {
             above = h.above;
             are_dated = subst (λ ds. AreDated ts count ds new.lines) (sym (delete-here begun later file line all))
-                (delete-lines ts count q k vis ambition (file_dated df (lines_at begun)) old.lines new.lines (right.taken h.above) h.are_dated alike);
+                (delete-lines ts count q k vis (within_at begun) (file_dated df (lines_at begun)) old.lines new.lines
+                (all-map (IsLeftBy ts count (node_at begun) q k vis) (IsGone ts count (within_at begun) q k vis) (λ d. left_by-gone ts count (node_at begun) q k vis (within_at begun) d (stands_at begun).value)
+                (file_dated df (lines_at begun)) (right.taken h.above)) h.are_dated alike);
             newest = omega (arith, at);
             nodes = added_below (diagram_size ts) vis old.nodes new.nodes adds h.nodes right.within;
             inserts = omega (arith, some, less);
@@ -408,7 +463,7 @@ module _ (history : List Command) (base : ℕ) (choice : List Bool) (ambition : 
             position = λ t. fewer.position;
           }
 
-      delete-next : IsRight (lines_at begun) df k vis → (e e' : FilePart) → IsChangedIn df (IsCarriedOut q out) e e' → IsHere e.node begun (out ∷ left) e.lines
+      delete-next : IsRight (lines_at begun) (node_at begun) df k vis → (e e' : FilePart) → IsChangedIn df (IsCarriedOut q out) e e' → IsHere e.node begun (out ∷ left) e.lines
           → IsHere e'.node (begun ++ edits.Delete file line ∷ []) left e'.lines
       delete-next right e e' changed h = by (nat_eq e.node df) refl
         where
@@ -478,45 +533,48 @@ module _ (history : List Command) (base : ℕ) (choice : List Bool) (ambition : 
             by false there = changed.elsewhere there
 
     -- the edits by numbers can be carried out in the stored files, and are then
-    pub carried : (later begun : List Edit) (nodes lines : ℕ) (stored : List FilePart) (ss : List ResolvedEdit) → begun ++ later ≡ es → lines ≡ lines_amid history begun → AreRight (lines_at begun) nodes lines later ss
+    pub carried : (later begun : List Edit) (nodes lines : ℕ) (stored : List FilePart) (ss : List ResolvedEdit) → begun ++ later ≡ es → lines ≡ lines_amid history begun → AreRight (lines_at begun) (nodes_at begun) nodes lines later ss
         → AreHere begun ss stored → CanCarryOutAll q ss stored × ((after : List FilePart) → AreAllCarriedOut q ss stored after → AreHere es [] after)
     carried [] begun nodes lines stored [] all counted right here = (tt, λ after same. subst (λ b. AreHere b [] after) (sym (append-nil begun) ∙ all) (subst (AreHere begun []) (sym same) here))
     carried [] begun nodes lines stored (s ∷ ss) all counted right here = absurd right
     carried (e ∷ later) begun nodes lines stored [] all counted right here = absurd right
     carried (edits.New kind parent name ∷ later) begun nodes lines stored (s ∷ ss) all counted right here =
         let e = edits.New kind parent name in
-        carried-row e begun (resolved.New (nodes + 1) kind (node_number n parent) name a) s ss stored refl right.0
+        carried-row e begun (resolved.New (nodes + 1) kind (node_number n parent) name (node_at begun)) s ss stored refl right.0
         (λ node file h. record { above = h.above; are_dated = h.are_dated; newest = h.newest; nodes = h.nodes; inserts = h.inserts; changes = h.changes; position = h.position }) (λ x. tt) (λ old new h. h) here
         (λ mid next. carried later (begun ++ e ∷ []) (nodes + 1) lines mid ss (append_assoc begun (e ∷ []) later ∙ all) (counted ∙ ap (λ l. m + length l) (sym (none_more m begun e refl)))
-        (subst (λ ks. AreRight ks (nodes + 1) lines later ss) (sym (rows-leave begun e refl)) right.1) next)
+        (next-right begun e (lines_at (begun ++ e ∷ [])) (nodes + 1) lines later ss (subst (λ ks. AreRight ks (rest_nodes (nodes_at begun)) (nodes + 1) lines later ss) (sym (rows-leave begun e refl)) right.1)) next)
     carried (edits.Rename node name ∷ later) begun nodes lines stored (s ∷ ss) all counted right here =
         let e = edits.Rename node name in
-        carried-row e begun (resolved.Rename (node_number n node) name a) s ss stored refl right.0
+        carried-row e begun (resolved.Rename (node_number n node) name (node_at begun)) s ss stored refl right.0
         (λ node file h. record { above = h.above; are_dated = h.are_dated; newest = h.newest; nodes = h.nodes; inserts = h.inserts; changes = h.changes; position = h.position }) (λ x. tt) (λ old new h. h) here
         (λ mid next. carried later (begun ++ e ∷ []) nodes lines mid ss (append_assoc begun (e ∷ []) later ∙ all) (counted ∙ ap (λ l. m + length l) (sym (none_more m begun e refl)))
-        (subst (λ ks. AreRight ks nodes lines later ss) (sym (rows-leave begun e refl)) right.1) next)
+        (next-right begun e (lines_at (begun ++ e ∷ [])) nodes lines later ss (subst (λ ks. AreRight ks (rest_nodes (nodes_at begun)) nodes lines later ss) (sym (rows-leave begun e refl)) right.1)) next)
     carried (edits.Move node parent ∷ later) begun nodes lines stored (s ∷ ss) all counted right here =
         let e = edits.Move node parent in
-        carried-row e begun (resolved.Move (node_number n node) (node_number n parent) a) s ss stored refl right.0
+        carried-row e begun (resolved.Move (node_number n node) (node_number n parent) (node_at begun)) s ss stored refl right.0
         (λ node file h. record { above = h.above; are_dated = h.are_dated; newest = h.newest; nodes = h.nodes; inserts = h.inserts; changes = h.changes; position = h.position }) (λ x. tt) (λ old new h. h) here
         (λ mid next. carried later (begun ++ e ∷ []) nodes lines mid ss (append_assoc begun (e ∷ []) later ∙ all) (counted ∙ ap (λ l. m + length l) (sym (none_more m begun e refl)))
-        (subst (λ ks. AreRight ks nodes lines later ss) (sym (rows-leave begun e refl)) right.1) next)
+        (next-right begun e (lines_at (begun ++ e ∷ [])) nodes lines later ss (subst (λ ks. AreRight ks (rest_nodes (nodes_at begun)) nodes lines later ss) (sym (rows-leave begun e refl)) right.1)) next)
     carried (edits.Remove node ∷ later) begun nodes lines stored (s ∷ ss) all counted right here =
         let e = edits.Remove node in
-        carried-row e begun (resolved.Remove (node_number n node) a) s ss stored refl right.0
+        carried-row e begun (resolved.Remove (node_number n node) (node_at begun)) s ss stored refl right.0
         (λ node file h. record { above = h.above; are_dated = h.are_dated; newest = h.newest; nodes = h.nodes; inserts = h.inserts; changes = h.changes; position = h.position }) (λ x. tt) (λ old new h. h) here
         (λ mid next. carried later (begun ++ e ∷ []) nodes lines mid ss (append_assoc begun (e ∷ []) later ∙ all) (counted ∙ ap (λ l. m + length l) (sym (none_more m begun e refl)))
-        (subst (λ ks. AreRight ks nodes lines later ss) (sym (rows-leave begun e refl)) right.1) next)
+        (next-right begun e (lines_at (begun ++ e ∷ [])) nodes lines later ss (subst (λ ks. AreRight ks (rest_nodes (nodes_at begun)) nodes lines later ss) (sym (rows-leave begun e refl)) right.1)) next)
     carried (edits.Insert file after text ∷ later) begun nodes lines stored (s ∷ ss) all counted right here =
         let e = edits.Insert file after text in
-        let own : s ≡ resolved.Insert (node_number n file) (line_number m after) (lines_amid history begun + 1) text a =
-        right.0 ∙ ap (λ j. resolved.Insert (node_number n file) (line_number m after) (j + 1) text a) counted in
+        let own : s ≡ resolved.Insert (node_number n file) (line_number m after) (lines_amid history begun + 1) text (node_at begun) =
+        right.0 ∙ ap (λ j. resolved.Insert (node_number n file) (line_number m after) (j + 1) text (node_at begun)) counted in
         subst (λ x. AreCarried (x ∷ ss) stored) (sym own)
-        (carried-first (resolved.Insert (node_number n file) (line_number m after) (lines_amid history begun + 1) text a) ss begun (begun ++ e ∷ []) stored
+        (carried-first (resolved.Insert (node_number n file) (line_number m after) (lines_amid history begun + 1) text (node_at begun)) ss begun (begun ++ e ∷ []) stored
         (can-insert begun later file after text all ss) (insert-next begun later file after text all ss) (subst (λ x. AreHere begun (x ∷ ss) stored) own here)
         (λ mid next. carried later (begun ++ e ∷ []) nodes (lines + 1) mid ss (append_assoc begun (e ∷ []) later ∙ all)
         (ap (λ j. j + 1) counted ∙ sym (one_more history begun file after text))
-        (resolved-by (IsRight (lines_at begun)) (IsRight (lines_at (begun ++ e ∷ []))) n m a (insert-right begun later file after text all) nodes (lines + 1) later ss right.1) next))
+        (next-right begun e (lines_at (begun ++ e ∷ [])) nodes (lines + 1) later ss
+        (resolved-by (IsRight (lines_at begun)) (IsRight (lines_at (begun ++ e ∷ []))) StandsOne n m
+        (λ node other line vis one h. insert-right begun later file after text all node (node_number n other) (line_number m line) vis h)
+        (rest_nodes (nodes_at begun)) nodes (lines + 1) later ss (all-one begun (e ∷ later) all).1 right.1)) next))
     carried (edits.Delete file line ∷ later) begun nodes lines stored (s ∷ ss) all counted right here =
         let e = edits.Delete file line in
         subst (λ x. AreCarried (x ∷ ss) stored) (sym right.0.1)
@@ -524,7 +582,10 @@ module _ (history : List Command) (base : ℕ) (choice : List Bool) (ambition : 
         (can-delete begun later file line all right.0.0 ss) (delete-next begun later file line all right.0.0 ss right.0.2) (subst (λ x. AreHere begun (x ∷ ss) stored) right.0.1 here)
         (λ mid next. carried later (begun ++ e ∷ []) nodes lines mid ss (append_assoc begun (e ∷ []) later ∙ all)
         (counted ∙ ap (λ l. m + length l) (sym (none_more m begun e refl)))
-        (resolved-by (IsRight (lines_at begun)) (IsRight (lines_at (begun ++ e ∷ []))) n m a (delete-right begun later file line all) nodes lines later ss right.1) next))
+        (next-right begun e (lines_at (begun ++ e ∷ [])) nodes lines later ss
+        (resolved-by (IsRight (lines_at begun)) (IsRight (lines_at (begun ++ e ∷ []))) StandsOne n m
+        (λ node other which vis one h. delete-right begun later file line all node (node_number n other) (line_number m which) vis one h)
+        (rest_nodes (nodes_at begun)) nodes lines later ss (all-one begun (e ∷ later) all).1 right.1)) next))
 
   -- the lines that edits name are made before them
   pub named-low : (most : ℕ) (later begun : List Edit) → begun ++ later ≡ es → lines_amid history es ≤ most → AllByRecursion (λ e. named_line m e ≤ most) later
@@ -540,7 +601,7 @@ module _ (history : List Command) (base : ℕ) (choice : List Bool) (ambition : 
       (omega (arith, known, below, few), named-low most later (begun ++ edits.Insert file after text ∷ []) (append_assoc begun (edits.Insert file after text ∷ []) later ∙ all) few)
   named-low most (edits.Delete file line ∷ later) begun all few =
       let known : line_number m line ≤ lines_amid history begun =
-      line-below history ambition begun (edits.Delete file line ∷ later) (node_number n file) (line_number m line)
+      line-below history each_within begun (edits.Delete file line ∷ later) (node_number n file) (line_number m line)
       (ap (λ ks. has_line (line_number m line) (file_order (node_number n file) ks)) (delete-before begun later file line all) ∙ delete-there begun later file line all) in
       let below = begun-few begun (edits.Delete file line ∷ later) all in
       (omega (arith, known, below, few), named-low most later (begun ++ edits.Delete file line ∷ []) (append_assoc begun (edits.Delete file line ∷ []) later ∙ all) few)

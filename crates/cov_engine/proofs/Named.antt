@@ -9,12 +9,12 @@ use Rattle.cov_edit.specs.declared.edit.Edit.TheVariants as edits
 use Rattle.cov_edit.specs.declared.command.Command.{Command}
 use Rattle.cov_edit.specs.declared.command.Command.TheVariants as commands
 use Rattle.cov_edit.specs.Numbering.{Numbers, node_count_after, line_count_after, numbered_edit, node_number, line_number, nodes_made, no_numbers, numbers_after, numbers_of, numbered_from}
-use Rattle.cov_edit.specs.Replay.{replay}
+use Rattle.cov_edit.specs.Replay.{conditions, first_within, rest_within, changes_within, replay}
 use Rattle.cov_edit.proofs.CallerLemmas.{node_count_after-is, numbers_from-append}
 use Rattle.cov_base.specs.declared.number.NodeRef.{NodeRef}
 use Rattle.cov_view.specs.References.{is_made_node}
 use Rattle.cov_view.specs.Refusals.{first_refused}
-use Rattle.cov_history.specs.Kept.{Kept, hidden, hidden_where, kept_address, new_line, kept_after, Holding, kept_of}
+use Rattle.cov_history.specs.Kept.{Kept, hidden, hidden_where, kept_address, new_line, kept_after, kept_with, Holding, kept_of}
 use Rattle.cov_history.specs.Sessions.{has_commit}
 use Rattle.cov_edit.specs.Variant.{Line, is_line}
 use Rattle.cov_visible.specs.Staging.{IsNear, AreNear}
@@ -83,14 +83,15 @@ file-edit q within n ns t node made line total ks (edits.Rename which name) le f
 file-edit q within n ns t node made line total ks (edits.Move which parent) le few named h = h
 file-edit q within n ns t node made line total ks (edits.Remove which) le few named h = h
 
-files-edits : (q : ℕ) (within : Formula ℕ) (n : ℕ) (ns : Numbers) (t : List (List ℕ)) (node made line total : ℕ) (ks : List (Kept Line)) (es : List Edit)
+files-edits : (q : ℕ) (within : List (Formula ℕ)) (n : ℕ) (ns : Numbers) (t : List (List ℕ)) (node made line total : ℕ) (ks : List (Kept Line)) (es : List Edit)
     → n ≤ ns.nodes → total ≡ ns.nodes + (made + nodes_made es) → AreNamed n made es → AreInFiles total ks
-    → AreInFiles total (fold (kept_after q within) ks (numbered_from ns t node line es))
+    → AreInFiles total (fold (kept_with q) ks (changes_within within (numbered_from ns t node line es)))
 files-edits q within n ns t node made line total ks [] le e named h = h
 files-edits q within n ns t node made line total ks (d ∷ es) le e named h =
     let after = node_count_after-is made (nodes_made es) d in
-    files-edits q within n ns t (node_count_after node d) (node_count_after made d) (line_count_after line d) total (kept_after q within ks (numbered_edit ns t node line d)) es le (omega (arith, e, after)) named.1
-    (file-edit q within n ns t node made line total ks d le (omega (arith, e)) named.0 h)
+    files-edits q (rest_within within) n ns t (node_count_after node d) (node_count_after made d) (line_count_after line d) total
+    (kept_after q (first_within within) ks (numbered_edit ns t node line d)) es le (omega (arith, e, after)) named.1
+    (file-edit q (first_within within) n ns t node made line total ks d le (omega (arith, e)) named.0 h)
 
 as-before : (history : List Command) (k : Command) → has_commit (k ∷ []) ≡ false → AreInFiles (numbers_of history).nodes (kept_of history)
     → AreInFiles (numbers_of (history ++ k ∷ [])).nodes (kept_of (history ++ k ∷ []))
@@ -105,7 +106,7 @@ files-one history (commands.Commit base choice ambition es) accepted h =
     let more : (numbers_of (history ++ commands.Commit base choice ambition es ∷ [])).nodes ≡ ns.nodes + nodes_made es =
     ap (λ (ms : Numbers). ms.nodes) (numbers_from-append no_numbers history (commands.Commit base choice ambition es ∷ [])) in
     subst (AreInFiles (numbers_of (history ++ commands.Commit base choice ambition es ∷ [])).nodes) (sym (commit-lines history base choice ambition es))
-    (files-edits (length history + 1) ambition (numbers_of (take base history)).nodes ns (numbers_after ns es).addresses ns.nodes 0 (length ns.addresses)
+    (files-edits (length history + 1) (conditions ambition es) (numbers_of (take base history)).nodes ns (numbers_after ns es).addresses ns.nodes 0 (length ns.addresses)
     (numbers_of (history ++ commands.Commit base choice ambition es ∷ [])).nodes (kept_of history) es (base-nodes base history) (omega (arith, more))
     (edits-named history base choice es (edits-accepted history base choice ambition es accepted))
     (more-files ns.nodes (numbers_of (history ++ commands.Commit base choice ambition es ∷ [])).nodes (kept_of history) (omega (arith, more)) h))

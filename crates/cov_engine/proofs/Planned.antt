@@ -1,5 +1,5 @@
 -- A commit whose edits are resolved and whose rows are planned.
-use Rattle.std.proofs.Common.{◌≡◌, ℕ, ◌+◌, ◌-◌, ◌<◌, ◌≤◌, Bool, List, [], ◌++◌, length, map, Option, refl, sym, ap, subst, ◌∙◌, arith}
+use Rattle.std.proofs.Common.{◌≡◌, ℕ, ◌+◌, ◌-◌, ◌<◌, ◌≤◌, List, [], length, map, sym, ap, subst, ◌∙◌, arith}
 use Rattle.std.specs.List.{AllByRecursion}
 use Rattle.cov_base.specs.declared.limits.TheConstants.{CHOICE_WIDTH}
 use Rattle.cov_dd.specs.declared.triple.Triple.{Triple}
@@ -10,6 +10,7 @@ use Rattle.cov_edit.specs.declared.edit.Edit.{Edit}
 use Rattle.cov_edit.specs.declared.command.Command.{Command}
 use Rattle.cov_edit.specs.History.{option_count}
 use Rattle.cov_edit.specs.Numbering.{numbers_of, line_count}
+use Rattle.cov_edit.specs.Replay.{conditions}
 use Rattle.cov_edit.specs.Touched.{AreRising, touched}
 use Rattle.cov_history.specs.Verdict.{IsLegal}
 use Rattle.cov_history.proofs.CallerLemmas.{files-rise}
@@ -23,9 +24,9 @@ use Rattle.cov_engine.specs.Holdings.{AreRowsAndLinesOf}
 use Rattle.cov_visible.specs.Nodes.{HasNodesIn, IsTaken}
 use Rattle.cov_visible.specs.Parts.{part_node}
 use Rattle.cov_engine.specs.Ready.{IsInBounds}
-use Rattle.cov_visible.specs.Resolved.{HaveNumbers, AreResolved, AreResolvedIn}
+use Rattle.cov_visible.specs.Resolved.{insert_nodes, HaveNumbers, AreResolved, AreResolvedIn}
 use Rattle.cov_visible.specs.RowPlans.{row_changes, AlsoMakes, AreWithin, MakeNewNodes, nodes_after_all, kinds_after_all}
-use Rattle.cov_engine.specs.Staged.{IsCommitPlan}
+use Rattle.cov_engine.specs.Staged.{StandFor, IsCommitPlan}
 use Rattle.cov_visible.specs.Staging.{AreNear, AreLow}
 use Rattle.cov_engine.specs.States.{AreCountsOf}
 use Rattle.cov_engine.specs.declared.counts.Counts.{Counts}
@@ -33,6 +34,7 @@ use Rattle.cov_visible.specs.declared.file_part.FilePart.{FilePart}
 use Rattle.cov_engine.specs.declared.history_index.CommitMark.{CommitMark}
 use Rattle.cov_visible.specs.declared.resolved_edit.ResolvedEdit.{ResolvedEdit}
 use Rattle.cov_visible.specs.declared.resolving.CommitContext.{CommitContext}
+use Rattle.cov_engine.proofs.Conditions.{stands-of_table, stand-later}
 use Rattle.cov_engine.proofs.Holdings.{entries-grown}
 use Rattle.cov_engine.proofs.Judging.{once-with, unread-with}
 use Rattle.cov_engine.proofs.Readied.{first-nodes, held-within}
@@ -43,7 +45,7 @@ use Rattle.cov_engine.proofs.RowPlans.{entries-once, up-to-made}
 module _ (history : List Command) (ts : List Triple) (counts : Counts) (commits : List CommitMark) (file_of_line : List ℕ) (entries : Dated) (stored : List FilePart)
     (are : AreCountsOf history counts) (held : AreRowsAndLinesOf history ts commits file_of_line entries stored)
     (es : List Edit) (fits : IsInBounds history es) (mark : CommitMark) (context : CommitContext) (at : mark.position ≡ length history + 1)
-    (is : context ≡ record { at = mark.position; nodes = counts.nodes - 1; lines = counts.lines; ambition = mark.node }) where
+    (is : context ≡ record { at = mark.position; nodes = counts.nodes - 1; lines = counts.lines }) where
   abbrev n : ℕ
   n = (numbers_of history).nodes
 
@@ -55,9 +57,6 @@ module _ (history : List Command) (ts : List Triple) (counts : Counts) (commits 
 
   place : context.at ≡ length history + 1
   place = ap (λ (k : CommitContext). k.at) is ∙ at
-
-  node-is : context.ambition ≡ mark.node
-  node-is = ap (λ (k : CommitContext). k.ambition) is
 
   -- what its edits want to be resolved
   pub files-rising : (own : List FilePart) → own ≡ stored → AreRising (map part_node own)
@@ -83,34 +82,34 @@ module _ (history : List Command) (ts : List Triple) (counts : Counts) (commits 
       subst (HaveNumbers (record { nodes = context.nodes; lines = context.lines })) (sym e) (record { nodes = omega (arith, nodes, m); lines = omega (arith, lines, l) })
 
   -- resolved in their context, its edits are resolved after the history
-  resolved-now : (us : List Triple) (own : List FilePart) (some : List Edit) (ss : List ResolvedEdit) → own ≡ stored → some ≡ es → AreResolvedIn context own us some ss
-      → AreResolved (length history + 1) stored n (line_count history) mark.node us es ss
-  resolved-now us own some ss same e h =
-      subst (λ a. AreResolved (length history + 1) stored n (line_count history) a us es ss) node-is
-      (subst (λ x. AreResolved (length history + 1) stored n (line_count history) context.ambition us x ss) e
-      (subst (λ m. AreResolved (length history + 1) stored n m context.ambition us some ss) lines-before
-      (subst (λ k. AreResolved (length history + 1) stored k context.lines context.ambition us some ss) nodes-before
-      (subst (λ p. AreResolved p stored context.nodes context.lines context.ambition us some ss) place
-      (subst (λ xs. AreResolved context.at xs context.nodes context.lines context.ambition us some ss) same h)))))
+  resolved-now : (us : List Triple) (own : List FilePart) (on : List ℕ) (some : List Edit) (ss : List ResolvedEdit) → own ≡ stored → some ≡ es → AreResolvedIn context own us on some ss
+      → AreResolved (length history + 1) stored n (line_count history) on us es ss
+  resolved-now us own on some ss same e h =
+      subst (λ x. AreResolved (length history + 1) stored n (line_count history) on us x ss) e
+      (subst (λ m. AreResolved (length history + 1) stored n m on us some ss) lines-before
+      (subst (λ k. AreResolved (length history + 1) stored k context.lines on us some ss) nodes-before
+      (subst (λ p. AreResolved p stored context.nodes context.lines on us some ss) place
+      (subst (λ xs. AreResolved context.at xs context.nodes context.lines on us some ss) same h))))
 
-  module _ (us : List Triple) (own : List FilePart) (some : List Edit) (ss : List ResolvedEdit) (same : own ≡ stored) (e : some ≡ es) (given : AreResolvedIn context own us some ss)
+  module _ (us : List Triple) (own : List FilePart) (on : List ℕ) (some : List Edit) (ss : List ResolvedEdit) (same : own ≡ stored) (e : some ≡ es) (given : AreResolvedIn context own us on some ss)
       (ambition : Formula ℕ) (named : reach ambition ≤ option_count history) (touches : mark.touched ≡ touched es) (stands : Stands us mark.node 0 (option_count history) (value ambition))
-      (list : List ResolvedEdit) (listed : list ≡ ss) where
-    abbrev Taken : ℕ → ℕ → ℕ → Type 0
-    Taken = IsTaken us (length history + 1) stored mark.node
+      (applies : StandFor us (option_count history) (conditions ambition es) on) (list : List ResolvedEdit) (listed : list ≡ ss) where
+    abbrev Taken : ℕ → ℕ → ℕ → ℕ → Type 0
+    Taken = IsTaken us (length history + 1) stored (line_count history) (insert_nodes on es)
 
     -- what their changes of rows want to be planned behind a plan that makes none
     pub changes-new : (before : List Entry) → nodes_with before entries ≡ nodes_in entries → MakeNewNodes (nodes_with before entries) (row_changes list)
     changes-new before none =
         subst (λ xs. MakeNewNodes (nodes_with before entries) (row_changes xs)) (sym listed)
-        (resolved-new Taken n (line_count history) mark.node n (line_count history) es ss (nodes_with before entries)
+        (resolved-new Taken n (line_count history) on n (line_count history) es ss (nodes_with before entries)
         (up-to-made history ts commits file_of_line entries stored counts n before are none held (sym (first-nodes history counts are)))
-        (resolved-now us own some ss same e given))
+        (resolved-now us own on some ss same e given))
 
     pub changes-within : AreWithin us (row_changes list)
     changes-within =
         subst (λ xs. AreWithin us (row_changes xs)) (sym listed)
-        (resolved-within Taken n (line_count history) mark.node us n (line_count history) es ss stands.within (resolved-now us own some ss same e given))
+        (resolved-within Taken n (line_count history) us on n (line_count history) es ss (stands-of_table us (option_count history) (conditions ambition es) on applies)
+        (resolved-now us own on some ss same e given))
 
     -- once they are planned, the commit is
     pub commit-plan : Extends ts us → (vs : List Triple) → Extends us vs → (before plan : List Entry) → nodes_with before entries ≡ nodes_in entries → kinds_with before entries ≡ kinds_in entries → Makes us entries before []
@@ -123,9 +122,11 @@ module _ (history : List Command) (ts : List Triple) (counts : Counts) (commits 
       touches = touches;
       named = named;
       stands = stands_later more stands;
-      resolved = resolved-grown (length history + 1) stored mark.node us vs more
-          (nodes-later ts us (length history + 1) stored grown (held-within history ts (length history + 1) stored (omega arith) held.files)) stands.within
-          n (line_count history) es ss (resolved-now us own some ss same e given);
+      on = on;
+      applies = stand-later us (option_count history) vs (conditions ambition es) on more applies;
+      resolved = resolved-grown (length history + 1) stored n (line_count history) on us vs es ss more
+          (nodes-later ts us (length history + 1) stored grown (held-within history ts (length history + 1) stored (omega arith) held.files))
+          (stands-of_table us (option_count history) (conditions ambition es) on applies) (resolved-now us own on some ss same e given);
       changes = subst (λ xs. Makes vs entries plan (row_changes xs)) listed (makes [] none);
       nodes = nodes ∙ ap (nodes_after_all (row_changes list)) nodes_none ∙ ap (λ xs. nodes_after_all (row_changes xs) (nodes_in entries)) listed;
       kinds = kinds ∙ ap (kinds_after_all (row_changes list)) kinds_none ∙ ap (λ xs. kinds_after_all (row_changes xs) (kinds_in entries)) listed;
@@ -148,9 +149,11 @@ module _ (history : List Command) (old ts : List Triple) (commits : List CommitM
     touches = planned.touches;
     named = planned.named;
     stands = stands_later more planned.stands;
-    resolved = resolved-grown (length history + 1) stored mark.node ts us more
-        (nodes-later old ts (length history + 1) stored grown (held-within history old (length history + 1) stored (omega arith) held.files)) planned.stands.within
-        (numbers_of history).nodes (line_count history) es ss planned.resolved;
+    on = planned.on;
+    applies = stand-later ts (option_count history) us (conditions ambition es) planned.on more planned.applies;
+    resolved = resolved-grown (length history + 1) stored (numbers_of history).nodes (line_count history) planned.on ts us es ss more
+        (nodes-later old ts (length history + 1) stored grown (held-within history old (length history + 1) stored (omega arith) held.files))
+        (stands-of_table ts (option_count history) (conditions ambition es) planned.on planned.applies) planned.resolved;
     changes = plans_grow ts us entries plan (row_changes ss) more planned.changes;
     nodes = planned.nodes;
     kinds = planned.kinds;
@@ -165,9 +168,9 @@ module _ (history : List Command) (old ts : List Triple) (commits : List CommitM
         valid_within = within;
         ambition_within = planned.stands.within;
         rows_within = planned.changes.within;
-        once = once-with history ts entries ambition mark.node es plan own planned.stands stored ss planned.resolved planned.changes;
+        once = once-with history ts entries ambition mark.node es plan own planned.stands planned.on planned.applies stored ss planned.resolved planned.changes;
         most = let wide : count ≤ CHOICE_WIDTH = omega (arith, most) in wide;
         valid_options = omega (arith, below, few);
         ambition_options = omega (arith, stands, few);
-        unread = subst (AreUnreadWith ts plan entries) (sym few) (unread-with history ts entries ambition mark.node es plan own planned.stands stored ss planned.resolved planned.changes legal planned.named);
+        unread = subst (AreUnreadWith ts plan entries) (sym few) (unread-with history ts entries ambition mark.node es plan own planned.stands planned.on planned.applies stored ss planned.resolved planned.changes legal planned.named);
       }

@@ -1,5 +1,5 @@
 -- What is ready for a command, staged, installed or given up.
-use Rattle.std.proofs.Common.{◌≡◌, ℕ, ◌+◌, ◌-◌, ◌<◌, ◌≤◌, ◌^◌, Bool, true, List, [], Option, ◌∷◌, ◌++◌, length, map, take, None, Result, Ok, Err, OnErr, append-nil, refl, sym, ap, subst, ◌∙◌, arith}
+use Rattle.std.proofs.Common.{◌≡◌, ℕ, ◌+◌, ◌-◌, ◌<◌, ◌≤◌, Bool, true, List, [], Option, ◌∷◌, ◌++◌, length, map, take, None, Result, Ok, Err, OnErr, append-nil, refl, sym, ap, subst, ◌∙◌, arith}
 use Rattle.std.specs.List.{AllByRecursion}
 use Rattle.std.proofs.lemmas.List.{length_push, take-map, length-map, take-append-le, take_all}
 use Rattle.cov_base.proofs.CallerLemmas.{length-with_lines, all-map}
@@ -29,6 +29,7 @@ use Rattle.cov_history.specs.declared.refusal.Refusal.TheVariants as refusals
 use Rattle.cov_history.specs.Kept.{kept_of}
 use Rattle.cov_history.specs.Files.{file_dated}
 use Rattle.cov_visible.specs.Nodes.{HasNodesIn, IsTaken}
+use Rattle.cov_visible.specs.Resolved.{insert_nodes}
 use Rattle.cov_engine.proofs.Dating.{dated-nodes}
 use Rattle.cov_tree.specs.declared.entry.Entry.{Entry}
 use Rattle.cov_tree.specs.Dated.{Dated, HasRoom as HasRowRoom, planned as entries_planned, without_room}
@@ -315,8 +316,11 @@ module _ (history : List Command) (es : List Edit) (counts : Counts) (ts : List 
   abbrev n : ℕ
   n = (numbers_of history).nodes
 
+  abbrev Taken : ℕ → ℕ → ℕ → ℕ → Type 0
+  Taken = IsTaken ts (length history + 1) stored (line_count history) (insert_nodes planned.on es)
+
   files-are : made_files some ≡ files_made n es
-  files-are = ap made_files e ∙ resolved-files (IsTaken ts (length history + 1) stored mark.node) n (line_count history) mark.node n (line_count history) es ss planned.resolved
+  files-are = ap made_files e ∙ resolved-files Taken n (line_count history) planned.on n (line_count history) es ss planned.resolved
 
   pub held-rising : AreRising (map part_node stored ++ made_files some)
   held-rising =
@@ -327,7 +331,7 @@ module _ (history : List Command) (es : List Edit) (counts : Counts) (ts : List 
   pub held-few : length some ≤ LIMITS.edits
   held-few =
       let few = within.edits in
-      let same = ap length e ∙ resolved-length (IsTaken ts (length history + 1) stored mark.node) n (line_count history) mark.node n (line_count history) es ss planned.resolved in
+      let same = ap length e ∙ resolved-length Taken n (line_count history) planned.on n (line_count history) es ss planned.resolved in
       omega (arith, few, same)
 
   pub held-lines : counts.lines ≡ length file_of_line
@@ -348,7 +352,7 @@ module _ (history : List Command) (es : List Edit) (counts : Counts) (ts : List 
       touches = planned.touches;
       file_of_line_is = he
           ∙ ap (λ x. file_of_line ++ files_of_lines x) e
-          ∙ ap (λ files. file_of_line ++ files) (resolved-files_of_lines (IsTaken ts (length history + 1) stored mark.node) n (line_count history) mark.node n (line_count history) es ss planned.resolved);
+          ∙ ap (λ files. file_of_line ++ files) (resolved-files_of_lines Taken n (line_count history) planned.on n (line_count history) es ss planned.resolved);
       files = ee ∙ ap (λ files. map contents stored ++ map new_contents files) files-are;
       room = subst (λ x. AllByRecursion (HasRoom x) stored') e room;
       changes = makes-room ts entries entries' plan _ xe planned.changes;
@@ -362,6 +366,8 @@ module _ (history : List Command) (es : List Edit) (counts : Counts) (ts : List 
           ∙ ap (λ xs. kinds_after_all (row_changes ss) (kinds_of xs)) (sym (newest_but_room entries entries' xe));
       row_room = row_room;
       stands = planned.stands;
+      on = planned.on;
+      applies = planned.applies;
       resolved = planned.resolved;
     },
     record {

@@ -19,7 +19,6 @@ use Rattle.cov_expr.specs.Options.{Declared}
 use Rattle.cov_file.specs.Dated.{DatedLine as FileLine}
 use Rattle.cov_file.specs.Renumbered.{renumbered_changes, renumbered_line}
 use Rattle.cov_file.proofs.CallerLemmas.{each_renumbered}
-use Rattle.cov_history.specs.FileNodes.{files_of}
 use Rattle.cov_history.specs.FileOfLine.{AreFilesOfLines}
 use Rattle.cov_history.specs.Files.{DatedLine, file_dated}
 use Rattle.cov_history.specs.Kept.{kept_of, seen_at}
@@ -27,10 +26,10 @@ use Rattle.cov_rules.specs.Installing.{AllStand}
 use Rattle.cov_rules.specs.Renumbered.{node_of, nodes_of as rule_nodes}
 use Rattle.cov_rules.specs.declared.rules.Installed.{Installed}
 use Rattle.cov_rules.proofs.CallerLemmas.{below_renumbered, same_at, same_constraints, same_defaults, same_preferences}
-use Rattle.cov_tree.specs.Dated.{Dated, nodes_in}
+use Rattle.cov_tree.specs.Dated.{Dated}
 use Rattle.cov_tree.specs.Renumbered.{visibilities, AreNodes, HasRowsOf}
 use Rattle.cov_tree.proofs.CallerLemmas.{all_left, all_right, same_kinds, same_nodes}
-use Rattle.cov_visible.specs.Nodes.{AreDated, IsDated}
+use Rattle.cov_visible.specs.Nodes.{AreDated}
 use Rattle.cov_visible.specs.Parts.{files_among, part_node}
 use Rattle.cov_visible.specs.Renumbered.{kept_nodes, line_nodes, ArePartsRenumbered, IsRenumberedPart}
 use Rattle.cov_visible.specs.declared.file_part.FilePart.{FilePart}

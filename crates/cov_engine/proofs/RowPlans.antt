@@ -1,5 +1,5 @@
 -- The changes of rows that a commit's edits make.
-use Rattle.std.proofs.Common.{◌≡◌, ℕ, ◌+◌, ◌-◌, ◌<◌, ◌≤◌, Bool, true, false, cond, nat_le, List, [], ◌∷◌, ◌++◌, length, map, take, refl, sym, ap, subst, ◌∙◌, arith}
+use Rattle.std.proofs.Common.{◌≡◌, ℕ, ◌+◌, ◌-◌, ◌<◌, ◌≤◌, Bool, true, false, cond, nat_le, List, [], ◌∷◌, ◌++◌, length, take, refl, sym, ap, subst, ◌∙◌, arith}
 use Rattle.std.specs.List.{fold, AllByRecursion}
 use Rattle.std.proofs.lemmas.Bool.Decides.{nat_tests}
 use Rattle.std.proofs.lemmas.List.{length_push, take-append-le, take_all}
@@ -14,7 +14,8 @@ use Rattle.cov_edit.specs.declared.command.Command.{Command}
 use Rattle.cov_edit.specs.declared.command.Command.TheVariants as commands
 use Rattle.cov_edit.specs.Numbering.{Numbers, NumberedEdit, OnRows, node_number, node_count_after, line_count_after, line_count, numbers_after, numbers_of, numbered_edit, numbered_from}
 use Rattle.cov_edit.specs.Variant.{Variant, edited}
-use Rattle.cov_edit.specs.Replay.{applying, applied, replay}
+use Rattle.cov_edit.specs.History.{option_count}
+use Rattle.cov_edit.specs.Replay.{applying, applied, conditions, first_within, rest_within, changes_within, replay}
 use Rattle.cov_edit.proofs.CallerLemmas.{replay-commit}
 use Rattle.cov_history.proofs.CallerLemmas.{replay-once}
 use Rattle.cov_tree.specs.declared.entry.Entry.{Entry}
@@ -30,61 +31,65 @@ use Rattle.cov_visible.specs.declared.file_part.FilePart.{FilePart}
 use Rattle.cov_engine.specs.States.{AreCountsOf}
 use Rattle.cov_engine.specs.Holdings.{AreEntriesOf, AreRowsAndLinesOf}
 use Rattle.cov_visible.specs.Nodes.{IsTaken}
-use Rattle.cov_visible.specs.Resolved.{IsResolvedBy, AreResolvedBy, AreResolved}
+use Rattle.cov_visible.specs.Resolved.{first_node, rest_nodes, insert_nodes, IsResolvedBy, AreResolvedBy, AreResolved}
 use Rattle.cov_visible.specs.RowPlans.{row_changes, IsSet}
 use Rattle.cov_visible.specs.declared.resolved_edit.ResolvedEdit.{ResolvedEdit}
+use Rattle.cov_engine.specs.Staged.{StandFor}
+use Rattle.cov_engine.proofs.Conditions.{stands-first, stands-rest}
 
 -- the changes of a commit's edits are those of its numbered edits on rows
-module _ (ts : List Triple) (node : ℕ) (ambition : Formula ℕ) (c : List Bool) (is : value_in ts node c ≡ value ambition c) (ns : Numbers) (t : List (List ℕ)) where
-  on-rows : (v : Variant) (change : RowChange) → cond (value_in ts node c) (changed v.rows change) v.rows ≡ (applied c v (applying ambition (OnRows change))).rows
-  on-rows v change = ap (λ b. cond b (changed v.rows change) v.rows) is ∙ at (value ambition c)
-    where
-      at : (b : Bool) → cond b (changed v.rows change) v.rows ≡ (cond b (edited v (OnRows change)) v).rows
-      at true = refl
-      at false = refl
+module _ (ts : List Triple) (count : ℕ) (c : List Bool) (ns : Numbers) (t : List (List ℕ)) where
+  module _ (node : ℕ) (within : Formula ℕ) (is : value_in ts node c ≡ value within c) where
+    on-rows : (v : Variant) (change : RowChange) → cond (value_in ts node c) (changed v.rows change) v.rows ≡ (applied c v (applying within (OnRows change))).rows
+    on-rows v change = ap (λ b. cond b (changed v.rows change) v.rows) is ∙ at (value within c)
+      where
+        at : (b : Bool) → cond b (changed v.rows change) v.rows ≡ (cond b (edited v (OnRows change)) v).rows
+        at true = refl
+        at false = refl
 
-  off-rows : (v : Variant) (d : NumberedEdit) → (edited v d).rows ≡ v.rows → v.rows ≡ (applied c v (applying ambition d)).rows
-  off-rows v d same = at (value ambition c)
-    where
-      at : (b : Bool) → v.rows ≡ (cond b (edited v d) v).rows
-      at true = sym same
-      at false = refl
+    off-rows : (v : Variant) (d : NumberedEdit) → (edited v d).rows ≡ v.rows → v.rows ≡ (applied c v (applying within d)).rows
+    off-rows v d same = at (value within c)
+      where
+        at : (b : Bool) → v.rows ≡ (cond b (edited v d) v).rows
+        at true = sym same
+        at false = refl
 
   -- where edits have their numbers
-  module _ (P : ℕ → ℕ → ℕ → Type 0) (m : ℕ) where
-    one-edited : (made line : ℕ) (v : Variant) (e : Edit) (s : ResolvedEdit) (ss : List ResolvedEdit) → IsResolvedBy P ns.nodes m node made line e s
-        → all_changed ts c (row_changes (s ∷ ss)) v.rows ≡ all_changed ts c (row_changes ss) (applied c v (applying ambition (numbered_edit ns t made line e))).rows
-    one-edited made line v (edits.New kind parent name) s ss h =
+  module _ (P : ℕ → ℕ → ℕ → ℕ → Type 0) (m : ℕ) where
+    one-edited : (node : ℕ) (within : Formula ℕ) → value_in ts node c ≡ value within c → (made line : ℕ) (v : Variant) (e : Edit) (s : ResolvedEdit) (ss : List ResolvedEdit) → IsResolvedBy P ns.nodes m node made line e s
+        → all_changed ts c (row_changes (s ∷ ss)) v.rows ≡ all_changed ts c (row_changes ss) (applied c v (applying within (numbered_edit ns t made line e))).rows
+    one-edited node within is made line v (edits.New kind parent name) s ss h =
         ap (λ x. all_changed ts c (row_changes (x ∷ ss)) v.rows) h
-        ∙ ap (all_changed ts c (row_changes ss)) (on-rows v (Created (made + 1) kind (node_number ns.nodes parent) name))
-    one-edited made line v (edits.Insert file after text) s ss h =
+        ∙ ap (all_changed ts c (row_changes ss)) (on-rows node within is v (Created (made + 1) kind (node_number ns.nodes parent) name))
+    one-edited node within is made line v (edits.Insert file after text) s ss h =
         ap (λ x. all_changed ts c (row_changes (x ∷ ss)) v.rows) h
-        ∙ ap (all_changed ts c (row_changes ss)) (off-rows v (numbered_edit ns t made line (edits.Insert file after text)) refl)
-    one-edited made line v (edits.Delete file which) s ss h =
+        ∙ ap (all_changed ts c (row_changes ss)) (off-rows node within is v (numbered_edit ns t made line (edits.Insert file after text)) refl)
+    one-edited node within is made line v (edits.Delete file which) s ss h =
         ap (λ x. all_changed ts c (row_changes (x ∷ ss)) v.rows) h.1
-        ∙ ap (all_changed ts c (row_changes ss)) (off-rows v (numbered_edit ns t made line (edits.Delete file which)) refl)
-    one-edited made line v (edits.Rename which name) s ss h =
+        ∙ ap (all_changed ts c (row_changes ss)) (off-rows node within is v (numbered_edit ns t made line (edits.Delete file which)) refl)
+    one-edited node within is made line v (edits.Rename which name) s ss h =
         ap (λ x. all_changed ts c (row_changes (x ∷ ss)) v.rows) h
-        ∙ ap (all_changed ts c (row_changes ss)) (on-rows v (Renamed (node_number ns.nodes which) name))
-    one-edited made line v (edits.Move which parent) s ss h =
+        ∙ ap (all_changed ts c (row_changes ss)) (on-rows node within is v (Renamed (node_number ns.nodes which) name))
+    one-edited node within is made line v (edits.Move which parent) s ss h =
         ap (λ x. all_changed ts c (row_changes (x ∷ ss)) v.rows) h
-        ∙ ap (all_changed ts c (row_changes ss)) (on-rows v (Moved (node_number ns.nodes which) (node_number ns.nodes parent)))
-    one-edited made line v (edits.Remove which) s ss h =
+        ∙ ap (all_changed ts c (row_changes ss)) (on-rows node within is v (Moved (node_number ns.nodes which) (node_number ns.nodes parent)))
+    one-edited node within is made line v (edits.Remove which) s ss h =
         ap (λ x. all_changed ts c (row_changes (x ∷ ss)) v.rows) h
-        ∙ ap (all_changed ts c (row_changes ss)) (on-rows v (Removed (node_number ns.nodes which)))
+        ∙ ap (all_changed ts c (row_changes ss)) (on-rows node within is v (Removed (node_number ns.nodes which)))
 
-    rows-edited : (made line : ℕ) (v : Variant) (es : List Edit) (ss : List ResolvedEdit) → AreResolvedBy P ns.nodes m node made line es ss
-        → all_changed ts c (row_changes ss) v.rows ≡ (fold (applied c) v (map (applying ambition) (numbered_from ns t made line es))).rows
-    rows-edited made line v [] [] h = refl
-    rows-edited made line v [] (s ∷ ss) h = absurd h
-    rows-edited made line v (e ∷ es) [] h = absurd h
-    rows-edited made line v (e ∷ es) (s ∷ ss) h =
-        one-edited made line v e s ss h.0
-        ∙ rows-edited (node_count_after made e) (line_count_after line e) (applied c v (applying ambition (numbered_edit ns t made line e))) es ss h.1
+    rows-edited : (on : List ℕ) (within : List (Formula ℕ)) → StandFor ts count within on → (made line : ℕ) (v : Variant) (es : List Edit) (ss : List ResolvedEdit) → AreResolvedBy P ns.nodes m on made line es ss
+        → all_changed ts c (row_changes ss) v.rows ≡ (fold (applied c) v (changes_within within (numbered_from ns t made line es))).rows
+    rows-edited on within stand made line v [] [] h = refl
+    rows-edited on within stand made line v [] (s ∷ ss) h = absurd h
+    rows-edited on within stand made line v (e ∷ es) [] h = absurd h
+    rows-edited on within stand made line v (e ∷ es) (s ∷ ss) h =
+        one-edited (first_node on) (first_within within) ((stands-first ts count within on stand).value c) made line v e s ss h.0
+        ∙ rows-edited (rest_nodes on) (rest_within within) (stands-rest ts count within on stand) (node_count_after made e) (line_count_after line e)
+        (applied c v (applying (first_within within) (numbered_edit ns t made line e))) es ss h.1
 
-module _ (history : List Command) (base : ℕ) (choice : List Bool) (ambition : Formula ℕ) (es : List Edit) (ts : List Triple) (node : ℕ) (values : (c : List Bool) → value_in ts node c ≡ value ambition c)
+module _ (history : List Command) (base : ℕ) (choice : List Bool) (ambition : Formula ℕ) (es : List Edit) (ts : List Triple) (on : List ℕ) (stand : StandFor ts (option_count history) (conditions ambition es) on)
     (entries : Dated) (plan : List Entry) (of_entries : AreEntriesOf history ts entries)
-    (stored : List FilePart) (ss : List ResolvedEdit) (resolved_edits : AreResolved (length history + 1) stored (numbers_of history).nodes (line_count history) node ts es ss)
+    (stored : List FilePart) (ss : List ResolvedEdit) (resolved_edits : AreResolved (length history + 1) stored (numbers_of history).nodes (line_count history) on ts es ss)
     (makes : Makes ts entries plan (row_changes ss)) where
   abbrev commit : Command
   commit = commands.Commit base choice ambition es
@@ -95,7 +100,8 @@ module _ (history : List Command) (base : ℕ) (choice : List Bool) (ambition : 
       let ns = numbers_of history in
       makes.rows c (length history) of_entries.from
       ∙ ap (all_changed ts c (row_changes ss)) (of_entries.rows c (length history) ∙ ap (λ h. (replay c h).rows) (take_all (length history) history (omega arith)))
-      ∙ rows-edited ts node ambition c (values c) ns (numbers_after ns es).addresses (IsTaken ts (length history + 1) stored node) (line_count history) ns.nodes (length ns.addresses) (replay c history) es ss resolved_edits
+      ∙ rows-edited ts (option_count history) c ns (numbers_after ns es).addresses (IsTaken ts (length history + 1) stored (line_count history) (insert_nodes on es)) (line_count history)
+      on (conditions ambition es) stand ns.nodes (length ns.addresses) (replay c history) es ss resolved_edits
       ∙ sym (ap (λ (v : Variant). v.rows) (replay-commit c history base choice ambition es))
 
   -- once the plan is installed, the entries are those of the history with the commit

@@ -1,5 +1,5 @@
 -- A state that has other nodes in the places of those that it kept.
-use Rattle.std.specs.Prelude.{◌≡◌, List, length, map}
+use Rattle.std.specs.Prelude.{◌≡◌, length, map}
 use Rattle.cov_rules.specs.Renumbered.{nodes_of as rule_nodes, without_nodes, HoldRenumbered}
 use Rattle.cov_tree.specs.Renumbered.{visibilities, without_visibilities, KeepsRows}
 use Rattle.cov_visible.specs.Renumbered.{ArePartsRenumbered}

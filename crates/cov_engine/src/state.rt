@@ -1,5 +1,5 @@
 // What an engine keeps.
-ghost use Rattle.std.specs.Prelude.{◌≡◌, ◌<◌, ◌≤◌, ◌-◌, length, None, IfOk, IfErr, OnOk, OnErr};
+ghost use Rattle.std.specs.Prelude.{◌≡◌, ◌<◌, ◌≤◌, ◌-◌, length, replicate, None, IfOk, IfErr, OnOk, OnErr};
 ghost use Rattle.cov_dd.specs.Diagrams.{Extends};
 ghost use Rattle.cov_expr.specs.Formula.{reach};
 ghost use Rattle.cov_edit.specs.History.{edits_in, option_count};
@@ -22,12 +22,14 @@ use crate::sizes::with_sizes;
 use crate::summary::{EditSummary, summarize};
 use crate::{Counts, Refusal, Visible};
 use cov_base::{LIMITS, Memory, NodeNo, OptionName, Position};
+use cov_dd::Node;
 use cov_edit::{Command, Commands, Edits};
 use cov_expr::{Expr, Options};
 use cov_rules::Rules;
 use cov_tree::EntryPlan;
 use cov_vis::compile;
 use cov_visible::{CommitContext, ResolvedEdit, plan_rows, resolve};
+use std::alloc::Global;
 
 /// The history with what it declares and shows. The table has the nodes of the rules too.
 #[derive(Drop)]
@@ -237,12 +239,14 @@ fn commit_planned(
         node: compile(&mut state.visible.table, ambition)?,
         touched: summary.touched,
     };
-    let context = context_of(state.counts, &mark);
+    let context = context_of(state.counts, mark.position);
+    let conditions = conditions_of(alloc, mark.node, edits.len())?;
     let resolved = resolve(
         alloc,
         &mut state.visible.table,
         state.visible.files.as_slice(),
         &context,
+        conditions.as_slice(),
         edits.as_slice(),
     )?;
     let mut rows = EntryPlan::new(alloc);
@@ -267,20 +271,27 @@ fn commit_planned(
     }
 }
 
+// The node where each of so many edits of a commit applies, which is that of its ambition.
+fn conditions_of(alloc: Global, ambition: Node, count: usize) -> Result<Vec<Node>, Memory>
+    ensures { IfOk result (λ nodes. nodes.items ≡ replicate count ambition) }
+{
+    let mut nodes = Vec::new(alloc);
+    nodes.resize(count, ambition)?;
+    Ok(nodes)
+}
+
 // Where a commit's edits are resolved.
-fn context_of(counts: Counts, mark: &CommitMark) -> CommitContext
+fn context_of(counts: Counts, at: Position) -> CommitContext
     requires { 1 ≤ counts.nodes }
     ensures { result ≡ record {
-      at = mark.now.position;
+      at = at;
       nodes = counts.nodes - 1;
       lines = counts.lines;
-      ambition = mark.now.node;
     } }
 {
     CommitContext {
-        at: mark.position,
+        at,
         nodes: counts.nodes - 1,
         lines: counts.lines,
-        ambition: mark.node,
     }
 }

@@ -154,11 +154,11 @@ file-lines t n q file held table below s =
     (in_order-filter kept_address (λ k. nat_eq k.item.file file) held.lines s.in_order)
     (all-filter (λ k. IsLineOf t n (kept_address k)) (λ k. nat_eq k.item.file file) held.lines s.numbered_lines)
 
-pub lines-amid : (history : List Command) (ambition : Formula ℕ) (begun later : List Edit) (file : ℕ)
-    → AreLines (file_order file (held_amid history ambition (begun ++ later) begun).lines)
-lines-amid history ambition begun later file =
-    file-lines (table_of history (begun ++ later)) (lines_amid history begun) (length history + 1) file (held_amid history ambition (begun ++ later) begun)
-    (is_table-of history (begun ++ later)) (amid-within history begun later) (stands-amid history begun later ambition)
+pub lines-amid : (history : List Command) (within : List (Formula ℕ)) (begun later : List Edit) (file : ℕ)
+    → AreLines (file_order file (held_amid history within (begun ++ later) begun).lines)
+lines-amid history within begun later file =
+    file-lines (table_of history (begun ++ later)) (lines_amid history begun) (length history + 1) file (held_amid history within (begun ++ later) begun)
+    (is_table-of history (begun ++ later)) (amid-within history begun later) (stands-amid history begun later within)
 
 pub lines-held : (history : List Command) (file : ℕ) → AreLines (file_order file (kept_of history))
 lines-held history file =

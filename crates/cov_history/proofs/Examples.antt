@@ -18,6 +18,7 @@ use Rattle.cov_history.specs.declared.refusal.Refusal.TheVariants as refusals
 use Rattle.cov_history.specs.FileNodes.{files_made, files_of}
 use Rattle.cov_history.specs.FileOfLine.{file_of_line_in}
 use Rattle.cov_history.specs.InsertedTexts.{texts_in}
+use Rattle.cov_history.specs.Insertions.{held_amid}
 use Rattle.cov_history.specs.Kept.{kept_number, kept_of, entries_of, kept_after, entries_after, lines_seen, rows_seen}
 
 -- the file of each line by its number
@@ -236,3 +237,16 @@ files_of_history = refl
 
 file_of_line_A : file_of_line_in with_files ≡ 5 ∷ []
 file_of_line_A = refl
+
+-- a line that a commit inserts everywhere and takes out where d is on stays where d is off
+abbrev own_line : List Edit
+own_line = make_m ∷ edits.Insert (nodes.New 0) (lines.Old 0) (codes "one") ∷ edits.Delete (nodes.New 0) (lines.New 0) ∷ []
+
+abbrev own_line_seen : List Bool → List (ℕ × List ℕ)
+own_line_seen c = map (λ l. (line_of l.address, l.text)) (lines_seen c 1 (held_amid [] (True ∷ True ∷ On 0 ∷ []) own_line own_line).lines)
+
+own_line_gone : own_line_seen (true ∷ []) ≡ []
+own_line_gone = refl
+
+own_line_kept : own_line_seen (false ∷ []) ≡ (1, codes "one") ∷ []
+own_line_kept = refl

@@ -16,7 +16,7 @@ use Rattle.cov_edit.specs.declared.command.Command.TheVariants as commands
 use Rattle.cov_edit.specs.Numbering.{Numbers, node_number, node_count_after, line_count_after, nodes_made, no_numbers, numbers_after, numbers_from, numbers_of, numbered_edit, numbered_from}
 use Rattle.cov_edit.specs.Touched.{AreRising}
 use Rattle.cov_edit.specs.Variant.{Variant, bare, edited}
-use Rattle.cov_edit.specs.Replay.{applying, commit_changes, changes_from, applied, replay}
+use Rattle.cov_edit.specs.Replay.{conditions, applying, first_within, rest_within, changes_within, commit_changes, changes_from, applied, replay}
 use Rattle.cov_edit.proofs.CallerLemmas.{fold-append, node_count_after-is}
 use Rattle.cov_view.specs.References.{is_dir_kind}
 use Rattle.cov_history.specs.FileNodes.{if_file, file_made, files_made, files_from, files_of}
@@ -237,9 +237,9 @@ one-behind files rest (Some x) = sym (append_assoc files (x ∷ []) rest)
 
 module _ (c : List Bool) where
   -- edits, each where it applies
-  pub edits-told : (within : Formula ℕ) (ns : Numbers) (t : List (List ℕ)) (node line total : ℕ) (v : Variant) (files all : List ℕ) (es : List Edit)
+  pub edits-told : (within : List (Formula ℕ)) (ns : Numbers) (t : List (List ℕ)) (node line total : ℕ) (v : Variant) (files all : List ℕ) (es : List Edit)
       → total ≡ node + nodes_made es → all ≡ files ++ files_made node es → AreTold node files v
-      → AreTold total all (fold (applied c) v (map (applying within) (numbered_from ns t node line es)))
+      → AreTold total all (fold (applied c) v (changes_within within (numbered_from ns t node line es)))
   edits-told within ns t node line total v files all [] e f h =
       let same : node ≡ total = omega (arith, e) in
       subst (λ n. AreTold n all v) same (subst (λ xs. AreTold node xs v) (sym (f ∙ append-nil files)) h)
@@ -247,9 +247,9 @@ module _ (c : List Bool) where
       let next : ℕ = node_count_after node d in
       let more = node_count_after-is node 0 d in
       let up = files-up node d files h.1 in
-      edits-told within ns t next (line_count_after line d) total (applied c v (applying within (numbered_edit ns t node line d))) (files ++ one_file node d) all es
+      edits-told (rest_within within) ns t next (line_count_after line d) total (applied c v (applying (first_within within) (numbered_edit ns t node line d))) (files ++ one_file node d) all es
       (e ∙ node_count_after-is node (nodes_made es) d) (f ∙ one-behind files (files_made next es) (file_made node d))
-      (either-way (AreTold next (files ++ one_file node d)) (value within c) (edited v (numbered_edit ns t node line d)) v
+      (either-way (AreTold next (files ++ one_file node d)) (value (first_within within) c) (edited v (numbered_edit ns t node line d)) v
       (nodes-edit ns t node line v d h.0, up, edit-tells ns t node line v files d h)
       (further the_node node next v.rows (omega (arith, more)) h.0, up, tells-more node d files v.rows h.0 h.2))
 
@@ -263,7 +263,7 @@ module _ (c : List Bool) where
       (sym (fold-append (applied c) v (commit_changes ns ambition es) (changes_from (numbers_after ns es) history)))
       (from-told (numbers_after ns es) (fold (applied c) v (commit_changes ns ambition es)) (files ++ made) all history
       (f ∙ sym (append_assoc files made (files_from (ns.nodes + nodes_made es) history)))
-      (edits-told ambition ns (numbers_after ns es).addresses ns.nodes _ (ns.nodes + nodes_made es) v files (files ++ made) es refl refl h))
+      (edits-told (conditions ambition es) ns (numbers_after ns es).addresses ns.nodes _ (ns.nodes + nodes_made es) v files (files ++ made) es refl refl h))
   from-told ns v files all (commands.Option name ∷ history) f h = from-told ns v files all history f h
   from-told ns v files all (commands.Constraint expr ∷ history) f h = from-told ns v files all history f h
   from-told ns v files all (commands.Prefer expr ∷ history) f h = from-told ns v files all history f h

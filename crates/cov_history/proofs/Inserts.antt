@@ -6,26 +6,30 @@ use Rattle.cov_base.proofs.CallerLemmas.{line_of-in, length-with_lines, address_
 use Rattle.cov_expr.specs.Formula.{Formula}
 use Rattle.cov_edit.specs.declared.edit.Edit.{Edit}
 use Rattle.cov_edit.specs.declared.command.Command.{Command}
-use Rattle.cov_edit.specs.Numbering.{Numbers, line_count_after, nodes_made, anchors_of, numbers_of, numbered_edit, numbered_from}
+use Rattle.cov_edit.specs.Numbering.{Numbers, NumberedEdit, line_count_after, nodes_made, anchors_of, numbers_of, numbered_edit, numbered_from}
+use Rattle.cov_edit.specs.Replay.{first_within, within_behind, changes_within}
 use Rattle.cov_edit.specs.Variant.{Line}
 use Rattle.std.proofs.lemmas.List.Sums.{fold-append}
 pub use Rattle.cov_edit.proofs.CallerLemmas.{anchors-append}
-use Rattle.cov_edit.proofs.CallerLemmas.{line_count_after-is, with_lines-append, numbered-append}
-use Rattle.cov_history.specs.Kept.{Kept, kept_address, kept_number, Holding, held_after, held_by, file_kept, is_kept_anchor, IsHolding}
+use Rattle.cov_edit.proofs.CallerLemmas.{behind-numbered, changes_within-append, line_count_after-is, with_lines-append, numbered-append}
+use Rattle.cov_history.specs.Kept.{Kept, kept_address, kept_number, Holding, held_with, held_by, file_kept, is_kept_anchor, IsHolding}
 use Rattle.cov_history.specs.Insertions.{Insertion, the_insert, all_edits, lines_before, table_of, numbered_amid, lines_amid, held_amid, IsHeldAmid, held_next, lines_begun, table_with, file_of, anchor_of, line_with, held_behind}
 use Rattle.cov_history.proofs.Standing.{count_after, AreNext, count-edit, next-edit, stands-edit, numbered-next, numbered-count, stands-edits, stands-opened, table-after, holding-stands}
 use Rattle.cov_history.proofs.Files.{anchor-below, placed-anchor, placed-elsewhere, anchor-stays, anchor-new}
 
--- what is held when one more of a commit's edits is done, all within its ambition
-pub amid-goes_on : (history : List Command) (ambition : Formula ℕ) (es begun : List Edit) (e : Edit)
-    → held_amid history ambition es (begun ++ e ∷ []) ≡ held_next history es begun (held_amid history ambition es begun) ambition e
-amid-goes_on history ambition es begun e =
+-- what is held when one more of a commit's edits is done, each of which applies within the expression at its place
+pub amid-goes_on : (history : List Command) (within : List (Formula ℕ)) (es begun : List Edit) (e : Edit)
+    → held_amid history within es (begun ++ e ∷ []) ≡ held_next history es begun (held_amid history within es begun) (first_within (within_behind begun within)) e
+amid-goes_on history within es begun e =
     let ns = numbers_of history in
     let last = ns.nodes + nodes_made begun in
-    ap (fold (held_after (length history + 1) ambition) (held_by history))
+    let later : List NumberedEdit = numbered_from ns (table_of history es) last (lines_amid history begun) (e ∷ []) in
+    ap (λ ds. fold (held_with (length history + 1)) (held_by history) (changes_within within ds))
     (numbered-append ns (table_of history es) ns.nodes (lines_before history) last (lines_amid history begun) (lines_before history) begun (e ∷ []) refl refl)
-    ∙ fold-append (held_after (length history + 1) ambition) (held_by history) (numbered_amid history es begun)
-    (numbered_from ns (table_of history es) last (lines_amid history begun) (e ∷ []))
+    ∙ ap (fold (held_with (length history + 1)) (held_by history)) (changes_within-append within (numbered_amid history es begun) later)
+    ∙ fold-append (held_with (length history + 1)) (held_by history) (changes_within within (numbered_amid history es begun)) (changes_within (within_behind (numbered_amid history es begun) within) later)
+    ∙ ap (λ behind. fold (held_with (length history + 1)) (held_amid history within es begun) (changes_within behind later))
+    (behind-numbered ns (table_of history es) ns.nodes (lines_before history) begun within)
 
 pub is_table-of : (history : List Command) (es : List Edit) → IsTable (table_of history es)
 is_table-of history es = table-after (numbers_of history) es (holding-stands history).0
@@ -48,12 +52,12 @@ module _ (history : List Command) (begun later : List Edit) where
   amid-opened = stands-opened (numbers_of history) (begun ++ later) (length history) (held_by history) (holding-stands history).1
 
   -- what is held when the first edits are done stands
-  pub stands-amid : (ambition : Formula ℕ)
-      → IsHolding (table_of history (begun ++ later)) (lines_amid history begun) (length history + 1) (held_amid history ambition (begun ++ later) begun)
-  stands-amid ambition =
-      subst (λ n. IsHolding (table_of history (begun ++ later)) n (length history + 1) (held_amid history ambition (begun ++ later) begun))
+  pub stands-amid : (within : List (Formula ℕ))
+      → IsHolding (table_of history (begun ++ later)) (lines_amid history begun) (length history + 1) (held_amid history within (begun ++ later) begun)
+  stands-amid within =
+      subst (λ n. IsHolding (table_of history (begun ++ later)) n (length history + 1) (held_amid history within (begun ++ later) begun))
       (numbered-count (numbers_of history) (table_of history (begun ++ later)) (numbers_of history).nodes m m begun)
-      (stands-edits (table_of history (begun ++ later)) m (length history + 1) ambition (held_by history) (numbered_amid history (begun ++ later) begun)
+      (stands-edits (table_of history (begun ++ later)) m (length history + 1) within (held_by history) (numbered_amid history (begun ++ later) begun)
       (is_table-of history (begun ++ later)) amid-next amid-opened)
 
 -- what is held stands when one more of the edits is done, whatever it applies within

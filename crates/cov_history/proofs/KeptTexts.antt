@@ -8,11 +8,12 @@ use Rattle.cov_edit.specs.declared.edit.Edit.{Edit}
 use Rattle.cov_edit.specs.declared.edit.Edit.TheVariants as edits
 use Rattle.cov_edit.specs.declared.command.Command.{Command}
 use Rattle.cov_edit.specs.declared.command.Command.TheVariants as commands
-use Rattle.cov_edit.specs.Numbering.{Numbers, node_number, line_number, line_count_after, anchors_of, no_numbers, numbers_after, numbered_from, numbered}
+use Rattle.cov_edit.specs.Numbering.{Numbers, node_number, line_number, line_count_after, anchors_of, no_numbers, numbers_after, numbered_from}
+use Rattle.cov_edit.specs.Replay.{conditions, first_within, rest_within, changes_within, commit_changes}
 use Rattle.cov_edit.specs.Variant.{Line, is_line}
 use Rattle.cov_edit.proofs.CallerLemmas.{line_count_after-is}
 use Rattle.cov_history.specs.InsertedTexts.{new_text, new_texts, texts_in, HasText}
-use Rattle.cov_history.specs.Kept.{Kept, hidden, hidden_where, kept_address, kept_number, new_line, kept_after, Holding, nothing_held, held_after, held_from}
+use Rattle.cov_history.specs.Kept.{Kept, hidden, hidden_where, kept_address, kept_number, new_line, kept_with, Holding, nothing_held, held_with, held_from}
 use Rattle.cov_history.specs.KeptLaws.{LinesKeepTheirTexts}
 use Rattle.cov_history.proofs.Appends.{lines-edits}
 use Rattle.cov_history.proofs.Standing.{all-mapped, table-after, no_table}
@@ -38,30 +39,30 @@ text-hidden test q within texts k h = at (test k.item)
     at false = h
 
 -- edits keep the text of each line, and give each new one its own
-texts-edits : (q : ℕ) (within : Formula ℕ) (ns : Numbers) (t : List (List ℕ)) (node line m : ℕ) (es : List Edit) (ks : List (Kept Line)) (texts : List (List ℕ))
+texts-edits : (q : ℕ) (within : List (Formula ℕ)) (ns : Numbers) (t : List (List ℕ)) (node line m : ℕ) (es : List Edit) (ks : List (Kept Line)) (texts : List (List ℕ))
     → IsTable t → line + length (anchors_of m es) ≤ length t → length texts ≡ line → AllByRecursion (HasText texts) ks
-    → AllByRecursion (HasText (texts ++ new_texts es)) (fold (kept_after q within) ks (numbered_from ns t node line es))
+    → AllByRecursion (HasText (texts ++ new_texts es)) (fold (kept_with q) ks (changes_within within (numbered_from ns t node line es)))
 texts-edits q within ns t node line m [] ks texts table low e h = subst (λ ts. AllByRecursion (HasText ts) ks) (sym (append-nil texts)) h
-texts-edits q within ns t node line m (edits.New kind parent name ∷ es) ks texts table low e h = texts-edits q within ns t (node + 1) line m es ks texts table low e h
-texts-edits q within ns t node line m (edits.Rename which name ∷ es) ks texts table low e h = texts-edits q within ns t node line m es ks texts table low e h
-texts-edits q within ns t node line m (edits.Move which parent ∷ es) ks texts table low e h = texts-edits q within ns t node line m es ks texts table low e h
-texts-edits q within ns t node line m (edits.Remove which ∷ es) ks texts table low e h = texts-edits q within ns t node line m es ks texts table low e h
+texts-edits q within ns t node line m (edits.New kind parent name ∷ es) ks texts table low e h = texts-edits q (rest_within within) ns t (node + 1) line m es ks texts table low e h
+texts-edits q within ns t node line m (edits.Rename which name ∷ es) ks texts table low e h = texts-edits q (rest_within within) ns t node line m es ks texts table low e h
+texts-edits q within ns t node line m (edits.Move which parent ∷ es) ks texts table low e h = texts-edits q (rest_within within) ns t node line m es ks texts table low e h
+texts-edits q within ns t node line m (edits.Remove which ∷ es) ks texts table low e h = texts-edits q (rest_within within) ns t node line m es ks texts table low e h
 texts-edits q within ns t node line m (edits.Delete file which ∷ es) ks texts table low e h =
     let test : Line → Bool = is_line (node_number ns.nodes file) (address_in t (line_number (length ns.addresses) which)) in
-    texts-edits q within ns t node line m es (map (hidden_where test q within) ks) texts table low e
-    (all-mapped (HasText texts) (HasText texts) (hidden_where test q within) (text-hidden test q within texts) ks h)
+    texts-edits q (rest_within within) ns t node line m es (map (hidden_where test q (first_within within)) ks) texts table low e
+    (all-mapped (HasText texts) (HasText texts) (hidden_where test q (first_within within)) (text-hidden test q (first_within within) texts) ks h)
 texts-edits q within ns t node line m (edits.Insert file after text ∷ es) ks texts table low e h =
     let f : ℕ = node_number ns.nodes file in
-    let new : Kept Line = new_line q within f (address_in t (line + 1)) text in
+    let new : Kept Line = new_line q (first_within within) f (address_in t (line + 1)) text in
     let with_own : List (List ℕ) = texts ++ text ∷ [] in
     let next : suc line ≡ line + 1 = omega arith in
     let number : kept_number new ≡ line + 1 =
-    subst (λ n. kept_number (new_line q within f (address_in t n) text) ≡ n) next (line_of-in t line table (omega (arith, low))) in
+    subst (λ n. kept_number (new_line q (first_within within) f (address_in t n) text) ≡ n) next (line_of-in t line table (omega (arith, low))) in
     let place : kept_number new - 1 ≡ length texts = omega (arith, number, e) in
     let own : HasText with_own new = ap (slice_get with_own) place ∙ get-last texts text in
     let more : length with_own ≡ line + 1 = (let all = length-append texts (text ∷ []) in omega (arith, all, e)) in
-    subst (λ ts. AllByRecursion (HasText ts) (fold (kept_after q within) (placed kept_address new ks) (numbered_from ns t node (line + 1) es))) (append_assoc texts (text ∷ []) (new_texts es))
-    (texts-edits q within ns t node (line + 1) m es (placed kept_address new ks) with_own table (omega (arith, low)) more
+    subst (λ ts. AllByRecursion (HasText ts) (fold (kept_with q) (placed kept_address new ks) (changes_within (rest_within within) (numbered_from ns t node (line + 1) es)))) (append_assoc texts (text ∷ []) (new_texts es))
+    (texts-edits q (rest_within within) ns t node (line + 1) m es (placed kept_address new ks) with_own table (omega (arith, low)) more
     (all-placed kept_address (HasText with_own) new ks own (texts-more texts (text ∷ []) ks h)))
 
 text-count : (line : ℕ) (e : Edit) (texts : List (List ℕ)) → line + length (cons_option (new_text e) texts) ≡ line_count_after line e + length texts
@@ -91,15 +92,15 @@ texts-along q ns held (commands.Default option on ∷ history) texts table e h =
 texts-along q ns held (commands.Commit base choice ambition es ∷ history) texts table e h =
     let m : ℕ = length ns.addresses in
     let t : List (List ℕ) = (numbers_after ns es).addresses in
-    let after : Holding = fold (held_after (q + 1) ambition) held (numbered ns es) in
+    let after : Holding = fold (held_with (q + 1)) held (commit_changes ns ambition es) in
     let grown : length t ≡ m + length (anchors_of m es) = length-with_lines ns.addresses (anchors_of m es) in
     let count : length (texts ++ new_texts es) ≡ length t =
     (let all = length-append texts (new_texts es) in let new = texts-count m es in omega (arith, all, new, grown, e)) in
     subst (λ ts. AllByRecursion (HasText ts) (held_from (q + 1) after (numbers_after ns es) history).lines)
     (append_assoc texts (new_texts es) (texts_in history))
     (texts-along (q + 1) (numbers_after ns es) after history (texts ++ new_texts es) (table-after ns es table) count
-    (subst (AllByRecursion (HasText (texts ++ new_texts es))) (sym (lines-edits (q + 1) ambition held (numbered ns es)))
-    (texts-edits (q + 1) ambition ns t ns.nodes m m es held.lines texts (table-after ns es table) (omega (arith, grown)) e h)))
+    (subst (AllByRecursion (HasText (texts ++ new_texts es))) (sym (lines-edits (q + 1) held (commit_changes ns ambition es)))
+    (texts-edits (q + 1) (conditions ambition es) ns t ns.nodes m m es held.lines texts (table-after ns es table) (omega (arith, grown)) e h)))
 
 pub lines-keep_texts : LinesKeepTheirTexts
 lines-keep_texts history = texts-along 0 no_numbers nothing_held history [] no_table refl tt

@@ -13,22 +13,22 @@ use Rattle.cov_base.specs.declared.number.NodeRef.{NodeRef}
 use Rattle.cov_base.specs.declared.number.NodeRef.TheVariants as nodes
 use Rattle.cov_base.specs.declared.number.LineRef.{LineRef}
 use Rattle.cov_base.proofs.CallerLemmas.{all-map, all-placed, or_second}
-use Rattle.cov_expr.specs.Formula.{Formula, True}
+use Rattle.cov_expr.specs.Formula.{Formula, True, value}
 use Rattle.cov_edit.specs.declared.edit.Edit.{Edit}
 use Rattle.cov_edit.specs.declared.edit.Edit.TheVariants as edits
 use Rattle.cov_edit.specs.declared.command.Command.{Command}
 use Rattle.cov_edit.specs.declared.command.Command.TheVariants as commands
 use Rattle.cov_edit.specs.Numbering.{Numbers, node_number, line_number, node_count_after, line_count_after, nodes_made, numbers_after, numbers_of, numbered_edit, numbered_from}
 use Rattle.cov_edit.specs.Variant.{Variant, Line, is_line, edited}
-use Rattle.cov_edit.specs.Replay.{replay}
-use Rattle.cov_edit.proofs.CallerLemmas.{all_within}
+use Rattle.cov_edit.specs.Replay.{conditions, first_within, rest_within, changes_within, replay}
+use Rattle.cov_edit.proofs.CallerLemmas.{all_within, each_change, each_condition}
 use Rattle.cov_view.specs.References.{is_dir_kind, is_known_node}
 use Rattle.cov_view.specs.Refusals.{shows_node, row_is_dir, is_dir, refusal, refused_from, first_refused}
 use Rattle.cov_view.proofs.CallerLemmas.{node-known, none-when, insert-accepted, delete-accepted}
 use Rattle.cov_history.specs.FileNodes.{if_file, files_made, files_from, files_of, NamesFile}
 use Rattle.cov_history.specs.Insertions.{lines_before, table_of, numbered_amid, held_amid}
-use Rattle.cov_history.specs.Kept.{Kept, hidden, hidden_where, kept_address, new_line, kept_after, Holding, held_by, kept_of}
-use Rattle.cov_history.specs.Sessions.{Session, IsGood, has_commit}
+use Rattle.cov_history.specs.Kept.{Kept, hidden, hidden_where, kept_address, new_line, kept_after, kept_with, Holding, held_by, kept_of}
+use Rattle.cov_history.specs.Sessions.{Session, within_of, IsGood, has_commit}
 use Rattle.cov_history.specs.Verdict.{verdict, IsLegalFrom, IsLegal}
 use Rattle.cov_history.proofs.Appends.{commit-lines, lines-edits}
 use Rattle.cov_history.proofs.FileNodes.{AreTold, absent-low, absent-high, made-within, made-append, files-append, files-commit, among-more, among-last, edits-told, replay-told}
@@ -147,8 +147,9 @@ module _ (history : List Command) (base : ℕ) (choice : List Bool) (es : List E
   amid-told : (begun : List Edit) → AllByRecursion (λ r. has_node r.node (files_of (take base history) ++ files_made nb.nodes begun) ≡ not (is_dir_kind r.kind)) (amid begun).rows
   amid-told begun =
       let ds = numbered_from nb (numbers_after nb es).addresses nb.nodes (length nb.addresses) begun in
-      (subst (AreTold (nb.nodes + nodes_made begun) (files_of (take base history) ++ files_made nb.nodes begun)) (all_within choice (replay choice (take base history)) True ds refl)
-      (edits-told choice True nb (numbers_after nb es).addresses nb.nodes (length nb.addresses) (nb.nodes + nodes_made begun) (replay choice (take base history))
+      (subst (AreTold (nb.nodes + nodes_made begun) (files_of (take base history) ++ files_made nb.nodes begun)) (all_within choice (replay choice (take base history)) (conditions True begun) ds
+      (each_change (λ w. value w choice ≡ true) True nb (numbers_after nb es).addresses nb.nodes (length nb.addresses) begun (each_condition (λ w. value w choice ≡ true) True begun refl)))
+      (edits-told choice (conditions True begun) nb (numbers_after nb es).addresses nb.nodes (length nb.addresses) (nb.nodes + nodes_made begun) (replay choice (take base history))
       (files_of (take base history)) (files_of (take base history) ++ files_made nb.nodes begun) begun refl refl (replay-told choice (take base history)))).2
 
   all-files : files_of history ≡ files_of (take base history) ++ files_from nb.nodes (drop base history)
@@ -223,12 +224,12 @@ edit-in_files q within ns t node line files ks (edits.Rename which name) named h
 edit-in_files q within ns t node line files ks (edits.Move which parent) named h = h
 edit-in_files q within ns t node line files ks (edits.Remove which) named h = h
 
-edits-in_files : (q : ℕ) (within : Formula ℕ) (ns : Numbers) (t : List (List ℕ)) (node line : ℕ) (files : List ℕ) (ks : List (Kept Line)) (es : List Edit) → AllByRecursion (NamesFile files ns.nodes) es → AreLinesIn files ks
-    → AreLinesIn files (fold (kept_after q within) ks (numbered_from ns t node line es))
+edits-in_files : (q : ℕ) (within : List (Formula ℕ)) (ns : Numbers) (t : List (List ℕ)) (node line : ℕ) (files : List ℕ) (ks : List (Kept Line)) (es : List Edit) → AllByRecursion (NamesFile files ns.nodes) es → AreLinesIn files ks
+    → AreLinesIn files (fold (kept_with q) ks (changes_within within (numbered_from ns t node line es)))
 edits-in_files q within ns t node line files ks [] named h = h
 edits-in_files q within ns t node line files ks (e ∷ es) named h =
-    edits-in_files q within ns t (node_count_after node e) (line_count_after line e) files (kept_after q within ks (numbered_edit ns t node line e)) es named.1
-    (edit-in_files q within ns t node line files ks e named.0 h)
+    edits-in_files q (rest_within within) ns t (node_count_after node e) (line_count_after line e) files (kept_after q (first_within within) ks (numbered_edit ns t node line e)) es named.1
+    (edit-in_files q (first_within within) ns t node line files ks e named.0 h)
 
 -- the held lines of a history are in its files
 abbrev AreHeldInFiles : List Command → Type 0
@@ -244,7 +245,7 @@ held-one history (commands.Commit base choice ambition es) accepted h =
     let ns : Numbers = numbers_of history in
     let all : List ℕ = files_of (history ++ commands.Commit base choice ambition es ∷ []) in
     subst (AreLinesIn all) (sym (commit-lines history base choice ambition es))
-    (edits-in_files (length history + 1) ambition ns (numbers_after ns es).addresses ns.nodes (length ns.addresses) all (kept_of history) es (accepted-names history base choice ambition es accepted)
+    (edits-in_files (length history + 1) (conditions ambition es) ns (numbers_after ns es).addresses ns.nodes (length ns.addresses) all (kept_of history) es (accepted-names history base choice ambition es accepted)
     (subst (λ files. AreLinesIn files (kept_of history)) (sym (files-commit history base choice ambition es)) (in_files-more (files_of history) (files_made ns.nodes es) (kept_of history) h)))
 held-one history (commands.Option name) accepted h = same-held history (commands.Option name) refl refl h
 held-one history (commands.Constraint expr) accepted h = same-held history (commands.Constraint expr) refl refl h
@@ -259,11 +260,11 @@ pub legal-in_files : (history : List Command) → IsLegal history → AreLinesIn
 legal-in_files history legal = held-from [] history legal tt
 
 pub amid-in_files : (history : List Command) (s : Session) (begun later : List Edit) → IsLegal history → IsGood history s → begun ++ later ≡ s.edits
-    → AreLinesIn (files_of history ++ files_made (numbers_of history).nodes begun) (held_amid history s.ambition s.edits begun).lines
+    → AreLinesIn (files_of history ++ files_made (numbers_of history).nodes begun) (held_amid history (within_of s) s.edits begun).lines
 amid-in_files history s begun later legal good all =
     let ns : Numbers = numbers_of history in
     let files : List ℕ = files_of history ++ files_made ns.nodes begun in
-    subst (AreLinesIn files) (sym (lines-edits (length history + 1) s.ambition (held_by history) (numbered_amid history s.edits begun)))
-    (edits-in_files (length history + 1) s.ambition ns (table_of history s.edits) ns.nodes (lines_before history) files (kept_of history) begun
+    subst (AreLinesIn files) (sym (lines-edits (length history + 1) (held_by history) (changes_within (within_of s) (numbered_amid history s.edits begun))))
+    (edits-in_files (length history + 1) (within_of s) ns (table_of history s.edits) ns.nodes (lines_before history) files (kept_of history) begun
     (begun-named history s.base s.choice s.edits good.accepted begun later all)
     (in_files-more (files_of history) (files_made ns.nodes begun) (kept_of history) (legal-in_files history legal)))

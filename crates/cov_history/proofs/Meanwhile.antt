@@ -14,11 +14,11 @@ use Rattle.cov_edit.specs.declared.edit.Edit.TheVariants as edits
 use Rattle.cov_edit.specs.declared.command.Command.{Command}
 use Rattle.cov_edit.specs.declared.command.Command.TheVariants as commands
 use Rattle.cov_edit.specs.History.{option_count, is_valid_in}
-use Rattle.cov_edit.specs.Numbering.{Numbers, anchors_of, numbers_after, numbers_of, numbered}
+use Rattle.cov_edit.specs.Numbering.{Numbers, anchors_of, numbers_after, numbers_of}
 use Rattle.cov_edit.specs.Touched.{old_node, touched_by, has_number, have_common, touched, touch}
 use Rattle.cov_edit.specs.Variant.{Line, lines_of}
 use Rattle.cov_edit.specs.Replay.{replay}
-use Rattle.cov_edit.proofs.CallerLemmas.{anchors-same_count, replay-commit, all_within, touched-rising}
+use Rattle.cov_edit.proofs.CallerLemmas.{anchors-same_count, replay-commit, all-apply, touched-rising}
 use Rattle.cov_rules.proofs.CallerLemmas.{fails_on_each, value_by_first_options}
 use Rattle.cov_view.specs.References.{is_known_node}
 use Rattle.cov_view.specs.Paths.{kind_of}
@@ -254,7 +254,7 @@ module _ (history : List Command) (s : Session) (c : List Bool) (file : ℕ) (le
       (seen s history) (replay c (history ++ commit_of s ∷ []))
   end-alike =
       subst (IsAlike nb nh more tb th (is_table-of before s.edits) (is_table-of history s.edits) same file old (base-nodes s.base history) (seen s history))
-      (sym (replay-commit c history s.base s.choice s.ambition s.edits ∙ all_within c (replay c history) s.ambition (numbered nh s.edits) inside-ambition))
+      (sym (replay-commit c history s.base s.choice s.ambition s.edits ∙ all-apply c (replay c history) nh s.ambition s.edits inside-ambition))
       (edits-alike nb nh more tb th (is_table-of before s.edits) (is_table-of history s.edits) same file old (base-nodes s.base history)
       nb.nodes nh.nodes n m 0 (replay s.choice before) (replay c history) s.edits (omega arith) (omega arith) (omega arith) (omega arith)
       (let count = length-with_lines nb.addresses (anchors_of n s.edits) in omega (arith, count))

@@ -17,7 +17,7 @@ use Rattle.cov_edit.specs.declared.command.Command.TheVariants as commands
 use Rattle.cov_edit.specs.History.{option_count, first_false_in}
 use Rattle.cov_edit.specs.Numbering.{Numbers, node_number, line_number, node_count_after, line_count_after, nodes_made, no_numbers, numbers_after, numbers_from, numbers_of, numbered_edit, numbered_from}
 use Rattle.cov_edit.specs.Variant.{Variant, Line, bare, line_address, is_line, edited}
-use Rattle.cov_edit.specs.Replay.{applying, commit_changes, changes_from, applied, replay}
+use Rattle.cov_edit.specs.Replay.{conditions, applying, first_within, rest_within, changes_within, commit_changes, changes_from, applied, replay}
 use Rattle.cov_edit.proofs.CallerLemmas.{fold-append, node_count_after-is, numbers_from-append, replay-append, replay-commit}
 use Rattle.cov_view.proofs.CallerLemmas.{new-accepted, insert-accepted, delete-accepted, rename-accepted, move-accepted, remove-accepted, none-first, none-behind}
 use Rattle.cov_view.specs.References.{is_known_node, is_made_node}
@@ -202,24 +202,24 @@ names-edit n ns t node made line v (edits.Remove which) le begun named h = recor
 }
 
 -- edits, each where it applies
-module _ (c : List Bool) (within : Formula ℕ) where
-  nodes-edits : (ns : Numbers) (t : List (List ℕ)) (node line total : ℕ) (v : Variant) (es : List Edit) → total ≡ node + nodes_made es → AreUpTo the_node node v.rows
-      → AreUpTo the_node total (fold (applied c) v (map (applying within) (numbered_from ns t node line es))).rows
-  nodes-edits ns t node line total v [] e h = let same : node ≡ total = omega (arith, e) in subst (λ n. AreUpTo the_node n v.rows) same h
-  nodes-edits ns t node line total v (d ∷ es) e h =
+module _ (c : List Bool) where
+  nodes-edits : (within : List (Formula ℕ)) (ns : Numbers) (t : List (List ℕ)) (node line total : ℕ) (v : Variant) (es : List Edit) → total ≡ node + nodes_made es → AreUpTo the_node node v.rows
+      → AreUpTo the_node total (fold (applied c) v (changes_within within (numbered_from ns t node line es))).rows
+  nodes-edits within ns t node line total v [] e h = let same : node ≡ total = omega (arith, e) in subst (λ n. AreUpTo the_node n v.rows) same h
+  nodes-edits within ns t node line total v (d ∷ es) e h =
       let more = node_count_after-is node 0 d in
-      nodes-edits ns t (node_count_after node d) (line_count_after line d) total (applied c v (applying within (numbered_edit ns t node line d))) es (e ∙ node_count_after-is node (nodes_made es) d)
-      (either-way (λ w. AreUpTo the_node (node_count_after node d) w.rows) (value within c) (edited v (numbered_edit ns t node line d)) v
+      nodes-edits (rest_within within) ns t (node_count_after node d) (line_count_after line d) total (applied c v (applying (first_within within) (numbered_edit ns t node line d))) es (e ∙ node_count_after-is node (nodes_made es) d)
+      (either-way (λ w. AreUpTo the_node (node_count_after node d) w.rows) (value (first_within within) c) (edited v (numbered_edit ns t node line d)) v
       (nodes-edit ns t node line v d h) (further the_node node (node_count_after node d) v.rows (omega (arith, more)) h))
 
-  names-edits : (n : ℕ) (ns : Numbers) (t : List (List ℕ)) (node made line total : ℕ) (v : Variant) (es : List Edit) → n ≤ ns.nodes → node ≡ ns.nodes + made → total ≡ node + nodes_made es
-      → AreNamed n made es → NamesOnlyMade node v → NamesOnlyMade total (fold (applied c) v (map (applying within) (numbered_from ns t node line es)))
-  names-edits n ns t node made line total v [] le begun e named h = let same : node ≡ total = omega (arith, e) in subst (λ m. NamesOnlyMade m v) same h
-  names-edits n ns t node made line total v (d ∷ es) le begun e named h =
+  names-edits : (within : List (Formula ℕ)) (n : ℕ) (ns : Numbers) (t : List (List ℕ)) (node made line total : ℕ) (v : Variant) (es : List Edit) → n ≤ ns.nodes → node ≡ ns.nodes + made → total ≡ node + nodes_made es
+      → AreNamed n made es → NamesOnlyMade node v → NamesOnlyMade total (fold (applied c) v (changes_within within (numbered_from ns t node line es)))
+  names-edits within n ns t node made line total v [] le begun e named h = let same : node ≡ total = omega (arith, e) in subst (λ m. NamesOnlyMade m v) same h
+  names-edits within n ns t node made line total v (d ∷ es) le begun e named h =
       let more = node_count_after-is node 0 d in
-      names-edits n ns t (node_count_after node d) (node_count_after made d) (line_count_after line d) total (applied c v (applying within (numbered_edit ns t node line d))) es le
+      names-edits (rest_within within) n ns t (node_count_after node d) (node_count_after made d) (line_count_after line d) total (applied c v (applying (first_within within) (numbered_edit ns t node line d))) es le
       (count-alike ns.nodes node made d begun) (e ∙ node_count_after-is node (nodes_made es) d) named.1
-      (either-way (NamesOnlyMade (node_count_after node d)) (value within c) (edited v (numbered_edit ns t node line d)) v
+      (either-way (NamesOnlyMade (node_count_after node d)) (value (first_within within) c) (edited v (numbered_edit ns t node line d)) v
       (names-edit n ns t node made line v d le begun named.0 h) (names-later node (node_count_after node d) v (omega (arith, more)) h))
 
 -- nodes have the numbers that the history drew, legal or not
@@ -231,7 +231,7 @@ module _ (c : List Bool) where
       subst (λ (w : Variant). AreUpTo the_node (numbers_from (numbers_after ns es) history).nodes w.rows)
       (sym (fold-append (applied c) v (commit_changes ns ambition es) (changes_from (numbers_after ns es) history)))
       (nodes-from (numbers_after ns es) (fold (applied c) v (commit_changes ns ambition es)) history
-      (nodes-edits c ambition ns (numbers_after ns es).addresses ns.nodes (length ns.addresses) (numbers_after ns es).nodes v es refl h))
+      (nodes-edits c (conditions ambition es) ns (numbers_after ns es).addresses ns.nodes (length ns.addresses) (numbers_after ns es).nodes v es refl h))
   nodes-from ns v (commands.Option name ∷ history) h = nodes-from ns v history h
   nodes-from ns v (commands.Constraint expr ∷ history) h = nodes-from ns v history h
   nodes-from ns v (commands.Prefer expr ∷ history) h = nodes-from ns v history h
@@ -320,7 +320,7 @@ module _ (c : List Bool) where
       let nb : Numbers = numbers_of (take base history) in
       as-before (numbers_of (history ++ commands.Commit base choice ambition es ∷ [])) (numbers_after (numbers_of history) es) (replay c (history ++ commands.Commit base choice ambition es ∷ [])) _
       (numbers_from-append no_numbers history (commands.Commit base choice ambition es ∷ [])) (replay-commit c history base choice ambition es)
-      (names-edits c ambition nb.nodes ns (numbers_after ns es).addresses ns.nodes 0 (length ns.addresses) (numbers_after ns es).nodes (replay c history) es
+      (names-edits c (conditions ambition es) nb.nodes ns (numbers_after ns es).addresses ns.nodes 0 (length ns.addresses) (numbers_after ns es).nodes (replay c history) es
       (base-nodes base history) (omega arith) refl
       (accepted-named nb (numbers_after nb es).addresses nb.nodes 0 (length nb.addresses) 0 (replay choice (take base history)) es (omega arith)
       (further the_node nb.nodes (nb.nodes + 0) (replay choice (take base history)).rows (omega arith) (nodes-replay choice (take base history)))

@@ -17,18 +17,18 @@ use Rattle.cov_edit.specs.declared.edit.Edit.{Edit}
 use Rattle.cov_edit.specs.declared.edit.Edit.TheVariants as edits
 use Rattle.cov_edit.specs.declared.command.Command.{Command}
 use Rattle.cov_edit.specs.declared.command.Command.TheVariants as commands
-use Rattle.cov_edit.specs.Numbering.{Numbers, NumberedEdit, OnRows, Inserted, Deleted, node_number, line_number, node_count_after, line_count_after, anchors_of, numbers_after, numbers_of, numbered_edit, numbered_from, numbered}
+use Rattle.cov_edit.specs.Numbering.{Numbers, NumberedEdit, OnRows, Inserted, Deleted, node_number, line_number, node_count_after, line_count_after, anchors_of, numbers_after, numbers_of, numbered_edit, numbered_from}
 use Rattle.cov_edit.specs.Variant.{Variant, Line, line_address, is_line, edited}
-use Rattle.cov_edit.specs.Replay.{replay}
+use Rattle.cov_edit.specs.Replay.{Change, first_within, rest_within, changes_within, commit_changes, replay}
 use Rattle.cov_edit.proofs.CallerLemmas.{anchors-same_count, line_count_after-is}
 use Rattle.cov_view.proofs.CallerLemmas.{node-known, insert-accepted, delete-accepted, head-number, below-head}
 use Rattle.cov_view.specs.References.{is_head, is_known_node, is_known_line}
 use Rattle.cov_view.specs.Refusals.{shows_line, refusal, refused_from, first_refused}
-use Rattle.cov_history.specs.Kept.{Kept, kept_number, new_line, kept_after, hidden_where, Holding, held_after, held_from, held_by, kept_of, file_kept, is_kept_anchor}
+use Rattle.cov_history.specs.Kept.{Kept, kept_number, new_line, kept_after, kept_with, hidden_where, Holding, held_with, held_from, held_by, kept_of, file_kept, is_kept_anchor}
 use Rattle.cov_history.specs.Files.{file_order}
 use Rattle.cov_history.specs.Insertions.{Insertion, the_insert, all_edits, lines_before, table_of, numbered_amid, held_amid, file_of, anchor_of, held_before}
 use Rattle.cov_history.specs.Deletions.{Deletion, the_delete, all_with, delete_file, delete_line, before_delete}
-use Rattle.cov_history.specs.Sessions.{Session, IsGood}
+use Rattle.cov_history.specs.Sessions.{Session, within_of, IsGood}
 use Rattle.cov_history.specs.Verdict.{IsLegalFrom, IsLegal}
 use Rattle.cov_history.proofs.Appends.{holding-goes_on, lines-edits}
 use Rattle.cov_history.proofs.Deletes.{order-hidden}
@@ -60,15 +60,15 @@ module _ (file line : ℕ) where
   anchor-edit q within ks (Inserted f address text) h = anchor-stays file line (new_line q within f address text) ks h
   anchor-edit q within ks (Deleted f address) h = anchor-hidden (is_line f address) q within ks ∙ h
 
-  anchor-edits : (q : ℕ) (within : Formula ℕ) (ks : List (Kept Line)) (ds : List NumberedEdit) → is_kept_anchor file line ks ≡ true → is_kept_anchor file line (fold (kept_after q within) ks ds) ≡ true
-  anchor-edits q within ks [] h = h
-  anchor-edits q within ks (d ∷ ds) h = anchor-edits q within (kept_after q within ks d) ds (anchor-edit q within ks d h)
+  anchor-edits : (q : ℕ) (ks : List (Kept Line)) (changes : List Change) → is_kept_anchor file line ks ≡ true → is_kept_anchor file line (fold (kept_with q) ks changes) ≡ true
+  anchor-edits q ks [] h = h
+  anchor-edits q ks (change ∷ changes) h = anchor-edits q (kept_with q ks change) changes (anchor-edit q change.within ks change.edit h)
 
   anchor-from : (q : ℕ) (held : Holding) (ns : Numbers) (history : List Command) → is_kept_anchor file line held.lines ≡ true → is_kept_anchor file line (held_from q held ns history).lines ≡ true
   anchor-from q held ns [] h = h
   anchor-from q held ns (commands.Commit base choice ambition es ∷ history) h =
-      anchor-from (q + 1) (fold (held_after (q + 1) ambition) held (numbered ns es)) (numbers_after ns es) history
-      (ap (is_kept_anchor file line) (lines-edits (q + 1) ambition held (numbered ns es)) ∙ anchor-edits (q + 1) ambition held.lines (numbered ns es) h)
+      anchor-from (q + 1) (fold (held_with (q + 1)) held (commit_changes ns ambition es)) (numbers_after ns es) history
+      (ap (is_kept_anchor file line) (lines-edits (q + 1) held (commit_changes ns ambition es)) ∙ anchor-edits (q + 1) held.lines (commit_changes ns ambition es) h)
   anchor-from q held ns (commands.Option name ∷ history) h = anchor-from (q + 1) held ns history h
   anchor-from q held ns (commands.Constraint expr ∷ history) h = anchor-from (q + 1) held ns history h
   anchor-from q held ns (commands.Prefer expr ∷ history) h = anchor-from (q + 1) held ns history h
@@ -176,20 +176,20 @@ module _ (nb nh : Numbers) where
   edit-now q within tb th xb xh lb lh j v ks (edits.Remove which) is_tb is_th eb eh below_b below_h accepted kept = kept
 
   -- so they are after each edit that is accepted
-  pub edits-now : (q : ℕ) (within : Formula ℕ) (tb th : List (List ℕ)) (xb xh lb lh j k m : ℕ) (v : Variant) (ks : List (Kept Line)) (begun later : List Edit)
+  pub edits-now : (q : ℕ) (within : List (Formula ℕ)) (tb th : List (List ℕ)) (xb xh lb lh j k m : ℕ) (v : Variant) (ks : List (Kept Line)) (begun later : List Edit)
       → IsTable tb → IsTable th → lb ≡ mb + j → lh ≡ mh + j → lb + length (anchors_of m begun) ≤ length tb → lh + length (anchors_of m begun) ≤ length th
       → refused_from nb v k (begun ++ later) (numbered_from nb tb xb lb (begun ++ later)) ≡ None → AreKeptNow v ks
-      → AreKeptNow (fold edited v (numbered_from nb tb xb lb begun)) (fold (kept_after q within) ks (numbered_from nh th xh lh begun))
+      → AreKeptNow (fold edited v (numbered_from nb tb xb lb begun)) (fold (kept_with q) ks (changes_within within (numbered_from nh th xh lh begun)))
   edits-now q within tb th xb xh lb lh j k m v ks [] later is_tb is_th eb eh below_b below_h accepted kept = kept
   edits-now q within tb th xb xh lb lh j k m v ks (e ∷ begun) later is_tb is_th eb eh below_b below_h accepted kept =
       let count_b = line_count_after-is lb m e (anchors_of m begun) in
       let count_h = line_count_after-is lh m e (anchors_of m begun) in
       let count = line_count_after-is j m e (anchors_of m begun) in
-      edits-now q within tb th (node_count_after xb e) (node_count_after xh e) (line_count_after lb e) (line_count_after lh e) (line_count_after j e) (k + 1) m
-      (edited v (numbered_edit nb tb xb lb e)) (kept_after q within ks (numbered_edit nh th xh lh e)) begun later is_tb is_th
+      edits-now q (rest_within within) tb th (node_count_after xb e) (node_count_after xh e) (line_count_after lb e) (line_count_after lh e) (line_count_after j e) (k + 1) m
+      (edited v (numbered_edit nb tb xb lb e)) (kept_after q (first_within within) ks (numbered_edit nh th xh lh e)) begun later is_tb is_th
       (omega (arith, eb, count_b, count)) (omega (arith, eh, count_h, count)) (omega (arith, below_b, count_b)) (omega (arith, below_h, count_h))
       (rest-accepted k (refusal nb v e) _ accepted)
-      (edit-now q within tb th xb xh lb lh j v ks e is_tb is_th eb eh (omega (arith, below_b, count_b)) (omega (arith, below_h, count_h)) (edit-accepted k (refusal nb v e) _ accepted) kept)
+      (edit-now q (first_within within) tb th xb xh lb lh j v ks e is_tb is_th eb eh (omega (arith, below_b, count_b)) (omega (arith, below_h, count_h)) (edit-accepted k (refusal nb v e) _ accepted) kept)
 
 -- the lines of the base's replay are kept now
 start-now : (base : ℕ) (history : List Command) (c : List Bool) → IsLegal history
@@ -237,13 +237,13 @@ module _ (history : List Command) (s : Session) (legal : IsLegal history) (good 
 
   -- what it sees then of its own lines and those of the base is kept now
   amid-now : (begun later : List Edit) → begun ++ later ≡ s.edits
-      → AreKeptNow (numbers_of before) (numbers_of history) (fold edited (replay s.choice before) (numbered_amid before (begun ++ later) begun)) (held_amid history s.ambition (begun ++ later) begun).lines
+      → AreKeptNow (numbers_of before) (numbers_of history) (fold edited (replay s.choice before) (numbered_amid before (begun ++ later) begun)) (held_amid history (within_of s) (begun ++ later) begun).lines
   amid-now begun later all =
       let nb : Numbers = numbers_of before in
       let nh : Numbers = numbers_of history in
       subst (AreKeptNow nb nh (fold edited (replay s.choice before) (numbered_amid before (begun ++ later) begun)))
-      (sym (lines-edits (length history + 1) s.ambition (held_by history) (numbered_amid history (begun ++ later) begun)))
-      (edits-now nb nh (length history + 1) s.ambition (table_of before (begun ++ later)) (table_of history (begun ++ later)) nb.nodes nh.nodes
+      (sym (lines-edits (length history + 1) (held_by history) (changes_within (within_of s) (numbered_amid history (begun ++ later) begun))))
+      (edits-now nb nh (length history + 1) (within_of s) (table_of before (begun ++ later)) (table_of history (begun ++ later)) nb.nodes nh.nodes
       (length nb.addresses) (length nh.addresses) 0 0 (length nb.addresses) (replay s.choice before) (kept_of history) begun later
       (is_table-of before (begun ++ later)) (is_table-of history (begun ++ later)) (omega arith) (omega arith)
       (amid-within before begun later)
@@ -252,7 +252,7 @@ module _ (history : List Command) (s : Session) (legal : IsLegal history) (good 
       (start-now s.base history s.choice legal))
 
   -- each insert of a good session has its anchor kept when it is its turn, also on an older base
-  pub accepted-anchored : (i : Insertion) → all_edits i ≡ s.edits → is_kept_anchor (file_of history i) (anchor_of history i) (held_before history s.ambition i).lines ≡ true
+  pub accepted-anchored : (i : Insertion) → all_edits i ≡ s.edits → is_kept_anchor (file_of history i) (anchor_of history i) (held_before history (within_of s) i).lines ≡ true
   accepted-anchored i all =
       let nb : Numbers = numbers_of before in
       let accepted = insert-accepted nb v i.file i.after i.text (edit-at_base i.begun (the_insert i) i.later all) in
@@ -262,24 +262,24 @@ module _ (history : List Command) (s : Session) (legal : IsLegal history) (good 
       v = fold edited (replay s.choice before) (numbered_amid before (all_edits i) i.begun)
 
       at : (b : Bool) → is_head i.after ≡ b → (b || shows_line (numbers_of before) v (node_number (numbers_of before).nodes i.file) i.after) ≡ true
-          → (shows_line (numbers_of before) v (node_number (numbers_of before).nodes i.file) i.after ≡ true → is_kept_anchor (file_of history i) (anchor_of history i) (held_before history s.ambition i).lines ≡ true)
-          → is_kept_anchor (file_of history i) (anchor_of history i) (held_before history s.ambition i).lines ≡ true
-      at true e k rest = subst (λ n. is_kept_anchor (file_of history i) n (held_before history s.ambition i).lines ≡ true) (sym (head-number (lines_before history) i.after e)) refl
+          → (shows_line (numbers_of before) v (node_number (numbers_of before).nodes i.file) i.after ≡ true → is_kept_anchor (file_of history i) (anchor_of history i) (held_before history (within_of s) i).lines ≡ true)
+          → is_kept_anchor (file_of history i) (anchor_of history i) (held_before history (within_of s) i).lines ≡ true
+      at true e k rest = subst (λ n. is_kept_anchor (file_of history i) n (held_before history (within_of s) i).lines ≡ true) (sym (head-number (lines_before history) i.after e)) refl
       at false e k rest = rest k
 
   -- each delete of a good session has its line in its file when it is its turn, also on an older base
-  pub accepted-there : (d : Deletion) → all_with d ≡ s.edits → orders.has_line (delete_line history d) (file_order (delete_file history d) (before_delete history s.ambition d).lines) ≡ true
+  pub accepted-there : (d : Deletion) → all_with d ≡ s.edits → orders.has_line (delete_line history d) (file_order (delete_file history d) (before_delete history (within_of s) d).lines) ≡ true
   accepted-there d all =
       let nb : Numbers = numbers_of before in
       let accepted = delete-accepted nb v d.file d.line (edit-at_base d.begun (the_delete d) d.later all) in
       let kept = amid-now d.begun (the_delete d ∷ d.later) all d.file d.line (node-known nb v d.file accepted.0) accepted.2 in
-      any-mapped kept_number (delete_line history d) (file_kept (delete_file history d) (before_delete history s.ambition d).lines)
-      ∙ at accepted.1 (anchor-case (delete_file history d) (delete_line history d) (before_delete history s.ambition d).lines kept)
+      any-mapped kept_number (delete_line history d) (file_kept (delete_file history d) (before_delete history (within_of s) d).lines)
+      ∙ at accepted.1 (anchor-case (delete_file history d) (delete_line history d) (before_delete history (within_of s) d).lines kept)
     where
       v : Variant
       v = fold edited (replay s.choice before) (numbered_amid before (all_with d) d.begun)
 
-      at : is_head d.line ≡ false → (delete_line history d ≡ 0) ⊎ (list_any (λ k. nat_eq (kept_number k) (delete_line history d)) (file_kept (delete_file history d) (before_delete history s.ambition d).lines) ≡ true)
-          → list_any (λ k. nat_eq (kept_number k) (delete_line history d)) (file_kept (delete_file history d) (before_delete history s.ambition d).lines) ≡ true
+      at : is_head d.line ≡ false → (delete_line history d ≡ 0) ⊎ (list_any (λ k. nat_eq (kept_number k) (delete_line history d)) (file_kept (delete_file history d) (before_delete history (within_of s) d).lines) ≡ true)
+          → list_any (λ k. nat_eq (kept_number k) (delete_line history d)) (file_kept (delete_file history d) (before_delete history (within_of s) d).lines) ≡ true
       at no_head (inl e) = absurd (below-head (lines_before history) d.line no_head e)
       at no_head (inr e) = e

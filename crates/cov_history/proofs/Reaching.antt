@@ -12,15 +12,16 @@ use Rattle.cov_edit.specs.declared.edit.Edit.{Edit}
 use Rattle.cov_edit.specs.declared.command.Command.{Command}
 use Rattle.cov_edit.specs.declared.command.Command.TheVariants as commands
 use Rattle.cov_edit.specs.History.{option_count, first_false_in}
-use Rattle.cov_edit.specs.Numbering.{Numbers, NumberedEdit, OnRows, Inserted, Deleted, no_numbers, numbers_after, numbers_of, numbered}
-use Rattle.cov_edit.specs.Replay.{replay}
+use Rattle.cov_edit.specs.Numbering.{Numbers, NumberedEdit, OnRows, Inserted, Deleted, no_numbers, numbers_after, numbers_of}
+use Rattle.cov_edit.specs.Replay.{Change, commit_changes, replay}
+use Rattle.cov_edit.proofs.CallerLemmas.{each_change, each_condition}
 use Rattle.cov_edit.specs.Variant.{Line, is_line}
 use Rattle.cov_view.proofs.CallerLemmas.{none-first, none-when}
 use Rattle.cov_view.specs.Refusals.{when, first_refused}
 use Rattle.cov_history.specs.declared.refusal.Refusal.{Refusal}
 use Rattle.cov_history.specs.declared.refusal.Refusal.TheVariants as refusals
 use Rattle.cov_history.specs.BadChoices.{unsound_refusal}
-use Rattle.cov_history.specs.Kept.{Kept, seen_at, new_item, hidden, taken_up, hidden_where, replaced_where, kept_address, new_line, is_row, rows_kept_after, Holding, nothing_held, held_after, held_from, held_by}
+use Rattle.cov_history.specs.Kept.{Kept, seen_at, new_item, hidden, taken_up, hidden_where, replaced_where, kept_address, new_line, is_row, rows_kept_after, Holding, nothing_held, held_after, held_with, held_from, held_by}
 use Rattle.cov_history.specs.Reach.{IsReached, AreReached, IsHeldInReach}
 use Rattle.cov_history.specs.Overtaking.{overtaken}
 use Rattle.cov_history.specs.Verdict.{verdict, when_full, size_refusals, as_invalid, as_bad_record, as_overtaken, has_no_edits, IsLegalFrom, IsLegal}
@@ -96,9 +97,10 @@ module _ (history : List Command) where
     }
     edit-reached held (Deleted file address) h = record { of_rows = h.of_rows; of_lines = hide-reached (is_line file address) held.lines h.of_lines }
 
-    edits-reached : (held : Holding) (ds : List NumberedEdit) → IsHeldInReach history held → IsHeldInReach history (fold (held_after q within) held ds)
-    edits-reached held [] h = h
-    edits-reached held (d ∷ ds) h = edits-reached (held_after q within held d) ds (edit-reached held d h)
+  edits-reached : (q : ℕ) (held : Holding) (changes : List Change) → q ≤ length history → AllByRecursion (λ change. reach change.within ≤ option_count (take q history)) changes
+      → IsHeldInReach history held → IsHeldInReach history (fold (held_with q) held changes)
+  edits-reached q held [] known named h = h
+  edits-reached q held (change ∷ changes) known named h = edits-reached q (held_with q held change) changes known named.1 (edit-reached q change.within known named.0 held change.edit h)
 
 -- what is reached stays so when the history grows
 reached-longer : (history later : List Command) (change : ℕ × Formula ℕ) → IsReached history change → IsReached (history ++ later) change
@@ -112,7 +114,7 @@ held-longer history later held h = record {
   of_lines = all-map (AreReached history) (AreReached (history ++ later)) (λ k j. all-map (IsReached history) (IsReached (history ++ later)) (reached-longer history later) k.changes j) held.lines h.of_lines;
 }
 
--- an accepted commit's base is in the history, and its ambition names only options declared there
+-- an accepted commit's base is in the history, and its ambition and sides name only options declared there
 pub accepted-reach : (history : List Command) (base : ℕ) (choice : List Bool) (ambition : Formula ℕ) (es : List Edit) → verdict history (commands.Commit base choice ambition es) ≡ None
     → (base ≤ length history) × (reach ambition ≤ option_count (take base history))
 accepted-reach history base choice ambition es h =
@@ -141,19 +143,22 @@ accepted-reach history base choice ambition es h =
         ∷ when (has_no_edits es) refusals.Empty ∷ as_bad_record (first_refused (numbers_of (take base history)) (replay choice (take base history)) es)
         ∷ as_overtaken (overtaken history base ambition es) ∷ unsound_refusal history ambition (commands.Commit base choice ambition es) ∷ []
 
-commit-reached : (history : List Command) (q base : ℕ) (choice : List Bool) (ambition : Formula ℕ) (es : List Edit) (held : Holding) (ds : List NumberedEdit)
+commit-reached : (history : List Command) (q base : ℕ) (choice : List Bool) (ambition : Formula ℕ) (es : List Edit) (held : Holding) (ns : Numbers)
     → q ≡ length history → verdict history (commands.Commit base choice ambition es) ≡ None → IsHeldInReach history held
-    → IsHeldInReach (history ++ commands.Commit base choice ambition es ∷ []) (fold (held_after (q + 1) ambition) held ds)
-commit-reached history q base choice ambition es held ds e h reached =
+    → IsHeldInReach (history ++ commands.Commit base choice ambition es ∷ []) (fold (held_with (q + 1)) held (commit_changes ns ambition es))
+commit-reached history q base choice ambition es held ns e h reached =
     let accepted = accepted-reach history base choice ambition es h in
     let within : base ≤ length history = accepted.0 in
     let grown = length-append history (commands.Commit base choice ambition es ∷ []) in
-    edits-reached longer (q + 1) ambition (omega (arith, e, grown)) (
+    edits-reached longer (q + 1) held (commit_changes ns ambition es) (omega (arith, e, grown))
+    (each_change (λ w. reach w ≤ option_count (take (q + 1) longer)) ambition ns (numbers_after ns es).addresses ns.nodes (length ns.addresses) es
+    (each_condition (λ w. reach w ≤ option_count (take (q + 1) longer)) ambition es (
     let named : reach ambition ≤ option_count (take base longer) =
     subst (λ l. reach ambition ≤ option_count l) (sym (take-append-le base history (commands.Commit base choice ambition es ∷ []) within)) accepted.1 in
     let more = options-later base (q + 1) longer (omega (arith, within, e)) in
     omega (arith, named, more)
-    ) held ds (held-longer history (commands.Commit base choice ambition es ∷ []) held reached)
+    )))
+    (held-longer history (commands.Commit base choice ambition es ∷ []) held reached)
   where
     longer : List Command
     longer = history ++ commands.Commit base choice ambition es ∷ []
@@ -162,10 +167,10 @@ reached-from : (before : List Command) (q : ℕ) (held : Holding) (ns : Numbers)
     → IsHeldInReach (before ++ history) (held_from q held ns history)
 reached-from before q held ns [] e legal h = subst (λ l. IsHeldInReach l held) (sym (append-nil before)) h
 reached-from before q held ns (commands.Commit base choice ambition es ∷ history) e legal h =
-    subst (λ l. IsHeldInReach l (held_from (q + 1) (fold (held_after (q + 1) ambition) held (numbered ns es)) (numbers_after ns es) history)) (append_assoc before (commands.Commit base choice ambition es ∷ []) history)
-    (reached-from (before ++ commands.Commit base choice ambition es ∷ []) (q + 1) (fold (held_after (q + 1) ambition) held (numbered ns es)) (numbers_after ns es) history
+    subst (λ l. IsHeldInReach l (held_from (q + 1) (fold (held_with (q + 1)) held (commit_changes ns ambition es)) (numbers_after ns es) history)) (append_assoc before (commands.Commit base choice ambition es ∷ []) history)
+    (reached-from (before ++ commands.Commit base choice ambition es ∷ []) (q + 1) (fold (held_with (q + 1)) held (commit_changes ns ambition es)) (numbers_after ns es) history
     (omega (arith, e, length-append before (commands.Commit base choice ambition es ∷ []))) legal.2
-    (commit-reached before q base choice ambition es held (numbered ns es) e legal.1 h))
+    (commit-reached before q base choice ambition es held ns e legal.1 h))
 reached-from before q held ns (commands.Option name ∷ history) e legal h =
     subst (λ l. IsHeldInReach l (held_from (q + 1) held ns history)) (append_assoc before (commands.Option name ∷ []) history)
     (reached-from (before ++ commands.Option name ∷ []) (q + 1) held ns history (omega (arith, e, length-append before (commands.Option name ∷ []))) legal.2

@@ -1,5 +1,5 @@
 -- What is seen of what a history holds, and the replay.
-use Rattle.std.proofs.Common.{◌≡◌, ℕ, zero, suc, ◌+◌, ◌<◌, ◌≤◌, Bool, true, false, cond, List, [], ◌∷◌, length, map, take, refl, sym, ap, ◌∙◌, arith}
+use Rattle.std.proofs.Common.{◌≡◌, ℕ, zero, suc, ◌+◌, ◌<◌, ◌≤◌, Bool, true, false, cond, List, [], ◌∷◌, length, take, refl, sym, ap, ◌∙◌, arith}
 use Rattle.std.specs.List.{fold}
 use Rattle.cov_base.specs.Addresses.{IsTable, AreInOrder}
 use Rattle.cov_base.specs.Rows.{Row, RowChange, Created, Renamed, Moved, Removed, with_name, with_parent, changed}
@@ -8,9 +8,9 @@ use Rattle.cov_edit.specs.declared.command.Command.{Command}
 use Rattle.cov_edit.specs.declared.command.Command.TheVariants as commands
 use Rattle.cov_edit.specs.Numbering.{Numbers, NumberedEdit, OnRows, Inserted, Deleted, no_numbers, numbers_after, numbered}
 use Rattle.cov_edit.specs.Variant.{Variant, Line, line_address, is_line, lines_after, rows_after, edited}
-use Rattle.cov_edit.specs.Replay.{Change, applying, commit_changes, changes_from, applied, replay}
+use Rattle.cov_edit.specs.Replay.{conditions, Change, applying, first_within, rest_within, changes_within, commit_changes, changes_from, applied, replay}
 use Rattle.cov_edit.proofs.CallerLemmas.{fold-append}
-use Rattle.cov_history.specs.Kept.{Kept, kept_address, kept_after, is_row, rows_kept_after, entries_after, Holding, nothing_held, held_after, held_from, held_by, lines_seen, rows_seen, variant_seen, IsHolding}
+use Rattle.cov_history.specs.Kept.{Kept, kept_address, kept_after, is_row, rows_kept_after, entries_after, Holding, nothing_held, held_after, held_with, held_from, held_by, lines_seen, rows_seen, variant_seen, IsHolding}
 use Rattle.cov_history.proofs.Seen.{seen-later, append-seen, append-before, hide-seen, hide-before, replace-seen, replace-before, place-seen, place-before}
 use Rattle.cov_history.proofs.Standing.{count_after, AreNext, stands-edit, stands-opened, stands-commit, stands-later, table-after, commit-next, no_table, nothing-stands}
 
@@ -21,7 +21,7 @@ either_way false x = refl
 abbrev of_parts : List Row → List Line → Variant
 of_parts rows lines = record { rows = rows; lines = lines }
 
-pub joined : {rs ss : List Row} {ls ms : List Line} → rs ≡ ss → ls ≡ ms → of_parts rs ls ≡ of_parts ss ms
+pub joined : {rs es : List Row} {ls ms : List Line} → rs ≡ es → ls ≡ ms → of_parts rs ls ≡ of_parts es ms
 joined e f = λ i. of_parts (e i) (f i)
 
 module _ (c : List Bool) where
@@ -77,23 +77,23 @@ module _ (c : List Bool) where
   pub edit-before : (p q : ℕ) (within : Formula ℕ) (held : Holding) (d : NumberedEdit) → p < q → variant_seen c p (held_after q within held d) ≡ variant_seen c p held
   edit-before p q within held d h = joined (rows-before p q within held.rows d h) (lines-before p q within held.lines d h)
 
-  pub edits-seen : (t : List (List ℕ)) (n q : ℕ) (within : Formula ℕ) (held : Holding) (ds : List NumberedEdit) → IsTable t → AreNext t n ds → IsHolding t n q held
-      → variant_seen c q (fold (held_after q within) held ds) ≡ fold (applied c) (variant_seen c q held) (map (applying within) ds)
+  pub edits-seen : (t : List (List ℕ)) (n q : ℕ) (within : List (Formula ℕ)) (held : Holding) (ds : List NumberedEdit) → IsTable t → AreNext t n ds → IsHolding t n q held
+      → variant_seen c q (fold (held_with q) held (changes_within within ds)) ≡ fold (applied c) (variant_seen c q held) (changes_within within ds)
   edits-seen t n q within held [] table next s = refl
   edits-seen t n q within held (d ∷ ds) table next s =
-      edits-seen t (count_after n d) q within (held_after q within held d) ds table next.1 (stands-edit t n q within held d table next.0 s)
-      ∙ ap (λ v. fold (applied c) v (map (applying within) ds)) (edit-seen q within held d s.in_order)
+      edits-seen t (count_after n d) q (rest_within within) (held_after q (first_within within) held d) ds table next.1 (stands-edit t n q (first_within within) held d table next.0 s)
+      ∙ ap (λ v. fold (applied c) v (changes_within (rest_within within) ds)) (edit-seen q (first_within within) held d s.in_order)
 
-  pub edits-before : (p q : ℕ) (within : Formula ℕ) (held : Holding) (ds : List NumberedEdit) → p < q → variant_seen c p (fold (held_after q within) held ds) ≡ variant_seen c p held
-  edits-before p q within held [] h = refl
-  edits-before p q within held (d ∷ ds) h = edits-before p q within (held_after q within held d) ds h ∙ edit-before p q within held d h
+  pub edits-before : (p q : ℕ) (held : Holding) (changes : List Change) → p < q → variant_seen c p (fold (held_with q) held changes) ≡ variant_seen c p held
+  edits-before p q held [] h = refl
+  edits-before p q held (change ∷ changes) h = edits-before p q (held_with q held change) changes h ∙ edit-before p q change.within held change.edit h
 
   -- what comes after a position isn't seen at it
   pub history-before : (p q : ℕ) (held : Holding) (ns : Numbers) (history : List Command) → p ≤ q → variant_seen c p (held_from q held ns history) ≡ variant_seen c p held
   history-before p q held ns [] h = refl
   history-before p q held ns (commands.Commit base choice ambition es ∷ history) h =
-      history-before p (q + 1) (fold (held_after (q + 1) ambition) held (numbered ns es)) (numbers_after ns es) history (omega (arith, h))
-      ∙ edits-before p (q + 1) ambition held (numbered ns es) (omega (arith, h))
+      history-before p (q + 1) (fold (held_with (q + 1)) held (commit_changes ns ambition es)) (numbers_after ns es) history (omega (arith, h))
+      ∙ edits-before p (q + 1) held (commit_changes ns ambition es) (omega (arith, h))
   history-before p q held ns (commands.Option name ∷ history) h = history-before p (q + 1) held ns history (omega (arith, h))
   history-before p q held ns (commands.Constraint expr ∷ history) h = history-before p (q + 1) held ns history (omega (arith, h))
   history-before p q held ns (commands.Prefer expr ∷ history) h = history-before p (q + 1) held ns history (omega (arith, h))
@@ -109,10 +109,10 @@ module _ (c : List Bool) where
       history-before p q held ns history (omega (arith, e)) ∙ variant-later ns.addresses (length ns.addresses) p q held (omega (arith, e)) s
   replay-from (suc m) p q held ns [] e table s = variant-later ns.addresses (length ns.addresses) p q held (omega (arith, e)) s
   replay-from (suc m) p q held ns (commands.Commit base choice ambition es ∷ history) e table s =
-      replay-from m p (q + 1) (fold (held_after (q + 1) ambition) held (numbered ns es)) (numbers_after ns es) history (omega (arith, e))
-      (table-after ns es table) (stands-commit ns ambition es q held table s)
+      replay-from m p (q + 1) (fold (held_with (q + 1)) held (commit_changes ns ambition es)) (numbers_after ns es) history (omega (arith, e))
+      (table-after ns es table) (stands-commit ns (conditions ambition es) es q held table s)
       ∙ ap (λ v. fold (applied c) v later)
-      (edits-seen (numbers_after ns es).addresses (length ns.addresses) (q + 1) ambition held (numbered ns es) (table-after ns es table) (commit-next ns es) (stands-opened ns es q held s)
+      (edits-seen (numbers_after ns es).addresses (length ns.addresses) (q + 1) (conditions ambition es) held (numbered ns es) (table-after ns es table) (commit-next ns es) (stands-opened ns es q held s)
       ∙ ap (λ v. fold (applied c) v (commit_changes ns ambition es)) (variant-later ns.addresses (length ns.addresses) (q + 1) q held (omega arith) s))
       ∙ sym (fold-append (applied c) (variant_seen c q held) (commit_changes ns ambition es) later)
     where

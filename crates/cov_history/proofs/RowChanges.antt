@@ -11,7 +11,7 @@ use Rattle.cov_edit.specs.declared.command.Command.TheVariants as commands
 use Rattle.cov_edit.specs.Numbering.{Numbers, NumberedEdit, OnRows, Inserted, Deleted, node_count_after, line_count_after, numbers_of, numbered_edit, numbered_from, numbered}
 use Rattle.cov_edit.specs.Variant.{Variant, edited}
 use Rattle.cov_edit.specs.Replay.{committed, replay}
-use Rattle.cov_edit.proofs.CallerLemmas.{replay-commit, all_within, none_outside}
+use Rattle.cov_edit.proofs.CallerLemmas.{replay-commit, all-apply, none-apply}
 use Rattle.cov_history.specs.RowChanges.{changes_rows, row_change, row_changes}
 
 rows-changed : (v : Variant) (ds : List NumberedEdit) → (fold edited v ds).rows ≡ fold changed v.rows (row_changes ds)
@@ -26,8 +26,8 @@ pub committed-where : (c : List Bool) (history : List Command) (base : ℕ) (cho
 committed-where c history base choice ambition es = replay-commit c history base choice ambition es ∙ at (value ambition c) refl
   where
     at : (b : Bool) → value ambition c ≡ b → committed c (replay c history) (numbers_of history) ambition es ≡ cond b (fold edited (replay c history) (numbered (numbers_of history) es)) (replay c history)
-    at true e = all_within c (replay c history) ambition (numbered (numbers_of history) es) e
-    at false e = none_outside c (replay c history) ambition (numbered (numbers_of history) es) e
+    at true e = all-apply c (replay c history) (numbers_of history) ambition es e
+    at false e = none-apply c (replay c history) (numbers_of history) ambition es e
 
 -- so it makes its changes of the rows there
 pub rows-committed : (c : List Bool) (history : List Command) (base : ℕ) (choice : List Bool) (ambition : Formula ℕ) (es : List Edit)

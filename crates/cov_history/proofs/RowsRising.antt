@@ -10,7 +10,7 @@ use Rattle.cov_edit.specs.declared.edit.Edit.TheVariants as edits
 use Rattle.cov_edit.specs.declared.command.Command.{Command}
 use Rattle.cov_edit.specs.declared.command.Command.TheVariants as commands
 use Rattle.cov_edit.specs.Numbering.{Numbers, NumberedEdit, no_numbers, node_number, node_count_after, line_count_after, nodes_made, numbers_after, numbers_from, numbers_of, numbered_edit, numbered_from}
-use Rattle.cov_edit.specs.Replay.{applying, commit_changes, changes_from, applied, replay}
+use Rattle.cov_edit.specs.Replay.{conditions, applying, first_within, rest_within, changes_within, commit_changes, changes_from, applied, replay}
 use Rattle.cov_edit.specs.Variant.{Variant, bare, edited}
 use Rattle.cov_edit.proofs.CallerLemmas.{fold-append, node_count_after-is}
 use Rattle.cov_history.proofs.ChangedRows.{renamed-field, moved-field}
@@ -65,17 +65,17 @@ edit-up ns t node line v (edits.Move which parent) h =
     up-mapped (with_parent (node_number ns.nodes which) dir) (λ r. moved-field the_node (node_number ns.nodes which) dir r refl) 0 v.rows h.0
 edit-up ns t node line v (edits.Remove which) h = up-filtered (λ r. not (nat_eq r.node (node_number ns.nodes which))) 0 v.rows h.0
 
-edits-up : (c : List Bool) (within : Formula ℕ) (ns : Numbers) (t : List (List ℕ)) (node line : ℕ) (v : Variant) (es : List Edit) → AreNodesUpTo node v
-    → AreNodesUpTo (node + nodes_made es) (fold (applied c) v (map (applying within) (numbered_from ns t node line es)))
+edits-up : (c : List Bool) (within : List (Formula ℕ)) (ns : Numbers) (t : List (List ℕ)) (node line : ℕ) (v : Variant) (es : List Edit) → AreNodesUpTo node v
+    → AreNodesUpTo (node + nodes_made es) (fold (applied c) v (changes_within within (numbered_from ns t node line es)))
 edits-up c within ns t node line v [] h = wider node (node + 0) v (omega arith) h
 edits-up c within ns t node line v (e ∷ es) h =
     let more = node_count_after-is node 0 e in
     let d : NumberedEdit = numbered_edit ns t node line e in
-    let next : Variant = applied c v (applying within d) in
-    subst (λ n. AreNodesUpTo n (fold (applied c) next (map (applying within) (numbered_from ns t (node_count_after node e) (line_count_after line e) es))))
+    let next : Variant = applied c v (applying (first_within within) d) in
+    subst (λ n. AreNodesUpTo n (fold (applied c) next (changes_within (rest_within within) (numbered_from ns t (node_count_after node e) (line_count_after line e) es))))
     (sym (node_count_after-is node (nodes_made es) e))
-    (edits-up c within ns t (node_count_after node e) (line_count_after line e) next es
-    (either-way (AreNodesUpTo (node_count_after node e)) (value within c) (edited v d) v
+    (edits-up c (rest_within within) ns t (node_count_after node e) (line_count_after line e) next es
+    (either-way (AreNodesUpTo (node_count_after node e)) (value (first_within within) c) (edited v d) v
     (edit-up ns t node line v e h, nodes-edit ns t node line v e h.1) (wider node (node_count_after node e) v (omega (arith, more)) h)))
 
 changes-up : (c : List Bool) (ns : Numbers) (v : Variant) (history : List Command) → AreNodesUpTo ns.nodes v → AreNodesUpTo (numbers_from ns history).nodes (fold (applied c) v (changes_from ns history))
@@ -84,7 +84,7 @@ changes-up c ns v (commands.Commit base choice ambition es ∷ history) h =
     subst (AreNodesUpTo (numbers_from (numbers_after ns es) history).nodes)
     (sym (fold-append (applied c) v (commit_changes ns ambition es) (changes_from (numbers_after ns es) history)))
     (changes-up c (numbers_after ns es) (fold (applied c) v (commit_changes ns ambition es)) history
-    (edits-up c ambition ns (numbers_after ns es).addresses ns.nodes (length ns.addresses) v es h))
+    (edits-up c (conditions ambition es) ns (numbers_after ns es).addresses ns.nodes (length ns.addresses) v es h))
 changes-up c ns v (commands.Option name ∷ history) h = changes-up c ns v history h
 changes-up c ns v (commands.Constraint expr ∷ history) h = changes-up c ns v history h
 changes-up c ns v (commands.Prefer expr ∷ history) h = changes-up c ns v history h

@@ -16,7 +16,7 @@ use Rattle.cov_edit.specs.History.{option_count, constraints_of, is_valid_in}
 use Rattle.cov_edit.specs.Numbering.{Numbers, no_numbers, node_count_after, line_count_after, line_number, numbers_from, numbers_of, numbered_edit, numbered_from, numbered}
 use Rattle.cov_edit.specs.Variant.{Variant, edited}
 use Rattle.cov_edit.specs.Replay.{changes_from, applied, replay}
-use Rattle.cov_edit.proofs.CallerLemmas.{numbers_from-append, replay-append, replay-commit, all_within}
+use Rattle.cov_edit.proofs.CallerLemmas.{numbers_from-append, replay-append, replay-commit, all-apply}
 use Rattle.cov_view.proofs.CallerLemmas.{first-not_when}
 use Rattle.cov_view.specs.References.{is_known_line}
 use Rattle.cov_view.specs.Refusals.{when, first_of, shows_line, refusal, refused_at, refused_from, first_refused}
@@ -138,7 +138,7 @@ replay-since c base history h =
 pub commit-shows : (history : List Command) (s : Session) → IsGood history s → has_commit (drop s.base history) ≡ false → replay s.choice (history ++ commit_of s ∷ []) ≡ seen s history
 commit-shows history s good h =
     replay-commit s.choice history s.base s.choice s.ambition s.edits
-    ∙ all_within s.choice (replay s.choice history) s.ambition (numbered (numbers_of history) s.edits) good.in_ambition
+    ∙ all-apply s.choice (replay s.choice history) (numbers_of history) s.ambition s.edits good.in_ambition
     ∙ ap (λ v. fold edited v (numbered (numbers_of history) s.edits)) (replay-since s.choice s.base history h)
     ∙ ap (λ ns. fold edited (replay s.choice (take s.base history)) (numbered ns s.edits)) (numbers-since s.base history h)
 

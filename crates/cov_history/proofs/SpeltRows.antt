@@ -13,7 +13,7 @@ use Rattle.cov_edit.specs.declared.command.Command.TheVariants as commands
 use Rattle.cov_edit.specs.EditFits.{fits_edit}
 use Rattle.cov_edit.specs.Fits.{fits_expr}
 use Rattle.cov_edit.specs.Numbering.{Numbers, NumberedEdit, no_numbers, node_number, node_count_after, line_count_after, numbers_after, numbered_edit, numbered_from}
-use Rattle.cov_edit.specs.Replay.{applying, commit_changes, changes_from, applied, replay}
+use Rattle.cov_edit.specs.Replay.{conditions, applying, first_within, rest_within, changes_within, commit_changes, changes_from, applied, replay}
 use Rattle.cov_edit.specs.Variant.{Variant, bare, edited}
 use Rattle.cov_edit.proofs.CallerLemmas.{fold-append}
 use Rattle.cov_history.specs.Verdict.{IsLegal, IsLegalFrom}
@@ -54,14 +54,14 @@ edit-spelt ns t node line v (edits.Move which parent) fits h =
     spelt-mapped (with_parent (node_number ns.nodes which) (node_number ns.nodes parent)) (with-parent (node_number ns.nodes which) (node_number ns.nodes parent)) v.rows h
 edit-spelt ns t node line v (edits.Remove which) fits h = all-filter IsSpelt (λ r. not (nat_eq r.node (node_number ns.nodes which))) v.rows h
 
-edits-spelt : (c : List Bool) (within : Formula ℕ) (ns : Numbers) (t : List (List ℕ)) (node line : ℕ) (v : Variant) (es : List Edit) → list_all fits_edit es ≡ true → AreSpelt v
-    → AreSpelt (fold (applied c) v (map (applying within) (numbered_from ns t node line es)))
+edits-spelt : (c : List Bool) (within : List (Formula ℕ)) (ns : Numbers) (t : List (List ℕ)) (node line : ℕ) (v : Variant) (es : List Edit) → list_all fits_edit es ≡ true → AreSpelt v
+    → AreSpelt (fold (applied c) v (changes_within within (numbered_from ns t node line es)))
 edits-spelt c within ns t node line v [] fits h = h
 edits-spelt c within ns t node line v (e ∷ es) fits h =
     let own = and_parts (fits_edit e) (list_all fits_edit es) fits in
     let d : NumberedEdit = numbered_edit ns t node line e in
-    edits-spelt c within ns t (node_count_after node e) (line_count_after line e) (applied c v (applying within d)) es own.1
-    (either-way AreSpelt (value within c) (edited v d) v (edit-spelt ns t node line v e own.0 h) h)
+    edits-spelt c (rest_within within) ns t (node_count_after node e) (line_count_after line e) (applied c v (applying (first_within within) d)) es own.1
+    (either-way AreSpelt (value (first_within within) c) (edited v d) v (edit-spelt ns t node line v e own.0 h) h)
 
 changes-spelt : (c : List Bool) (ns : Numbers) (v : Variant) (before later : List Command) → IsLegalFrom before later → AreSpelt v → AreSpelt (fold (applied c) v (changes_from ns later))
 changes-spelt c ns v before [] legal h = h
@@ -69,7 +69,7 @@ changes-spelt c ns v before (commands.Commit base choice ambition es ∷ later) 
     let k : Command = commands.Commit base choice ambition es in
     rw (fold-append (applied c) v (commit_changes ns ambition es) (changes_from (numbers_after ns es) later))
     (changes-spelt c (numbers_after ns es) (fold (applied c) v (commit_changes ns ambition es)) (before ++ k ∷ []) later legal.2
-    (edits-spelt c ambition ns (numbers_after ns es).addresses ns.nodes (length ns.addresses) v es (and_parts (fits_expr ambition) (list_all fits_edit es) legal.0).1 h))
+    (edits-spelt c (conditions ambition es) ns (numbers_after ns es).addresses ns.nodes (length ns.addresses) v es (and_parts (fits_expr ambition) (list_all fits_edit es) legal.0).1 h))
 changes-spelt c ns v before (commands.Option name ∷ later) legal h = changes-spelt c ns v (before ++ commands.Option name ∷ []) later legal.2 h
 changes-spelt c ns v before (commands.Constraint expr ∷ later) legal h = changes-spelt c ns v (before ++ commands.Constraint expr ∷ []) later legal.2 h
 changes-spelt c ns v before (commands.Prefer expr ∷ later) legal h = changes-spelt c ns v (before ++ commands.Prefer expr ∷ []) later legal.2 h

@@ -10,9 +10,10 @@ use Rattle.cov_edit.specs.declared.edit.Edit.TheVariants as edits
 use Rattle.cov_edit.specs.declared.command.Command.{Command}
 use Rattle.cov_edit.specs.declared.command.Command.TheVariants as commands
 use Rattle.cov_edit.specs.Numbering.{Numbers, NumberedEdit, OnRows, Inserted, Deleted, no_numbers, node_count_after, line_count_after, anchors_of, numbers_after, numbers_from, numbers_of, numbered_edit, numbered_from, numbered}
+use Rattle.cov_edit.specs.Replay.{conditions, first_within, rest_within, changes_within, commit_changes}
 use Rattle.cov_edit.specs.Variant.{Line, is_line}
 use Rattle.cov_edit.proofs.CallerLemmas.{line_count_after-is}
-use Rattle.cov_history.specs.Kept.{Kept, IsUpTo, new_item, hidden, taken_up, hidden_where, replaced_where, kept_address, new_line, is_row, rows_kept_after, Holding, nothing_held, held_after, held_from, held_by, IsHolding}
+use Rattle.cov_history.specs.Kept.{Kept, IsUpTo, new_item, hidden, taken_up, hidden_where, replaced_where, kept_address, new_line, is_row, rows_kept_after, Holding, nothing_held, held_after, held_with, held_from, held_by, IsHolding}
 
 -- how many lines there are after an edit
 abbrev pub count_after : ℕ → NumberedEdit → ℕ
@@ -164,11 +165,11 @@ stands-edit t n q within held (Deleted file address) table next s = record {
   dated_lines = all-mapped (IsDated q) (IsDated q) (hidden_where (is_line file address) q within) (hidden-dated (is_line file address) q within) held.lines s.dated_lines;
 }
 
-pub stands-edits : (t : List (List ℕ)) (n q : ℕ) (within : Formula ℕ) (held : Holding) (ds : List NumberedEdit) → IsTable t → AreNext t n ds → IsHolding t n q held
-    → IsHolding t (fold count_after n ds) q (fold (held_after q within) held ds)
+pub stands-edits : (t : List (List ℕ)) (n q : ℕ) (within : List (Formula ℕ)) (held : Holding) (ds : List NumberedEdit) → IsTable t → AreNext t n ds → IsHolding t n q held
+    → IsHolding t (fold count_after n ds) q (fold (held_with q) held (changes_within within ds))
 stands-edits t n q within held [] table next s = s
 stands-edits t n q within held (d ∷ ds) table next s =
-    stands-edits t (count_after n d) q within (held_after q within held d) ds table next.1 (stands-edit t n q within held d table next.0 s)
+    stands-edits t (count_after n d) q (rest_within within) (held_after q (first_within within) held d) ds table next.1 (stands-edit t n q (first_within within) held d table next.0 s)
 
 pub stands-later : (t : List (List ℕ)) (n p q : ℕ) (held : Holding) → p ≤ q → IsHolding t n p held → IsHolding t n q held
 stands-later t n p q held h s = record {
@@ -202,11 +203,11 @@ commit-next ns es =
     let e = length-with_lines ns.addresses (anchors_of (length ns.addresses) es) in
     numbered-next ns (numbers_after ns es).addresses ns.nodes (length ns.addresses) (length ns.addresses) es (omega (arith, e))
 
-pub stands-commit : (ns : Numbers) (within : Formula ℕ) (es : List Edit) (q : ℕ) (held : Holding) → IsTable ns.addresses → IsHolding ns.addresses (length ns.addresses) q held
-    → IsHolding (numbers_after ns es).addresses (length (numbers_after ns es).addresses) (q + 1) (fold (held_after (q + 1) within) held (numbered ns es))
+pub stands-commit : (ns : Numbers) (within : List (Formula ℕ)) (es : List Edit) (q : ℕ) (held : Holding) → IsTable ns.addresses → IsHolding ns.addresses (length ns.addresses) q held
+    → IsHolding (numbers_after ns es).addresses (length (numbers_after ns es).addresses) (q + 1) (fold (held_with (q + 1)) held (changes_within within (numbered ns es)))
 stands-commit ns within es q held table s =
     let count = numbered-count ns (numbers_after ns es).addresses ns.nodes (length ns.addresses) (length ns.addresses) es in
-    subst (λ n. IsHolding (numbers_after ns es).addresses n (q + 1) (fold (held_after (q + 1) within) held (numbered ns es)))
+    subst (λ n. IsHolding (numbers_after ns es).addresses n (q + 1) (fold (held_with (q + 1)) held (changes_within within (numbered ns es))))
     (count ∙ sym (length-with_lines ns.addresses (anchors_of (length ns.addresses) es)))
     (stands-edits (numbers_after ns es).addresses (length ns.addresses) (q + 1) within held (numbered ns es) (table-after ns es table) (commit-next ns es) (stands-opened ns es q held s))
 
@@ -216,8 +217,8 @@ pub stands-from : (ns : Numbers) (p q : ℕ) (held : Holding) (history : List Co
     × IsHolding (numbers_from ns history).addresses (length (numbers_from ns history).addresses) p (held_from q held ns history)
 stands-from ns p q held [] e table s = (table, stands-later ns.addresses (length ns.addresses) q p held (omega (arith, e)) s)
 stands-from ns p q held (commands.Commit base choice ambition es ∷ history) e table s =
-    stands-from (numbers_after ns es) p (q + 1) (fold (held_after (q + 1) ambition) held (numbered ns es)) history (omega (arith, e))
-    (table-after ns es table) (stands-commit ns ambition es q held table s)
+    stands-from (numbers_after ns es) p (q + 1) (fold (held_with (q + 1)) held (commit_changes ns ambition es)) history (omega (arith, e))
+    (table-after ns es table) (stands-commit ns (conditions ambition es) es q held table s)
 stands-from ns p q held (commands.Option name ∷ history) e table s =
     stands-from ns p (q + 1) held history (omega (arith, e)) table (stands-later ns.addresses (length ns.addresses) q (q + 1) held (omega arith) s)
 stands-from ns p q held (commands.Constraint expr ∷ history) e table s =

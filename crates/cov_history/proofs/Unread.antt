@@ -1,19 +1,20 @@
 -- Options that a legal history doesn't declare change nothing of its replay, nor of that with a commit more.
-use Rattle.std.proofs.Common.{◌≡◌, ℕ, zero, suc, ◌≤◌, Bool, true, false, cond, List, [], ◌∷◌, ◌++◌, take, refl, sym, ap, ◌∙◌, arith}
-use Rattle.std.specs.List.{fold}
+use Rattle.std.proofs.Common.{◌≡◌, ℕ, zero, suc, ◌≤◌, Bool, true, false, cond, List, [], ◌∷◌, ◌++◌, length, take, refl, sym, ap, ◌∙◌, arith}
+use Rattle.std.specs.List.{fold, AllByRecursion}
 use Rattle.cov_base.specs.Choices.{with_option}
-use Rattle.cov_expr.specs.Formula.{Formula, reach}
+use Rattle.cov_base.proofs.CallerLemmas.{all-map}
+use Rattle.cov_expr.specs.Formula.{Formula, value, reach}
 use Rattle.cov_edit.specs.declared.edit.Edit.{Edit}
 use Rattle.cov_edit.specs.declared.command.Command.{Command}
 use Rattle.cov_edit.specs.declared.command.Command.TheVariants as commands
 use Rattle.cov_edit.specs.History.{option_count}
-use Rattle.cov_edit.specs.Numbering.{numbers_of, numbered}
-use Rattle.cov_edit.specs.Variant.{edited}
-use Rattle.cov_edit.specs.Replay.{replay}
+use Rattle.cov_edit.specs.Numbering.{Numbers, numbers_after, numbers_of}
+use Rattle.cov_edit.specs.Variant.{Variant, edited}
+use Rattle.cov_edit.specs.Replay.{conditions, Change, commit_changes, applied, replay}
+use Rattle.cov_edit.proofs.CallerLemmas.{each_change, each_condition, replay-commit}
 use Rattle.cov_history.specs.Verdict.{IsLegal}
 use Rattle.cov_history.proofs.Meanwhile.{replay-front}
 use Rattle.cov_rules.proofs.CallerLemmas.{value_by_first_options}
-use Rattle.cov_history.proofs.RowChanges.{committed-where}
 
 take-with : (n o : ℕ) (c : List Bool) (a b : Bool) → n ≤ o → take n (with_option c o a) ≡ take n (with_option c o b)
 take-with zero o [] a b h = refl
@@ -27,13 +28,27 @@ pub replay-unread : (history : List Command) → IsLegal history → (o : ℕ) �
 replay-unread history legal o most c =
     replay-front history (with_option c o true) legal ∙ ap (λ d. replay d history) (take-with (option_count history) o c true false most) ∙ sym (replay-front history (with_option c o false) legal)
 
+-- edits apply alike on choices on which their conditions have the same value
+applied-alike : (c d : List Bool) (v : Variant) (changes : List Change) → AllByRecursion (λ change. value change.within c ≡ value change.within d) changes → fold (applied c) v changes ≡ fold (applied d) v changes
+applied-alike c d v [] h = refl
+applied-alike c d v (change ∷ changes) h =
+    ap (λ b. fold (applied c) (cond b (edited v change.edit) v) changes) h.0 ∙ applied-alike c d (applied d v change) changes h.1
+
+conditions-front : (n : ℕ) (c : List Bool) (within : List (Formula ℕ)) → AllByRecursion (λ w. reach w ≤ n) within → AllByRecursion (λ w. value w c ≡ value w (take n c)) within
+conditions-front n c within low = all-map (λ w. reach w ≤ n) (λ w. value w c ≡ value w (take n c)) (λ w reached. sym (value_by_first_options n w c reached)) within low
+
 -- only the options that a legal history declares count in its replay with a commit more
 pub commit-front : (history : List Command) (base : ℕ) (choice : List Bool) (ambition : Formula ℕ) (es : List Edit) → IsLegal history → reach ambition ≤ option_count history → (c : List Bool)
     → replay c (history ++ commands.Commit base choice ambition es ∷ []) ≡ replay (take (option_count history) c) (history ++ commands.Commit base choice ambition es ∷ [])
 commit-front history base choice ambition es legal low c =
-    committed-where c history base choice ambition es
-    ∙ (λ i. cond (sym (value_by_first_options (option_count history) ambition c low) i) (fold edited (replay-front history c legal i) (numbered (numbers_of history) es)) (replay-front history c legal i))
-    ∙ sym (committed-where (take (option_count history) c) history base choice ambition es)
+    let n : ℕ = option_count history in
+    let ns : Numbers = numbers_of history in
+    replay-commit c history base choice ambition es
+    ∙ applied-alike c (take n c) (replay c history) (commit_changes ns ambition es)
+    (each_change (λ w. value w c ≡ value w (take n c)) ambition ns (numbers_after ns es).addresses ns.nodes (length ns.addresses) es
+    (conditions-front n c (conditions ambition es) (each_condition (λ w. reach w ≤ n) ambition es low)))
+    ∙ ap (λ v. fold (applied (take n c)) v (commit_changes ns ambition es)) (replay-front history c legal)
+    ∙ sym (replay-commit (take n c) history base choice ambition es)
 
 pub commit-unread : (history : List Command) (base : ℕ) (choice : List Bool) (ambition : Formula ℕ) (es : List Edit) → IsLegal history → reach ambition ≤ option_count history
     → (o : ℕ) → option_count history ≤ o → (c : List Bool)

@@ -14,10 +14,11 @@ use Rattle.cov_edit.specs.declared.edit.Edit.{Edit}
 use Rattle.cov_edit.specs.declared.edit.Edit.TheVariants as edits
 use Rattle.cov_edit.specs.declared.command.Command.{Command}
 use Rattle.cov_edit.specs.declared.command.Command.TheVariants as commands
-use Rattle.cov_edit.specs.Numbering.{Numbers, node_number, line_number, node_count_after, line_count_after, nodes_made, anchors_of, no_numbers, numbers_after, numbers_from, numbers_of, numbered_edit, numbered_from, numbered}
+use Rattle.cov_edit.specs.Numbering.{Numbers, node_number, line_number, node_count_after, line_count_after, nodes_made, anchors_of, no_numbers, numbers_after, numbers_from, numbers_of, numbered_edit, numbered_from}
+use Rattle.cov_edit.specs.Replay.{conditions, first_within, rest_within, changes_within, commit_changes}
 use Rattle.cov_edit.specs.Variant.{Line, is_line}
 use Rattle.cov_edit.proofs.CallerLemmas.{node_count_after-is, line_count_after-is}
-use Rattle.cov_history.specs.Kept.{Kept, hidden, taken_up, hidden_where, replaced_where, kept_address, kept_number, new_item, new_line, kept_after, is_row, rows_kept_after, entries_after, Holding, nothing_held, held_after, held_from, kept_of, file_kept, is_kept_anchor}
+use Rattle.cov_history.specs.Kept.{Kept, hidden, taken_up, hidden_where, replaced_where, kept_address, kept_number, new_item, new_line, kept_with, is_row, rows_kept_after, entries_after, entries_with, Holding, nothing_held, held_with, held_from, kept_of, file_kept, is_kept_anchor}
 use Rattle.cov_history.specs.Files.{file_order}
 use Rattle.cov_history.specs.FileOfLine.{new_file, new_file_of_line, file_of_line_from, file_of_line_in, AreFilesOfLines, IsWhole}
 use Rattle.cov_history.proofs.Appends.{lines-edits, rows-edits}
@@ -54,28 +55,28 @@ anchor-hidden test q within file line ks =
     ∙ any-mapped kept_number line (file_kept file ks))
 
 -- edits keep each line in its file, and put each new one into its own
-file_of_line-edits : (q : ℕ) (within : Formula ℕ) (ns : Numbers) (t : List (List ℕ)) (node line m : ℕ) (es : List Edit) (ks : List (Kept Line)) (file_of_line : List ℕ)
+file_of_line-edits : (q : ℕ) (within : List (Formula ℕ)) (ns : Numbers) (t : List (List ℕ)) (node line m : ℕ) (es : List Edit) (ks : List (Kept Line)) (file_of_line : List ℕ)
     → IsTable t → line + length (anchors_of m es) ≤ length t → length file_of_line ≡ line → AreFilesOfLines ks 0 file_of_line
-    → AreFilesOfLines (fold (kept_after q within) ks (numbered_from ns t node line es)) 0 (file_of_line ++ new_file_of_line ns.nodes es)
+    → AreFilesOfLines (fold (kept_with q) ks (changes_within within (numbered_from ns t node line es))) 0 (file_of_line ++ new_file_of_line ns.nodes es)
 file_of_line-edits q within ns t node line m [] ks file_of_line table low e h = subst (AreFilesOfLines ks 0) (sym (append-nil file_of_line)) h
-file_of_line-edits q within ns t node line m (edits.New kind parent name ∷ es) ks file_of_line table low e h = file_of_line-edits q within ns t (node + 1) line m es ks file_of_line table low e h
-file_of_line-edits q within ns t node line m (edits.Rename which name ∷ es) ks file_of_line table low e h = file_of_line-edits q within ns t node line m es ks file_of_line table low e h
-file_of_line-edits q within ns t node line m (edits.Move which parent ∷ es) ks file_of_line table low e h = file_of_line-edits q within ns t node line m es ks file_of_line table low e h
-file_of_line-edits q within ns t node line m (edits.Remove which ∷ es) ks file_of_line table low e h = file_of_line-edits q within ns t node line m es ks file_of_line table low e h
+file_of_line-edits q within ns t node line m (edits.New kind parent name ∷ es) ks file_of_line table low e h = file_of_line-edits q (rest_within within) ns t (node + 1) line m es ks file_of_line table low e h
+file_of_line-edits q within ns t node line m (edits.Rename which name ∷ es) ks file_of_line table low e h = file_of_line-edits q (rest_within within) ns t node line m es ks file_of_line table low e h
+file_of_line-edits q within ns t node line m (edits.Move which parent ∷ es) ks file_of_line table low e h = file_of_line-edits q (rest_within within) ns t node line m es ks file_of_line table low e h
+file_of_line-edits q within ns t node line m (edits.Remove which ∷ es) ks file_of_line table low e h = file_of_line-edits q (rest_within within) ns t node line m es ks file_of_line table low e h
 file_of_line-edits q within ns t node line m (edits.Delete file which ∷ es) ks file_of_line table low e h =
     let test : Line → Bool = is_line (node_number ns.nodes file) (address_in t (line_number (length ns.addresses) which)) in
-    file_of_line-edits q within ns t node line m es (map (hidden_where test q within) ks) file_of_line table low e
-    (files_of_lines-stay ks (map (hidden_where test q within) ks) (λ f l i. anchor-hidden test q within f l ks ∙ i) 0 file_of_line h)
+    file_of_line-edits q (rest_within within) ns t node line m es (map (hidden_where test q (first_within within)) ks) file_of_line table low e
+    (files_of_lines-stay ks (map (hidden_where test q (first_within within)) ks) (λ f l i. anchor-hidden test q (first_within within) f l ks ∙ i) 0 file_of_line h)
 file_of_line-edits q within ns t node line m (edits.Insert file after text ∷ es) ks file_of_line table low e h =
     let f : ℕ = node_number ns.nodes file in
-    let new : Kept Line = new_line q within f (address_in t (line + 1)) text in
+    let new : Kept Line = new_line q (first_within within) f (address_in t (line + 1)) text in
     let next : suc line ≡ line + 1 = omega arith in
     let place : line + 1 ≡ 0 + length file_of_line + 1 = omega (arith, e) in
     let number : kept_number new ≡ line + 1 =
-    subst (λ n. kept_number (new_line q within f (address_in t n) text) ≡ n) next (line_of-in t line table (omega (arith, low))) in
+    subst (λ n. kept_number (new_line q (first_within within) f (address_in t n) text) ≡ n) next (line_of-in t line table (omega (arith, low))) in
     let more : length (file_of_line ++ f ∷ []) ≡ line + 1 = (let all = length-append file_of_line (f ∷ []) in omega (arith, all, e)) in
-    subst (AreFilesOfLines (fold (kept_after q within) (placed kept_address new ks) (numbered_from ns t node (line + 1) es)) 0) (append_assoc file_of_line (f ∷ []) (new_file_of_line ns.nodes es))
-    (file_of_line-edits q within ns t node (line + 1) m es (placed kept_address new ks) (file_of_line ++ f ∷ []) table (omega (arith, low)) more
+    subst (AreFilesOfLines (fold (kept_with q) (placed kept_address new ks) (changes_within (rest_within within) (numbered_from ns t node (line + 1) es))) 0) (append_assoc file_of_line (f ∷ []) (new_file_of_line ns.nodes es))
+    (file_of_line-edits q (rest_within within) ns t node (line + 1) m es (placed kept_address new ks) (file_of_line ++ f ∷ []) table (omega (arith, low)) more
     (file_of_line-more (placed kept_address new ks) f 0 file_of_line
     (files_of_lines-stay ks (placed kept_address new ks) (λ g l i. anchor-stays g l new ks i) 0 file_of_line h)
     (anchor-new f (0 + length file_of_line + 1) new ks refl (number ∙ place))))
@@ -107,7 +108,7 @@ file_of_line-along q ns held (commands.Default option on ∷ history) file_of_li
 file_of_line-along q ns held (commands.Commit base choice ambition es ∷ history) file_of_line table e h =
     let m : ℕ = length ns.addresses in
     let t : List (List ℕ) = (numbers_after ns es).addresses in
-    let after : Holding = fold (held_after (q + 1) ambition) held (numbered ns es) in
+    let after : Holding = fold (held_with (q + 1)) held (commit_changes ns ambition es) in
     let later : List ℕ = file_of_line_from (ns.nodes + nodes_made es) history in
     let grown : length t ≡ m + length (anchors_of m es) = length-with_lines ns.addresses (anchors_of m es) in
     let count : length (file_of_line ++ new_file_of_line ns.nodes es) ≡ length t =
@@ -115,8 +116,8 @@ file_of_line-along q ns held (commands.Commit base choice ambition es ∷ histor
     subst (λ xs. AreFilesOfLines (held_from (q + 1) after (numbers_after ns es) history).lines 0 xs × (length xs ≡ length (numbers_from (numbers_after ns es) history).addresses))
     (append_assoc file_of_line (new_file_of_line ns.nodes es) later)
     (file_of_line-along (q + 1) (numbers_after ns es) after history (file_of_line ++ new_file_of_line ns.nodes es) (table-after ns es table) count
-    (subst (λ ks. AreFilesOfLines ks 0 (file_of_line ++ new_file_of_line ns.nodes es)) (sym (lines-edits (q + 1) ambition held (numbered ns es)))
-    (file_of_line-edits (q + 1) ambition ns t ns.nodes m m es held.lines file_of_line (table-after ns es table) (omega (arith, grown)) e h)))
+    (subst (λ ks. AreFilesOfLines ks 0 (file_of_line ++ new_file_of_line ns.nodes es)) (sym (lines-edits (q + 1) held (commit_changes ns ambition es)))
+    (file_of_line-edits (q + 1) (conditions ambition es) ns t ns.nodes m m es held.lines file_of_line (table-after ns es table) (omega (arith, grown)) e h)))
 
 -- whether there is a row of a node
 abbrev has_row_of : ℕ → List (Kept Row) → Bool
@@ -189,13 +190,13 @@ rows-edit q within ns t node line (edits.Move which parent) ks h =
     λ x above low. row-stays q within x ks (Moved (node_number ns.nodes which) (node_number ns.nodes parent)) (h x above low)
 rows-edit q within ns t node line (edits.Remove which) ks h = λ x above low. row-stays q within x ks (Removed (node_number ns.nodes which)) (h x above low)
 
-rows-more : (q : ℕ) (within : Formula ℕ) (ns : Numbers) (t : List (List ℕ)) (node line : ℕ) (es : List Edit) (ks : List (Kept Row)) → HasRows node ks
-    → HasRows (node + nodes_made es) (fold (entries_after q within) ks (numbered_from ns t node line es))
+rows-more : (q : ℕ) (within : List (Formula ℕ)) (ns : Numbers) (t : List (List ℕ)) (node line : ℕ) (es : List Edit) (ks : List (Kept Row)) → HasRows node ks
+    → HasRows (node + nodes_made es) (fold (entries_with q) ks (changes_within within (numbered_from ns t node line es)))
 rows-more q within ns t node line [] ks h = subst (λ n. HasRows n ks) (let same : node ≡ node + 0 = omega arith in same) h
 rows-more q within ns t node line (e ∷ es) ks h =
-    let after : List (Kept Row) = entries_after q within ks (numbered_edit ns t node line e) in
-    subst (λ n. HasRows n (fold (entries_after q within) after (numbered_from ns t (node_count_after node e) (line_count_after line e) es))) (sym (node_count_after-is node (nodes_made es) e))
-    (rows-more q within ns t (node_count_after node e) (line_count_after line e) es after (rows-edit q within ns t node line e ks h))
+    let after : List (Kept Row) = entries_after q (first_within within) ks (numbered_edit ns t node line e) in
+    subst (λ n. HasRows n (fold (entries_with q) after (changes_within (rest_within within) (numbered_from ns t (node_count_after node e) (line_count_after line e) es)))) (sym (node_count_after-is node (nodes_made es) e))
+    (rows-more q (rest_within within) ns t (node_count_after node e) (line_count_after line e) es after (rows-edit q (first_within within) ns t node line e ks h))
 
 rows-along : (q : ℕ) (ns : Numbers) (held : Holding) (history : List Command) → HasRows ns.nodes held.rows → HasRows (numbers_from ns history).nodes (held_from q held ns history).rows
 rows-along q ns held [] h = h
@@ -204,9 +205,9 @@ rows-along q ns held (commands.Constraint expr ∷ history) h = rows-along (q + 
 rows-along q ns held (commands.Prefer expr ∷ history) h = rows-along (q + 1) ns held history h
 rows-along q ns held (commands.Default option on ∷ history) h = rows-along (q + 1) ns held history h
 rows-along q ns held (commands.Commit base choice ambition es ∷ history) h =
-    rows-along (q + 1) (numbers_after ns es) (fold (held_after (q + 1) ambition) held (numbered ns es)) history
-    (subst (HasRows (ns.nodes + nodes_made es)) (sym (rows-edits (q + 1) ambition held (numbered ns es)))
-    (rows-more (q + 1) ambition ns (numbers_after ns es).addresses ns.nodes (length ns.addresses) es held.rows h))
+    rows-along (q + 1) (numbers_after ns es) (fold (held_with (q + 1)) held (commit_changes ns ambition es)) history
+    (subst (HasRows (ns.nodes + nodes_made es)) (sym (rows-edits (q + 1) held (commit_changes ns ambition es)))
+    (rows-more (q + 1) (conditions ambition es) ns (numbers_after ns es).addresses ns.nodes (length ns.addresses) es held.rows h))
 
 none-made : HasRows 0 []
 none-made node above low = absurd (omega (arith, above, low))

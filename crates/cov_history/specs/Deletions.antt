@@ -35,9 +35,9 @@ module _ (history : List Command) where
   abbrev pub delete_line : Deletion → ℕ
   delete_line d = line_number (lines_before history) d.line
 
-  -- what is held before the delete, if the edits before it apply within the ambition
-  abbrev pub before_delete : Formula ℕ → Deletion → Holding
-  before_delete ambition d = held_amid history ambition (all_with d) d.begun
+  -- what is held before the delete, if each edit applies within the expression at its place
+  abbrev pub before_delete : List (Formula ℕ) → Deletion → Holding
+  before_delete within d = held_amid history within (all_with d) d.begun
 
   -- what is held after the delete, by what is held before it, if it applies within an expression
   abbrev pub behind_delete : Holding → Formula ℕ → Deletion → Holding

@@ -9,8 +9,9 @@ use Rattle.cov_edit.specs.declared.edit.Edit.{Edit}
 use Rattle.cov_edit.specs.declared.edit.Edit.TheVariants as edits
 use Rattle.cov_edit.specs.declared.command.Command.{Command}
 use Rattle.cov_edit.specs.Numbering.{NumberedEdit, node_number, line_number, nodes_made, anchors_of, numbers_after, numbers_of, numbered_edit, numbered_from}
+use Rattle.cov_edit.specs.Replay.{changes_within}
 use Rattle.cov_edit.specs.Variant.{Line}
-use Rattle.cov_history.specs.Kept.{Kept, new_line, Holding, held_after, held_by, IsHolding}
+use Rattle.cov_history.specs.Kept.{Kept, new_line, Holding, held_after, held_with, held_by, IsHolding}
 
 -- an insert, the edits of its commit before it, and those after it
 pub record Insertion : Type 0 where
@@ -45,9 +46,9 @@ module _ (history : List Command) where
   abbrev pub lines_amid : List Edit → ℕ
   lines_amid begun = lines_before + length (anchors_of lines_before begun)
 
-  -- what is held when the first of a commit's edits are done, if all apply within its ambition
-  abbrev pub held_amid : Formula ℕ → List Edit → List Edit → Holding
-  held_amid ambition es begun = fold (held_after (length history + 1) ambition) (held_by history) (numbered_amid es begun)
+  -- what is held when the first of a commit's edits are done, each of which applies within the expression at its place
+  abbrev pub held_amid : List (Formula ℕ) → List Edit → List Edit → Holding
+  held_amid within es begun = fold (held_with (length history + 1)) (held_by history) (changes_within within (numbered_amid es begun))
 
   -- what may be held when the first of a commit's edits are done, whatever each applies within: it stands in order, has only
   -- lines that are made so far, and no change beyond the commit
@@ -79,9 +80,9 @@ module _ (history : List Command) where
   abbrev pub line_with : Formula ℕ → Insertion → Kept Line
   line_with on i = new_line (length history + 1) on (file_of i) (address_in (table_with i) (lines_begun i + 1)) i.text
 
-  -- what is held before the insert, if the edits before it apply within the ambition
-  abbrev pub held_before : Formula ℕ → Insertion → Holding
-  held_before ambition i = held_amid ambition (all_edits i) i.begun
+  -- what is held before the insert, if each edit applies within the expression at its place
+  abbrev pub held_before : List (Formula ℕ) → Insertion → Holding
+  held_before within i = held_amid within (all_edits i) i.begun
 
   -- what is held after the insert, by what is held before it, if it applies within an expression
   abbrev pub held_behind : Holding → Formula ℕ → Insertion → Holding

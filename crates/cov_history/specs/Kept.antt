@@ -6,7 +6,8 @@ use Rattle.cov_base.specs.Rows.{Row, RowChange, Created, Renamed, Moved, Removed
 use Rattle.cov_expr.specs.Formula.{Formula, False, Not, And, value}
 use Rattle.cov_edit.specs.declared.command.Command.{Command}
 use Rattle.cov_edit.specs.declared.command.Command.TheVariants as commands
-use Rattle.cov_edit.specs.Numbering.{Numbers, NumberedEdit, OnRows, Inserted, Deleted, no_numbers, numbers_after, numbered}
+use Rattle.cov_edit.specs.Numbering.{Numbers, NumberedEdit, OnRows, Inserted, Deleted, no_numbers, numbers_after}
+use Rattle.cov_edit.specs.Replay.{Change, commit_changes}
 use Rattle.cov_edit.specs.Variant.{Variant, Line, is_line}
 
 -- a row or a line, and the expression on whose choices it is visible from each position of a change on, the newest first
@@ -109,11 +110,23 @@ nothing_held = record { rows = []; lines = [] }
 abbrev pub held_after : ℕ → Formula ℕ → Holding → NumberedEdit → Holding
 held_after q within held d = record { rows = entries_after q within held.rows d; lines = kept_after q within held.lines d }
 
+-- what is held after an edit, from position q on
+abbrev pub held_with : ℕ → Holding → Change → Holding
+held_with q held change = held_after q change.within held change.edit
+
+-- the lines after an edit, from position q on
+abbrev pub kept_with : ℕ → List (Kept Line) → Change → List (Kept Line)
+kept_with q ks change = kept_after q change.within ks change.edit
+
+-- the rows after an edit, from position q on
+abbrev pub entries_with : ℕ → List (Kept Row) → Change → List (Kept Row)
+entries_with q ks change = entries_after q change.within ks change.edit
+
 -- what is held after more of a history, of which q commands stand before
 abbrev pub held_from : ℕ → Holding → Numbers → List Command → Holding
 held_from q held ns [] = held
 held_from q held ns (commands.Commit base choice ambition es ∷ history) =
-    held_from (q + 1) (fold (held_after (q + 1) ambition) held (numbered ns es)) (numbers_after ns es) history
+    held_from (q + 1) (fold (held_with (q + 1)) held (commit_changes ns ambition es)) (numbers_after ns es) history
 held_from q held ns (_ ∷ history) = held_from (q + 1) held ns history
 
 -- what a history holds

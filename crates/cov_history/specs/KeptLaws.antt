@@ -8,16 +8,16 @@ use Rattle.cov_expr.specs.Formula.{Formula}
 use Rattle.cov_edit.specs.declared.edit.Edit.{Edit}
 use Rattle.cov_edit.specs.declared.command.Command.{Command}
 use Rattle.cov_edit.specs.declared.command.Command.TheVariants as commands
-use Rattle.cov_edit.specs.Numbering.{numbers_of, numbered}
+use Rattle.cov_edit.specs.Numbering.{numbers_of}
 use Rattle.cov_edit.specs.Variant.{line_address, lines_of}
 use Rattle.cov_edit.specs.Touched.{AreRising}
 use Rattle.cov_view.specs.References.{is_dir_kind}
 use Rattle.cov_history.specs.FileNodes.{files_made, files_from, files_of, NamesFile}
-use Rattle.cov_edit.specs.Replay.{replay}
-use Rattle.cov_history.specs.Kept.{Holding, kept_number, kept_after, entries_after, held_from, held_by, kept_of, entries_of, lines_seen, rows_seen, variant_seen, file_kept, is_kept_anchor, IsHolding}
+use Rattle.cov_edit.specs.Replay.{first_within, within_behind, commit_changes, replay}
+use Rattle.cov_history.specs.Kept.{Holding, kept_number, kept_with, entries_with, held_from, held_by, kept_of, entries_of, lines_seen, rows_seen, variant_seen, file_kept, is_kept_anchor, IsHolding}
 use Rattle.cov_history.specs.Reach.{IsHeldInReach}
 use Rattle.cov_history.specs.Verdict.{IsLegal, verdict}
-use Rattle.cov_history.specs.Sessions.{Session, IsGood, has_commit}
+use Rattle.cov_history.specs.Sessions.{Session, within_of, IsGood, has_commit}
 use Rattle.cov_history.specs.Files.{dated_number, file_dated, file_order, as_shown, dated_shown, Takes}
 use Rattle.cov_history.specs.Deletions.{Deletion, all_with, delete_file, delete_line, before_delete, behind_delete, hidden_by}
 use Rattle.cov_history.specs.Insertions.{Insertion, all_edits, lines_begun, file_of, anchor_of, line_with, held_before, held_behind}
@@ -57,12 +57,12 @@ HoldingGoesOn = (history later : List Command) → held_by (history ++ later) �
 -- a commit changes the lines edit by edit, from its own position on
 abbrev pub CommitKeepsLines : Type 0
 CommitKeepsLines = (history : List Command) (base : ℕ) (choice : List Bool) (ambition : Formula ℕ) (es : List Edit)
-    → kept_of (history ++ commands.Commit base choice ambition es ∷ []) ≡ fold (kept_after (length history + 1) ambition) (kept_of history) (numbered (numbers_of history) es)
+    → kept_of (history ++ commands.Commit base choice ambition es ∷ []) ≡ fold (kept_with (length history + 1)) (kept_of history) (commit_changes (numbers_of history) ambition es)
 
 -- a commit changes the rows edit by edit, from its own position on
 abbrev pub CommitKeepsRows : Type 0
 CommitKeepsRows = (history : List Command) (base : ℕ) (choice : List Bool) (ambition : Formula ℕ) (es : List Edit)
-    → entries_of (history ++ commands.Commit base choice ambition es ∷ []) ≡ fold (entries_after (length history + 1) ambition) (entries_of history) (numbered (numbers_of history) es)
+    → entries_of (history ++ commands.Commit base choice ambition es ∷ []) ≡ fold (entries_with (length history + 1)) (entries_of history) (commit_changes (numbers_of history) ambition es)
 
 -- at each position, the lines of a file in the replay are those seen of the file's kept lines
 abbrev pub FileFollowsReplay : Type 0
@@ -81,12 +81,13 @@ EditsStand = (history : List Command)
     → IsHeldAmid history (begun ++ e ∷ later) begun held
     → IsHeldAmid history (begun ++ e ∷ later) (begun ++ e ∷ []) (held_next history (begun ++ e ∷ later) begun held on e))
 
--- what is held when the first of a commit's edits are done, all within its ambition, stands, and goes on by one edit more
+-- what is held when the first of a commit's edits are done, each within the expression at its place, stands, and goes on by
+-- one edit more, within the next expression
 abbrev pub AmidGoesOn : Type 0
-AmidGoesOn = (history : List Command) (ambition : Formula ℕ) (begun later : List Edit)
-    → IsHeldAmid history (begun ++ later) begun (held_amid history ambition (begun ++ later) begun)
-    × ((e : Edit) → held_amid history ambition (begun ++ later) (begun ++ e ∷ [])
-    ≡ held_next history (begun ++ later) begun (held_amid history ambition (begun ++ later) begun) ambition e)
+AmidGoesOn = (history : List Command) (within : List (Formula ℕ)) (begun later : List Edit)
+    → IsHeldAmid history (begun ++ later) begun (held_amid history within (begun ++ later) begun)
+    × ((e : Edit) → held_amid history within (begun ++ later) (begun ++ e ∷ [])
+    ≡ held_next history (begun ++ later) begun (held_amid history within (begun ++ later) begun) (first_within (within_behind begun within)) e)
 
 -- an insert puts its line directly after the anchor, or first where that is the head, whatever it and the edits before it
 -- apply within
@@ -117,7 +118,7 @@ AnchorsStay = (history : List Command) (held : Holding) (on : Formula ℕ) (i : 
 -- each insert of a good session has its anchor kept when it is its turn, whatever stands after the base
 abbrev pub AcceptedIsAnchored : Type 0
 AcceptedIsAnchored = (history : List Command) (s : Session) (i : Insertion) → IsLegal history → IsGood history s → all_edits i ≡ s.edits
-    → is_kept_anchor (file_of history i) (anchor_of history i) (held_before history s.ambition i).lines ≡ true
+    → is_kept_anchor (file_of history i) (anchor_of history i) (held_before history (within_of s) i).lines ≡ true
 
 -- commands without a commit change nothing of what is held
 abbrev pub DeclarationsHoldNothing : Type 0
@@ -167,7 +168,7 @@ DeleteInOneFile = (history : List Command) (held : Holding) (on : Formula ℕ) (
 -- each delete of a good session has its line in its file when it is its turn, whatever stands after the base
 abbrev pub AcceptedIsThere : Type 0
 AcceptedIsThere = (history : List Command) (s : Session) (d : Deletion) → IsLegal history → IsGood history s → all_with d ≡ s.edits
-    → has_line (delete_line history d) (file_order (delete_file history d) (before_delete history s.ambition d).lines) ≡ true
+    → has_line (delete_line history d) (file_order (delete_file history d) (before_delete history (within_of s) d).lines) ≡ true
 
 -- a delete leaves the order of each file, and what is an anchor in it
 abbrev pub DeleteKeepsOrder : Type 0
@@ -177,8 +178,8 @@ DeleteKeepsOrder = (history : List Command) (held : Holding) (on : Formula ℕ) 
 
 -- when the first of a commit's edits are done, each file has different lines, none of them the head
 abbrev pub LinesAreDistinct : Type 0
-LinesAreDistinct = (history : List Command) (ambition : Formula ℕ) (begun later : List Edit) (file : ℕ)
-    → AreLines (file_order file (held_amid history ambition (begun ++ later) begun).lines)
+LinesAreDistinct = (history : List Command) (within : List (Formula ℕ)) (begun later : List Edit) (file : ℕ)
+    → AreLines (file_order file (held_amid history within (begun ++ later) begun).lines)
 
 -- the files of a history rise, and are nodes that it made, not the root
 abbrev pub FilesRise : Type 0
@@ -213,4 +214,4 @@ TurnNamesFile = (history : List Command) (s : Session) (begun later : List Edit)
 -- when the first of a good session's edits are done, the file of each held line is one of the history, or one that these edits make
 abbrev pub AmidIsInFiles : Type 0
 AmidIsInFiles = (history : List Command) (s : Session) (begun later : List Edit) → IsLegal history → IsGood history s → begun ++ later ≡ s.edits
-    → AllByRecursion (λ k. has_node k.item.file (files_of history ++ files_made (numbers_of history).nodes begun) ≡ true) (held_amid history s.ambition s.edits begun).lines
+    → AllByRecursion (λ k. has_node k.item.file (files_of history ++ files_made (numbers_of history).nodes begun) ≡ true) (held_amid history (within_of s) s.edits begun).lines

@@ -8,7 +8,7 @@ use Rattle.cov_edit.specs.declared.command.Command.TheVariants as commands
 use Rattle.cov_edit.specs.History.{option_count, is_valid_in}
 use Rattle.cov_edit.specs.Numbering.{numbers_of, numbered}
 use Rattle.cov_edit.specs.Variant.{Variant, edited}
-use Rattle.cov_edit.specs.Replay.{replay}
+use Rattle.cov_edit.specs.Replay.{conditions, replay}
 use Rattle.cov_view.specs.Refusals.{first_refused}
 
 -- edits on the variant of a choice at a base, made within an ambition
@@ -17,6 +17,10 @@ pub record Session : Type 0 where
   pub choice : List Bool
   pub ambition : Formula ℕ
   pub edits : List Edit
+
+-- where each edit applies
+abbrev pub within_of : Session → List (Formula ℕ)
+within_of s = conditions s.ambition s.edits
 
 -- the variant that a session sees: that of its choice at its base, with its own edits
 abbrev pub seen : Session → List Command → Variant

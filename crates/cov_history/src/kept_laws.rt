@@ -62,7 +62,7 @@ pub fn edits_stand()
     ensures { EditsStand }
 {}
 
-/// What is held amid the edits of a commit, all within its ambition, stands, and goes on by one edit more.
+/// What is held amid the edits of a commit, each where it applies, stands, and goes on by one edit more.
 pub fn amid_goes_on()
     ensures { AmidGoesOn }
 {}

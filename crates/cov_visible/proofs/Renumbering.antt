@@ -1,7 +1,5 @@
 -- Files that get other nodes one after another.
-use Rattle.std.proofs.Common.{◌≡◌, ℕ, zero, suc, ◌+◌, ◌<◌, ◌≤◌, List, [], ◌∷◌, length, take, get_or, set, take_all, refl, sym, ap, subst, ◌∙◌, arith}
-use Rattle.std.specs.List.{AllZip}
-use Rattle.std.proofs.lemmas.List.{length-set}
+use Rattle.std.proofs.Common.{◌≡◌, ℕ, zero, suc, ◌+◌, ◌<◌, ◌≤◌, List, [], ◌∷◌, length, take, get_or, set, take_all, subst, arith}
 use Rattle.cov_visible.specs.declared.file_part.FilePart.{FilePart}
 use Rattle.cov_visible.specs.Renumbered.{ArePartsRenumbered, IsRenumberedPart}
 

@@ -1,5 +1,5 @@
 -- The changes of rows that edits make, one after another.
-use Rattle.std.proofs.Common.{◌≡◌, ℕ, ◌+◌, ◌-◌, ◌<◌, ◌≤◌, false, ◌||◌, nat_eq, List, [], ◌∷◌, ◌++◌, length, get_or, append-nil, append_assoc, refl, sym, ap, subst, ◌∙◌, arith}
+use Rattle.std.proofs.Common.{◌≡◌, ℕ, ◌+◌, ◌<◌, ◌≤◌, false, ◌||◌, nat_eq, List, [], ◌∷◌, ◌++◌, length, get_or, append-nil, append_assoc, refl, sym, ap, subst, ◌∙◌, arith}
 use Rattle.std.specs.List.{AllByRecursion}
 use Rattle.std.proofs.lemmas.Bool.Decides.{nat_tests}
 use Rattle.cov_base.specs.Rows.{RowChange, has_node}
@@ -10,7 +10,7 @@ use Rattle.cov_dd.specs.Diagrams.{diagram_size, Extends}
 use Rattle.cov_edit.proofs.CallerLemmas.{rest_of, opened}
 use Rattle.cov_tree.specs.declared.entry.Entry.{Entry}
 use Rattle.cov_tree.specs.Changes.{Makes, nodes_after, kinds_after}
-use Rattle.cov_tree.specs.Dated.{Dated, planned}
+use Rattle.cov_tree.specs.Dated.{Dated}
 use Rattle.cov_visible.specs.RowPlans.{row_changes, AlsoMakes, AreWithin, nodes_after_all, kinds_after_all, MakeNewNodes}
 use Rattle.cov_visible.specs.declared.resolved_edit.ResolvedEdit.{ResolvedEdit}
 use Rattle.cov_visible.specs.declared.resolved_edit.ResolvedEdit.TheVariants as resolved

@@ -1,12 +1,12 @@
 // The numbers and nodes of a commit's edits, found once.
-ghost use Rattle.std.specs.Prelude.{◌≡◌, ◌<◌, ◌≤◌, ℕ, [], ◌∷◌, map, IfOk, OnOk};
+ghost use Rattle.std.specs.Prelude.{◌≡◌, ◌<◌, ◌≤◌, ◌++◌, ℕ, [], ◌∷◌, map, length, IfOk, OnOk};
 ghost use Rattle.std.specs.List.{AllByRecursion};
 ghost use Rattle.cov_dd.specs.Diagrams.{diagram_size, Extends};
 ghost use Rattle.cov_edit.specs.Touched.{AreRising};
 ghost use Rattle.cov_visible.specs.Parts.{part_node};
 ghost use Rattle.cov_visible.specs.Staging.{AreNear, AreLow};
-ghost use Rattle.cov_visible.specs.Nodes.{old_node, HasNodesIn};
-ghost use Rattle.cov_visible.specs.Resolved.{made_after, IsResolvedIn, AreResolvedIn, HaveNumbers};
+ghost use Rattle.cov_visible.specs.Nodes.{own_node, old_node, line_node, HasNodesIn};
+ghost use Rattle.cov_visible.specs.Resolved.{insert_nodes, made_after, AreOfTable, IsResolvedIn, AreResolvedIn, AreResolvedWith, HaveNumbers};
 
 use crate::FilePart;
 use crate::number::{line_number, node_number};
@@ -18,14 +18,12 @@ use cov_edit::Edit;
 use cov_vis::take;
 use std::alloc::Global;
 
-/// Where a commit's edits are resolved: the position after it, how many nodes and lines were made before it, and the node of
-/// its ambition.
+/// Where a commit's edits are resolved: the position after it, and how many nodes and lines were made before it.
 #[derive(Drop)]
 pub struct CommitContext {
     pub at: Position,
     pub nodes: u32,
     pub lines: u32,
-    pub ambition: Node,
 }
 
 /// How many nodes and lines there are before an edit.
@@ -35,18 +33,21 @@ pub(crate) struct MadeBefore {
     pub(crate) lines: u32,
 }
 
-/// The edits of a commit by numbers: what is inserted is visible where the ambition is, what is deleted where it was and the
-/// ambition isn't, and rows change where the ambition is.
+/// The edits of a commit by numbers, with a node for each edit that says where it applies: what is inserted is visible there,
+/// what is deleted is left visible where it was and not there, and rows change there. A line that the same commit inserts was
+/// visible where its insert applies.
 pub fn resolve(
     alloc: Global,
     table: &mut Table,
     files: &[FilePart],
     context: &CommitContext,
+    conditions: &[Node],
     edits: &[Edit],
 ) -> Result<Vec<ResolvedEdit>, Memory>
     requires rising { AreRising (map part_node files.now) }
     requires nodes { AllByRecursion (HasNodesIn table.old context.now.at) files.now }
-    requires ambition { context.now.ambition < diagram_size table.old }
+    requires each { length conditions.now ≡ length edits.now }
+    requires conditions { AreOfTable table.old conditions.now }
     requires near { AreNear context.now.nodes edits.now }
     requires low { AreLow context.now.lines edits.now }
     requires few { HaveNumbers (record {
@@ -55,12 +56,58 @@ pub fn resolve(
     }) edits.now }
     ensures extends { Extends table.old table.new }
     ensures resolved { IfOk result (λ r.
-        AreResolvedIn context.now files.now table.new edits.now r.items) }
+        AreResolvedIn context.now files.now table.new conditions.now edits.now r.items) }
 {
+    let inserted = nodes_of_inserts(alloc, conditions, edits)?;
     let mut resolved = Vec::new(alloc);
-    match resolve_onto(table, files, &mut resolved, context, edits) {
+    match resolve_onto(
+        table,
+        files,
+        inserted.as_slice(),
+        &mut resolved,
+        context,
+        conditions,
+        edits,
+    ) {
         Ok(()) => Ok(resolved),
         Err(Memory) => Err(Memory),
+    }
+}
+
+// The node of each line that edits insert, in order.
+fn nodes_of_inserts(alloc: Global, conditions: &[Node], edits: &[Edit]) -> Result<Vec<Node>, Memory>
+    requires { length conditions.now ≡ length edits.now }
+    ensures { IfOk result (λ nodes. nodes.items ≡ insert_nodes conditions.now edits.now) }
+{
+    let mut nodes = Vec::new(alloc);
+    let mut behind = conditions;
+    let mut ahead = edits;
+    while let [edit, rest @ ..] = ahead {
+        let [on, others @ ..] = behind else {
+            unreachable!()
+        };
+        push_insert(&mut nodes, *on, edit)?;
+        behind = others;
+        ahead = rest;
+    }
+    Ok(nodes)
+}
+
+// Puts the node of the line that an edit inserts behind others, if it inserts one.
+fn push_insert(nodes: &mut Vec<Node>, on: Node, edit: &Edit) -> Result<(), Memory>
+    ensures { OnOk result (nodes.new.items ≡
+        nodes.old.items ++ insert_nodes (on ∷ []) (edit.now ∷ [])) }
+{
+    match edit {
+        Edit::Insert { .. } => {
+            nodes.push(on)?;
+            Ok(())
+        }
+        Edit::New { .. }
+        | Edit::Delete { .. }
+        | Edit::Rename { .. }
+        | Edit::Move { .. }
+        | Edit::Remove { .. } => Ok(()),
     }
 }
 
@@ -68,13 +115,17 @@ pub fn resolve(
 fn resolve_onto(
     table: &mut Table,
     files: &[FilePart],
+    inserted: &[Node],
     resolved: &mut Vec<ResolvedEdit>,
     context: &CommitContext,
+    conditions: &[Node],
     edits: &[Edit],
 ) -> Result<(), Memory>
     requires rising { AreRising (map part_node files.now) }
     requires nodes { AllByRecursion (HasNodesIn table.old context.now.at) files.now }
-    requires ambition { context.now.ambition < diagram_size table.old }
+    requires inserted { AreOfTable table.old inserted.now }
+    requires each { length conditions.now ≡ length edits.now }
+    requires conditions { AreOfTable table.old conditions.now }
     requires near { AreNear context.now.nodes edits.now }
     requires low { AreLow context.now.lines edits.now }
     requires few { HaveNumbers (record {
@@ -82,39 +133,48 @@ fn resolve_onto(
       lines = context.now.lines;
     }) edits.now }
     ensures extends { Extends table.old table.new }
-    ensures resolved { OnOk result (resolved.old.items ≡ [] →
-        AreResolvedIn context.now files.now table.new edits.now resolved.new.items) }
+    ensures resolved { OnOk result (resolved.old.items ≡ [] → AreResolvedWith inserted.now
+        context.now files.now table.new conditions.now edits.now resolved.new.items) }
 {
     let mut made = MadeBefore {
         nodes: context.nodes,
         lines: context.lines,
     };
+    let mut behind = conditions;
     let mut ahead = edits;
     while let [edit, rest @ ..] = ahead {
-        resolved.push(resolve_edit(table, files, context, &mut made, edit)?)?;
+        let [on, others @ ..] = behind else {
+            unreachable!()
+        };
+        let next = resolve_edit(table, files, inserted, context, &mut made, *on, edit)?;
+        resolved.push(next)?;
+        behind = others;
         ahead = rest;
     }
     Ok(())
 }
 
-// An edit by numbers, and how many nodes and lines there are after it.
+// An edit by numbers that applies where a node is true, and how many nodes and lines there are after it.
 fn resolve_edit(
     table: &mut Table,
     files: &[FilePart],
+    inserted: &[Node],
     context: &CommitContext,
     made: &mut MadeBefore,
+    on: Node,
     edit: &Edit,
 ) -> Result<ResolvedEdit, Memory>
     requires rising { AreRising (map part_node files.now) }
     requires nodes { AllByRecursion (HasNodesIn table.old context.now.at) files.now }
-    requires ambition { context.now.ambition < diagram_size table.old }
+    requires inserted { AreOfTable table.old inserted.now }
+    requires on { on < diagram_size table.old }
     requires near { AreNear context.now.nodes (edit.now ∷ []) }
     requires low { AreLow context.now.lines (edit.now ∷ []) }
     requires few { HaveNumbers made.old (edit.now ∷ []) }
     ensures extends { Extends table.old table.new }
     ensures made { OnOk result (made.new ≡ made_after made.old edit.now) }
     ensures resolved { IfOk result (λ r.
-        IsResolvedIn context.now files.now table.new made.old edit.now r) }
+        IsResolvedIn inserted.now context.now files.now table.new on made.old edit.now r) }
 {
     match edit {
         Edit::New { kind, parent, name } => {
@@ -124,7 +184,7 @@ fn resolve_edit(
                 kind: *kind,
                 parent: node_number(context.nodes, parent),
                 name: name.copy()?,
-                on: context.ambition,
+                on,
             })
         }
         Edit::Insert { file, after, text } => {
@@ -134,30 +194,52 @@ fn resolve_edit(
                 anchor: line_number(context.lines, after),
                 line: LineNo::new(made.lines),
                 text: text.copy()?,
-                vis: context.ambition,
+                vis: on,
             })
         }
         Edit::Delete { file, line } => {
             let file = node_number(context.nodes, file);
             let line = line_number(context.lines, line);
-            let vis = take(table, old_node(files, file, line), context.ambition)?;
+            let old = line_node(files, inserted, context.lines, file, line);
+            let vis = take(table, old, on)?;
             Ok(ResolvedEdit::Delete { file, line, vis })
         }
         Edit::Rename { node, name } => Ok(ResolvedEdit::Rename {
             node: node_number(context.nodes, node),
             name: name.copy()?,
-            on: context.ambition,
+            on,
         }),
         Edit::Move { node, parent } => Ok(ResolvedEdit::Move {
             node: node_number(context.nodes, node),
             parent: node_number(context.nodes, parent),
-            on: context.ambition,
+            on,
         }),
         Edit::Remove { node } => Ok(ResolvedEdit::Remove {
             node: node_number(context.nodes, node),
-            on: context.ambition,
+            on,
         }),
     }
+}
+
+// The node of a line before it is deleted, so many lines having been made before the commit: that of its insert if the
+// commit inserts it, or else its newest one in its file.
+fn line_node(files: &[FilePart], inserted: &[Node], before: u32, file: NodeNo, line: LineNo) -> Node
+    requires rising { AreRising (map part_node files.now) }
+    ensures { (p : ℕ) → AllByRecursion (λ e. e.lines.newest ≤ p) files.now → result ≡
+        line_node p files.now before inserted.now file line }
+{
+    if line.number() > before {
+        own_node(inserted, line.number() - before - 1)
+    } else {
+        old_node(files, file, line)
+    }
+}
+
+// The node of an inserted line, FALSE where there are not so many.
+fn own_node(inserted: &[Node], index: u32) -> Node
+    ensures { result ≡ own_node inserted.now index }
+{
+    inserted.get(index as usize).copied().unwrap_or(FALSE)
 }
 
 // The newest node of a line in a file, FALSE where the file has no such line.

@@ -1,4 +1,4 @@
-use Rattle.std.proofs.Common.{◌≡◌, ◌≤◌, ◌+◌, ◌++◌, ◌∙◌, ap, sym, refl, length, length-take-le, map, take, drop, arith}
+use Rattle.std.proofs.Common.{◌≡◌, ◌+◌, ◌++◌, ◌∙◌, ap, sym, refl, length, length-take-le, map, take, drop, arith}
 use Rattle.std.proofs.lemmas.List.{length-drop}
 use Rattle.cov_base.proofs.CallerLemmas.{having-numbers, having-rest}
 use Rattle.cov_rules.specs.Renumbered.{nodes_of as rule_nodes}

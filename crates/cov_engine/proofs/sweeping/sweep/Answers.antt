@@ -1,4 +1,4 @@
-use Rattle.std.proofs.Common.{◌≡◌, ◌≤◌, ◌++◌, ◌∙◌, ap, sym, subst, length, take_all, arith, ℕ, List}
+use Rattle.std.proofs.Common.{◌≡◌, ◌++◌, ◌∙◌, ap, sym, subst, length, take_all, arith, ℕ, List}
 use Rattle.std.proofs.lemmas.List.{length-map}
 use Rattle.cov_dd.specs.Sweeps.{AreReached, AreRenumbered}
 use Rattle.cov_dd.specs.declared.triple.Triple.{Triple}

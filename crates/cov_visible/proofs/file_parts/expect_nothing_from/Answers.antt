@@ -1,4 +1,4 @@
-use Rattle.std.proofs.Common.{◌∙◌, arith}
+use Rattle.std.proofs.Common.{◌∙◌}
 use Rattle.cov_visible.proofs.StoredFiles.{set-contents}
 use Rattle.cov_visible.proofs.file_parts.expect_nothing_from.Goals as goal
 

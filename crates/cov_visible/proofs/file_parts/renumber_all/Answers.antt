@@ -1,4 +1,4 @@
-use Rattle.std.proofs.Common.{◌≡◌, ◌≤◌, ◌<◌, ◌+◌, ◌-◌, ◌∙◌, ap, sym, refl, subst, drop, length, take, arith, ℕ, List}
+use Rattle.std.proofs.Common.{◌≡◌, ◌≤◌, ◌<◌, ◌+◌, ◌-◌, ◌∙◌, ap, sym, refl, subst, drop, length, arith, ℕ, List}
 use Rattle.std.proofs.lemmas.List.{drop-drop}
 use Rattle.cov_tree.specs.Renumbered.{Gets}
 use Rattle.cov_tree.proofs.CallerLemmas.{gets-all, gets-count, gets-here, gets-long, gets-room, gets-step}

@@ -1,4 +1,4 @@
-use Rattle.std.proofs.Common.{◌≡◌, ◌-◌, ◌≤◌, length, drop, take}
+use Rattle.std.proofs.Common.{◌-◌, ◌≤◌, length, drop, take}
 use Rattle.cov_tree.proofs.CallerLemmas.{GetsUntil}
 use Rattle.cov_visible.specs.Parts.{part_node}
 use Rattle.cov_visible.specs.Renumbered.{kept_nodes, ArePartsRenumbered}

@@ -1,0 +1,114 @@
+-- Where the edits of a commit apply, as nodes of a table.
+use Rattle.std.proofs.Common.{◌≡◌, ℕ, ◌<◌, ◌≤◌, List, [], ◌∷◌, ◌++◌, length, replicate, refl, sym, ap, subst, ◌∙◌}
+use Rattle.std.specs.List.{AllByRecursion}
+use Rattle.std.proofs.lemmas.List.{length-replicate}
+use Rattle.cov_dd.specs.declared.triple.Triple.{Triple}
+use Rattle.cov_dd.specs.Diagrams.{diagram_size, span, Extends, Stands}
+use Rattle.cov_dd.proofs.CallerLemmas.{stands_later}
+use Rattle.cov_expr.specs.Formula.{Formula, value}
+use Rattle.cov_base.specs.declared.number.LineRef.{LineRef}
+use Rattle.cov_base.specs.declared.number.NodeRef.{NodeRef}
+use Rattle.cov_edit.specs.declared.edit.Edit.{Edit}
+use Rattle.cov_edit.specs.declared.edit.Edit.TheVariants as edits
+use Rattle.cov_edit.specs.Numbering.{anchors_of}
+use Rattle.cov_edit.specs.Replay.{conditions, first_within, rest_within, within_behind}
+use Rattle.cov_visible.specs.Nodes.{own_node}
+use Rattle.cov_visible.specs.Resolved.{first_node, rest_nodes, insert_nodes, AreOfTable}
+use Rattle.cov_visible.proofs.CallerLemmas.{AllOn, inserts-all, own-all}
+use Rattle.cov_engine.specs.Staged.{StandFor}
+use Rattle.cov_engine.proofs.Dating.{false-stands}
+
+-- the nodes where each edit after some others applies
+abbrev pub nodes_behind : {X : Type 0} → List X → List ℕ → List ℕ
+nodes_behind [] ns = ns
+nodes_behind (x ∷ xs) ns = nodes_behind xs (rest_nodes ns)
+
+pub nodes-more : {X : Type 0} (begun : List X) (x : X) (ns : List ℕ) → nodes_behind (begun ++ x ∷ []) ns ≡ rest_nodes (nodes_behind begun ns)
+nodes-more [] x ns = refl
+nodes-more (y ∷ begun) x ns = nodes-more begun x (rest_nodes ns)
+
+module _ (ts : List Triple) (count : ℕ) where
+  pub stands-first : (within : List (Formula ℕ)) (ns : List ℕ) → StandFor ts count within ns → Stands ts (first_node ns) 0 count (value (first_within within))
+  stands-first [] [] h = false-stands ts count
+  stands-first [] (n ∷ ns) h = absurd h
+  stands-first (f ∷ within) [] h = absurd h
+  stands-first (f ∷ within) (n ∷ ns) h = h.0
+
+  pub stands-rest : (within : List (Formula ℕ)) (ns : List ℕ) → StandFor ts count within ns → StandFor ts count (rest_within within) (rest_nodes ns)
+  stands-rest [] [] h = tt
+  stands-rest [] (n ∷ ns) h = absurd h
+  stands-rest (f ∷ within) [] h = absurd h
+  stands-rest (f ∷ within) (n ∷ ns) h = h.1
+
+  -- the nodes of the edits behind some stand for where these apply
+  pub stands-behind : {X : Type 0} (begun : List X) (within : List (Formula ℕ)) (ns : List ℕ) → StandFor ts count within ns → StandFor ts count (within_behind begun within) (nodes_behind begun ns)
+  stands-behind [] within ns h = h
+  stands-behind (x ∷ begun) within ns h = stands-behind begun (rest_within within) (rest_nodes ns) (stands-rest within ns h)
+
+  -- they are of the table
+  pub stands-of_table : (within : List (Formula ℕ)) (ns : List ℕ) → StandFor ts count within ns → AreOfTable ts ns
+  stands-of_table [] [] h = tt
+  stands-of_table [] (n ∷ ns) h = absurd h
+  stands-of_table (f ∷ within) [] h = absurd h
+  stands-of_table (f ∷ within) (n ∷ ns) h = (h.0.within, stands-of_table within ns h.1)
+
+  -- and stand for it in a longer one
+  pub stand-later : (us : List Triple) (within : List (Formula ℕ)) (ns : List ℕ) → Extends ts us → StandFor ts count within ns → StandFor us count within ns
+  stand-later us [] [] x h = tt
+  stand-later us [] (n ∷ ns) x h = absurd h
+  stand-later us (f ∷ within) [] x h = absurd h
+  stand-later us (f ∷ within) (n ∷ ns) x h = (stands_later x h.0, stand-later us within ns x h.1)
+
+  -- the node of an ambition stands for where each edit applies
+  pub all-stand : (node : ℕ) (ambition : Formula ℕ) (es : List Edit) → Stands ts node 0 count (value ambition) → StandFor ts count (conditions ambition es) (replicate (length es) node)
+  all-stand node ambition [] h = tt
+  all-stand node ambition (e ∷ es) h = (h, all-stand node ambition es h)
+
+  -- so they do where as many of it are listed
+  pub listed-stand : (node : ℕ) (ambition : Formula ℕ) (es : List Edit) (many : ℕ) (ns list : List ℕ) → many ≡ length es → ns ≡ replicate many node → list ≡ ns → Stands ts node 0 count (value ambition)
+      → StandFor ts count (conditions ambition es) list
+  listed-stand node ambition es many ns list counted is same h =
+      subst (StandFor ts count (conditions ambition es)) (sym (same ∙ is ∙ ap (λ k. replicate k node) counted)) (all-stand node ambition es h)
+
+  -- the node of each edit stands for the ambition, if all apply within it
+  pub each-stands : (ambition : Formula ℕ) (es : List Edit) (ns : List ℕ) → StandFor ts count (conditions ambition es) ns → AllOn (λ e node. Stands ts node 0 count (value ambition)) ns es
+  each-stands ambition [] ns h = tt
+  each-stands ambition (e ∷ es) [] h = absurd h
+  each-stands ambition (e ∷ es) (n ∷ ns) h = (h.0, each-stands ambition es ns h.1)
+
+  -- the nodes of the lines that a commit inserts name only the first so many options
+  pub own-low : (within : List (Formula ℕ)) (ns : List ℕ) (es : List Edit) (index : ℕ) → StandFor ts count within ns
+      → (own_node (insert_nodes ns es) index < diagram_size ts) × (span ts (own_node (insert_nodes ns es) index) ≤ count)
+  own-low within ns es index h = own-all IsLow none (insert_nodes ns es) index (inserts-all IsLow none ns es (all within ns h))
+    where
+      IsLow : ℕ → Type 0
+      IsLow n = (n < diagram_size ts) × (span ts n ≤ count)
+
+      none : IsLow 0
+      none = let s = false-stands ts count in (s.within, s.below)
+
+      all : (within : List (Formula ℕ)) (ns : List ℕ) → StandFor ts count within ns → AllByRecursion IsLow ns
+      all [] [] h = tt
+      all [] (n ∷ ns) h = absurd h
+      all (f ∷ within) [] h = absurd h
+      all (f ∷ within) (n ∷ ns) h = ((h.0.within, h.0.below), all within ns h.1)
+
+-- there are as many as edits, where so many of one node are listed
+pub listed-length : (node : ℕ) (es some : List Edit) (many : ℕ) (ns list : List ℕ) → many ≡ length es → ns ≡ replicate many node → list ≡ ns → some ≡ es → length list ≡ length some
+listed-length node es some many ns list counted is same e = ap length (same ∙ is) ∙ length-replicate many node ∙ counted ∙ sym (ap length e)
+
+-- the edits of a commit behind some apply within the ambition
+pub ambition-behind : (ambition : Formula ℕ) (begun later : List Edit) → within_behind begun (conditions ambition (begun ++ later)) ≡ conditions ambition later
+ambition-behind ambition [] later = refl
+ambition-behind ambition (d ∷ begun) later = ambition-behind ambition begun later
+
+-- the node of a line that a commit inserts, by the count of those that it inserts before
+pub insert-node : (m : ℕ) (ns : List ℕ) (begun : List Edit) (file : NodeRef) (after : LineRef) (text : List ℕ) (later : List Edit)
+    → own_node (insert_nodes ns (begun ++ edits.Insert file after text ∷ later)) (length (anchors_of m begun)) ≡ first_node (nodes_behind begun ns)
+insert-node m ns [] file after text later = refl
+insert-node m ns (edits.New kind parent name ∷ begun) file after text later = insert-node m (rest_nodes ns) begun file after text later
+insert-node m ns (edits.Insert f a t ∷ begun) file after text later = insert-node m (rest_nodes ns) begun file after text later
+insert-node m ns (edits.Delete f line ∷ begun) file after text later = insert-node m (rest_nodes ns) begun file after text later
+insert-node m ns (edits.Rename node name ∷ begun) file after text later = insert-node m (rest_nodes ns) begun file after text later
+insert-node m ns (edits.Move node parent ∷ begun) file after text later = insert-node m (rest_nodes ns) begun file after text later
+insert-node m ns (edits.Remove node ∷ begun) file after text later = insert-node m (rest_nodes ns) begun file after text later
