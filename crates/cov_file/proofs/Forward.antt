@@ -12,7 +12,7 @@ use Rattle.cov_order.specs.Orders.{has_line, AreLines}
 use Rattle.cov_file.specs.Dated.{DatedLine, newest_vis, newest_of, file_row_of, line_numbers_of, with_line, with_change, AreAlike}
 use Rattle.cov_file.specs.Forward.{is_shown_by}
 use Rattle.cov_file.specs.Sights.{rows_by, IsSight, AreSights}
-use Rattle.cov_file.specs.Values.{Agrees}
+use Rattle.cov_values.specs.Values.{Agrees}
 use Rattle.cov_file.specs.declared.sights.Kept.{Kept}
 
 -- rows without those of a line

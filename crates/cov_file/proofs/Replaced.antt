@@ -1,51 +1,17 @@
--- Nodes that take the places of others, and values of nodes before and after.
-use Rattle.std.proofs.Common.{◌≡◌, ◌<◌, ◌≤◌, ℕ, Bool, true, false, true≢false, cond, nat_eq, List, [], ◌∷◌, ◌++◌, map, length, slice_index_or, Option, Some, None, refl, sym, ap, subst, ◌∙◌, arith}
-use Rattle.std.specs.List.{AllByRecursion, AllZip, filter}
+-- Lines that show the same by nodes that take the places of others.
+use Rattle.std.proofs.Common.{◌≡◌, ◌<◌, ◌≤◌, ℕ, Bool, true, false, true≢false, cond, nat_eq, List, [], ◌∷◌, map, length, slice_index_or, Some, refl, sym, ap, subst, arith}
+use Rattle.std.specs.List.{AllZip, filter}
 use Rattle.std.specs.Map.{keys_of}
-use Rattle.std.specs.Option.{option_map_or}
-use Rattle.std.proofs.lemmas.Option.{none-some}
-use Rattle.cov_base.proofs.CallerLemmas.{nat_eq-sym, rest-is, rest_of}
+use Rattle.cov_base.proofs.CallerLemmas.{rest-is, rest_of}
 use Rattle.cov_base.specs.Replacing.{having}
 use Rattle.cov_file.specs.Dated.{DatedLine, file_row_of, newest_vis}
 use Rattle.cov_file.specs.Kept.{changes_in, changes_of, dated_lines}
 use Rattle.cov_file.specs.Renumbered.{having_node, node_of}
-use Rattle.cov_file.specs.Replaced.{found_by, found_in, AreReplaced, AreReplacedLines, IsNewestReplaced, IsReplacedStill, IsReplacedTo, IsValuedBefore}
+use Rattle.cov_file.specs.Replaced.{AreReplacedLines, IsNewestReplaced}
+use Rattle.cov_values.specs.Replaced.{found_by, AreReplaced}
 use Rattle.cov_file.specs.Sights.{rows_by}
-use Rattle.cov_file.specs.Values.{Agrees, HaveValues, IsNotValued, IsOther}
 use Rattle.cov_file.specs.declared.changes.Change.{Change}
-use Rattle.cov_file.specs.declared.replacing.Replaced.{Replaced}
-use Rattle.cov_file.specs.declared.values.Evaluated.{Evaluated}
-use Rattle.cov_file.proofs.Finding.{same_number}
-
--- a node that isn't valued gets any value
-module _ (node : ℕ) (value : Bool) (f : ℕ → Bool) where
-  -- the values with one more
-  abbrev with_value : ℕ → Bool
-  with_value n = cond (nat_eq n node) value (f n)
-
-  more : (es : List Evaluated) → AllByRecursion (IsOther node) es → AllByRecursion (λ e. f e.node ≡ e.value) es
-      → AllByRecursion (λ e. with_value e.node ≡ e.value) (es ++ record { node = node; value = value } ∷ [])
-  more [] others h = (ap (λ b. cond b value (f node)) (same_number node), tt)
-  more (e ∷ es) others h = (ap (λ b. cond b value (f e.node)) others.0 ∙ h.0, more es others.1 h.1)
-
-  pub valued_more : (es : List Evaluated) → IsNotValued es node → Agrees f es → HaveValues (es ++ record { node = node; value = value } ∷ [])
-  valued_more es new h = (with_value, (ap (λ b. cond b value (f 0)) (nat_eq-sym 0 node ∙ new.0) ∙ h.0, more es new.1 h.1))
-
--- values before, from those after
-module _ (rs : List Replaced) (f h : ℕ → Bool) where
-  abbrev before : ℕ → Bool
-  before n = option_map_or f (found_by rs n) (h n)
-
-  each : (es : List Evaluated) → AllByRecursion (λ e. h e.node ≡ e.value) es → AllByRecursion (IsReplacedTo rs f) es → AllByRecursion (λ e. before e.node ≡ e.value) es
-  each [] k to = tt
-  each (e ∷ es) k to = (by (found_by rs e.node) refl, each es k.1 to.1)
-    where
-      by : (o : Option ℕ) → found_by rs e.node ≡ o → option_map_or f o (h e.node) ≡ e.value
-      by None is = k.0
-      by (Some m) is = to.0 m is
-
-  pub valued_before : (es : List Evaluated) → f 0 ≡ false → Agrees h es → AllByRecursion (IsReplacedTo rs f) es → IsValuedBefore rs f es
-  valued_before es none agrees to = (before, ((none, each es agrees.1 to), λ n m is. ap (λ o. option_map_or f o (h n)) is))
+use Rattle.cov_values.specs.declared.replacing.Replaced.{Replaced}
 
 -- the lines that are shown by values of their newest nodes
 abbrev shown : (ℕ → Bool) → List DatedLine → List DatedLine
@@ -105,38 +71,3 @@ pub next_replaced : (rs : List Replaced) (cs : List Change) (ms : List ℕ) (c :
 next_replaced rs [] ms c m some more first rest = absurd (omega (arith, some))
 next_replaced rs (x ∷ xs) [] c m some more first rest = absurd (omega (arith, more))
 next_replaced rs (x ∷ xs) (y ∷ ys) c m some more first rest = (first, subst (λ (q : List Change × List ℕ). AreReplaced rs (map node_of q.0) q.1) (λ j. (rest-is x xs j, rest-is y ys j)) rest)
-
--- one node more is replaced
-module _ (node to : ℕ) where
-  abbrev last : List Replaced → List Replaced
-  last rs = rs ++ record { node = node; by = to } ∷ []
-
-  found_still : (rs : List Replaced) (n m : ℕ) → found_in rs n ≡ Some m → found_in (last rs) n ≡ Some m
-  found_still [] n m h = absurd (none-some m h)
-  found_still (r ∷ rs) n m h = by (nat_eq r.node n) h (found_still rs n m)
-    where
-      by : (b : Bool) → cond b (Some r.by) (found_in rs n) ≡ Some m → (found_in rs n ≡ Some m → found_in (last rs) n ≡ Some m) → cond b (Some r.by) (found_in (last rs) n) ≡ Some m
-      by true is rest = is
-      by false is rest = rest is
-
-  pub added_still : (rs : List Replaced) → IsReplacedStill rs (last rs)
-  added_still rs n m h = by (nat_eq n 0) h
-    where
-      by : (b : Bool) → cond b (Some 0) (found_in rs n) ≡ Some m → cond b (Some 0) (found_in (last rs) n) ≡ Some m
-      by true is = is
-      by false is = found_still rs n m is
-
-  found_last : (rs : List Replaced) → found_in rs node ≡ None → found_in (last rs) node ≡ Some to
-  found_last [] h = ap (λ b. cond b (Some to) None) (same_number node)
-  found_last (r ∷ rs) h = by (nat_eq r.node node) h (found_last rs)
-    where
-      by : (b : Bool) → cond b (Some r.by) (found_in rs node) ≡ None → (found_in rs node ≡ None → found_in (last rs) node ≡ Some to) → cond b (Some r.by) (found_in (last rs) node) ≡ Some to
-      by true is rest = absurd (none-some r.by (sym is))
-      by false is rest = rest is
-
-  pub added_there : (rs : List Replaced) → found_by rs node ≡ None → found_by (last rs) node ≡ Some to
-  added_there rs h = by (nat_eq node 0) h
-    where
-      by : (b : Bool) → cond b (Some 0) (found_in rs node) ≡ None → cond b (Some 0) (found_in (last rs) node) ≡ Some to
-      by true is = absurd (none-some 0 (sym is))
-      by false is = found_last rs is

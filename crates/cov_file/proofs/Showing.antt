@@ -1,19 +1,17 @@
 -- What a file shows, by the values of the nodes of its lines.
 use Rattle.std.specs.Prelude.{filter}
-use Rattle.std.proofs.Common.{◌≡◌, ℕ, ◌<◌, ◌≤◌, Bool, true, false, cond, nat_eq, List, [], ◌∷◌, ◌++◌, map, length, slice_index_or, Option, Some, None, refl, sym, ap, subst, ◌∙◌, arith}
+use Rattle.std.proofs.Common.{◌≡◌, ℕ, ◌≤◌, Bool, true, false, cond, nat_eq, List, [], ◌∷◌, ◌++◌, map, Option, Some, None, refl, sym, ap, subst, ◌∙◌, arith}
 use Rattle.std.specs.List.{AllByRecursion}
 use Rattle.std.specs.Option.{IfSome}
 use Rattle.std.specs.Map.{keys_of}
-use Rattle.cov_file.specs.declared.values.Evaluated.{Evaluated}
 use Rattle.cov_base.specs.declared.file_row.FileRow.{FileRow}
-use Rattle.cov_base.proofs.CallerLemmas.{rest-is, rest_of}
 use Rattle.cov_file.specs.Dated.{DatedLine, vis_at, newest_vis, file_row_of, is_visible}
 use Rattle.cov_file.specs.declared.changes.Change.{Change}
 use Rattle.cov_file.specs.declared.sights.Kept.{Kept}
 use Rattle.cov_file.specs.Kept.{changes_before, changes_of, changes_in, dated_in, dated_lines, row_in}
 use Rattle.cov_file.proofs.Later.{reached}
 use Rattle.cov_file.specs.Sights.{ShownByValues, rows_by, AreSights, AreNewest}
-use Rattle.cov_file.specs.Values.{Agrees, on_choice}
+use Rattle.cov_values.specs.Values.{on_choice}
 
 -- lines that two tests tell apart alike are shown by both alike
 same_filter : (s t : DatedLine → Bool) (ls : List DatedLine) → AllByRecursion (λ l. s l ≡ t l) ls → map file_row_of (filter s ls) ≡ map file_row_of (filter t ls)
@@ -88,31 +86,6 @@ pub sights_stay : (texts texts' : List (ℕ × List ℕ)) (lists lists' : List (
 sights_stay texts texts' lists lists' lines lines' ks same_texts same_lists same_lines h =
     subst (λ ls. AreSights ls ks) (λ j. dated_lines (sym same_texts j) (sym same_lists j) (sym same_lines j)) h
 
--- of values that agree, that of the first node, of the last, and those before the last
-pub first_value : (f : ℕ → Bool) (es : List Evaluated) (e : Evaluated) (n : ℕ) → 1 ≤ length es → Agrees f es → (slice_index_or es 0 e).node ≡ n → f n ≡ (slice_index_or es 0 e).value
-first_value f [] e n some agrees is = absurd (omega (arith, some))
-first_value f (x ∷ xs) e n some agrees is = ap f (sym is) ∙ agrees.1.0
-
-of_last : (f : ℕ → Bool) (es : List Evaluated) (e : Evaluated) → AllByRecursion (λ d. f d.node ≡ d.value) (es ++ e ∷ []) → AllByRecursion (λ d. f d.node ≡ d.value) es × (f e.node ≡ e.value)
-of_last f [] e h = (tt, h.0)
-of_last f (x ∷ xs) e h = let rest = of_last f xs e h.1 in ((h.0, rest.0), rest.1)
-
-pub last_value : (f : ℕ → Bool) (es : List Evaluated) (e : Evaluated) → Agrees f (es ++ e ∷ []) → f e.node ≡ e.value
-last_value f es e h = (of_last f es e h.1).1
-
-pub before_last : (f : ℕ → Bool) (es : List Evaluated) (e : Evaluated) → Agrees f (es ++ e ∷ []) → Agrees f es
-before_last f es e h = (h.0, (of_last f es e h.1).0)
-
 pub if_some : {A : Type 0} (o : Option A) (P Q : A → Type 0) → ((x : A) → P x → Q x) → IfSome o P → IfSome o Q
 if_some None P Q f h = h
 if_some (Some x) P Q f h = f x h
-
--- what holds of the first and of all others holds of all
-pub all-with : {X : Type 0} (P : X → Type 0) (xs : List X) (d : X) → 1 ≤ length xs → P (slice_index_or xs 0 d) → AllByRecursion P (rest_of xs) → AllByRecursion P xs
-all-with P [] d some first rest = absurd (omega (arith, some))
-all-with P (x ∷ xs) d some first rest = (first, subst (AllByRecursion P) (rest-is x xs) rest)
-
--- of nothing all holds
-pub all-none : {X : Type 0} (P : X → Type 0) (xs : List X) → length xs < 1 → AllByRecursion P xs
-all-none P [] none = tt
-all-none P (x ∷ xs) none = absurd (omega (arith, none))

@@ -5,8 +5,8 @@ use Rattle.cov_order.specs.Orders.{AreLines}
 use Rattle.cov_base.specs.declared.file_row.FileRow.{FileRow}
 use Rattle.cov_file.specs.Dated.{DatedLine, line_numbers_of, new_line, newest_of, with_change, with_line}
 use Rattle.cov_file.specs.Sights.{rows_by, IsSight}
-use Rattle.cov_file.specs.Values.{Agrees}
-use Rattle.cov_file.specs.declared.values.Evaluated.{Evaluated}
+use Rattle.cov_values.specs.Values.{Agrees}
+use Rattle.cov_values.specs.declared.values.Evaluated.{Evaluated}
 use Rattle.cov_file.specs.declared.sights.Kept.{Kept}
 use Rattle.cov_file.specs.declared.sights.LineChange.{LineChange}
 use Rattle.cov_file.specs.declared.sights.LineChange.TheVariants as changes

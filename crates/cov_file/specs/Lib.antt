@@ -6,4 +6,3 @@ pub mod Renumbered
 pub mod Replaced
 pub mod Rooms
 pub mod Sights
-pub mod Values

@@ -5,7 +5,7 @@ use Rattle.std.specs.Option.{IfSome}
 use Rattle.cov_base.specs.declared.file_row.FileRow.{FileRow}
 use Rattle.cov_dd.specs.declared.triple.Triple.{Triple}
 use Rattle.cov_file.specs.Dated.{DatedLine, newest_vis, file_row_of, is_visible, rows_at}
-use Rattle.cov_file.specs.Values.{on_choice, Agrees}
+use Rattle.cov_values.specs.Values.{on_choice, Agrees}
 use Rattle.cov_file.specs.declared.sights.Kept.{Kept}
 
 -- two choices, or two positions, on which each line's node has the same value show the same lines

@@ -5,12 +5,13 @@ ghost use Rattle.std.specs.List.{AllByRecursion, AllZip};
 ghost use Rattle.cov_file.specs.Dated.{vis_at, newest_vis};
 ghost use Rattle.cov_file.specs.Kept.{changes_before, changes_of, AreLinked, changes_at, is_at, with_node};
 ghost use Rattle.cov_file.specs.Renumbered.{AddsNode, dates_of, having_node, node_of, AreAllListed, AreRenumberedLists};
-ghost use Rattle.cov_file.specs.Replaced.{AreReplaced, IsNewestReplaced};
-ghost use Rattle.cov_file.specs.declared.replacing.Replaced.{Replaced};
+ghost use Rattle.cov_file.specs.Replaced.{IsNewestReplaced};
+ghost use Rattle.cov_values.specs.Replaced.{AreReplaced};
+ghost use Rattle.cov_values.specs.declared.replacing.Replaced.{Replaced};
 
-use crate::replacing::{NOT_REPLACED, Replacements};
 use cov_base::{Memory, Position};
 use cov_dd::{FALSE, HasNode, Node, Nodes, append_nodes, renumber_nodes};
+use cov_values::{NOT_REPLACED, Replacements};
 use std::alloc::Global;
 use std::marker::Model;
 

@@ -5,8 +5,6 @@ mod changes;
 mod coming;
 pub mod laws;
 mod lines;
-mod replacing;
 mod sights;
-mod values;
 
 pub use lines::FileLines;

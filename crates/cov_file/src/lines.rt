@@ -11,20 +11,21 @@ ghost use Rattle.cov_file.specs.Dated.{DatedLine, line_numbers_of, new_line, wit
 ghost use Rattle.cov_file.specs.Renumbered.{AddsNode, AreAllNodes, AreRenumberedLines};
 ghost use Rattle.cov_file.specs.Rooms.{is_room_at, IsMade, IsLeft};
 ghost use Rattle.cov_file.specs.Kept.{row_in, dated_lines};
-ghost use Rattle.cov_file.specs.Replaced.{AreReplaced, AreReplacedLines};
+ghost use Rattle.cov_file.specs.Replaced.{AreReplacedLines};
+ghost use Rattle.cov_values.specs.Replaced.{AreReplaced};
 ghost use Rattle.cov_file.specs.Sights.{rows_by, AreSights, IsSight};
-ghost use Rattle.cov_file.specs.Values.{Agrees, IsKnown};
-ghost use Rattle.cov_file.specs.declared.replacing.Replaced.{Replaced};
+ghost use Rattle.cov_values.specs.Values.{Agrees, IsKnown};
+ghost use Rattle.cov_values.specs.declared.replacing.Replaced.{Replaced};
 
 use crate::changes::Changes;
 use crate::coming::Coming;
 use crate::sights::{Kept, LineChange, Sights};
-use crate::values::Values;
 use cov_base::{
     Choice, FileRow, FileRows, LineNo, LineNos, Memory, Position, Shared, SharedRows, Text,
 };
 use cov_dd::{FALSE, Node, Nodes, Table};
 use cov_order::Order;
+use cov_values::Values;
 use indexmap::IndexMap;
 use std::alloc::Global;
 use std::marker::Model;
@@ -161,7 +162,7 @@ impl FileLines {
         self.order.reserve(self.coming.inserts)?;
         self.texts.reserve(self.coming.inserts as usize)?;
         let deletes = self.coming.deletes.len();
-        expect(&mut self.sights, self.coming.inserts, deletes);
+        let_go_before_many(&mut self.sights, self.coming.inserts, deletes);
         self.changes.prepare(self.coming.inserts, deletes)
     }
 
@@ -241,7 +242,7 @@ impl FileLines {
         }
         match self.seen(table, choice) {
             Ok(kept) => self.sights.keep(kept),
-            Err(_) => self.sights.rest(),
+            Err(_) => self.sights.stop_keeping(),
         }
     }
 
@@ -352,7 +353,7 @@ impl FileLines {
 }
 
 // Lets what is kept go where many changes are expected, since each takes time in the lines of each list.
-fn expect(sights: &mut Sights, inserts: u32, deletes: usize)
+fn let_go_before_many(sights: &mut Sights, inserts: u32, deletes: usize)
     ensures { (ls : List DatedLine) → AreSights ls sights.old → AreSights ls sights.new }
 {
     if inserts as usize > MOST_FORWARD || deletes > MOST_FORWARD {
@@ -483,7 +484,7 @@ fn add_seen(
 {
     match find(texts, line, last.next) {
         Some((index, text)) => {
-            let seen = note(values, index, changes.newest_node(index), sight, last)?;
+            let seen = evaluated(values, index, changes.newest_node(index), sight, last)?;
             *last = seen;
             add_shown(rows, line, text, seen.value)
         }
@@ -493,7 +494,7 @@ fn add_seen(
 
 // A node with its value, which is among the values then, at the index of its line. They are looked through only where the node
 // isn't the last one.
-fn note(
+fn evaluated(
     values: &mut Values,
     index: usize,
     node: Node,
@@ -545,26 +546,14 @@ fn find(texts: &IndexMap<LineNo, Text>, line: LineNo, first: usize) -> Option<(u
         position (nat_eq line) (keys_of texts.now.entries) }
     ensures text { option_map (λ p. p.1.now) result ≡ get nat_eq texts.now line }
 {
-    if let Some(found) = at_index(texts, line, first) {
-        return Some(found);
-    }
-    match texts.get_full(&line) {
-        Some((index, _, text)) => Some((index, text)),
-        None => None,
-    }
-}
-
-// An index with the text there, if it is the line's.
-fn at_index(texts: &IndexMap<LineNo, Text>, line: LineNo, index: usize) -> Option<(usize, &Text)>
-    ensures index { IfSome result (λ p.
-        position (nat_eq line) (keys_of texts.now.entries) ≡ Some p.0) }
-    ensures text { IfSome result (λ p. get nat_eq texts.now line ≡ Some p.1.now) }
-{
     // What `len` ensures is, for the proof, that no line stands twice.
     let _count = texts.len();
-    match texts.get_index(index) {
-        Some((other, text)) if *other == line => Some((index, text)),
-        _ => None,
+    match texts.get_index(first) {
+        Some((other, text)) if *other == line => Some((first, text)),
+        _ => match texts.get_full(&line) {
+            Some((index, _, text)) => Some((index, text)),
+            None => None,
+        },
     }
 }
 

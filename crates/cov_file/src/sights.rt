@@ -6,14 +6,13 @@ ghost use Rattle.cov_order.specs.Orders.{AreLines};
 ghost use Rattle.cov_file.specs.Dated.{DatedLine, file_row_of, line_numbers_of, new_line, newest_of, newest_vis, with_change, with_line};
 ghost use Rattle.cov_file.specs.declared.sights.Kept.{Kept};
 ghost use Rattle.cov_file.specs.Sights.{rows_by, AreSights, IsSight};
-ghost use Rattle.cov_file.specs.Values.{on_choice, Agrees};
+ghost use Rattle.cov_values.specs.Values.{on_choice, Agrees};
 ghost use Rattle.cov_file.specs.Replaced.{AreReplacedLines};
 ghost use Rattle.cov_file.specs.Forward.{is_shown_by, lines_after, AreRowsAfter, IsBroughtForward, IsChangeOf};
 
-use crate::replacing::Replacements;
-use crate::values::Values;
 use cov_base::{Choice, FileRow, FileRows, LineNo, Memory, Shared, SharedRows, Text};
 use cov_dd::{Node, Table};
+use cov_values::{Replacements, Values};
 use std::alloc::Global;
 use std::marker::Model;
 
@@ -53,7 +52,7 @@ pub(crate) enum LineChange<'a> {
 pub(crate) struct Sights {
     kept: Vec<Kept>,
     last: usize,
-    rests: bool,
+    is_stopped: bool,
 }
 
 impl Model for Sights {
@@ -68,8 +67,12 @@ impl Model for Sights {
 // They are dropped by a call, so that whoever drops a file needn't know what is kept of it.
 impl Drop for Sights {
     fn drop(self) {
-        let Sights { kept, last, rests } = self;
-        drop((last, rests));
+        let Sights {
+            kept,
+            last,
+            is_stopped,
+        } = self;
+        drop((last, is_stopped));
         drop(kept);
     }
 }
@@ -81,7 +84,7 @@ impl Sights {
         Sights {
             kept: Vec::new(alloc),
             last: 0,
-            rests: false,
+            is_stopped: false,
         }
     }
 
@@ -150,7 +153,7 @@ impl Sights {
                 self.last = at;
                 false
             }
-            None => !self.rests,
+            None => !self.is_stopped,
         }
     }
 
@@ -168,7 +171,7 @@ impl Sights {
         }
         match self.kept.push(kept) {
             Ok(()) => (),
-            Err(_) => self.rest(),
+            Err(_) => self.stop_keeping(),
         }
     }
 
@@ -188,10 +191,10 @@ impl Sights {
     }
 
     /// Keeps no list more until the nodes are renumbered.
-    pub(crate) fn rest(&mut self)
+    pub(crate) fn stop_keeping(&mut self)
         ensures { self.new ≡ self.old }
     {
-        self.rests = true;
+        self.is_stopped = true;
     }
 
     /// Whether there is none.
@@ -206,7 +209,7 @@ impl Sights {
         ensures { self.new ≡ [] }
     {
         self.kept.clear();
-        self.rests = false;
+        self.is_stopped = false;
     }
 
     /// Has each list go with nodes that take the places of those that it goes with, or lets it go.
@@ -215,7 +218,7 @@ impl Sights {
             AreSights ls self.old → AreSights ls' self.new }
     {
         renumber_all(self.kept.as_mut_slice(), by);
-        self.rests = false;
+        self.is_stopped = false;
     }
 
     /// Has the value of a node with each list, as lines are about to get it. A list for which there is no memory is let go.

@@ -1,6 +1,5 @@
 -- Visibilities that are nodes of a table, and stay so as changes are installed.
 use Rattle.std.proofs.Common.{◌≡◌, refl, ℕ, zero, suc, ◌<◌, List, [], ◌∷◌, ◌++◌, length, map, reverse, set, get_or, sym, ap, ◌∙◌, subst, arith}
-use Rattle.std.specs.List.{AllByRecursion}
 use Rattle.std.proofs.lemmas.Grind.{reverse_onto}
 use Rattle.cov_base.specs.Rows.{AreDistinct}
 use Rattle.cov_base.proofs.CallerLemmas.{all-append}

@@ -13,6 +13,8 @@ use Rattle.cov_tree.specs.declared.dated.DatedEntry.{DatedEntry}
 use Rattle.cov_tree.specs.Dated.{newest_entry, with_no_room, AreUntil}
 use Rattle.cov_tree.specs.Entries.{nodes_of}
 use Rattle.cov_tree.specs.Installing.{IsPlaceOf, IsIndex, IsPut, AreAllNoted}
+use Rattle.cov_tree.specs.Shown.{AreTrees}
+use Rattle.cov_tree.specs.declared.trees.KeptTree.{KeptTree}
 use Rattle.cov_tree.specs.Noted.{Noted, Keeps}
 use Rattle.cov_tree.proofs.Noting.{all_kept, noted_but_room}
 use Rattle.cov_tree.proofs.Installing.{map_behind, same_newest, until_but_room}
@@ -116,18 +118,20 @@ index_put index more es new at count f put fresh long noted h n =
         ∙ ap Some (count_of es ∙ sym long))
     by false e = h n ∙ sym (place_before (λ m. nat_eq m n) (nodes_of (map newest_entry es)) f.node e)
 
--- what holds of entries, of the index of their places and of what is noted
-abbrev pub AreSound : ℕ → List DatedEntry → List (ℕ × ℕ) → Noted → Type 0
-AreSound from es index all = AreDistinct (0 ∷ nodes_of (map newest_entry es)) × AreUntil from es × IsIndex index es × AreAllNoted all es
+-- what holds of entries, of the index of their places, of what is noted and of the trees that are kept
+abbrev pub AreSound : ℕ → List DatedEntry → List (ℕ × ℕ) → Noted → List KeptTree → Type 0
+AreSound from es index all trees =
+    AreDistinct (0 ∷ nodes_of (map newest_entry es)) × AreUntil from es × IsIndex index es × AreAllNoted all es × AreTrees (map newest_entry es) trees
 
 -- it still holds where there is more room, and more is noted
-pub still_sound : (from : ℕ) (es mid fs : List DatedEntry) (index more : List (ℕ × ℕ)) (old new : Noted) → Keeps old new → map with_no_room mid ≡ map with_no_room es → fs ≡ mid → more ≡ index
-    → AreSound from es index old → AreSound from fs more new
-still_sound from es mid fs index more old new keeps same is index_is sound =
-    subst (λ xs. AreSound from xs more new) (sym is)
-    (subst (λ xs. AreSound from mid xs new) (sym index_is) (
+pub still_sound : (from : ℕ) (es mid fs : List DatedEntry) (index more : List (ℕ × ℕ)) (old new : Noted) (trees : List KeptTree) → Keeps old new → map with_no_room mid ≡ map with_no_room es → fs ≡ mid → more ≡ index
+    → AreSound from es index old trees → AreSound from fs more new trees
+still_sound from es mid fs index more old new trees keeps same is index_is sound =
+    subst (λ xs. AreSound from xs more new trees) (sym is)
+    (subst (λ xs. AreSound from mid xs new trees) (sym index_is) (
       subst (λ xs. AreDistinct (0 ∷ nodes_of xs)) (sym (same_newest es mid same)) sound.0,
       until_but_room from es mid same sound.1,
       index_kept index es mid (same_newest es mid same) sound.2,
       noted_but_room new es mid same (all_kept old new keeps es sound.3),
+      subst (λ xs. AreTrees xs trees) (sym (same_newest es mid same)) sound.4,
     ))

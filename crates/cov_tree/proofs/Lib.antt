@@ -24,6 +24,7 @@ pub mod Rows
 pub mod Searching
 pub mod ShiftedPlan
 pub mod Shifting
+pub mod Shown
 pub mod Spreading
 pub mod Sweeping
 pub mod Turning

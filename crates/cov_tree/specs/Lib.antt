@@ -11,5 +11,6 @@ pub mod Places
 pub mod Planning
 pub mod Renumbered
 pub mod Shifts
+pub mod Shown
 pub mod Spreading
 pub mod Standing

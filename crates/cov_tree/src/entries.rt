@@ -19,15 +19,18 @@ ghost use Rattle.cov_tree.specs.Changes.{all_changed, Makes};
 ghost use Rattle.cov_tree.specs.Renumbered.{visibilities, AreNodes};
 
 mod renumbering;
+mod showing;
 
+use crate::EntryPlan;
 use crate::dated::DatedEntry;
 use crate::entry::{Entry, Place};
 use crate::noted::NotedNodes;
 use crate::soundness::unsound;
 use crate::standing::{Standing, add_made, as_planned};
-use crate::{EntryPlan, NodeRow, NodeRows};
+use crate::trees::Trees;
 use cov_base::{Choice, Kind, Memory, Name, NodeNo, Position};
 use cov_dd::{Node, Table};
+use cov_view::{NodeRow, NodeRows};
 use indexmap::IndexMap;
 use std::alloc::Global;
 use std::collections::VecDeque;
@@ -47,6 +50,7 @@ pub struct Entries {
     entries: Vec<DatedEntry>,
     index: Index,
     noted: NotedNodes,
+    trees: Trees,
 }
 
 impl Model for Entries {
@@ -56,6 +60,7 @@ impl Model for Entries {
     ghost use Rattle.cov_tree.specs.Entries.{nodes_of};
     ghost use Rattle.cov_tree.specs.Dated.{Dated, newest_entry, AreUntil};
     ghost use Rattle.cov_tree.specs.Installing.{IsIndex, AreAllNoted};
+    ghost use Rattle.cov_tree.specs.Shown.{AreTrees};
 
     ghost Value = { Dated };
 
@@ -68,7 +73,8 @@ impl Model for Entries {
 
     ghost invariant = { λ e. AreDistinct (0 ∷ nodes_of (map newest_entry e.entries.items)) ×
         AreUntil e.from e.entries.items × IsIndex e.index.entries e.entries.items ×
-        AreAllNoted e.noted.nodes.entries e.entries.items };
+        AreAllNoted e.noted.nodes.entries e.entries.items ×
+        AreTrees (map newest_entry e.entries.items) e.trees };
 }
 
 impl Entries {
@@ -90,6 +96,7 @@ impl Entries {
             entries: Vec::with_capacity(alloc, FIRST_ROOM)?,
             index: IndexMap::new(alloc),
             noted: NotedNodes::new(alloc),
+            trees: Trees::new(alloc),
         })
     }
 
@@ -181,6 +188,7 @@ impl Entries {
         ensures options { (table : List Triple) (count : ℕ) → AreUnreadAt table self.old count →
             AreUnreadWith table plan self.old count → AreUnreadAt table self.new count }
     {
+        self.trees.let_go_before(&plan);
         change_all(&mut self.entries, &mut self.index, plan.into_entries(), at);
         self.from = at;
     }

@@ -33,6 +33,7 @@ impl Entries {
         ensures same { without_visibilities self.new ≡ without_visibilities self.old }
         ensures rows { KeepsRows self.old self.new }
     {
+        self.trees.let_go();
         renumber_all(&mut self.entries, from.as_slice(), first)
     }
 }

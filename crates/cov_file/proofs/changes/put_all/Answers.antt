@@ -1,5 +1,5 @@
 use Rattle.std.proofs.Common.{◌≡◌, get_or, Some, refl, subst}
-use Rattle.cov_file.specs.Replaced.{found_by}
+use Rattle.cov_values.specs.Replaced.{found_by}
 use Rattle.cov_file.specs.declared.changes.Change.{Change}
 use Rattle.cov_file.proofs.Replaced.{next_replaced, none_replaced}
 use Rattle.cov_file.proofs.changes.put_all.Goals as goal

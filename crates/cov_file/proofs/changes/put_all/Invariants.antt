@@ -1,7 +1,7 @@
 use Rattle.std.proofs.Common.{◌≡◌, List, Some, map, length}
 use Rattle.cov_file.specs.Renumbered.{node_of}
-use Rattle.cov_file.specs.Replaced.{found_by, AreReplaced, IsReplacedStill}
-use Rattle.cov_file.specs.declared.replacing.Replaced.{Replaced}
+use Rattle.cov_values.specs.Replaced.{found_by, AreReplaced, IsReplacedStill}
+use Rattle.cov_values.specs.declared.replacing.Replaced.{Replaced}
 use Rattle.cov_file.proofs.changes.put_all.Given as goal
 
 abbrev pub invariant-loop-ahead : goal.invariant-loop-ahead

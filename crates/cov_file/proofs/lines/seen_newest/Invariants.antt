@@ -1,5 +1,5 @@
 use Rattle.std.proofs.Common.{◌≡◌, ◌<◌, ◌++◌, ℕ, Bool, length, drop}
-use Rattle.cov_file.specs.Values.{Agrees, IsKnown}
+use Rattle.cov_values.specs.Values.{Agrees, IsKnown}
 use Rattle.cov_file.proofs.Showing.{rows_in}
 use Rattle.cov_file.proofs.lines.seen_newest.Given as goal
 

@@ -4,7 +4,8 @@ use Rattle.cov_file.specs.Kept.{LineChanges, lists_of}
 use Rattle.cov_file.specs.Renumbered.{nodes_of, having_node, renumbered_changes, dates_of}
 use Rattle.std.specs.List.{AllZip}
 use Rattle.cov_file.specs.Dated.{newest_vis}
-use Rattle.cov_file.specs.Replaced.{AreReplaced, IsNewestReplaced}
+use Rattle.cov_file.specs.Replaced.{IsNewestReplaced}
+use Rattle.cov_values.specs.Replaced.{AreReplaced}
 use Rattle.cov_file.proofs.Replaced.{newest_replaced}
 use Rattle.cov_file.proofs.Redating.{changes_same, dates_same, same-having}
 use Rattle.cov_file.proofs.Renumbering.{nodes_after, lists_after, all-listed}

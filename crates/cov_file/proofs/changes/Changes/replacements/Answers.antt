@@ -3,7 +3,7 @@ use Rattle.std.proofs.lemmas.List.{take_rest}
 use Rattle.cov_file.specs.Dated.{newest_vis}
 use Rattle.cov_file.specs.Kept.{LineChanges}
 use Rattle.cov_file.specs.Renumbered.{node_of}
-use Rattle.cov_file.specs.Replaced.{AreReplaced}
+use Rattle.cov_values.specs.Replaced.{AreReplaced}
 use Rattle.cov_file.proofs.Replaced.{newest_nodes}
 use Rattle.cov_file.proofs.changes.Changes.replacements.Goals as goal
 

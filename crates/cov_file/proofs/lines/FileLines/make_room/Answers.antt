@@ -16,8 +16,8 @@ invariant_of-self-2 c = (
       (kept_prepared c.prepare.result c.self.inside.order.lines c.self.inside.texts.entries c.self.inside.changes c.prepare.new.self c.self.inside.coming.deletes.items c.self.invariant.0
       c.prepare.ensures.lists c.prepare.ensures.newest c.prepare.ensures.kept
       (subst (λ n. OnOk c.prepare.result (n ≤ c.prepare.new.self.room)) (c.len-deletes.ensures ∙ c.self.inside.coming.deletes.ok.0) c.prepare.ensures.room) c.prepare.ensures.err),
-  sights_stay c.self.inside.texts.entries c.reserve-2.new.self.entries c.self.inside.changes.lists c.prepare.new.self.lists c.self.inside.order.lines c.reserve.new.self.lines c.expect.new.sights c.reserve-2.ensures.entries c.prepare.ensures.lists c.reserve.ensures.same
-      (c.expect.ensures (dated_lines c.self.inside.texts.entries c.self.inside.changes.lists c.self.inside.order.lines) c.self.invariant.1),
+  sights_stay c.self.inside.texts.entries c.reserve-2.new.self.entries c.self.inside.changes.lists c.prepare.new.self.lists c.self.inside.order.lines c.reserve.new.self.lines c.let_go_before_many.new.sights c.reserve-2.ensures.entries c.prepare.ensures.lists c.reserve.ensures.same
+      (c.let_go_before_many.ensures (dated_lines c.self.inside.texts.entries c.self.inside.changes.lists c.self.inside.order.lines) c.self.invariant.1),
 )
 
 pub returns-clause-room : goal.returns-clause-room

@@ -1,4 +1,4 @@
-use Rattle.cov_file.specs.Values.{on_choice}
+use Rattle.cov_values.specs.Values.{on_choice}
 use Rattle.cov_file.proofs.Forward.{sight_found}
 use Rattle.cov_file.proofs.Showing.{if_some}
 use Rattle.cov_file.proofs.sights.Sights.find.Goals as goal

@@ -2,6 +2,7 @@ use Rattle.std.proofs.Common.{[], ◌∷◌, ◌≤◌, refl, sym, ap, subst}
 use Rattle.cov_base.specs.Rows.{AreDistinct}
 use Rattle.cov_tree.specs.Dated.{Dated}
 use Rattle.cov_tree.specs.Entries.{nodes_of, kinds_of}
+use Rattle.cov_tree.specs.Installing.{AreChanged}
 use Rattle.cov_tree.specs.Noted.{ArePlanNoted}
 use Rattle.cov_tree.proofs.Installed.{installed_changes, installed_kept, installed_once, installed_options, installed_rows, installed_within, installs, rows_before, still_distinct, until_later}
 use Rattle.cov_tree.proofs.entries.Entries.install.Goals as goal
@@ -17,6 +18,8 @@ invariant_of-self c =
       c.change_all.ensures.changed.until (until_later c.self.inside.from c.args.at c.self.inside.entries.items later c.self.invariant.1),
       c.change_all.ensures.indexed,
       c.change_all.ensures.changed.noted c.self.inside.noted.nodes.entries noted c.self.invariant.3,
+      c.let_go_before.ensures c.args.at c.self.inside.entries.items c.change_all.new.entries.items
+          (subst (λ plan. AreChanged c.args.at plan c.self.inside.entries.items c.change_all.new.entries.items) c.into_entries.ensures.nodes c.change_all.ensures.changed) c.self.invariant.4,
     )
 
 pub returns-clause-planned : goal.returns-clause-planned

@@ -7,6 +7,7 @@ use Rattle.cov_base.specs.Rows.{AreDistinct}
 use Rattle.cov_tree.specs.Dated.{Dated, newest_entry}
 use Rattle.cov_tree.specs.Entries.{nodes_of}
 use Rattle.cov_tree.specs.Renumbered.{all_numbers, entry_visibilities, visibilities, without_visibilities, KeepsRows}
+use Rattle.cov_tree.specs.Shown.{AreTrees}
 use Rattle.cov_tree.proofs.Sweeping.{IsEntry, all_noted_are, entries_stay, keeps_rows, numbers_are, until_are}
 use Rattle.cov_tree.proofs.entries.Entries.renumber.Goals as goal
 use Rattle.cov_tree.proofs.entries.Entries.renumber.Goals.{After-renumber_all}
@@ -32,6 +33,7 @@ invariant_of-self c = (
   until_are (λ (a b : ℕ). Unit {0}) c.self.inside.from c.self.inside.entries.items c.renumber_all.new.entries.items (stay c) c.self.invariant.1,
   subst (λ (ns : List ℕ). (n : ℕ) → lookup (nat_eq n) c.self.inside.index.entries ≡ position (λ m. nat_eq m n) ns) (sym (numbers c)) c.self.invariant.2,
   all_noted_are (λ (a b : ℕ). Unit {0}) c.self.inside.noted.nodes.entries c.self.inside.entries.items c.renumber_all.new.entries.items (stay c) c.self.invariant.3,
+  subst (AreTrees (map newest_entry c.renumber_all.new.entries.items)) (sym c.let_go.ensures) tt,
 )
 
 pub returns-clause-nodes : goal.returns-clause-nodes

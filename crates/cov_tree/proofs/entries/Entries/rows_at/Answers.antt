@@ -1,17 +1,10 @@
-use Rattle.std.proofs.Common.{[], ap, map, sym, ◌∙◌}
+use Rattle.std.proofs.Common.{◌∙◌}
 use Rattle.std.proofs.lemmas.Result.{IfOk-weaker}
-use Rattle.cov_tree.specs.Dated.{Dated, entry_at, nodes_at}
-use Rattle.cov_tree.specs.Entries.{rows_in}
-use Rattle.cov_tree.proofs.Installing.{nodes_are}
+use Rattle.cov_tree.proofs.Shown.{rows_there}
 use Rattle.cov_tree.proofs.entries.Entries.rows_at.Goals as goal
 
 pub returns : goal.returns
 returns c =
-    let rows = rows_in c.args.table.now c.args.choice in
     IfOk-weaker c.rows_on.result _ _
-    (λ found is.
-    is
-    ∙ ap (λ es. rows (map (entry_at c.args.at) es)) c.as_slice.ensures.value
-    ∙ ap rows (sym (nodes_are c.args.at (record { from = c.self.inside.from; entries = c.self.inside.entries.items; room = 0; noted = [] }) c.self.invariant.1))
-    ∙ ap (λ (d : Dated). rows (nodes_at c.args.at d)) c.self.view_is)
+    (λ rows is. is ∙ rows_there c.args.table.now c.args.choice c.args.at c.as_slice.result.now _ c.args.self.now c.as_slice.ensures.value c.self.view_is c.self.invariant.1)
     c.rows_on.ensures
