@@ -12,8 +12,8 @@ ghost use Rattle.cov_values.specs.Values.{on_choice, Agrees};
 use crate::EntryPlan;
 use cov_base::Choice;
 use cov_dd::Table;
-use cov_view::SharedTree;
 use cov_values::Values;
+use cov_view::SharedTree;
 use std::alloc::Global;
 use std::marker::Model;
 

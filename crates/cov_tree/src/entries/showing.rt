@@ -13,8 +13,8 @@ use crate::entry::Place;
 use crate::trees::KeptTree;
 use cov_base::{Choice, Kind, Memory, NodeNo, Position, Shared};
 use cov_dd::Table;
-use cov_view::{SharedTree, ShownTree};
 use cov_values::Values;
+use cov_view::{SharedTree, ShownTree};
 use std::alloc::Global;
 
 impl Entries {
