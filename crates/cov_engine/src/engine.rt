@@ -226,20 +226,16 @@ impl Engine {
 
     /// What is shown on a choice at a position: the rows that the entries have there, and of each file among them the lines. It is
     /// lent no command, so nothing is replayed. It takes time in the rows and lines that are kept.
-    pub fn view(
-        alloc: Global,
-        visible: &Visible,
-        choice: Choice,
-        at: Position,
-    ) -> Result<View, Memory>
+    pub fn view(visible: &Visible, choice: Choice, at: Position) -> Result<View, Memory>
         requires whole { IsWhole visible.now }
         ensures { IfOk result (λ view. view ≡ shown visible.now choice at) }
     {
-        cov_visible::view_at(alloc, visible, choice, at)
+        cov_visible::view_at(visible, choice, at)
     }
 
-    /// Keeps what the files show on a choice now, so that views on it share their lines. No clause tells whether it did: want of memory
-    /// is passed over. It takes time in the lines of the files that have changed since, and for each other file in its nodes.
+    /// Keeps the rows and what the files show on a choice now, so that views on it share them. No clause tells whether it did: want of
+    /// memory is passed over. It takes time in the rows if one has changed since, in the lines of the files that have changed since,
+    /// and for each other file in its nodes.
     pub fn bring_forward(&mut self, choice: Choice)
         ensures { self.new ≡ self.old }
     {

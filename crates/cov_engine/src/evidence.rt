@@ -112,7 +112,7 @@ fn refusal_on(
         (fault_of (rows_with table.now choice plan.now entries.now))) }
 {
     let rows = entries.rows_with(plan, table, choice)?;
-    let view = view_of_rows(alloc, table, choice, rows.as_slice())?;
+    let view = view_of_rows(alloc, rows.as_slice())?;
     match view.first_fault()? {
         Some(fault) => Ok(Some(refusal_for(fault, choice))),
         None => Ok(None),

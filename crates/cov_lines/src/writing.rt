@@ -43,7 +43,7 @@ impl ServerState {
         // That the count of nodes fits 32 bits bounds the rows for the proof.
         let _nodes = self.engine.counts();
         let at = self.engine.position();
-        let view = Engine::view(self.alloc, self.engine.visible(), choice, at)?;
+        let view = Engine::view(self.engine.visible(), choice, at)?;
         let rows = view.tree();
         close_view(view);
         tell_tree(self.alloc, tree, &rows?)

@@ -127,7 +127,7 @@ impl OpenSession {
             s.session ≡ new_session engine.now.history ambition choice) }
         ensures open { IfOk result (IsOpen engine.now.history) }
     {
-        let view = view_now(alloc, engine, choice)?;
+        let view = view_now(engine, choice)?;
         Ok(OpenSession {
             name,
             base: engine.position(),

@@ -8,10 +8,9 @@ ghost use Rattle.cov_view.specs.Views.{Shows};
 use cov_base::{Choice, Memory};
 use cov_engine::Engine;
 use cov_view::View;
-use std::alloc::Global;
 
 /// The variant of a choice now; nothing in it is new. It takes time in the rows and lines that the engine keeps.
-pub(crate) fn view_now(alloc: Global, engine: &Engine, choice: Choice) -> Result<View, Memory>
+pub(crate) fn view_now(engine: &Engine, choice: Choice) -> Result<View, Memory>
     requires count { length choice ≡ option_count engine.now.history }
     ensures shows { IfOk result (λ view.
         Shows (numbers_of engine.now.history) (numbers_of engine.now.history).addresses view
@@ -19,5 +18,5 @@ pub(crate) fn view_now(alloc: Global, engine: &Engine, choice: Choice) -> Result
     ensures nodes { IfOk result (λ view. view.nodes_made ≡ 0) }
     ensures lines { IfOk result (λ view. view.lines_made ≡ 0) }
 {
-    Engine::view(alloc, engine.visible(), choice, engine.position())
+    Engine::view(engine.visible(), choice, engine.position())
 }

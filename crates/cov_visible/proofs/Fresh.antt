@@ -1,13 +1,15 @@
 -- The rows of a replay are each of a node that isn't shown before it.
-use Rattle.std.proofs.Common.{◌≡◌, ℕ, zero, suc, Bool, true, false, cond, ◌||◌, nat_eq, List, [], ◌∷◌, ◌++◌, map, Option, Some, None, option_map, refl, ap, ◌∙◌, arith}
+use Rattle.std.proofs.Common.{◌≡◌, ℕ, zero, suc, Bool, true, false, cond, ◌||◌, nat_eq, List, [], ◌∷◌, ◌++◌, map, length, get_or, append-nil, append_assoc, ◌<◌, ◌≤◌, Option, Some, None, option_map, refl, sym, ap, subst, ◌∙◌, arith}
 use Rattle.std.specs.List.{fold, AllByRecursion}
+use Rattle.std.proofs.lemmas.Bool.{or_parts}
 use Rattle.std.proofs.lemmas.Bool.Decides.{nat_tests}
 use Rattle.cov_base.specs.Rows.{Row, has_node, AreDistinct, AreOnce}
 use Rattle.cov_base.specs.declared.number.Kind.{Kind}
 use Rattle.cov_base.specs.declared.number.Kind.TheVariants as kinds
 use Rattle.cov_base.specs.declared.number.NodeRef.{NodeRef}
 use Rattle.cov_base.specs.declared.number.NodeRef.TheVariants as nodes
-use Rattle.cov_base.proofs.CallerLemmas.{all-both}
+use Rattle.std.proofs.lemmas.List.{map-append}
+use Rattle.cov_base.proofs.CallerLemmas.{all-both, nat_eq-sym, opened, rest_of}
 use Rattle.cov_dd.specs.declared.triple.Triple.{Triple}
 use Rattle.cov_base.specs.declared.file_row.FileRow.{FileRow}
 use Rattle.cov_file.specs.Dated.{rows_at}
@@ -15,7 +17,7 @@ use Rattle.cov_view.specs.declared.row.ViewRow.{ViewRow}
 use Rattle.cov_view.specs.References.{is_root, same_node}
 use Rattle.cov_view.specs.Seen.{row_at, kind_in, with_file_row}
 use Rattle.cov_visible.specs.declared.file_part.FilePart.{FilePart}
-use Rattle.cov_visible.specs.Showing.{bare_row, with_lines, with_node, AreFresh}
+use Rattle.cov_visible.specs.Showing.{bare_row, bare_rows, with_lines, with_node, AreFresh}
 use Rattle.cov_visible.specs.Parts.{part_of}
 use Rattle.cov_visible.proofs.Showing.{kind-still}
 
@@ -34,7 +36,7 @@ inner zero h = absurd (cc)
 inner (suc n) h = refl
 
 -- a node isn't shown yet
-abbrev IsNew : List ViewRow → Row → Type 0
+abbrev pub IsNew : List ViewRow → Row → Type 0
 IsNew rows r = kind_in rows (nodes.Old r.node) ≡ None
 
 differs : (node : ℕ) (rs : List Row) → has_node node (map (λ r. r.node) rs) ≡ false → AllByRecursion (λ r. nat_eq r.node node ≡ false) rs
@@ -80,3 +82,44 @@ module _ (ts : List Triple) (c : List Bool) (at : ℕ) (stored : List FilePart) 
       all-new : (ss : List Row) → AllByRecursion (λ s. nat_eq s.node 0 ≡ false) ss → AllByRecursion (IsNew []) ss
       all-new [] h = tt
       all-new (s ∷ ss) h = (ap (λ b. cond b (Some kinds.Dir) None) (inner s.node h.0), all-new ss h.1)
+
+-- a row that is to be added is of a node that isn't shown yet
+module _ (r : Row) (rest : List Row) where
+  among : (node : ℕ) (done : List Row) → has_node node (map (λ (s : Row). s.node) (done ++ r ∷ rest)) ≡ false → nat_eq r.node node ≡ false
+  among node [] h = (or_parts (nat_eq r.node node) (has_node node (map (λ (s : Row). s.node) rest)) h).0
+  among node (d ∷ done) h = among node done (or_parts (nat_eq d.node node) (has_node node (map (λ (s : Row). s.node) (done ++ r ∷ rest))) h).1
+
+  apart : (done : List Row) → AreDistinct (map (λ (s : Row). s.node) (done ++ r ∷ rest)) → row_at (bare_rows done) (nodes.Old r.node) ≡ None
+  apart [] h = refl
+  apart (d ∷ done) h =
+      ap (λ b. cond b (Some (bare_row d)) (row_at (bare_rows done) (nodes.Old r.node))) (nat_eq-sym d.node r.node ∙ among d.node done h.0)
+      ∙ apart done h.1
+
+  pub bare-fresh : (done : List Row) → AreOnce (done ++ r ∷ rest) → IsNew (bare_rows done) r
+  bare-fresh done once =
+      ap (λ b. cond b (Some kinds.Dir) (kind_at (bare_rows done) (nodes.Old r.node))) (inner r.node (among 0 done once.0))
+      ∙ ap (option_map (λ (s : ViewRow). s.kind)) (apart done once.1)
+
+-- some rows are added, and others are ahead
+abbrev pub AreAdded : List Row → List ViewRow → List Row → Type 0
+AreAdded all rows ahead = (done : List Row) × (done ++ ahead ≡ all) × (rows ≡ bare_rows done)
+
+-- the next row that is ahead is of a node that isn't shown yet
+pub added-fresh : (all : List Row) (rows : List ViewRow) (ahead : List Row) (r : Row) → AreOnce all → r ≡ get_or ahead 0 r → 1 ≤ length ahead → AreAdded all rows ahead → IsNew rows r
+added-fresh all rows ahead r once is long h =
+    ap (λ (rs : List ViewRow). kind_in rs (nodes.Old r.node)) h.2
+    ∙ bare-fresh r (rest_of ahead) h.0 (subst AreOnce (sym h.1 ∙ ap (λ (rs : List Row). h.0 ++ rs) (opened r r ahead is long)) once)
+
+-- the next row that is ahead is added
+pub added-next : (all : List Row) (rows next : List ViewRow) (ahead : List Row) (r : Row) → r ≡ get_or ahead 0 r → 1 ≤ length ahead → next ≡ rows ++ bare_row r ∷ [] → AreAdded all rows ahead
+    → AreAdded all next (rest_of ahead)
+added-next all rows next ahead r is long step h = (
+  h.0 ++ r ∷ [],
+  append_assoc h.0 (r ∷ []) (rest_of ahead) ∙ ap (λ (rs : List Row). h.0 ++ rs) (sym (opened r r ahead is long)) ∙ h.1,
+  step ∙ ap (λ (rs : List ViewRow). rs ++ bare_row r ∷ []) h.2 ∙ sym (map-append bare_row h.0 (r ∷ [])),
+)
+
+-- all rows are added once none is ahead
+pub added-all : (all : List Row) (rows : List ViewRow) (ahead : List Row) → length ahead < 1 → AreAdded all rows ahead → rows ≡ bare_rows all
+added-all all rows [] none h = h.2 ∙ ap bare_rows (sym (append-nil h.0) ∙ h.1)
+added-all all rows (r ∷ ahead) none h = absurd (omega (arith, none))

@@ -8,6 +8,7 @@ pub mod Resolved
 pub mod Rising
 pub mod Rooms
 pub mod RowPlans
+pub mod SharedLines
 pub mod Showing
 pub mod ShownRows
 pub mod StoredFiles

@@ -1,10 +1,12 @@
 -- What a view shows of kept rows and lines.
-use Rattle.std.proofs.Common.{◌≡◌, refl, ap, ◌∙◌, ℕ, zero, suc, Bool, true, false, cond, List, [], ◌∷◌, ◌++◌, option_map, Option, Some, None, nat_eq, arith}
-use Rattle.std.proofs.lemmas.Bool.Decides.{nat_tests}
+use Rattle.std.proofs.Common.{◌≡◌, refl, ap, Bool, true, false, cond, List, [], ◌∷◌, ◌++◌, option_map, Option, Some, None}
 use Rattle.cov_base.specs.declared.number.Kind.{Kind}
 use Rattle.cov_base.specs.declared.number.Kind.TheVariants as kinds
 use Rattle.cov_base.specs.declared.number.NodeRef.{NodeRef}
 use Rattle.cov_base.specs.declared.number.NodeRef.TheVariants as nodes
+use Rattle.cov_base.specs.Rows.{Row}
+use Rattle.cov_view.specs.Shown.{bare_row}
+use Rattle.cov_view.proofs.CallerLemmas.{node-itself}
 use Rattle.cov_view.specs.declared.line.ViewLine.{ViewLine}
 use Rattle.cov_view.specs.declared.row.ViewRow.{ViewRow}
 use Rattle.cov_view.specs.References.{is_root, same_node}
@@ -36,16 +38,20 @@ row_changed node file f (r ∷ rows) = one_changed (same_node r.node node) f r r
 pub kind-still : (node file : NodeRef) (f : List ViewLine → List ViewLine) (rows : List ViewRow) → kind_in (at_row node (with_lines_by f) rows) file ≡ kind_in rows file
 kind-still node file f rows = ap (λ k. cond (is_root file) (Some kinds.Dir) k) (row_changed node file f rows)
 
-last-found : (rows : List ViewRow) (r : ViewRow) (node : NodeRef) → kind_at rows node ≡ None → same_node r.node node ≡ true → kind_at (rows ++ r ∷ []) node ≡ Some r.kind
-last-found [] r node h same = ap (λ b. option_map (λ (s : ViewRow). s.kind) (cond b (Some r) None)) same
-last-found (s ∷ rows) r node h same = at (same_node s.node node) (λ k. last-found rows r node k same) h
+-- a row of a node that is in no row before it is that of the node
+row-among : (rows more : List ViewRow) (r : ViewRow) (node : NodeRef) → kind_at rows node ≡ None → same_node r.node node ≡ true → kind_at (rows ++ r ∷ more) node ≡ Some r.kind
+row-among [] more r node h same = ap (λ b. option_map (λ (s : ViewRow). s.kind) (cond b (Some r) (row_at more node))) same
+row-among (s ∷ rows) more r node h same = at (same_node s.node node) (λ k. row-among rows more r node k same) h
   where
-    at : (b : Bool) → (kind_at rows node ≡ None → kind_at (rows ++ r ∷ []) node ≡ Some r.kind) → option_map (λ (s : ViewRow). s.kind) (cond b (Some s) (row_at rows node)) ≡ None → option_map (λ (s : ViewRow). s.kind) (cond b (Some s) (row_at (rows ++ r ∷ []) node)) ≡ Some r.kind
+    at : (b : Bool) → (kind_at rows node ≡ None → kind_at (rows ++ r ∷ more) node ≡ Some r.kind) → option_map (λ (s : ViewRow). s.kind) (cond b (Some s) (row_at rows node)) ≡ None
+        → option_map (λ (s : ViewRow). s.kind) (cond b (Some s) (row_at (rows ++ r ∷ more) node)) ≡ Some r.kind
     at true ih h = absurd (cc)
     at false ih h = ih h
 
--- a row that is added has its kind
-pub kind-added : (rows new : List ViewRow) (r : ViewRow) (node : ℕ) → kind_in rows (nodes.Old node) ≡ None → r.node ≡ nodes.Old node → new ≡ rows ++ r ∷ [] → kind_in new (nodes.Old node) ≡ Some r.kind
-kind-added rows new r zero h same e = absurd (cc)
-kind-added rows new r (suc n) h same e =
-    ap (λ rs. kind_in rs (nodes.Old (suc n))) e ∙ last-found rows r (nodes.Old (suc n)) h (ap (λ m. same_node m (nodes.Old (suc n))) same ∙ (let e : nat_eq (suc n) (suc n) ≡ true = grind (arith, nat_tests) in e))
+-- a node that isn't in the rows before its row has the kind of that row
+pub kind-among : (rows more : List ViewRow) (r : Row) → kind_in rows (nodes.Old r.node) ≡ None → kind_in (rows ++ bare_row r ∷ more) (nodes.Old r.node) ≡ Some r.kind
+kind-among rows more r h = at (is_root (nodes.Old r.node)) h
+  where
+    at : (b : Bool) → cond b (Some kinds.Dir) (kind_at rows (nodes.Old r.node)) ≡ None → cond b (Some kinds.Dir) (kind_at (rows ++ bare_row r ∷ more) (nodes.Old r.node)) ≡ Some r.kind
+    at true k = absurd (cc)
+    at false k = row-among rows more (bare_row r) (nodes.Old r.node) k (node-itself (nodes.Old r.node))

@@ -1,26 +1,22 @@
 -- Rows that are shown, by their numbers.
-use Rattle.std.proofs.Common.{◌≡◌, refl, ap, sym, ◌∙◌, ℕ, Bool, true, List, [], ◌∷◌, ◌++◌, map, Option, Some, None, append-nil, append_assoc}
+use Rattle.std.proofs.Common.{◌≡◌, refl, ap, sym, ◌∙◌, ℕ, Bool, List, [], ◌∷◌, ◌++◌, map, Option, Some, None, append-nil, append_assoc}
 use Rattle.std.proofs.lemmas.List.{map-append}
 use Rattle.std.specs.List.{fold}
 use Rattle.cov_base.specs.declared.number.Kind.{Kind}
 use Rattle.cov_base.specs.declared.number.Kind.TheVariants as kinds
 use Rattle.cov_base.specs.Rows.{Row}
-use Rattle.cov_base.proofs.CallerLemmas.{all-append}
-use Rattle.cov_view.specs.Soundness.{is_old_row, AreOld, old_row}
+use Rattle.cov_view.specs.Soundness.{AreOld, old_row}
 use Rattle.cov_dd.specs.declared.triple.Triple.{Triple}
 use Rattle.cov_base.specs.declared.file_row.FileRow.{FileRow}
 use Rattle.cov_file.specs.Dated.{rows_at}
-use Rattle.cov_edit.specs.Numbering.{Numbers, no_numbers}
+use Rattle.cov_edit.specs.Numbering.{Numbers}
 use Rattle.cov_view.specs.declared.row.ViewRow.{ViewRow}
 use Rattle.cov_view.specs.Seen.{with_file_row}
 use Rattle.cov_view.specs.Views.{row_by_number}
 use Rattle.cov_visible.specs.declared.file_part.FilePart.{FilePart}
-use Rattle.cov_visible.specs.Showing.{bare_row, with_lines, with_node}
+use Rattle.cov_visible.specs.Showing.{bare_row, bare_rows, with_lines, with_node}
 use Rattle.cov_visible.specs.Parts.{part_of}
 use Rattle.cov_view.proofs.CallerLemmas.{rows-same}
-
-abbrev pub no_files : List FilePart
-no_files = []
 
 module _ (ns : Numbers) (ts : List Triple) (c : List Bool) (at : ℕ) (stored : List FilePart) where
   file-same : (file : ℕ) (rows : List ViewRow) (shown : List FileRow) → map (row_by_number ns) (fold (with_file_row file) rows shown) ≡ map (row_by_number ns) rows
@@ -39,26 +35,12 @@ module _ (ns : Numbers) (ts : List Triple) (c : List Bool) (at : ℕ) (stored : 
       ∙ ap (λ xs. xs ++ rs) (kinds-same r.kind r.node (part_of stored r.node) (rows ++ bare_row r ∷ []) ∙ map-append (row_by_number ns) rows (bare_row r ∷ []))
       ∙ append_assoc (map (row_by_number ns) rows) (r ∷ []) rs
 
--- rows without lines name nodes that a history has, and are told by their numbers
-pub rows-old : (ts : List Triple) (c : List Bool) (at : ℕ) (rows : List ViewRow) (rs : List Row) → AreOld rows → AreOld (fold (with_node ts c at no_files) rows rs)
-rows-old ts c at rows [] h = h
-rows-old ts c at rows (r ∷ rs) h =
-    rows-old ts c at (with_node ts c at no_files rows r) rs
-    (plain r.kind (all-append (λ s. is_old_row s ≡ true) rows (bare_row r ∷ []) h (refl, tt)))
-  where
-    plain : (k : Kind) → AreOld (rows ++ bare_row r ∷ []) → AreOld (with_lines ts c at k r.node None (rows ++ bare_row r ∷ []))
-    plain kinds.File all = all
-    plain kinds.Dir all = all
+-- rows without lines name nodes that a history has
+pub bare-old : (rs : List Row) → AreOld (bare_rows rs)
+bare-old [] = tt
+bare-old (r ∷ rs) = (refl, bare-old rs)
 
--- rows of which no file is stored are shown without lines
-pub bare-rows : (ts : List Triple) (c : List Bool) (at : ℕ) (rows : List ViewRow) (rs : List Row) → fold (with_node ts c at no_files) rows rs ≡ rows ++ map bare_row rs
-bare-rows ts c at rows [] = sym (append-nil rows)
-bare-rows ts c at rows (r ∷ rs) =
-    ap (λ ss. fold (with_node ts c at no_files) ss rs) (plain r.kind) ∙ bare-rows ts c at (rows ++ bare_row r ∷ []) rs ∙ append_assoc rows (bare_row r ∷ []) (map bare_row rs)
-  where
-    plain : (k : Kind) → with_lines ts c at k r.node None (rows ++ bare_row r ∷ []) ≡ rows ++ bare_row r ∷ []
-    plain kinds.File = refl
-    plain kinds.Dir = refl
-
-pub rows-told : (ts : List Triple) (c : List Bool) (at : ℕ) (rs : List Row) → map old_row (fold (with_node ts c at no_files) [] rs) ≡ rs
-rows-told ts c at rs = nodes-rows no_numbers ts c at no_files [] rs
+-- rows without lines are told by their numbers
+pub bare-told : (rs : List Row) → map old_row (bare_rows rs) ≡ rs
+bare-told [] = refl
+bare-told (r ∷ rs) = ap (λ l. r ∷ l) (bare-told rs)

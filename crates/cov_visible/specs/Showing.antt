@@ -9,12 +9,9 @@ use Rattle.cov_dd.specs.declared.triple.Triple.{Triple}
 use Rattle.cov_file.specs.Dated.{rows_at}
 use Rattle.cov_view.specs.declared.row.ViewRow.{ViewRow}
 use Rattle.cov_view.specs.Seen.{kind_in, with_file_row}
+pub use Rattle.cov_view.specs.Shown.{bare_row, bare_rows}
 use Rattle.cov_visible.specs.Parts.{part_of}
 use Rattle.cov_visible.specs.declared.file_part.FilePart.{FilePart}
-
--- a node's row as it is shown, without lines
-abbrev pub bare_row : Row → ViewRow
-bare_row r = record { node = nodes.Old r.node; kind = r.kind; parent = nodes.Old r.parent; name = r.name; lines = [] }
 
 module _ (ts : List Triple) (c : List Bool) (at : ℕ) where
   -- the rows with the lines of a node that are seen, if it is a file's and they are stored

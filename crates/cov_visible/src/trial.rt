@@ -44,7 +44,7 @@ pub fn first_refused(
 {
     let rows = rows_tried(visible, choice, at, nodes, changing)?;
     let mut trial = Trial {
-        rows: TriedRows::new(alloc, &visible.table, choice, rows)?,
+        rows: TriedRows::new(alloc, rows)?,
         made: Vec::new(alloc),
         deleted: IndexSet::new(alloc),
     };
@@ -174,7 +174,7 @@ impl Trial {
                 Ok(taken)
             }
             Edit::New { .. } | Edit::Rename { .. } | Edit::Move { .. } | Edit::Remove { .. } => {
-                self.takes_rows(sight, edit)
+                self.takes_rows(edit)
             }
         }
     }
@@ -234,7 +234,7 @@ impl Trial {
     }
 
     // Whether an edit of rows is taken. Then it is done.
-    fn takes_rows(&mut self, sight: &Sight<'_>, edit: &Edit) -> Result<bool, Memory>
+    fn takes_rows(&mut self, edit: &Edit) -> Result<bool, Memory>
         requires nodes { self.old.rows.nodes_made < 2 ^ 32 - 1 }
         requires lines { self.old.rows.lines_made < 2 ^ 32 - 1 }
         ensures taken { IfOk result (λ taken. taken ≡
@@ -243,8 +243,7 @@ impl Trial {
             rows_changed self.old edit.now) }
     {
         let alloc = *self.made.allocator();
-        let table = &sight.visible.table;
-        if let Err(fault) = self.rows.apply(alloc, table, sight.choice, edit) {
+        if let Err(fault) = self.rows.apply(alloc, edit) {
             return not_taken(fault);
         }
         Ok(true)

@@ -9,8 +9,7 @@ ghost use Rattle.cov_view.specs.Views.{FaultBy};
 ghost use Rattle.cov_visible.specs.Showing.{bare_row};
 
 use crate::viewing::view_of_rows;
-use cov_base::{Choice, Kind, Memory, NodeNo, NodeRef};
-use cov_dd::Table;
+use cov_base::{Kind, Memory, NodeNo, NodeRef};
 use cov_edit::Edit;
 use cov_tree::{NodeRow, NodeRows};
 use cov_view::{EditFault, View};
@@ -45,12 +44,7 @@ impl Model for TriedRows {
 }
 
 impl TriedRows {
-    pub(crate) fn new(
-        alloc: Global,
-        table: &Table,
-        choice: Choice,
-        rows: NodeRows,
-    ) -> Result<TriedRows, Memory>
+    pub(crate) fn new(alloc: Global, rows: NodeRows) -> Result<TriedRows, Memory>
         requires { AreOnce rows }
         ensures { IfOk result (λ tried. tried ≡ record {
           rows = map bare_row rows;
@@ -62,7 +56,7 @@ impl TriedRows {
             let rows = FewOrMany::Few(rows);
             return Ok(TriedRows { rows });
         }
-        let rows = FewOrMany::Many(view_of_rows(alloc, table, choice, rows.as_slice())?);
+        let rows = FewOrMany::Many(view_of_rows(alloc, rows.as_slice())?);
         Ok(TriedRows { rows })
     }
 
@@ -77,13 +71,7 @@ impl TriedRows {
     }
 
     /// Applies an edit, unless the rows refuse it; they then stay as they are. `Memory` may come where nothing refuses it.
-    pub(crate) fn apply(
-        &mut self,
-        alloc: Global,
-        table: &Table,
-        choice: Choice,
-        edit: &Edit,
-    ) -> Result<(), EditFault>
+    pub(crate) fn apply(&mut self, alloc: Global, edit: &Edit) -> Result<(), EditFault>
         requires nodes { self.old.nodes_made < 2 ^ 32 - 1 }
         requires lines { self.old.lines_made < 2 ^ 32 - 1 }
         ensures accepted { OnOk result (seen_fault self.old.rows edit.now ≡ None) }
@@ -93,7 +81,7 @@ impl TriedRows {
         match &mut self.rows {
             FewOrMany::Many(view) => view.apply(edit),
             FewOrMany::Few(rows) => {
-                let mut view = match view_of_rows(alloc, table, choice, rows.as_slice()) {
+                let mut view = match view_of_rows(alloc, rows.as_slice()) {
                     Ok(view) => view,
                     Err(Memory) => return Err(EditFault::Memory),
                 };

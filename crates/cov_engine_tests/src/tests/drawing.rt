@@ -170,7 +170,7 @@ pub(crate) fn drawn_edits(
     draws: &mut Draws,
     edits: &mut Edits,
 ) -> Result<(), Fail> {
-    let mut view = Engine::view(alloc, engine.visible(), choice, at)?;
+    let mut view = Engine::view(engine.visible(), choice, at)?;
     let added = add_edits(alloc, &mut view, engine.counts(), draws, edits);
     close_view(view);
     added
@@ -182,13 +182,8 @@ fn digest_of_view(view: &View) -> Result<[u8; 32], Fail> {
 }
 
 /// The tree of a choice at a position, by its digest.
-pub(crate) fn digest_at(
-    alloc: Global,
-    engine: &Engine,
-    choice: Choice,
-    at: Position,
-) -> Result<[u8; 32], Fail> {
-    let view = Engine::view(alloc, engine.visible(), choice, at)?;
+pub(crate) fn digest_at(engine: &Engine, choice: Choice, at: Position) -> Result<[u8; 32], Fail> {
+    let view = Engine::view(engine.visible(), choice, at)?;
     let digest = digest_of_view(&view);
     close_view(view);
     digest

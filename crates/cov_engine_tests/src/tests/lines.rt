@@ -291,7 +291,7 @@ fn check_seen(rt: &impl Abort, alloc: Global, engine: &mut Engine) -> Result<(),
     requires { engine.old.history ≡ [] }
 {
     insert_lines(alloc, engine)?;
-    let view = Engine::view(alloc, engine.visible(), Choice::new(0, 1), Position::new(5))?;
+    let view = Engine::view(engine.visible(), Choice::new(0, 1), Position::new(5))?;
     let checked = check_lines(rt, &view);
     drop(view);
     checked

@@ -58,11 +58,11 @@ fn commit_edits(
 }
 
 // Notes what each choice shows now.
-fn note_all(alloc: Global, engine: &Engine, seen: &mut Vec<Seen>) -> Result<(), Fail> {
+fn note_all(engine: &Engine, seen: &mut Vec<Seen>) -> Result<(), Fail> {
     let at = engine.position();
     'choices: for bits in 0..8u32 {
         let choice = Choice::new(u128::from(bits), 3);
-        let digest = digest_at(alloc, engine, choice, at)?;
+        let digest = digest_at(engine, choice, at)?;
         seen.push(Seen { at, choice, digest })?;
     }
     Ok(())
@@ -78,7 +78,7 @@ fn grow(
     let mut accepted = 0;
     'tries: for _ in 0..4 * COMMITS {
         if accepted < COMMITS && commit_drawn(alloc, engine, draws)? {
-            note_all(alloc, engine, seen)?;
+            note_all(engine, seen)?;
             accepted += 1;
         }
     }
@@ -86,10 +86,10 @@ fn grow(
 }
 
 // Each choice shows at each position what it showed when that was the newest.
-fn check_seen(rt: &impl Abort, alloc: Global, engine: &Engine, seen: &[Seen]) -> Result<(), Fail> {
+fn check_seen(rt: &impl Abort, engine: &Engine, seen: &[Seen]) -> Result<(), Fail> {
     assert_eq!(rt; seen.len(), 8 * COMMITS as usize);
     'seen: for one in seen {
-        let again = digest_at(alloc, engine, one.choice, one.at)?;
+        let again = digest_at(engine, one.choice, one.at)?;
         assert!(rt; again == one.digest);
     }
     Ok(())
@@ -150,7 +150,7 @@ fn check_view(alloc: Global, engine: &Engine, choice: Choice, view: &View) -> Re
 }
 
 fn check_choice(alloc: Global, engine: &Engine, choice: Choice) -> Result<bool, Fail> {
-    let view = Engine::view(alloc, engine.visible(), choice, engine.position())?;
+    let view = Engine::view(engine.visible(), choice, engine.position())?;
     let any = check_view(alloc, engine, choice, &view);
     close_view(view);
     any
@@ -174,7 +174,7 @@ fn check_positions(rt: &impl Abort, alloc: Global, engine: &mut Engine) -> Resul
     let counts = engine.counts();
     assert!(rt; counts.nodes > 50);
     assert!(rt; counts.lines > 100);
-    check_seen(rt, alloc, engine, seen.as_slice())?;
+    check_seen(rt, engine, seen.as_slice())?;
     assert!(rt; check_files(alloc, engine)?);
     Ok(())
 }

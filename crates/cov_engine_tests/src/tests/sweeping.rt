@@ -260,14 +260,13 @@ fn sweep_by_chance(engine: &mut Engine, draws: &mut Draws) -> Result<(), Memory>
 // The trees of a choice at a position are the same.
 fn check_views(
     rt: &impl Abort,
-    alloc: Global,
     plain: &Engine,
     swept: &Engine,
     choice: Choice,
     at: u32,
 ) -> Result<(), Fail> {
-    let first = digest_at(alloc, plain, choice, Position::new(at))?;
-    let second = digest_at(alloc, swept, choice, Position::new(at))?;
+    let first = digest_at(plain, choice, Position::new(at))?;
+    let second = digest_at(swept, choice, Position::new(at))?;
     assert!(rt; first == second);
     Ok(())
 }
@@ -333,15 +332,8 @@ fn check_alike(
 ) -> Result<(), Fail> {
     let now = plain.position().number();
     let choice = drawn_choice(draws);
-    check_views(rt, alloc, plain, swept, choice, now)?;
-    check_views(
-        rt,
-        alloc,
-        plain,
-        swept,
-        choice,
-        draws.below(now.saturating_add(1)),
-    )?;
+    check_views(rt, plain, swept, choice, now)?;
+    check_views(rt, plain, swept, choice, draws.below(now.saturating_add(1)))?;
     check_completion(rt, alloc, plain, swept)?;
     check_line(rt, plain, swept, draws)
 }
@@ -398,22 +390,10 @@ fn nodes_in(table: &Table) -> u32 {
 }
 
 // Each choice shows the same now.
-fn check_all_views(
-    rt: &impl Abort,
-    alloc: Global,
-    plain: &Engine,
-    swept: &Engine,
-) -> Result<(), Fail> {
+fn check_all_views(rt: &impl Abort, plain: &Engine, swept: &Engine) -> Result<(), Fail> {
     let now = plain.position().number();
     'choices: for bits in 0..32u32 {
-        check_views(
-            rt,
-            alloc,
-            plain,
-            swept,
-            Choice::new(u128::from(bits), 5),
-            now,
-        )?;
+        check_views(rt, plain, swept, Choice::new(u128::from(bits), 5), now)?;
     }
     Ok(())
 }
@@ -438,7 +418,7 @@ fn check_random(
     assert_eq!(rt; plain.counts(), swept.counts());
     assert!(rt; plain.counts().lines > 50);
     assert!(rt; nodes_in(swept.table()) < nodes_in(plain.table()));
-    check_all_views(rt, alloc, plain, swept)?;
+    check_all_views(rt, plain, swept)?;
     check_all_lines(rt, plain, swept)
 }
 

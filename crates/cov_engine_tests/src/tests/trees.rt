@@ -172,7 +172,7 @@ fn leads(
     node: Option<u32>,
 ) -> Result<bool, Fail> {
     let path = Path::read(alloc, path)?;
-    let view = Engine::view(alloc, engine.visible(), choice, Position::new(at))?;
+    let view = Engine::view(engine.visible(), choice, Position::new(at))?;
     let found = view.resolve(&path);
     drop(view);
     Ok(found == node.map(old))
