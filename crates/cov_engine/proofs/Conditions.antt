@@ -70,11 +70,10 @@ module _ (ts : List Triple) (count : ℕ) where
   listed-stand node ambition es many ns list counted is same h =
       subst (StandFor ts count (conditions ambition es)) (sym (same ∙ is ∙ ap (λ k. replicate k node) counted)) (all-stand node ambition es h)
 
-  -- the node of each edit stands for the ambition, if all apply within it
-  pub each-stands : (ambition : Formula ℕ) (es : List Edit) (ns : List ℕ) → StandFor ts count (conditions ambition es) ns → AllOn (λ e node. Stands ts node 0 count (value ambition)) ns es
-  each-stands ambition [] ns h = tt
-  each-stands ambition (e ∷ es) [] h = absurd h
-  each-stands ambition (e ∷ es) (n ∷ ns) h = (h.0, each-stands ambition es ns h.1)
+  -- the node of each edit names only the first so many options
+  pub all-low : (within : List (Formula ℕ)) (ns : List ℕ) (es : List Edit) → StandFor ts count within ns → AllOn (λ e node. span ts node ≤ count) ns es
+  all-low within ns [] h = tt
+  all-low within ns (e ∷ es) h = ((stands-first within ns h).below, all-low (rest_within within) (rest_nodes ns) es (stands-rest within ns h))
 
   -- the nodes of the lines that a commit inserts name only the first so many options
   pub own-low : (within : List (Formula ℕ)) (ns : List ℕ) (es : List Edit) (index : ℕ) → StandFor ts count within ns
@@ -97,10 +96,14 @@ module _ (ts : List Triple) (count : ℕ) where
 pub listed-length : (node : ℕ) (es some : List Edit) (many : ℕ) (ns list : List ℕ) → many ≡ length es → ns ≡ replicate many node → list ≡ ns → some ≡ es → length list ≡ length some
 listed-length node es some many ns list counted is same e = ap length (same ∙ is) ∙ length-replicate many node ∙ counted ∙ sym (ap length e)
 
--- the edits of a commit behind some apply within the ambition
-pub ambition-behind : (ambition : Formula ℕ) (begun later : List Edit) → within_behind begun (conditions ambition (begun ++ later)) ≡ conditions ambition later
-ambition-behind ambition [] later = refl
-ambition-behind ambition (d ∷ begun) later = ambition-behind ambition begun later
+-- what holds of each edit, and what holds anyway, whatever the nodes
+pub all-on : (R : Edit → Type 0) (ns : List ℕ) (es : List Edit) → AllByRecursion R es → AllOn (λ e node. R e) ns es
+all-on R ns [] h = tt
+all-on R ns (e ∷ es) h = (h.0, all-on R (rest_nodes ns) es h.1)
+
+pub all-any : (ns : List ℕ) (es : List Edit) → AllOn (λ e node. Unit {0}) ns es
+all-any ns [] = tt
+all-any ns (e ∷ es) = (tt, all-any (rest_nodes ns) es)
 
 -- the node of a line that a commit inserts, by the count of those that it inserts before
 pub insert-node : (m : ℕ) (ns : List ℕ) (begun : List Edit) (file : NodeRef) (after : LineRef) (text : List ℕ) (later : List Edit)

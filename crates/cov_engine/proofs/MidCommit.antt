@@ -40,11 +40,11 @@ use Rattle.cov_visible.specs.Resolved.{first_node, rest_nodes, insert_nodes, Are
 use Rattle.cov_visible.specs.declared.file_part.FilePart.{FilePart}
 use Rattle.cov_visible.specs.declared.resolved_edit.ResolvedEdit.{ResolvedEdit}
 use Rattle.cov_visible.specs.declared.resolved_edit.ResolvedEdit.TheVariants as resolved
-use Rattle.cov_history.proofs.CallerLemmas.{files_of_lines-stay, file_of_line-more, lines-edits, delete-dated, delete-elsewhere, delete-order, anchor-below, anchors-append, anchors-stay, anchor-known, insert-elsewhere, is_table-of, amid-goes_on, amid-within, stands-amid, any-mapped, insert-dated, order-takes, accepted-anchored, accepted-there, all-mapped}
+use Rattle.cov_history.proofs.CallerLemmas.{IsOther, deleted-once, files_of_lines-stay, file_of_line-more, lines-edits, delete-dated, delete-elsewhere, delete-order, anchor-below, anchors-append, anchors-stay, anchor-known, insert-elsewhere, is_table-of, amid-goes_on, amid-within, stands-amid, any-mapped, insert-dated, order-takes, accepted-anchored, accepted-there, all-mapped}
 use Rattle.cov_engine.specs.Staged.{StandFor}
 use Rattle.cov_engine.proofs.Committed.{numbers-dated, rows-same}
-use Rattle.cov_engine.proofs.Conditions.{ambition-behind, each-stands, insert-node, nodes-more, nodes_behind, stands-behind, stands-first}
-use Rattle.cov_visible.proofs.CallerLemmas.{AllOn, all-pairs, resolved-by}
+use Rattle.cov_engine.proofs.Conditions.{all-any, all-on, insert-node, nodes-more, nodes_behind, stands-behind, stands-first}
+use Rattle.cov_visible.proofs.CallerLemmas.{all-pairs, resolved-by}
 use Rattle.cov_engine.proofs.Dating.{IsGone, IsLeftBy, left_by, left_by-gone, dated-numbers, insert-lines, delete-lines, all-after}
 
 alike-numbers : (ls ms : List FileLine) → AreAlike ls ms → file_numbers ls ≡ file_numbers ms
@@ -220,16 +220,6 @@ module _ (history : List Command) (base : ℕ) (choice : List Bool) (ambition : 
     stands_at : (begun : List Edit) → Stands ts (node_at begun) 0 count (value (within_at begun))
     stands_at begun = stands-first ts count (within_behind begun each_within) (nodes_at begun) (stands-behind ts count begun each_within on applies)
 
-    -- a node of an edit stands for the ambition
-    abbrev StandsOne : Edit → ℕ → Type 0
-    StandsOne e node = Stands ts node 0 count (value ambition)
-
-    all-one : (begun later : List Edit) → begun ++ later ≡ es → AllOn StandsOne (nodes_at begun) later
-    all-one begun later all =
-        each-stands ts count ambition later (nodes_at begun)
-        (subst (λ within. StandFor ts count within (nodes_at begun)) (ap (λ some. within_behind begun (conditions ambition some)) (sym all) ∙ ambition-behind ambition begun later)
-        (stands-behind ts count begun each_within on applies))
-
     -- the node of a line that the commit inserts is that of the edit
     insert-own : (begun later : List Edit) (file : NodeRef) (after : LineRef) (text : List ℕ) → begun ++ edits.Insert file after text ∷ later ≡ es
         → own_node (insert_nodes on es) (lines_amid history begun + 1 - m - 1) ≡ node_at begun
@@ -268,24 +258,15 @@ module _ (history : List Command) (base : ℕ) (choice : List Bool) (ambition : 
         (ap (λ k. value_in ts (own_node (insert_nodes on es) (k - m - 1)) c) (sym same) ∙ ap (λ r. value_in ts r c) place ∙ values c
         ∙ sym (ap (λ b. value (cond b within (seen_at [] q)) c) (reflexive q)))) (own (omega (arith, same, above)))
 
-    hidden-left : (within : Formula ℕ) (k node line vis : ℕ) (d : DatedLine) → ((c : List Bool) → value within c ≡ value_in ts node c) → IsLeftBy ts count node q line vis d → IsLeftBy ts count node q line vis (hidden_by k q within d)
-    hidden-left within k node line vis d again h = at (nat_eq d.line k)
+    hidden-left : (within : Formula ℕ) (k node line vis : ℕ) (d : DatedLine) → (line ≡ k → ⊥) → IsLeftBy ts count node q line vis d → IsLeftBy ts count node q line vis (hidden_by k q within d)
+    hidden-left within k node line vis d apart h = at (nat_eq d.line k) refl
       where
         hid : DatedLine
         hid = record { line = d.line; text = d.text; changes = (q, And (seen_at d.changes q) (Not within)) ∷ d.changes }
 
-        twice : (x y : Bool) → (x && not y) ≡ ((x && not y) && not y)
-        twice true true = refl
-        twice true false = refl
-        twice false y = refl
-
-        at : (b : Bool) → IsLeftBy ts count node q line vis (cond b hid d)
-        at true is =
-            stands_weaker 0 count (left_by ts count node q hid) (omega arith) (omega arith)
-            (λ c. twice (value (seen_at d.changes q) c) (value_in ts node c)
-            ∙ ap (λ b. (value (seen_at d.changes q) c && not b) && not (value_in ts node c)) (sym (again c))
-            ∙ sym (ap (λ b. value (cond b (And (seen_at d.changes q) (Not within)) (seen_at d.changes q)) c && not (value_in ts node c)) (reflexive q))) (h is)
-        at false is = h is
+        at : (b : Bool) → nat_eq d.line k ≡ b → IsLeftBy ts count node q line vis (cond b hid d)
+        at true own is = let same : line ≡ k = grind (arith, nat_tests, own, is) in absurd (apart same)
+        at false own is = h is
 
     -- what is right stays so when a line is put in
     insert-right : (begun later : List Edit) (file : NodeRef) (after : LineRef) (text : List ℕ) (all : begun ++ edits.Insert file after text ∷ later ≡ es) (node other line vis : ℕ)
@@ -303,24 +284,26 @@ module _ (history : List Command) (base : ℕ) (choice : List Bool) (ambition : 
             (subst (λ f. AllByRecursion (IsLeftBy ts count node q line vis) (file_dated f (lines_at begun))) (sym same) (h.taken above))))
         by above false is = subst (AllByRecursion (IsLeftBy ts count node q line vis)) (sym (insert-there begun later file after text all other is)) (h.taken above)
 
-    -- and when a line is taken out, since all edits apply within the ambition
-    delete-right : (begun later : List Edit) (file : NodeRef) (gone : LineRef) (all : begun ++ edits.Delete file gone ∷ later ≡ es) (node other line vis : ℕ) → Stands ts node 0 count (value ambition)
-        → IsRight (lines_at begun) node other line vis → IsRight (lines_at (begun ++ edits.Delete file gone ∷ [])) node other line vis
-    delete-right begun later file which all node other line vis one h = record { taken = λ above. by above (nat_eq (node_number n file) other) refl; own = h.own; within = h.within }
+    -- and when another line is taken out
+    delete-right : (begun later : List Edit) (file : NodeRef) (gone : LineRef) (all : begun ++ edits.Delete file gone ∷ later ≡ es) (node : ℕ) (other : NodeRef) (line : LineRef) (vis : ℕ)
+        → IsOther n m file gone (edits.Delete other line)
+        → IsRight (lines_at begun) node (node_number n other) (line_number m line) vis → IsRight (lines_at (begun ++ edits.Delete file gone ∷ [])) node (node_number n other) (line_number m line) vis
+    delete-right begun later file which all node other line vis apart h = record { taken = λ above. by above (nat_eq (node_number n file) (node_number n other)) refl; own = h.own; within = h.within }
       where
-        again : (c : List Bool) → value (within_at begun) c ≡ value_in ts node c
-        again c = sym ((stands_at begun).value c) ∙ (all-one begun (edits.Delete file which ∷ later) all).0.value c ∙ sym (one.value c)
+        x : ℕ
+        x = line_number m line
 
-        by : 0 < other → (b : Bool) → nat_eq (node_number n file) other ≡ b → AllByRecursion (IsLeftBy ts count node q line vis) (file_dated other (lines_at (begun ++ edits.Delete file which ∷ [])))
+        by : 0 < node_number n other → (b : Bool) → nat_eq (node_number n file) (node_number n other) ≡ b
+            → AllByRecursion (IsLeftBy ts count node q x vis) (file_dated (node_number n other) (lines_at (begun ++ edits.Delete file which ∷ [])))
         by above true is =
-            let same : node_number n file ≡ other = grind (arith, nat_tests, is) in
-            subst (λ f. AllByRecursion (IsLeftBy ts count node q line vis) (file_dated f (lines_at (begun ++ edits.Delete file which ∷ [])))) same
-            (subst (AllByRecursion (IsLeftBy ts count node q line vis)) (sym (delete-here begun later file which all))
-            (all-mapped (IsLeftBy ts count node q line vis) (IsLeftBy ts count node q line vis) (hidden_by (line_number m which) q (within_at begun))
-            (λ d own. hidden-left (within_at begun) (line_number m which) node line vis d again own)
+            let same : node_number n file ≡ node_number n other = grind (arith, nat_tests, is) in
+            subst (λ f. AllByRecursion (IsLeftBy ts count node q x vis) (file_dated f (lines_at (begun ++ edits.Delete file which ∷ [])))) same
+            (subst (AllByRecursion (IsLeftBy ts count node q x vis)) (sym (delete-here begun later file which all))
+            (all-mapped (IsLeftBy ts count node q x vis) (IsLeftBy ts count node q x vis) (hidden_by (line_number m which) q (within_at begun))
+            (λ d own. hidden-left (within_at begun) (line_number m which) node x vis d (apart (sym same)) own)
             (file_dated (node_number n file) (lines_at begun))
-            (subst (λ f. AllByRecursion (IsLeftBy ts count node q line vis) (file_dated f (lines_at begun))) (sym same) (h.taken above))))
-        by above false is = subst (AllByRecursion (IsLeftBy ts count node q line vis)) (sym (delete-out begun later file which all other is)) (h.taken above)
+            (subst (λ f. AllByRecursion (IsLeftBy ts count node q x vis) (file_dated f (lines_at begun))) (sym same) (h.taken above))))
+        by above false is = subst (AllByRecursion (IsLeftBy ts count node q x vis)) (sym (delete-out begun later file which all (node_number n other) is)) (h.taken above)
 
     -- the other edits are right when the first of them is done
     next-right : (begun : List Edit) (e : Edit) (ks : List (Kept Line)) (nodes lines : ℕ) (later : List Edit) (ss : List ResolvedEdit) → AreRight ks (rest_nodes (nodes_at begun)) nodes lines later ss
@@ -572,9 +555,9 @@ module _ (history : List Command) (base : ℕ) (choice : List Bool) (ambition : 
         (λ mid next. carried later (begun ++ e ∷ []) nodes (lines + 1) mid ss (append_assoc begun (e ∷ []) later ∙ all)
         (ap (λ j. j + 1) counted ∙ sym (one_more history begun file after text))
         (next-right begun e (lines_at (begun ++ e ∷ [])) nodes (lines + 1) later ss
-        (resolved-by (IsRight (lines_at begun)) (IsRight (lines_at (begun ++ e ∷ []))) StandsOne n m
-        (λ node other line vis one h. insert-right begun later file after text all node (node_number n other) (line_number m line) vis h)
-        (rest_nodes (nodes_at begun)) nodes (lines + 1) later ss (all-one begun (e ∷ later) all).1 right.1)) next))
+        (resolved-by (IsRight (lines_at begun)) (IsRight (lines_at (begun ++ e ∷ []))) (λ d node. Unit {0}) n m
+        (λ node other line vis any h. insert-right begun later file after text all node (node_number n other) (line_number m line) vis h)
+        (rest_nodes (nodes_at begun)) nodes (lines + 1) later ss (all-any (rest_nodes (nodes_at begun)) later) right.1)) next))
     carried (edits.Delete file line ∷ later) begun nodes lines stored (s ∷ ss) all counted right here =
         let e = edits.Delete file line in
         subst (λ x. AreCarried (x ∷ ss) stored) (sym right.0.1)
@@ -583,9 +566,10 @@ module _ (history : List Command) (base : ℕ) (choice : List Bool) (ambition : 
         (λ mid next. carried later (begun ++ e ∷ []) nodes lines mid ss (append_assoc begun (e ∷ []) later ∙ all)
         (counted ∙ ap (λ l. m + length l) (sym (none_more m begun e refl)))
         (next-right begun e (lines_at (begun ++ e ∷ [])) nodes lines later ss
-        (resolved-by (IsRight (lines_at begun)) (IsRight (lines_at (begun ++ e ∷ []))) StandsOne n m
-        (λ node other which vis one h. delete-right begun later file line all node (node_number n other) (line_number m which) vis one h)
-        (rest_nodes (nodes_at begun)) nodes lines later ss (all-one begun (e ∷ later) all).1 right.1)) next))
+        (resolved-by (IsRight (lines_at begun)) (IsRight (lines_at (begun ++ e ∷ []))) (λ d node. IsOther n m file line d) n m
+        (λ node other which vis apart h. delete-right begun later file line all node other which vis apart h)
+        (rest_nodes (nodes_at begun)) nodes lines later ss
+        (all-on (IsOther n m file line) (rest_nodes (nodes_at begun)) later (deleted-once history (session_of base choice ambition es) begun file line later good all)) right.1)) next))
 
   -- the lines that edits name are made before them
   pub named-low : (most : ℕ) (later begun : List Edit) → begun ++ later ≡ es → lines_amid history es ≤ most → AllByRecursion (λ e. named_line m e ≤ most) later

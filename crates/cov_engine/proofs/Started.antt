@@ -4,7 +4,7 @@ use Rattle.std.specs.List.{AllByRecursion}
 use Rattle.std.proofs.lemmas.Bool.Decides.{nat_tests}
 use Rattle.cov_base.proofs.CallerLemmas.{all-map}
 use Rattle.cov_dd.specs.declared.triple.Triple.{Triple}
-use Rattle.cov_dd.specs.Diagrams.{diagram_size, span, value_in, Stands}
+use Rattle.cov_dd.specs.Diagrams.{diagram_size, span, value_in}
 use Rattle.cov_dd.specs.Combinations.{joint_span}
 use Rattle.cov_dd.proofs.CallerLemmas.{stands_weaker}
 use Rattle.cov_expr.specs.Formula.{Formula, value}
@@ -31,7 +31,7 @@ use Rattle.cov_visible.specs.declared.file_part.FilePart.{FilePart}
 use Rattle.cov_visible.specs.declared.resolved_edit.ResolvedEdit.{ResolvedEdit}
 use Rattle.cov_engine.proofs.MidCommit.{IsRight, AreRight}
 use Rattle.cov_engine.proofs.Committed.{numbers-dated, in-range}
-use Rattle.cov_engine.proofs.Conditions.{each-stands, own-low}
+use Rattle.cov_engine.proofs.Conditions.{all-low, own-low}
 use Rattle.cov_engine.proofs.Dating.{AreOnce, IsLeftBy, left_by, node-right, node-low}
 use Rattle.cov_history.proofs.CallerLemmas.{legal-in_files, lines-held}
 use Rattle.cov_visible.proofs.CallerLemmas.{resolved-by}
@@ -150,6 +150,6 @@ module _ (history : List Command) (base : ℕ) (choice : List Bool) (ambition : 
   -- what edits by numbers take out is right
   pub resolved-right : (ss : List ResolvedEdit) → AreResolved q stored n m on ts es ss → AreRight history base choice ambition es good legal ts on applies (kept_of history) on n m es ss
   resolved-right ss h =
-      resolved-by (IsTaken ts q stored m (insert_nodes on es)) (IsRight history base choice ambition es good legal ts on applies (kept_of history)) (λ e node. Stands ts node 0 (option_count history) (value ambition)) n m
-      (λ node file line vis one k. taken-right node (node_number n file) (line_number m line) vis one.below k) on n m es ss
-      (each-stands ts (option_count history) ambition es on applies) h
+      resolved-by (IsTaken ts q stored m (insert_nodes on es)) (IsRight history base choice ambition es good legal ts on applies (kept_of history)) (λ e node. span ts node ≤ option_count history) n m
+      (λ node file line vis low k. taken-right node (node_number n file) (line_number m line) vis low k) on n m es ss
+      (all-low ts (option_count history) (conditions ambition es) on es applies) h

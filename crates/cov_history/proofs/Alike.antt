@@ -25,7 +25,7 @@ use Rattle.cov_history.proofs.Standing.{line_of-more, next-behind}
 use Rattle.cov_history.proofs.Touching.{IsSameAt, edited_node, edit-left, kind_by, kind-renamed, kind-moved, row-removed}
 
 -- an edit touches no node and names no line but those that a history made, or that edits make
-abbrev IsKnown : ℕ → ℕ → Edit → Type 0
+abbrev pub IsKnown : ℕ → ℕ → Edit → Type 0
 IsKnown n m (edits.New kind parent name) = Unit {0}
 IsKnown n m (edits.Insert file after text) = (is_known_node n file ≡ true) × (is_known_line m after ≡ true)
 IsKnown n m (edits.Delete file which) = (is_known_node n file ≡ true) × (is_known_line m which ≡ true)
@@ -99,7 +99,7 @@ in_table-delete t n v file address h = record {
 in_table-rows : (t : List (List ℕ)) (n : ℕ) (v : Variant) (change : RowChange) → IsInTable t n v → IsInTable t n (edited v (OnRows change))
 in_table-rows t n v change h = record { in_order = h.in_order; numbered_lines = h.numbered_lines }
 
-in_table-edit : (ns : Numbers) (t : List (List ℕ)) (node line : ℕ) (v : Variant) (e : Edit) → IsTable t → line_count_after line e ≤ length t → IsInTable t line v
+pub in_table-edit : (ns : Numbers) (t : List (List ℕ)) (node line : ℕ) (v : Variant) (e : Edit) → IsTable t → line_count_after line e ≤ length t → IsInTable t line v
     → IsInTable t (line_count_after line e) (edited v (numbered_edit ns t node line e))
 in_table-edit ns t node line v (edits.New kind parent name) table low h = in_table-rows t line v (Created (node + 1) kind (node_number ns.nodes parent) name) h
 in_table-edit ns t node line v (edits.Insert file after text) table low h = in_table-insert t line v (node_number ns.nodes file) text table (omega (arith, low)) h

@@ -8,6 +8,7 @@ pub use Rattle.cov_history.proofs.Inserts.{amid-goes_on, amid-within, anchor-kno
 pub use Rattle.cov_history.proofs.LineFiles.{AreLinesIn, accepted-names, amid-in_files, begun-named, legal-in_files, named-in_turn, turn-names}
 pub use Rattle.cov_history.proofs.Naming.{AreNamed, IsNamed, accepted-named, base-nodes, edits-accepted, further, legal-named, made-number, no-record, nodes-replay, sound-accepted, the_node}
 pub use Rattle.cov_history.proofs.Older.{accepted-anchored, accepted-there, legal-take}
+pub use Rattle.cov_history.proofs.Once.{IsOther, deleted-once}
 pub use Rattle.cov_history.proofs.Orders.{any-mapped, any-none, file-shows, insert-dated, no_commit-holds, order-takes}
 pub use Rattle.cov_history.proofs.Replays.{replay-seen}
 pub use Rattle.cov_history.proofs.RowChanges.{committed-where, rows-committed, rows-kept}

@@ -13,6 +13,7 @@ pub mod LineFiles
 pub mod Meanwhile
 pub mod Naming
 pub mod Older
+pub mod Once
 pub mod Opened
 pub mod Orders
 pub mod Reaching

@@ -158,7 +158,7 @@ touched-low n m node (edits.Move which parent ∷ es) known h = named-low n node
 touched-low n m node (edits.Remove which ∷ es) known h = named-low n node which es known.0 h (touched-low n m node es known.1)
 
 -- the lines of a replay are of the table with more lines
-replay-in_table : (c : List Bool) (history : List Command) (es : List Edit) → IsInTable (numbers_after (numbers_of history) es).addresses (length (numbers_of history).addresses) (replay c history)
+pub replay-in_table : (c : List Bool) (history : List Command) (es : List Edit) → IsInTable (numbers_after (numbers_of history) es).addresses (length (numbers_of history).addresses) (replay c history)
 replay-in_table c history es =
     let t : List (List ℕ) = (numbers_of history).addresses in
     let stands = replay-stands c history in
