@@ -47,7 +47,7 @@ impl OpenSession {
     {
         let choice = self.completed_now(alloc, engine)?;
         engine.bring_forward(choice);
-        let view = self.view_on(alloc, engine, choice)?;
+        let view = self.view_on(engine, choice)?;
         self.base = engine.position();
         self.choice = choice;
         self.view = view;
@@ -75,7 +75,7 @@ impl OpenSession {
     }
 
     // What it would see now on a choice within its ambition that meets the constraints.
-    fn view_on(&self, alloc: Global, engine: &Engine, choice: Choice) -> Result<View, SessionFault>
+    fn view_on(&self, engine: &Engine, choice: Choice) -> Result<View, SessionFault>
         requires count { length choice ≡ option_count engine.now.history }
         requires ambition { reach self.now.session.ambition ≤ option_count engine.now.history }
         requires valid { first_false_in engine.now.history choice ≡ None }
@@ -90,7 +90,7 @@ impl OpenSession {
             (rebased self.now.session (length engine.now.history) choice)
             self.now.session.edits)) }
     {
-        let mut view = view_now(alloc, engine, choice)?;
+        let mut view = view_now(engine, choice)?;
         apply_all(&mut view, self.edits.as_slice())?;
         Ok(view)
     }
