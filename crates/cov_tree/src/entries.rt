@@ -43,7 +43,8 @@ const FIRST_ROOM: usize = 16;
 type Index = IndexMap<NodeNo, usize>;
 
 /// The nodes that a store ever had, each with its own changes. Contracts tell of the rows that they have on each choice, at each
-/// position (`rows_at`) and with a plan (`rows_with`). The root is always there and has no row.
+/// position (`rows_at`) and with a plan (`rows_with`). The root is always there and has no row. A few trees of what was shown
+/// last are kept, of which contracts tell nothing.
 #[derive(Drop)]
 pub struct Entries {
     from: Position,
@@ -165,7 +166,7 @@ impl Entries {
         Ok(())
     }
 
-    /// Makes the changes of a plan from a position on. It takes no memory.
+    /// Makes the changes of a plan from a position on, and lets the trees that are kept go if there are any. It takes no memory.
     pub fn install(&mut self, plan: EntryPlan, at: Position)
         requires later { self.old.from ≤ at }
         requires room { HasRoom plan self.old }

@@ -20,7 +20,7 @@ use std::marker::Model;
 /// How many trees are kept.
 const MOST_KEPT: usize = 8;
 
-/// What nodes show where certain visibilities have certain values. Many nodes share a visibility, so these are few.
+/// What the newest nodes show where certain visibilities have certain values. Many nodes share a visibility, so these are few.
 #[derive(Drop)]
 pub(crate) struct KeptTree {
     pub(crate) values: Values,
@@ -67,8 +67,8 @@ impl Trees {
         }
     }
 
-    /// The tree that is right on a choice, None where none is kept. It evaluates the visibilities of kept trees, of each up to the
-    /// first that has another value.
+    /// The tree that is right on a choice, None where none is kept. It evaluates the visibilities of kept trees, of each up to
+    /// the first that has another value.
     pub(crate) fn find(&self, table: &Table, choice: Choice) -> Option<SharedTree>
         ensures { IfSome result (λ tree. (es : List EntryValue) → AreTrees es self.now →
             rows_by (on_choice table.now choice) es ≡ tree) }
@@ -132,8 +132,8 @@ impl Trees {
         }
     }
 
-    /// Keeps a tree more, in the place of the next one where there are as many as may be. It is asked first from now on, and passed
-    /// over where there is no memory.
+    /// Keeps a tree more, in the place of the next one where there are as many as may be. It is asked first from now on, and
+    /// passed over where there is no memory.
     pub(crate) fn keep(&mut self, kept: KeptTree)
         ensures { (es : List EntryValue) → AreTrees es self.old → IsTree es kept →
             AreTrees es self.new }

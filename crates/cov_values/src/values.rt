@@ -21,8 +21,8 @@ pub struct Evaluated {
     value: bool,
 }
 
-/// Nodes with the values that they have on some choice, where FALSE is false. They are gone through one by one, so they are to be few:
-/// what is shown on a choice by many nodes is mostly shown by few different ones. Contracts see them in the order in which they came.
+/// Nodes with the values that they have on some choice, where FALSE is false. They are gone through one by one, so they are to
+/// be few: what many lines or files are shown by is mostly one of few nodes. Contracts see them in the order in which they came.
 #[derive(Drop)]
 pub struct Values {
     each: Vec<Evaluated>,
@@ -71,8 +71,8 @@ impl Values {
         }
     }
 
-    /// The value of a node, which is known then. Its diagram is walked only where it wasn't. It is refused where as many values are known
-    /// as may be, as want of memory is.
+    /// The value of a node, which is known then. Its diagram is walked only where it wasn't. It is refused where as many values
+    /// are known as may be, as want of memory is.
     pub fn evaluate(&mut self, node: Node, table: &Table, choice: Choice) -> Result<bool, Memory>
         ensures value { IfOk result (IsKnown self.new node) }
         ensures grows { (f : ℕ → Bool) → Agrees f self.new → Agrees f self.old }

@@ -157,8 +157,8 @@ impl FileParts {
     }
 
     /// Puts the nodes of a list from a place on in the places of those that the files' lines keep, in the order of `nodes`. It
-    /// answers the place after the last. A file that keeps lists of what it showed asks for memory for their values, and passes over
-    /// want of it; nothing else takes any.
+    /// answers the place after the last. A file that keeps lists of what it showed asks for memory for their values, and passes
+    /// over want of it; nothing else takes any.
     pub fn renumber(&mut self, from: &Nodes, first: u64) -> u64
         requires { first + length (line_nodes self.old) ≤ length from.now }
         ensures next { result ≡ first + length (line_nodes self.old) }

@@ -24,7 +24,7 @@ impl Entries {
     }
 
     /// Puts the nodes of a list from a place on in the places of the visibilities, in the order of `nodes`. It answers the place after
-    /// the last, and takes no memory.
+    /// the last, lets the trees that are kept go, and takes no memory.
     pub fn renumber(&mut self, from: &Nodes, first: u64) -> u64
         requires { first + length (visibilities self.old) ≤ length from.now }
         ensures next { result ≡ first + length (visibilities self.old) }

@@ -18,8 +18,8 @@ use cov_view::{SharedTree, ShownTree};
 use std::alloc::Global;
 
 impl Entries {
-    /// The rows on a choice at a position, shared with what is kept where that is right. Where none is, it evaluates each visibility
-    /// there at most once.
+    /// The rows on a choice at a position, shared with what is kept where that is right. Where none is, it takes time in the
+    /// nodes, and evaluates the visibility of each place there once.
     pub fn shown(&self, table: &Table, choice: Choice, at: Position) -> Result<SharedTree, Memory>
         requires once { AreOnce (rows_at table.now choice at self.now) }
         ensures { IfOk result (λ tree. tree ≡ rows_at table.now choice at self.now) }
@@ -42,9 +42,9 @@ impl Entries {
     }
 
     /// Keeps what is shown on a choice from the newest change on, if it isn't yet. It takes time in the nodes where it isn't, and
-    /// else in the visibilities under which the kept trees are right. Where there is no memory, where the visibilities are more than
-    /// may be or where a node would stand twice, none is kept, nor is another one until a plan with a change is installed or the
-    /// visibilities are renumbered.
+    /// else in the visibilities under which the kept trees are right. Where there is no memory, where the visibilities are more
+    /// than may be or where a node would stand twice, none is kept, nor is another one until a plan with a change is installed
+    /// or the visibilities are renumbered.
     pub fn keep(&mut self, table: &Table, choice: Choice)
         ensures { self.new ≡ self.old }
     {
@@ -156,8 +156,8 @@ fn add_fresh(tree: &mut ShownTree, node: NodeNo, kind: Kind, place: &Place) -> R
     }
 }
 
-// What the newest nodes show on a choice, with the values of their visibilities. It is refused where these are more than may be or a
-// node would stand twice, as want of memory is.
+// What the newest nodes show on a choice, with the values of their visibilities. It is refused where these are more than may
+// be or a node would stand twice, as want of memory is.
 fn kept_tree(
     alloc: Global,
     entries: &[DatedEntry],
