@@ -188,16 +188,6 @@ module _ (ts : List Triple) (count p line : ℕ) where
       at true rest = ((h.0.nodes p).within, (h.0.nodes p).below)
       at false rest = rest
 
-  -- where no line has the number, it is FALSE
-  pub node-none : (ls : List FileLine) → has_line line (line_numbers_of ls) ≡ false → node_by ls ≡ 0
-  node-none [] h = refl
-  node-none (l ∷ ls) h = at (nat_eq l.line line) h (λ k. node-none ls k)
-    where
-      at : (b : Bool) → (b || has_line line (line_numbers_of ls)) ≡ false → (has_line line (line_numbers_of ls) ≡ false → node_by ls ≡ 0)
-          → unwrap_or (option_map (λ (k : FileLine). vis_at k.changes p) (cond b (Some l) (find (λ k. nat_eq k.line line) ls))) 0 ≡ 0
-      at true k rest = absurd (cc)
-      at false k rest = rest k
-
 -- all of a list with one more after an anchor
 module _ {X : Type 0} (P : X → Type 0) (number : X → ℕ) (x : X) (one : P x) where
   all-first : (anchor : ℕ) (xs : List X) → AllByRecursion P xs → AllByRecursion P (after_first (λ y. nat_eq (number y) anchor) x xs)
