@@ -1,6 +1,7 @@
 -- The nodes of lines before a commit, and its edits by numbers.
-use Rattle.std.proofs.Common.{◌≡◌, ℕ, zero, suc, ◌+◌, ◌-◌, ◌<◌, ◌≤◌, max, Bool, true, false, cond, ◌&&◌, ◌||◌, not, nat_eq, nat_lt, List, [], ◌∷◌, ◌++◌, length, length-append, map, get_or, slice_get, Some, unwrap_or, option_map, append-nil, append_assoc, refl, sym, ap, subst, ◌∙◌, arith}
-use Rattle.std.specs.List.{cons_option, AllByRecursion, find}
+use Rattle.std.proofs.Common.{◌≡◌, ℕ, zero, suc, ◌+◌, ◌-◌, ◌<◌, ◌≤◌, max, Bool, true, false, cond, ◌&&◌, ◌||◌, not, nat_eq, nat_lt, List, [], ◌∷◌, ◌++◌, length, length-append, map, get_or, slice_get, Some, unwrap_or, option_map, append-nil, append_assoc, inl, inr, refl, sym, ap, subst, ◌∙◌, arith}
+use Rattle.std.specs.List.{cons_option, list_any, AllByRecursion, find}
+use Rattle.std.proofs.lemmas.Bool.{or_parts}
 use Rattle.std.proofs.lemmas.Bool.Decides.{nat_tests}
 use Rattle.cov_dd.specs.declared.triple.Triple.{Triple}
 use Rattle.cov_dd.specs.Diagrams.{diagram_size, span, value_in, Extends, Stands}
@@ -23,7 +24,7 @@ use Rattle.cov_history.specs.FileOfLine.{new_file_of_line}
 use Rattle.cov_history.proofs.CallerLemmas.{onto_both}
 use Rattle.cov_visible.specs.Parts.{part_node, files_among}
 use Rattle.cov_visible.specs.Nodes.{own_node, old_node, line_node, HasNodesIn, IsWithout, IsTaken}
-use Rattle.cov_visible.specs.Resolved.{first_node, rest_nodes, insert_nodes, made_after, AreOfTable, HaveNumbers, IsResolvedBy, AreResolvedBy, AreResolved}
+use Rattle.cov_visible.specs.Resolved.{first_node, rest_nodes, insert_nodes, deletes_own, made_after, AreOfTable, AreOwnNodes, HaveNumbers, IsResolvedBy, AreResolvedBy, AreResolved}
 use Rattle.cov_visible.specs.RowPlans.{row_changes, AreWithin, nodes_after_all, kinds_after_all, MakeNewNodes}
 use Rattle.cov_visible.specs.Staging.{made_files, files_of_lines}
 use Rattle.cov_visible.specs.declared.file_part.FilePart.{FilePart}
@@ -201,6 +202,35 @@ resolved-grown p stored n m ns ts us es ss grown nodes_in within h =
     let inserted : List ℕ = insert_nodes ns es in
     resolved-by (IsTaken ts p stored m inserted) (IsTaken us p stored m inserted) (λ e on. on < diagram_size ts) n m
     (taken-grown p stored inserted ts us grown nodes_in (inserts-within ts ns es within) n m) ns n m es ss (all-of_table ts ns es within) h
+
+-- edits that delete no line of their own are so whatever the nodes of these
+module _ (ts : List Triple) (p : ℕ) (stored : List FilePart) (n m : ℕ) (some all : List ℕ) where
+  none-own : (es : List Edit) (ns : List ℕ) → list_any (deletes_own m) es ≡ false → AllOn (λ e on. deletes_own m e ≡ false) ns es
+  none-own [] ns h = tt
+  none-own (e ∷ es) ns h = let parts = or_parts (deletes_own m e) (list_any (deletes_own m) es) h in (parts.0, none-own es (rest_nodes ns) parts.1)
+
+  old-taken : (on : ℕ) (file : NodeRef) (line : LineRef) (vis : ℕ) → nat_lt m (line_number m line) ≡ false → IsTaken ts p stored m some on (node_number n file) (line_number m line) vis
+      → IsTaken ts p stored m all on (node_number n file) (line_number m line) vis
+  old-taken on file line vis old h =
+      let x : ℕ = line_number m line in
+      let before : ℕ = old_node p stored (node_number n file) x in
+      subst (λ r. IsWithout ts r on vis)
+      (ap (λ b. cond b (own_node some (x - m - 1)) before) old ∙ sym (ap (λ b. cond b (own_node all (x - m - 1)) before) old)) h
+
+  pub resolved-anyway : (ns : List ℕ) (nodes lines : ℕ) (es : List Edit) (ss : List ResolvedEdit) → list_any (deletes_own m) es ≡ false → AreResolvedBy (IsTaken ts p stored m some) n m ns nodes lines es ss
+      → AreResolvedBy (IsTaken ts p stored m all) n m ns nodes lines es ss
+  resolved-anyway ns nodes lines es ss none h =
+      resolved-by (IsTaken ts p stored m some) (IsTaken ts p stored m all) (λ e on. deletes_own m e ≡ false) n m (λ on file line vis old k. old-taken on file line vis old k) ns nodes lines es ss (none-own es ns none) h
+
+-- the nodes of a commit's own lines are of the table, and its edits are resolved with those of all that it inserts
+pub own-of_table : (ts : List Triple) (m : ℕ) (ns : List ℕ) (es : List Edit) (own : List ℕ) → AreOfTable ts ns → AreOwnNodes m ns es own → AreOfTable ts own
+own-of_table ts m ns es own within (inl is) = subst (AreOfTable ts) (sym is) (inserts-within ts ns es within)
+own-of_table ts m ns es own within (inr none) = subst (AreOfTable ts) (sym none.0) tt
+
+pub own-resolved : (ts : List Triple) (p : ℕ) (stored : List FilePart) (n m : ℕ) (ns : List ℕ) (es : List Edit) (ss : List ResolvedEdit) (own : List ℕ) → AreOwnNodes m ns es own
+    → AreResolvedBy (IsTaken ts p stored m own) n m ns n m es ss → AreResolved p stored n m ns ts es ss
+own-resolved ts p stored n m ns es ss own (inl is) h = subst (λ xs. AreResolvedBy (IsTaken ts p stored m xs) n m ns n m es ss) is h
+own-resolved ts p stored n m ns es ss own (inr none) h = resolved-anyway ts p stored n m own (insert_nodes ns es) ns n m es ss none.1 h
 
 anchors-first : (e : Edit) (es : List Edit) → length (anchors_of 0 (e ∷ es)) ≡ length (anchors_of 0 (e ∷ [])) + length (anchors_of 0 es)
 anchors-first e es = ap length (anchors-append 0 (e ∷ []) es) ∙ length-append (anchors_of 0 (e ∷ [])) (anchors_of 0 es)

@@ -1,6 +1,6 @@
 -- The edits of a commit by numbers, each with the node where it applies.
-use Rattle.std.specs.Prelude.{◌≡◌, ℕ, ◌+◌, ◌^◌, ◌<◌, List, [], ◌∷◌, length}
-use Rattle.std.specs.List.{AllByRecursion}
+use Rattle.std.specs.Prelude.{◌≡◌, ◌⊎◌, ℕ, ◌+◌, ◌^◌, ◌<◌, Bool, false, nat_lt, List, [], ◌∷◌, length}
+use Rattle.std.specs.List.{list_any, AllByRecursion}
 use Rattle.cov_dd.specs.declared.triple.Triple.{Triple}
 use Rattle.cov_dd.specs.Diagrams.{diagram_size}
 use Rattle.cov_edit.specs.declared.edit.Edit.{Edit}
@@ -45,6 +45,19 @@ insert_nodes ns (edits.Delete file line ∷ es) = insert_nodes (rest_nodes ns) e
 insert_nodes ns (edits.Rename node name ∷ es) = insert_nodes (rest_nodes ns) es
 insert_nodes ns (edits.Move node parent ∷ es) = insert_nodes (rest_nodes ns) es
 insert_nodes ns (edits.Remove node ∷ es) = insert_nodes (rest_nodes ns) es
+
+-- whether an edit deletes a line that isn't one of the m lines made before the commit
+abbrev pub deletes_own : ℕ → Edit → Bool
+deletes_own m (edits.New kind parent name) = false
+deletes_own m (edits.Insert file after text) = false
+deletes_own m (edits.Delete file line) = nat_lt m (line_number m line)
+deletes_own m (edits.Rename node name) = false
+deletes_own m (edits.Move node parent) = false
+deletes_own m (edits.Remove node) = false
+
+-- nodes are those of the lines that edits insert, or none where they delete none of these
+abbrev pub AreOwnNodes : ℕ → List ℕ → List Edit → List ℕ → Type 0
+AreOwnNodes m ns es own = (own ≡ insert_nodes ns es) ⊎ ((own ≡ []) × (list_any (deletes_own m) es ≡ false))
 
 -- where it is told which node is left of a file's line when it is deleted where another is true; n nodes and m lines were
 -- made before the commit

@@ -1,12 +1,12 @@
 // The numbers and nodes of a commit's edits, found once.
 ghost use Rattle.std.specs.Prelude.{◌≡◌, ◌<◌, ◌≤◌, ◌++◌, ℕ, [], ◌∷◌, map, length, IfOk, OnOk};
-ghost use Rattle.std.specs.List.{AllByRecursion};
+ghost use Rattle.std.specs.List.{list_any, AllByRecursion};
 ghost use Rattle.cov_dd.specs.Diagrams.{diagram_size, Extends};
 ghost use Rattle.cov_edit.specs.Touched.{AreRising};
 ghost use Rattle.cov_visible.specs.Parts.{part_node};
 ghost use Rattle.cov_visible.specs.Staging.{AreNear, AreLow};
 ghost use Rattle.cov_visible.specs.Nodes.{own_node, old_node, line_node, HasNodesIn};
-ghost use Rattle.cov_visible.specs.Resolved.{insert_nodes, made_after, AreOfTable, IsResolvedIn, AreResolvedIn, AreResolvedWith, HaveNumbers};
+ghost use Rattle.cov_visible.specs.Resolved.{deletes_own, insert_nodes, made_after, AreOwnNodes, AreOfTable, IsResolvedIn, AreResolvedIn, AreResolvedWith, HaveNumbers};
 
 use crate::FilePart;
 use crate::number::{line_number, node_number};
@@ -58,7 +58,7 @@ pub fn resolve(
     ensures resolved { IfOk result (λ r.
         AreResolvedIn context.now files.now table.new conditions.now edits.now r.items) }
 {
-    let inserted = nodes_of_inserts(alloc, conditions, edits)?;
+    let inserted = nodes_of_own_lines(alloc, context.lines, conditions, edits)?;
     let mut resolved = Vec::new(alloc);
     match resolve_onto(
         table,
@@ -71,6 +71,55 @@ pub fn resolve(
     ) {
         Ok(()) => Ok(resolved),
         Err(Memory) => Err(Memory),
+    }
+}
+
+// The node of each line that edits insert, in order; none where they delete none of these, so many lines having been made
+// before.
+fn nodes_of_own_lines(
+    alloc: Global,
+    lines: u32,
+    conditions: &[Node],
+    edits: &[Edit],
+) -> Result<Vec<Node>, Memory>
+    requires each { length conditions.now ≡ length edits.now }
+    requires low { AreLow lines edits.now }
+    ensures { IfOk result (λ nodes.
+        AreOwnNodes lines conditions.now edits.now nodes.items) }
+{
+    if delete_own_lines(lines, edits) {
+        nodes_of_inserts(alloc, conditions, edits)
+    } else {
+        Ok(Vec::new(alloc))
+    }
+}
+
+// Whether edits delete a line that isn't one of so many.
+fn delete_own_lines(lines: u32, edits: &[Edit]) -> bool
+    requires { AreLow lines edits.now }
+    ensures { result ≡ list_any (deletes_own lines) edits.now }
+{
+    let mut ahead = edits;
+    while let [edit, rest @ ..] = ahead {
+        if deletes_own(lines, edit) {
+            return true;
+        }
+        ahead = rest;
+    }
+    false
+}
+
+fn deletes_own(lines: u32, edit: &Edit) -> bool
+    requires { AreLow lines (edit.now ∷ []) }
+    ensures { result ≡ deletes_own lines edit.now }
+{
+    match edit {
+        Edit::Delete { line, .. } => line_number(lines, line).number() > lines,
+        Edit::New { .. }
+        | Edit::Insert { .. }
+        | Edit::Rename { .. }
+        | Edit::Move { .. }
+        | Edit::Remove { .. } => false,
     }
 }
 
