@@ -153,18 +153,8 @@ impl View {
     }
 
     /// Appends lines that a history has to their file, which was added before, as `add_lines` does. A file without lines shares
-    /// them, and takes a byte for each, until an edit puts one among them.
-    pub fn share_lines(&mut self, file: NodeNo, lines: SharedRows) -> Result<(), Memory>
-        requires { kind_in self.old.rows (NodeRef.Old file) ≡ Some File }
-        ensures rows { OnOk result (self.new.rows ≡ fold (with_file_row file) self.old.rows lines) }
-        ensures nodes { self.new.nodes_made ≡ self.old.nodes_made }
-        ensures lines { self.new.lines_made ≡ self.old.lines_made }
-        ensures err { OnErr result (self.new ≡ self.old) }
-    {
-        self.share_lines_at(0, file, lines)
-    }
-
-    /// Shares lines as `share_lines` does, and looks the file up only where it isn't the node of the row at an index.
+    /// them, and takes a byte for each, until an edit puts one among them. The file is looked up only where the row at an index
+    /// isn't its.
     pub fn share_lines_at(
         &mut self,
         index: usize,
