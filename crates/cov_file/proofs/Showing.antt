@@ -1,17 +1,19 @@
 -- What a file shows, by the values of the nodes of its lines.
 use Rattle.std.specs.Prelude.{filter}
-use Rattle.std.proofs.Common.{◌≡◌, ℕ, ◌≤◌, Bool, true, false, cond, nat_eq, List, [], ◌∷◌, ◌++◌, map, Option, Some, None, refl, sym, ap, subst, ◌∙◌, arith}
+use Rattle.std.proofs.Common.{◌≡◌, ℕ, ◌≤◌, Bool, true, false, cond, nat_eq, List, [], ◌∷◌, map, Option, Some, None, refl, sym, ap, subst, ◌∙◌, arith}
 use Rattle.std.specs.List.{AllByRecursion}
 use Rattle.std.specs.Option.{IfSome}
 use Rattle.std.specs.Map.{keys_of}
-use Rattle.cov_base.specs.declared.file_row.FileRow.{FileRow}
+use Rattle.cov_dd.proofs.CallerLemmas.{value-constant}
+use Rattle.cov_dd.specs.declared.triple.Triple.{Triple}
 use Rattle.cov_file.specs.Dated.{DatedLine, vis_at, newest_vis, file_row_of, is_visible}
 use Rattle.cov_file.specs.declared.changes.Change.{Change}
 use Rattle.cov_file.specs.declared.sights.Kept.{Kept}
-use Rattle.cov_file.specs.Kept.{changes_before, changes_of, changes_in, dated_in, dated_lines, row_in}
+use Rattle.cov_file.specs.Kept.{changes_before, changes_of, changes_in, dated_lines}
 use Rattle.cov_file.proofs.Later.{reached}
-use Rattle.cov_file.specs.Sights.{ShownByValues, rows_by, AreSights, AreNewest}
-use Rattle.cov_values.specs.Values.{on_choice}
+use Rattle.cov_file.specs.Sights.{ShownByValues, rows_by, AreNewest, AreNewestValues, AreSights}
+use Rattle.cov_values.specs.Values.{on_choice, Agrees}
+use Rattle.cov_values.specs.declared.values.Evaluated.{Evaluated}
 
 -- lines that two tests tell apart alike are shown by both alike
 same_filter : (s t : DatedLine → Bool) (ls : List DatedLine) → AllByRecursion (λ l. s l ≡ t l) ls → map file_row_of (filter s ls) ≡ map file_row_of (filter t ls)
@@ -26,47 +28,44 @@ same_filter s t (l ∷ ls) h =
 pub shown_by_values : ShownByValues
 shown_by_values table before c d p q ls h = same_filter (is_visible table c p) (is_visible before d q) ls h
 
-module _ (texts : List (ℕ × List ℕ)) (lists : List (List (ℕ × ℕ))) (f : ℕ → Bool) where
-  -- whether a line is shown
-  abbrev shown : ℕ → Bool
-  shown n = f (newest_vis (changes_in (keys_of texts) lists n))
-
-  abbrev pub rows_in : List ℕ → List FileRow
-  rows_in lines = rows_by f (dated_lines texts lists lines)
-
-  -- the row of one line, and then those of the others
-  pub one_by : (n : ℕ) → rows_in (n ∷ []) ≡ cond (shown n) (row_in texts n ∷ []) []
-  one_by n = at (shown n)
-    where
-      at : (b : Bool) → map file_row_of (cond b (dated_in texts lists n ∷ []) []) ≡ cond b (row_in texts n ∷ []) []
-      at true = refl
-      at false = refl
-
-  pub next_by : (n : ℕ) (ns : List ℕ) → rows_in (n ∷ ns) ≡ rows_in (n ∷ []) ++ rows_in ns
-  next_by n ns = at (shown n)
-    where
-      at : (b : Bool) → map file_row_of (cond b (dated_in texts lists n ∷ filter (λ (l : DatedLine). f (newest_vis l.changes)) (dated_lines texts lists ns)) (filter (λ (l : DatedLine). f (newest_vis l.changes)) (dated_lines texts lists ns)))
-          ≡ map file_row_of (cond b (dated_in texts lists n ∷ []) []) ++ rows_in ns
-      at true = refl
-      at false = refl
+-- what holds of no changes and of those of each line holds of each line's changes
+each_line : (P : List (ℕ × ℕ) → Type 0) (texts : List (ℕ × List ℕ)) (lists : List (List (ℕ × ℕ))) (lines : List ℕ)
+    → P [] → AllByRecursion P lists → AllByRecursion (λ l. P l.changes) (dated_lines texts lists lines)
+each_line P texts lists [] none h = tt
+each_line P texts lists (n ∷ ns) none h = (of (keys_of texts) lists h, each_line P texts lists ns none h)
+  where
+    of : (keys : List ℕ) (ls : List (List (ℕ × ℕ))) → AllByRecursion P ls → P (changes_in keys ls n)
+    of [] ls k = none
+    of (key ∷ keys) [] k = none
+    of (key ∷ keys) (l ∷ ls) k = by (nat_eq n key) (of keys ls k.1)
+      where
+        by : (b : Bool) → P (changes_in keys ls n) → P (cond b l (changes_in keys ls n))
+        by true rest = k.0
+        by false rest = rest
 
 -- lines whose changes are none later than a position show from there on what their newest nodes show
 pub are_newest : (texts : List (ℕ × List ℕ)) (lists : List (List (ℕ × ℕ))) (newest : ℕ) (lines : List ℕ)
     → ((p : ℕ) → newest ≤ p → AllByRecursion (λ cs. vis_at cs p ≡ newest_vis cs) lists) → AreNewest newest (dated_lines texts lists lines)
-are_newest texts lists newest lines h table c p later = same_filter (is_visible table c p) (λ l. on_choice table c (newest_vis l.changes)) (dated_lines texts lists lines) (each lines)
+are_newest texts lists newest lines h table c p later =
+    same_filter (is_visible table c p) (λ l. on_choice table c (newest_vis l.changes)) (dated_lines texts lists lines)
+    (each_line (λ cs. on_choice table c (vis_at cs p) ≡ on_choice table c (newest_vis cs)) texts lists lines refl (on lists (h p later)))
   where
-    of_line : (keys : List ℕ) (ls : List (List (ℕ × ℕ))) (n : ℕ) → AllByRecursion (λ cs. vis_at cs p ≡ newest_vis cs) ls → vis_at (changes_in keys ls n) p ≡ newest_vis (changes_in keys ls n)
-    of_line [] ls n k = refl
-    of_line (key ∷ keys) [] n k = refl
-    of_line (key ∷ keys) (l ∷ ls) n k = by (nat_eq n key) (of_line keys ls n k.1)
-      where
-        by : (b : Bool) → vis_at (changes_in keys ls n) p ≡ newest_vis (changes_in keys ls n) → vis_at (cond b l (changes_in keys ls n)) p ≡ newest_vis (cond b l (changes_in keys ls n))
-        by true rest = k.0
-        by false rest = rest
+    on : (ls : List (List (ℕ × ℕ))) → AllByRecursion (λ cs. vis_at cs p ≡ newest_vis cs) ls → AllByRecursion (λ cs. on_choice table c (vis_at cs p) ≡ on_choice table c (newest_vis cs)) ls
+    on [] k = tt
+    on (l ∷ ls) k = (ap (on_choice table c) k.0, on ls k.1)
 
-    each : (ns : List ℕ) → AllByRecursion (λ l. is_visible table c p l ≡ on_choice table c (newest_vis l.changes)) (dated_lines texts lists ns)
-    each [] = tt
-    each (n ∷ ns) = (ap (on_choice table c) (of_line (keys_of texts) lists n (h p later)), each ns)
+-- and values that agree with those of their newest nodes show what the newest nodes show
+pub by_newest_values : (table : List Triple) (c : List Bool) (texts : List (ℕ × List ℕ)) (lists : List (List (ℕ × ℕ))) (lines : List ℕ) (values : List Evaluated)
+    → AreNewestValues table c lists values → (f : ℕ → Bool) → Agrees f values → rows_by f (dated_lines texts lists lines) ≡ rows_by (on_choice table c) (dated_lines texts lists lines)
+by_newest_values table c texts lists lines values h f agrees =
+    same_filter (λ l. f (newest_vis l.changes)) (λ l. on_choice table c (newest_vis l.changes)) (dated_lines texts lists lines)
+    (each_line (λ cs. f (newest_vis cs) ≡ on_choice table c (newest_vis cs)) texts lists lines (agrees.0 ∙ sym (value-constant table 0 c (omega arith))) (h f agrees))
+
+-- the newest nodes of lines have values on a choice where the nodes of their newest changes have
+pub newest_valued : (table : List Triple) (c : List Bool) (f : ℕ → Bool) (earlier newest : List Change)
+    → AllByRecursion (λ x. f x.node ≡ on_choice table c x.node) newest → AllByRecursion (λ cs. f (newest_vis cs) ≡ on_choice table c (newest_vis cs)) (map (changes_of earlier) newest)
+newest_valued table c f earlier [] h = tt
+newest_valued table c f earlier (x ∷ xs) h = (h.0, newest_valued table c f earlier xs h.1)
 
 -- changes none of which is later than a position have their newest node from there on
 pub all_latest : (earlier newest : List Change) (from p : ℕ) → from ≤ p → AllByRecursion (λ c. c.from ≤ from) newest → AllByRecursion (λ cs. vis_at cs p ≡ newest_vis cs) (map (changes_of earlier) newest)

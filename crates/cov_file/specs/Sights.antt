@@ -6,6 +6,7 @@ use Rattle.cov_base.specs.declared.file_row.FileRow.{FileRow}
 use Rattle.cov_dd.specs.declared.triple.Triple.{Triple}
 use Rattle.cov_file.specs.Dated.{DatedLine, newest_vis, file_row_of, is_visible, rows_at}
 use Rattle.cov_values.specs.Values.{on_choice, Agrees}
+use Rattle.cov_values.specs.declared.values.Evaluated.{Evaluated}
 use Rattle.cov_file.specs.declared.sights.Kept.{Kept}
 
 -- two choices, or two positions, on which each line's node has the same value show the same lines
@@ -24,6 +25,10 @@ IsSight ls k = (f : ℕ → Bool) → Agrees f k.values → IfSome k.rows (λ ro
 -- each kept list is
 abbrev pub AreSights : List DatedLine → List Kept → Type 0
 AreSights ls ks = AllByRecursion (IsSight ls) ks
+
+-- in any values of nodes in which these have theirs, the newest node of each line's changes has the value that it has on a choice
+abbrev pub AreNewestValues : List Triple → List Bool → List (List (ℕ × ℕ)) → List Evaluated → Type 0
+AreNewestValues table c lists values = (f : ℕ → Bool) → Agrees f values → AllByRecursion (λ cs. f (newest_vis cs) ≡ on_choice table c (newest_vis cs)) lists
 
 -- from the newest change on, each line has its newest node
 abbrev pub AreNewest : ℕ → List DatedLine → Type 0

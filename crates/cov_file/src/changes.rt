@@ -1,17 +1,18 @@
 // The changes of the visibilities of lines.
-ghost use Rattle.std.specs.Prelude.{◌≡◌, ◌<◌, ◌≤◌, ◌+◌, ◌-◌, ◌^◌, ℕ, List, [], ◌∷◌, ◌++◌, true, false, length, map, reverse, set, slice_get, take, drop, vec_len, vec_capacity, OnOk, OnErr, IfSome, if◌then◌else◌, refl};
+ghost use Rattle.std.specs.Prelude.{◌≡◌, ◌<◌, ◌≤◌, ◌+◌, ◌-◌, ◌^◌, ℕ, List, [], ◌∷◌, ◌++◌, true, false, length, map, reverse, set, slice_get, take, drop, vec_len, vec_capacity, OnOk, OnErr, IfOk, IfSome, if◌then◌else◌, refl};
 ghost use Rattle.std.specs.Option.{option_map, option_map_or};
 ghost use Rattle.std.specs.List.{AllByRecursion, AllZip};
 ghost use Rattle.cov_file.specs.Dated.{vis_at, newest_vis};
 ghost use Rattle.cov_file.specs.Kept.{changes_before, changes_of, AreLinked, changes_at, is_at, with_node};
 ghost use Rattle.cov_file.specs.Renumbered.{AddsNode, dates_of, having_node, node_of, AreAllListed, AreRenumberedLists};
 ghost use Rattle.cov_file.specs.Replaced.{IsNewestReplaced};
+ghost use Rattle.cov_file.specs.Sights.{AreNewestValues};
 ghost use Rattle.cov_values.specs.Replaced.{AreReplaced};
 ghost use Rattle.cov_values.specs.declared.replacing.Replaced.{Replaced};
 
-use cov_base::{Memory, Position};
-use cov_dd::{FALSE, HasNode, Node, Nodes, append_nodes, renumber_nodes};
-use cov_values::{NOT_REPLACED, Replacements};
+use cov_base::{Choice, Memory, Position};
+use cov_dd::{FALSE, HasNode, Node, Nodes, Table, append_nodes, renumber_nodes};
+use cov_values::{NOT_REPLACED, Replacements, Values};
 use std::alloc::Global;
 use std::marker::Model;
 
@@ -229,22 +230,30 @@ impl Changes {
         }
     }
 
-    /// The newest node of the line at an index, FALSE where there is no such line.
-    pub(crate) fn newest_node(&self, index: usize) -> Node
-        ensures { result ≡ newest_vis (changes_at self.now.lists index) }
-    {
-        match self.newest.get(index) {
-            Some(change) => change.node,
-            None => FALSE,
-        }
-    }
-
     /// The position from which on each line has its newest node.
     pub(crate) fn latest(&self) -> Position
         ensures newest { result ≡ self.now.newest }
         ensures nodes { (p : ℕ) → self.now.newest ≤ p → AllByRecursion (λ cs. vis_at cs p ≡ newest_vis cs) self.now.lists }
     {
         self.from
+    }
+
+    /// The values on a choice of the newest nodes. A node is evaluated once, and looked for only where it isn't that of the line
+    /// before. They are refused where they are too many, as where there is no memory.
+    pub(crate) fn values(&self, table: &Table, choice: Choice) -> Result<Values, Memory>
+        ensures { IfOk result (AreNewestValues table.now choice self.now.lists) }
+    {
+        let mut values = Values::new(*self.newest.allocator());
+        let mut last = FALSE;
+        let mut ahead = self.newest.as_slice();
+        while let [change, more @ ..] = ahead {
+            if change.node != last {
+                values.evaluate(change.node, table, choice)?;
+                last = change.node;
+            }
+            ahead = more;
+        }
+        Ok(values)
     }
 
     /// The node at a position of the line at an index, FALSE where it has none. It takes time in the number of changes of

@@ -1,5 +1,5 @@
 // The lines of a file.
-ghost use Rattle.std.specs.Prelude.{◌≡◌, ℕ, List, ◌<◌, ◌≤◌, ◌+◌, ◌-◌, ◌^◌, ◌++◌, ◌∷◌, [], true, false, Bool, nat_eq, length, map, position, take, drop, Some, IfOk, IfSome, OnOk, OnErr, if◌then◌else◌};
+ghost use Rattle.std.specs.Prelude.{◌≡◌, ℕ, List, ◌<◌, ◌≤◌, ◌+◌, ◌-◌, ◌^◌, ◌++◌, ◌∷◌, [], true, false, nat_eq, length, map, position, take, drop, Some, IfOk, IfSome, OnOk, OnErr, if◌then◌else◌};
 ghost use Rattle.std.specs.List.{list_any};
 ghost use Rattle.std.specs.Map.{keys_of};
 ghost use Rattle.std.specs.Option.{option_map};
@@ -13,8 +13,7 @@ ghost use Rattle.cov_file.specs.Rooms.{is_room_at, IsMade, IsLeft};
 ghost use Rattle.cov_file.specs.Kept.{row_in, dated_lines};
 ghost use Rattle.cov_file.specs.Replaced.{AreReplacedLines};
 ghost use Rattle.cov_values.specs.Replaced.{AreReplaced};
-ghost use Rattle.cov_file.specs.Sights.{rows_by, AreSights, IsSight};
-ghost use Rattle.cov_values.specs.Values.{Agrees, IsKnown};
+ghost use Rattle.cov_file.specs.Sights.{AreSights, IsSight};
 ghost use Rattle.cov_values.specs.declared.replacing.Replaced.{Replaced};
 
 use crate::changes::Changes;
@@ -25,7 +24,6 @@ use cov_base::{
 };
 use cov_dd::{FALSE, Node, Nodes, Table};
 use cov_order::Order;
-use cov_values::Values;
 use indexmap::IndexMap;
 use std::alloc::Global;
 use std::marker::Model;
@@ -257,13 +255,14 @@ impl FileLines {
     fn seen(&self, table: &Table, choice: Choice) -> Result<Kept, Memory>
         ensures { IfOk result (IsSight self.now.lines) }
     {
-        let lines = self.order.walk()?;
-        let sight = Sight {
-            table,
+        let values = self.changes.values(table, choice)?;
+        let rows = self.lines_at(table, choice, self.changes.latest())?;
+        let rows = Some(Shared::new(*self.texts.allocator(), rows)?);
+        Ok(Kept {
             choice,
-            at: self.changes.latest(),
-        };
-        seen_newest(&self.texts, &self.changes, &lines, &sight)
+            values,
+            rows,
+        })
     }
 
     /// The lines that are visible on a choice at a position, in order, shared with what is kept where that is right.
@@ -426,92 +425,6 @@ fn visible_rows(
         index += 1;
     }
     Ok(rows)
-}
-
-// What is shown by the newest nodes, with their values on a choice.
-fn seen_newest(
-    texts: &IndexMap<LineNo, Text>,
-    changes: &Changes,
-    lines: &LineNos,
-    sight: &Sight<'_>,
-) -> Result<Kept, Memory>
-    ensures { IfOk result (IsSight
-        (dated_lines texts.now.entries changes.now.lists lines.now)) }
-{
-    // What `len` ensures bounds the index for the proof.
-    let _count = lines.len();
-    let mut rows = FileRows::new(*texts.allocator());
-    let mut values = Values::new(*texts.allocator());
-    let mut last = NOTHING;
-    let mut index = 0;
-    while let Some(line) = lines.get(index) {
-        add_seen(
-            &mut rows,
-            &mut values,
-            texts,
-            changes,
-            line,
-            sight,
-            &mut last,
-        )?;
-        index += 1;
-    }
-    let rows = Shared::new(*texts.allocator(), rows)?;
-    Ok(Kept {
-        choice: sight.choice,
-        values,
-        rows: Some(rows),
-    })
-}
-
-// Adds a line, if it is shown by its newest node, whose value is among the values then.
-fn add_seen(
-    rows: &mut FileRows,
-    values: &mut Values,
-    texts: &IndexMap<LineNo, Text>,
-    changes: &Changes,
-    line: LineNo,
-    sight: &Sight<'_>,
-    last: &mut Last,
-) -> Result<(), Memory>
-    requires last { IsKnown values.old last.old.node last.old.value }
-    ensures rows { OnOk result ((f : ℕ → Bool) → Agrees f values.new →
-        rows.new ≡ rows.old ++
-        rows_by f (dated_lines texts.now.entries changes.now.lists (line ∷ []))) }
-    ensures grows { OnOk result ((f : ℕ → Bool) → Agrees f values.new →
-        Agrees f values.old) }
-    ensures last { OnOk result (IsKnown values.new last.new.node last.new.value) }
-{
-    match find(texts, line, last.next) {
-        Some((index, text)) => {
-            let seen = evaluated(values, index, changes.newest_node(index), sight, last)?;
-            *last = seen;
-            add_shown(rows, line, text, seen.value)
-        }
-        None => Ok(()),
-    }
-}
-
-// A node with its value, which is among the values then, at the index of its line. They are looked through only where the node
-// isn't the last one.
-fn evaluated(
-    values: &mut Values,
-    index: usize,
-    node: Node,
-    sight: &Sight<'_>,
-    last: &Last,
-) -> Result<Last, Memory>
-    requires last { IsKnown values.old last.now.node last.now.value }
-    ensures node { IfOk result (λ seen. seen.node ≡ node) }
-    ensures value { IfOk result (λ seen. IsKnown values.new node seen.value) }
-    ensures grows { OnOk result ((f : ℕ → Bool) → Agrees f values.new →
-        Agrees f values.old) }
-{
-    if last.node == node {
-        return Ok(after(last, index, node, last.value));
-    }
-    let value = values.evaluate(node, sight.table, sight.choice)?;
-    Ok(after(last, index, node, value))
 }
 
 // Adds a line, if it is asked for. It looks the line up once, first behind the one that was looked at last.

@@ -54,6 +54,14 @@ last_value f es e h = (of_last f es e h.1).1
 pub before_last : (f : ℕ → Bool) (es : List Evaluated) (e : Evaluated) → Agrees f (es ++ e ∷ []) → Agrees f es
 before_last f es e h = (h.0, (of_last f es e h.1).0)
 
+-- values that agree with these and with one more
+with_last : (f : ℕ → Bool) (es : List Evaluated) (e : Evaluated) → f e.node ≡ e.value → AllByRecursion (λ d. f d.node ≡ d.value) es → AllByRecursion (λ d. f d.node ≡ d.value) (es ++ e ∷ [])
+with_last f [] e is h = (is, tt)
+with_last f (x ∷ xs) e is h = (h.0, with_last f xs e is h.1)
+
+pub agrees_more : (f : ℕ → Bool) (es : List Evaluated) (e : Evaluated) → f e.node ≡ e.value → Agrees f es → Agrees f (es ++ e ∷ [])
+agrees_more f es e is h = (h.0, with_last f es e is h.1)
+
 -- what holds of the first and of all others holds of all
 pub all-with : {X : Type 0} (P : X → Type 0) (xs : List X) (d : X) → 1 ≤ length xs → P (slice_index_or xs 0 d) → AllByRecursion P (rest_of xs) → AllByRecursion P xs
 all-with P [] d some first rest = absurd (omega (arith, some))

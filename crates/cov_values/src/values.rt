@@ -76,6 +76,8 @@ impl Values {
     pub fn evaluate(&mut self, node: Node, table: &Table, choice: Choice) -> Result<bool, Memory>
         ensures value { IfOk result (IsKnown self.new node) }
         ensures grows { (f : ℕ → Bool) → Agrees f self.new → Agrees f self.old }
+        ensures on_choice { Agrees (on_choice table.now choice) self.old →
+            Agrees (on_choice table.now choice) self.new }
     {
         match self.get(node) {
             Some(value) => Ok(value),
@@ -105,6 +107,7 @@ impl Values {
         requires { IsNotValued self.old node }
         ensures value { OnOk result (IsKnown self.new node value) }
         ensures grows { (f : ℕ → Bool) → Agrees f self.new → Agrees f self.old }
+        ensures more { (f : ℕ → Bool) → f node ≡ value → Agrees f self.old → Agrees f self.new }
     {
         if self.each.len() >= MOST_VALUES {
             return Err(Memory);
