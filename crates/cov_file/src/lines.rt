@@ -387,19 +387,17 @@ struct Sight<'a> {
     at: Position,
 }
 
-// What was looked at last: the index of a line, the one where the next line is looked for, and a node with its value on a choice.
+// What was looked at last: by how much the index of a line is beyond its number, modulo 2^64, and a node with its value on a choice.
 #[derive(Clone, Copy)]
 struct Last {
-    index: usize,
-    next: usize,
+    beyond: usize,
     node: Node,
     value: bool,
 }
 
 // What was looked at before the first line.
 const NOTHING: Last = Last {
-    index: 0,
-    next: 0,
+    beyond: 0,
     node: FALSE,
     value: false,
 };
@@ -427,7 +425,8 @@ fn visible_rows(
     Ok(rows)
 }
 
-// Adds a line, if it is asked for. It looks the line up once, first behind the one that was looked at last.
+// Adds a line, if it is asked for. It looks the line up once, first as far by index from the one that was looked at last as it is by
+// number.
 fn add_visible(
     rows: &mut FileRows,
     texts: &IndexMap<LineNo, Text>,
@@ -443,17 +442,19 @@ fn add_visible(
         (dated_lines texts.now.entries changes.now.lists (line ∷ []))) }
     ensures last { last.new.value ≡ value_in sight.now.table.now last.new.node sight.now.choice }
 {
-    match find(texts, line, last.next) {
+    let number = line.number() as usize;
+    match find(texts, line, last.beyond.wrapping_add(number)) {
         Some((index, text)) => {
-            *last = look(sight, index, changes.at(index, sight.at), last);
+            let beyond = index.wrapping_sub(number);
+            *last = look(sight, beyond, changes.at(index, sight.at), last);
             add_shown(rows, line, text, last.value)
         }
         None => Ok(()),
     }
 }
 
-// The index of a line with its text. Lines that stand together were mostly inserted one after another, in the one direction or in the
-// other, so it is first looked for at one index.
+// The index of a line with its text. Lines that no other file's lines came between differ by index as they do by number, so it is
+// first looked for at one index.
 fn find(texts: &IndexMap<LineNo, Text>, line: LineNo, first: usize) -> Option<(usize, &Text)>
     ensures index { option_map (λ p. p.0) result ≡
         position (nat_eq line) (keys_of texts.now.entries) }
@@ -470,8 +471,9 @@ fn find(texts: &IndexMap<LineNo, Text>, line: LineNo, first: usize) -> Option<(u
     }
 }
 
-// A node with its value, at the index of its line. Its diagram is walked only where the node isn't the last one.
-fn look(sight: &Sight<'_>, index: usize, node: Node, last: &Last) -> Last
+// A node with its value, by how much the index of its line is beyond its number. Its diagram is walked only where the node isn't the
+// last one.
+fn look(sight: &Sight<'_>, beyond: usize, node: Node, last: &Last) -> Last
     requires last { last.now.value ≡ value_in sight.now.table.now last.now.node sight.now.choice }
     ensures node { result.node ≡ node }
     ensures value { result.value ≡ value_in sight.now.table.now node sight.now.choice }
@@ -481,22 +483,8 @@ fn look(sight: &Sight<'_>, index: usize, node: Node, last: &Last) -> Last
     } else {
         sight.table.value(node, sight.choice)
     };
-    after(last, index, node, value)
-}
-
-// What was looked at after what was looked at last. The next line is looked for in the direction of the step between the two.
-fn after(last: &Last, index: usize, node: Node, value: bool) -> Last
-    ensures node { result.node ≡ node }
-    ensures value { result.value ≡ value }
-{
-    let next = if index < last.index {
-        index.saturating_sub(1)
-    } else {
-        index.saturating_add(1)
-    };
     Last {
-        index,
-        next,
+        beyond,
         node,
         value,
     }
