@@ -387,17 +387,24 @@ struct Sight<'a> {
     at: Position,
 }
 
-// What was looked at last: by how much the index of a line is beyond its number, modulo 2^64, and a node with its value on a choice.
+// What was looked at last: a line by its number and its index, by how much both went on from the line before it, modulo 2^64, and a
+// node with its value on a choice.
 #[derive(Clone, Copy)]
 struct Last {
-    beyond: usize,
+    number: usize,
+    index: usize,
+    number_step: usize,
+    index_step: usize,
     node: Node,
     value: bool,
 }
 
 // What was looked at before the first line.
 const NOTHING: Last = Last {
-    beyond: 0,
+    number: 0,
+    index: 0,
+    number_step: 0,
+    index_step: 0,
     node: FALSE,
     value: false,
 };
@@ -425,8 +432,7 @@ fn visible_rows(
     Ok(rows)
 }
 
-// Adds a line, if it is asked for. It looks the line up once, first as far by index from the one that was looked at last as it is by
-// number.
+// Adds a line, if it is asked for. It looks the line up once, first where it is expected after the one that was looked at last.
 fn add_visible(
     rows: &mut FileRows,
     texts: &IndexMap<LineNo, Text>,
@@ -442,19 +448,28 @@ fn add_visible(
         (dated_lines texts.now.entries changes.now.lists (line ∷ []))) }
     ensures last { last.new.value ≡ value_in sight.now.table.now last.new.node sight.now.choice }
 {
-    let number = line.number() as usize;
-    match find(texts, line, last.beyond.wrapping_add(number)) {
+    match find(texts, line, expected(last, line)) {
         Some((index, text)) => {
-            let beyond = index.wrapping_sub(number);
-            *last = look(sight, beyond, changes.at(index, sight.at), last);
+            *last = look(sight, line, index, changes.at(index, sight.at), last);
             add_shown(rows, line, text, last.value)
         }
         None => Ok(()),
     }
 }
 
-// The index of a line with its text. Lines that no other file's lines came between differ by index as they do by number, so it is
-// first looked for at one index.
+// The index at which a line is looked for first. Lines that were inserted one after another are as far apart by index as they are by
+// number. Where those of other files came between, they are mostly as far apart as the two before.
+fn expected(last: &Last, line: LineNo) -> usize {
+    let step = (line.number() as usize).wrapping_sub(last.number);
+    let by = if step == last.number_step {
+        last.index_step
+    } else {
+        step
+    };
+    last.index.wrapping_add(by)
+}
+
+// The index of a line with its text, which is first looked for at one index.
 fn find(texts: &IndexMap<LineNo, Text>, line: LineNo, first: usize) -> Option<(usize, &Text)>
     ensures index { option_map (λ p. p.0) result ≡
         position (nat_eq line) (keys_of texts.now.entries) }
@@ -471,9 +486,8 @@ fn find(texts: &IndexMap<LineNo, Text>, line: LineNo, first: usize) -> Option<(u
     }
 }
 
-// A node with its value, by how much the index of its line is beyond its number. Its diagram is walked only where the node isn't the
-// last one.
-fn look(sight: &Sight<'_>, beyond: usize, node: Node, last: &Last) -> Last
+// A line with a node and its value. The diagram is walked only where the node isn't the last one.
+fn look(sight: &Sight<'_>, line: LineNo, index: usize, node: Node, last: &Last) -> Last
     requires last { last.now.value ≡ value_in sight.now.table.now last.now.node sight.now.choice }
     ensures node { result.node ≡ node }
     ensures value { result.value ≡ value_in sight.now.table.now node sight.now.choice }
@@ -483,8 +497,12 @@ fn look(sight: &Sight<'_>, beyond: usize, node: Node, last: &Last) -> Last
     } else {
         sight.table.value(node, sight.choice)
     };
+    let number = line.number() as usize;
     Last {
-        beyond,
+        number,
+        index,
+        number_step: number.wrapping_sub(last.number),
+        index_step: index.wrapping_sub(last.index),
         node,
         value,
     }
