@@ -460,7 +460,7 @@ fn seen_newest(
     Ok(Kept {
         choice: sight.choice,
         values,
-        rows: Some(rows),
+        shown: Some(rows),
     })
 }
 

@@ -16,24 +16,24 @@ module _ {T : Type 0} where
 
   -- up to an index they are right as one thing, from there on as another
   abbrev pub AreUntil : ((ℕ → Bool) → T) → ((ℕ → Bool) → T) → ℕ → List (Sight T) → Type 0
-  AreUntil shown shows i [] = Unit {0}
-  AreUntil shown shows zero (s ∷ ss) = IsRight shown s × AreUntil shown shows zero ss
-  AreUntil shown shows (suc i) (s ∷ ss) = IsRight shows s × AreUntil shown shows i ss
+  AreUntil before after i [] = Unit {0}
+  AreUntil before after zero (s ∷ ss) = IsRight before s × AreUntil before after zero ss
+  AreUntil before after (suc i) (s ∷ ss) = IsRight after s × AreUntil before after i ss
 
-  module _ (shown shows : (ℕ → Bool) → T) where
-    pub none_yet : (ss : List (Sight T)) → AreRight shown ss → AreUntil shown shows 0 ss
+  module _ (before after : (ℕ → Bool) → T) where
+    pub none_yet : (ss : List (Sight T)) → AreRight before ss → AreUntil before after 0 ss
     none_yet [] h = tt
     none_yet (s ∷ ss) h = (h.0, none_yet ss h.1)
 
-    pub one_more : (i : ℕ) (ss : List (Sight T)) (d s : Sight T) → i < length ss → (IsRight shown (get_or ss i d) → IsRight shows s) → AreUntil shown shows i ss → AreUntil shown shows (i + 1) (set ss i s)
-    one_more i ss d s within forward h = subst (λ n. AreUntil shown shows n (set ss i s)) (omega arith) (at i ss within forward h)
+    pub one_more : (i : ℕ) (ss : List (Sight T)) (d s : Sight T) → i < length ss → (IsRight before (get_or ss i d) → IsRight after s) → AreUntil before after i ss → AreUntil before after (i + 1) (set ss i s)
+    one_more i ss d s within forward h = subst (λ n. AreUntil before after n (set ss i s)) (omega arith) (at i ss within forward h)
       where
-        at : (i : ℕ) (ss : List (Sight T)) → i < length ss → (IsRight shown (get_or ss i d) → IsRight shows s) → AreUntil shown shows i ss → AreUntil shown shows (suc i) (set ss i s)
+        at : (i : ℕ) (ss : List (Sight T)) → i < length ss → (IsRight before (get_or ss i d) → IsRight after s) → AreUntil before after i ss → AreUntil before after (suc i) (set ss i s)
         at i [] within forward h = absurd (omega (arith, within))
         at zero (x ∷ xs) within forward h = (forward h.0, h.1)
         at (suc i) (x ∷ xs) within forward h = (h.0, at i xs (omega (arith, within)) forward h.1)
 
-    pub all_are : (i : ℕ) (ss : List (Sight T)) → length ss ≤ i → AreUntil shown shows i ss → AreRight shows ss
+    pub all_are : (i : ℕ) (ss : List (Sight T)) → length ss ≤ i → AreUntil before after i ss → AreRight after ss
     all_are i [] long h = tt
     all_are zero (s ∷ ss) long h = absurd (omega (arith, long))
     all_are (suc i) (s ∷ ss) long h = (h.0, all_are i ss (omega (arith, long)) h.1)

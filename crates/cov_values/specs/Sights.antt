@@ -16,10 +16,11 @@ IsRight shows s = (f : ℕ → Bool) → Agrees f s.values → IfSome s.shown (�
 abbrev pub AreRight : {T : Type 0} → ((ℕ → Bool) → T) → List (Sight T) → Type 0
 AreRight shows ss = AllByRecursion (IsRight shows) ss
 
--- what is shown is as it was shown by the nodes before, whose places others take
-abbrev pub IsReplacedIn : {T : Type 0} → List Replaced → ((ℕ → Bool) → T) → ((ℕ → Bool) → T) → Type 0
-IsReplacedIn rs shown shows = (f g : ℕ → Bool) → ((n m : ℕ) → found_by rs n ≡ Some m → g n ≡ f m) → shows f ≡ shown g
+-- what is shown by nodes that take the places of others is what those showed
+abbrev pub IsRenumbered : {T : Type 0} → List Replaced → ((ℕ → Bool) → T) → ((ℕ → Bool) → T) → Type 0
+IsRenumbered rs before after = (f g : ℕ → Bool) → ((n m : ℕ) → found_by rs n ≡ Some m → g n ≡ f m) → after f ≡ before g
 
--- what is shown after a change, by any values in which some nodes have theirs, is what it brings there
-abbrev pub IsBrought : {T : Type 0} → (List Evaluated → T → T → Type 0) → ((ℕ → Bool) → T) → ((ℕ → Bool) → T) → Type 0
-IsBrought {T} brings shown shows = (f : ℕ → Bool) (values : List Evaluated) (x y : T) → brings values x y → Agrees f values → shown f ≡ x → shows f ≡ y
+-- what is shown after a change is what it brings of what was shown before, by any values in which some nodes have theirs
+abbrev pub IsChanged : {T : Type 0} → (List Evaluated → T → T → Type 0) → ((ℕ → Bool) → T) → ((ℕ → Bool) → T) → Type 0
+IsChanged {T} brings before after =
+    (f : ℕ → Bool) (values : List Evaluated) (x y : T) → brings values x y → Agrees f values → before f ≡ x → after f ≡ y

@@ -1,7 +1,7 @@
-// What was shown, each with the values of nodes under which it is right.
+// What is kept of what is shown, each with the values of nodes under which it is right.
 ghost use Rattle.std.specs.Prelude.{◌≡◌, ◌<◌, ℕ, Bool, List, [], true, Some, length, slice_get, IfSome};
 ghost use Rattle.std.specs.Option.{option_map};
-ghost use Rattle.cov_values.specs.Sights.{AreRight, IsBrought, IsReplacedIn, IsRight};
+ghost use Rattle.cov_values.specs.Sights.{AreRight, IsChanged, IsRenumbered, IsRight};
 ghost use Rattle.cov_values.specs.Values.{on_choice, Agrees};
 ghost use Rattle.cov_values.specs.declared.sights.Sight.{Sight};
 ghost use Rattle.cov_values.specs.declared.values.Evaluated.{Evaluated};
@@ -49,8 +49,8 @@ impl<T: Drop> Sight<T> {
     }
 
     fn renumber(&mut self, by: &Replacements)
-        ensures { (shown shows : (ℕ → Bool) → T) → IsReplacedIn by.now shown shows →
-            IsRight shown self.old → IsRight shows self.new }
+        ensures { (before after : (ℕ → Bool) → T) → IsRenumbered by.now before after →
+            IsRight before self.old → IsRight after self.new }
     {
         match self.values.renumbered(by) {
             Some(values) => self.values = values,
@@ -68,8 +68,8 @@ impl<T: Drop> Sight<T> {
     }
 
     fn change<C: ShownChange<T>>(&mut self, change: &C)
-        ensures { (shown shows : (ℕ → Bool) → T) → IsBrought (C.brings change.now) shown shows →
-            IsRight shown self.old → IsRight shows self.new }
+        ensures { (before after : (ℕ → Bool) → T) → IsChanged (C.brings change.now) before after →
+            IsRight before self.old → IsRight after self.new }
     {
         match self.shown.take() {
             Some(shown) => self.shown = change.after(shown, &self.values),
@@ -244,8 +244,8 @@ impl<T: Drop> Sights<T> {
 
     /// Has each sight go with nodes that take the places of those that it goes with, or lets it go.
     pub fn renumber(&mut self, by: &Replacements)
-        ensures { (shown shows : (ℕ → Bool) → T) → IsReplacedIn by.now shown shows →
-            AreRight shown self.old → AreRight shows self.new }
+        ensures { (before after : (ℕ → Bool) → T) → IsRenumbered by.now before after →
+            AreRight before self.old → AreRight after self.new }
     {
         let mut index = 0;
         while index < self.kept.len() {
@@ -268,8 +268,8 @@ impl<T: Drop> Sights<T> {
 
     /// Brings each sight forward by a change of what is shown, or lets it go.
     pub fn change<C: ShownChange<T>>(&mut self, change: &C)
-        ensures { (shown shows : (ℕ → Bool) → T) → IsBrought (C.brings change.now) shown shows →
-            AreRight shown self.old → AreRight shows self.new }
+        ensures { (before after : (ℕ → Bool) → T) → IsChanged (C.brings change.now) before after →
+            AreRight before self.old → AreRight after self.new }
     {
         let mut index = 0;
         while index < self.kept.len() {

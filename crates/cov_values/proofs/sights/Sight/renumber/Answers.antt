@@ -3,6 +3,6 @@ use Rattle.std.specs.Option.{IfSome}
 use Rattle.cov_values.proofs.sights.Sight.renumber.Goals as goal
 
 pub returns-in-Some : goal.returns-in-Some
-returns-in-Some g c = λ shown shows same right f agrees.
-    let before = c.in-Some.ensures f agrees in
-    subst (λ y. IfSome c.args.self.now.shown (λ x. y ≡ x)) (sym (same f before.0 before.1.1)) (right before.0 before.1.0)
+returns-in-Some g c = λ before after same right f agrees.
+    let old = c.in-Some.ensures f agrees in
+    subst (λ y. IfSome c.args.self.now.shown (λ x. y ≡ x)) (sym (same f old.0 old.1.1)) (right old.0 old.1.0)

@@ -1,11 +1,11 @@
 use Rattle.std.proofs.Common.{◌-◌, ℕ, Bool, length}
-use Rattle.cov_values.specs.Sights.{AreRight, IsReplacedIn}
+use Rattle.cov_values.specs.Sights.{AreRight, IsRenumbered}
 use Rattle.cov_values.proofs.Keeping.{AreUntil}
 use Rattle.cov_values.proofs.sights.Sights.renumber.Given as goal
 
 abbrev pub invariant-loop-index : goal.invariant-loop-index
 invariant-loop-index g l = record {
-  sights : (shown shows : (ℕ → Bool) → g.row.T.Denot) → IsReplacedIn l.by shown shows → AreRight shown l.initial.self-inside.kept.items → AreUntil shown shows l.index l.self-inside.kept.items;
+  sights : (before after : (ℕ → Bool) → g.row.T.Denot) → IsRenumbered l.by before after → AreRight before l.initial.self-inside.kept.items → AreUntil before after l.index l.self-inside.kept.items;
 }
 
 abbrev pub decreases-loop-index : goal.decreases-loop-index
