@@ -10,10 +10,9 @@ use Rattle.cov_base.specs.Addresses.{after_first}
 use Rattle.cov_base.specs.declared.file_row.FileRow.{FileRow}
 use Rattle.cov_order.specs.Orders.{has_line, AreLines}
 use Rattle.cov_file.specs.Dated.{DatedLine, newest_vis, newest_of, file_row_of, line_numbers_of, with_line, with_change, AreAlike}
-use Rattle.cov_file.specs.Forward.{is_shown_by, lines_after, AreRowsAfter, IsChangeOf}
+use Rattle.cov_file.specs.Forward.{is_shown_by}
 use Rattle.cov_file.specs.Sights.{rows_by, AreSights}
-use Rattle.cov_file.specs.declared.sights.LineChange.{LineChange}
-use Rattle.cov_values.specs.Sights.{AreRight, IsChanged}
+use Rattle.cov_values.specs.Sights.{AreRight}
 use Rattle.cov_values.specs.declared.sights.Sight.{Sight}
 
 -- rows without those of a line
@@ -143,11 +142,7 @@ module _ (f : ℕ → Bool) where
 
 -- what is kept of lines is right of those that are alike
 pub sights_alike : (ms ls : List DatedLine) (ks : List (Sight (List FileRow))) → AreAlike ms ls → AreSights ls ks → AreSights ms ks
-sights_alike ms ls ks alike h = subst (λ shows. AreRight shows ks) (λ j f. rows_alike f ms ls alike (~ j)) h
-
--- what is shown of lines is brought forward by a change of them
-pub lines_brought : (change : LineChange) (ls : List DatedLine) (at : ℕ) → IsChangeOf change ls → IsChanged (AreRowsAfter change) (λ f. rows_by f ls) (λ f. rows_by f (lines_after change at ls))
-lines_brought change ls at is f values rows after brings agrees was = brings f ls at agrees is was
+sights_alike ms ls ks alike h = subst (λ (shows : (ℕ → Bool) → List FileRow). AreRight shows ks) (sym (λ j f. rows_alike f ms ls alike j)) h
 
 -- where no row is a line's, none is taken out
 pub none_taken_out : (line : ℕ) (rows : List FileRow) → position (λ (r : FileRow). nat_eq r.line line) rows ≡ None → filter (λ (r : FileRow). not (nat_eq r.line line)) rows ≡ rows

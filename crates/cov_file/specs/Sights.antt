@@ -4,7 +4,7 @@ use Rattle.std.specs.List.{AllByRecursion, filter}
 use Rattle.cov_base.specs.declared.file_row.FileRow.{FileRow}
 use Rattle.cov_dd.specs.declared.triple.Triple.{Triple}
 use Rattle.cov_file.specs.Dated.{DatedLine, newest_vis, file_row_of, is_visible, rows_at}
-use Rattle.cov_values.specs.Sights.{AreRight, IsRight}
+use Rattle.cov_values.specs.Sights.{IsRight}
 use Rattle.cov_values.specs.Values.{on_choice}
 use Rattle.cov_values.specs.declared.sights.Sight.{Sight}
 
@@ -17,13 +17,17 @@ ShownByValues = (table before : List Triple) (c d : List Bool) (p q : ℕ) (ls :
 abbrev pub rows_by : (ℕ → Bool) → List DatedLine → List FileRow
 rows_by f ls = map file_row_of (filter (λ l. f (newest_vis l.changes)) ls)
 
+-- what lines show, by values of their newest nodes
+abbrev pub shown_by : List DatedLine → (ℕ → Bool) → List FileRow
+shown_by ls f = rows_by f ls
+
 -- a kept list, if it wasn't let go, is what is shown by any values of nodes in which its nodes have theirs
 abbrev pub IsSight : List DatedLine → Sight (List FileRow) → Type 0
-IsSight ls k = IsRight (λ f. rows_by f ls) k
+IsSight ls k = IsRight (shown_by ls) k
 
 -- each kept list is
 abbrev pub AreSights : List DatedLine → List (Sight (List FileRow)) → Type 0
-AreSights ls ks = AreRight (λ f. rows_by f ls) ks
+AreSights ls ks = AllByRecursion (IsSight ls) ks
 
 -- from the newest change on, each line has its newest node
 abbrev pub AreNewest : ℕ → List DatedLine → Type 0

@@ -5,7 +5,7 @@ ghost use Rattle.cov_order.specs.Orders.{AreLines};
 ghost use Rattle.cov_file.specs.Dated.{DatedLine, file_row_of, line_numbers_of, new_line, newest_of, newest_vis, with_change, with_line};
 ghost use Rattle.cov_file.specs.Sights.{rows_by};
 ghost use Rattle.cov_values.specs.Values.{Agrees};
-ghost use Rattle.cov_file.specs.Forward.{is_shown_by};
+ghost use Rattle.cov_file.specs.Forward.{is_shown_by, AreRowsAfter};
 
 use cov_base::{FileRow, FileRows, LineNo, Memory, Shared, SharedRows, Text};
 use cov_dd::Node;
@@ -43,7 +43,9 @@ impl<'a> ShownChange<FileRows> for LineChange<'a> {
 
     ghost brings = { AreRowsAfter };
 
-    fn after(&self, shown: SharedRows, values: &Values) -> Option<SharedRows> {
+    fn after(&self, shown: SharedRows, values: &Values) -> Option<SharedRows>
+        ensures { IfSome result (AreRowsAfter self.now values.now shown) }
+    {
         match self {
             LineChange::Insert {
                 anchor,
