@@ -1,9 +1,8 @@
 -- Kept lists after a change of the lines.
 use Rattle.std.specs.Prelude.{filter}
-use Rattle.std.proofs.Common.{◌≡◌, ℕ, zero, suc, ◌+◌, ◌<◌, ◌≤◌, Bool, true, false, true≢false, cond, not, ◌||◌, nat_eq, List, [], ◌∷◌, length, get_or, slice_get, map, set, Some, None, position, refl, sym, ap, subst, ◌∙◌, arith}
+use Rattle.std.proofs.Common.{◌≡◌, ℕ, zero, suc, ◌+◌, ◌<◌, Bool, true, false, true≢false, cond, not, ◌||◌, nat_eq, List, [], ◌∷◌, map, Some, None, position, refl, sym, ap, subst, ◌∙◌, arith}
 use Rattle.std.specs.List.{find, insert, list_any}
-use Rattle.std.specs.Option.{IfSome, option_map}
-use Rattle.std.proofs.lemmas.Option.{none-some, same_Some}
+use Rattle.std.specs.Option.{option_map}
 use Rattle.std.proofs.lemmas.Bool.{eqb-true}
 use Rattle.cov_base.proofs.CallerLemmas.{insert_behind, none-placed}
 use Rattle.cov_base.specs.Addresses.{after_first}
