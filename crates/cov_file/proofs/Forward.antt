@@ -1,9 +1,8 @@
 -- Kept lists after a change of the lines.
 use Rattle.std.specs.Prelude.{filter}
-use Rattle.std.proofs.Common.{◌≡◌, ℕ, zero, suc, ◌+◌, ◌<◌, ◌≤◌, Bool, true, false, true≢false, cond, not, ◌||◌, nat_eq, List, [], ◌∷◌, length, get_or, slice_get, map, set, Some, None, position, refl, sym, ap, subst, ◌∙◌, arith}
+use Rattle.std.proofs.Common.{◌≡◌, ℕ, zero, suc, ◌+◌, ◌<◌, Bool, true, false, true≢false, cond, not, ◌||◌, nat_eq, List, [], ◌∷◌, map, Some, None, position, refl, sym, ap, subst, ◌∙◌, arith}
 use Rattle.std.specs.List.{find, insert, list_any}
-use Rattle.std.specs.Option.{IfSome, option_map}
-use Rattle.std.proofs.lemmas.Option.{none-some, same_Some}
+use Rattle.std.specs.Option.{option_map}
 use Rattle.std.proofs.lemmas.Bool.{eqb-true}
 use Rattle.cov_base.proofs.CallerLemmas.{insert_behind, none-placed}
 use Rattle.cov_base.specs.Addresses.{after_first}
@@ -11,9 +10,9 @@ use Rattle.cov_base.specs.declared.file_row.FileRow.{FileRow}
 use Rattle.cov_order.specs.Orders.{has_line, AreLines}
 use Rattle.cov_file.specs.Dated.{DatedLine, newest_vis, newest_of, file_row_of, line_numbers_of, with_line, with_change, AreAlike}
 use Rattle.cov_file.specs.Forward.{is_shown_by}
-use Rattle.cov_file.specs.Sights.{rows_by, IsSight, AreSights}
-use Rattle.cov_values.specs.Values.{Agrees}
-use Rattle.cov_file.specs.declared.sights.Kept.{Kept}
+use Rattle.cov_file.specs.Sights.{rows_by, AreSights}
+use Rattle.cov_values.specs.Sights.{AreRight}
+use Rattle.cov_values.specs.declared.sights.Sight.{Sight}
 
 -- rows without those of a line
 abbrev pub others : ℕ → List FileRow → List FileRow
@@ -141,35 +140,8 @@ module _ (f : ℕ → Bool) where
         by false e is rest = row_beside l (with_change line vis at ls) ls (rest is)
 
 -- what is kept of lines is right of those that are alike
-pub sights_alike : (ms ls : List DatedLine) (ks : List Kept) → AreAlike ms ls → AreSights ls ks → AreSights ms ks
-sights_alike ms ls [] alike h = tt
-sights_alike ms ls (k ∷ ks) alike h = (
-  λ f agrees. subst (λ rs. IfSome k.rows (λ rows. rs ≡ rows)) (sym (rows_alike f ms ls alike)) (h.0 f agrees),
-  sights_alike ms ls ks alike h.1,
-)
-
--- of lists, the first so many are right of these lines, and the others of those
-abbrev pub AreUntil : List DatedLine → List DatedLine → ℕ → List Kept → Type 0
-AreUntil ms ls i [] = Unit {0}
-AreUntil ms ls zero (k ∷ ks) = IsSight ls k × AreUntil ms ls zero ks
-AreUntil ms ls (suc i) (k ∷ ks) = IsSight ms k × AreUntil ms ls i ks
-
-pub none_yet : (ms ls : List DatedLine) (ks : List Kept) → AreSights ls ks → AreUntil ms ls 0 ks
-none_yet ms ls [] h = tt
-none_yet ms ls (k ∷ ks) h = (h.0, none_yet ms ls ks h.1)
-
-pub one_more : (ms ls : List DatedLine) (i : ℕ) (ks : List Kept) (d k : Kept) → i < length ks → (IsSight ls (get_or ks i d) → IsSight ms k) → AreUntil ms ls i ks → AreUntil ms ls (i + 1) (set ks i k)
-one_more ms ls i ks d k within forward h = subst (λ n. AreUntil ms ls n (set ks i k)) (omega arith) (at i ks within forward h)
-  where
-    at : (i : ℕ) (ks : List Kept) → i < length ks → (IsSight ls (get_or ks i d) → IsSight ms k) → AreUntil ms ls i ks → AreUntil ms ls (suc i) (set ks i k)
-    at i [] within forward h = absurd (omega (arith, within))
-    at zero (x ∷ xs) within forward h = (forward h.0, h.1)
-    at (suc i) (x ∷ xs) within forward h = (h.0, at i xs (omega (arith, within)) forward h.1)
-
-pub all_are : (ms ls : List DatedLine) (i : ℕ) (ks : List Kept) → length ks ≤ i → AreUntil ms ls i ks → AreSights ms ks
-all_are ms ls i [] long h = tt
-all_are ms ls zero (k ∷ ks) long h = absurd (omega (arith, long))
-all_are ms ls (suc i) (k ∷ ks) long h = (h.0, all_are ms ls i ks (omega (arith, long)) h.1)
+pub sights_alike : (ms ls : List DatedLine) (ks : List (Sight (List FileRow))) → AreAlike ms ls → AreSights ls ks → AreSights ms ks
+sights_alike ms ls ks alike h = subst (λ (shows : (ℕ → Bool) → List FileRow). AreRight shows ks) (sym (λ j f. rows_alike f ms ls alike j)) h
 
 -- where no row is a line's, none is taken out
 pub none_taken_out : (line : ℕ) (rows : List FileRow) → position (λ (r : FileRow). nat_eq r.line line) rows ≡ None → filter (λ (r : FileRow). not (nat_eq r.line line)) rows ≡ rows
@@ -184,10 +156,3 @@ none_taken_out line rows h = each rows (none-placed (λ (r : FileRow). nat_eq r.
             → cond (not n) (r ∷ filter (λ (r : FileRow). not (nat_eq r.line line)) rs) (filter (λ (r : FileRow). not (nat_eq r.line line)) rs) ≡ r ∷ rs
         by true k rest = absurd (true≢false k)
         by false k rest = ap (λ rs. r ∷ rs) (rest k)
-
--- a kept list that is found is right
-pub sight_found : (f : ℕ → Bool) (ls : List DatedLine) (ks : List Kept) (at : ℕ) (rows : List FileRow) → option_map (λ (k : Kept). k.rows) (slice_get ks at) ≡ Some (Some rows)
-    → ((k : Kept) → slice_get ks at ≡ Some k → Agrees f k.values) → AreSights ls ks → rows_by f ls ≡ rows
-sight_found f ls [] at rows is agrees h = absurd (none-some (Some rows) is)
-sight_found f ls (k ∷ ks) zero rows is agrees h = subst (λ o. IfSome o (λ rs. rows_by f ls ≡ rs)) (same_Some k.rows (Some rows) is) (h.0 f (agrees k refl))
-sight_found f ls (k ∷ ks) (suc at) rows is agrees h = sight_found f ls ks at rows is agrees h.1

@@ -4,15 +4,16 @@ use Rattle.std.proofs.Common.{◌≡◌, ℕ, ◌≤◌, Bool, true, false, cond
 use Rattle.std.specs.List.{AllByRecursion}
 use Rattle.std.specs.Option.{IfSome}
 use Rattle.std.specs.Map.{keys_of}
+use Rattle.cov_base.specs.declared.file_row.FileRow.{FileRow}
 use Rattle.cov_dd.proofs.CallerLemmas.{value-constant}
 use Rattle.cov_dd.specs.declared.triple.Triple.{Triple}
 use Rattle.cov_file.specs.Dated.{DatedLine, vis_at, newest_vis, file_row_of, is_visible}
 use Rattle.cov_file.specs.declared.changes.Change.{Change}
-use Rattle.cov_file.specs.declared.sights.Kept.{Kept}
 use Rattle.cov_file.specs.Kept.{changes_before, changes_of, changes_in, dated_lines}
 use Rattle.cov_file.proofs.Later.{reached}
 use Rattle.cov_file.specs.Sights.{ShownByValues, rows_by, AreNewest, AreNewestValues, AreSights}
 use Rattle.cov_values.specs.Values.{on_choice, Agrees}
+use Rattle.cov_values.specs.declared.sights.Sight.{Sight}
 use Rattle.cov_values.specs.declared.values.Evaluated.{Evaluated}
 
 -- lines that two tests tell apart alike are shown by both alike
@@ -76,11 +77,11 @@ all_latest earlier (c ∷ cs) from p later h = (
 )
 
 -- nothing is kept
-pub none_kept : (ls : List DatedLine) (ks : List Kept) → ks ≡ [] → AreSights ls ks
+pub none_kept : (ls : List DatedLine) (ks : List (Sight (List FileRow))) → ks ≡ [] → AreSights ls ks
 none_kept ls ks e = subst (AreSights ls) (sym e) tt
 
 -- what is kept stays right where the lines are the same
-pub sights_stay : (texts texts' : List (ℕ × List ℕ)) (lists lists' : List (List (ℕ × ℕ))) (lines lines' : List ℕ) (ks : List Kept)
+pub sights_stay : (texts texts' : List (ℕ × List ℕ)) (lists lists' : List (List (ℕ × ℕ))) (lines lines' : List ℕ) (ks : List (Sight (List FileRow)))
     → texts' ≡ texts → lists' ≡ lists → lines' ≡ lines → AreSights (dated_lines texts lists lines) ks → AreSights (dated_lines texts' lists' lines') ks
 sights_stay texts texts' lists lists' lines lines' ks same_texts same_lists same_lines h =
     subst (λ ls. AreSights ls ks) (λ j. dated_lines (sym same_texts j) (sym same_lists j) (sym same_lines j)) h

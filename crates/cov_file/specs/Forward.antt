@@ -4,10 +4,9 @@ use Rattle.std.specs.Option.{option_map_or}
 use Rattle.cov_order.specs.Orders.{AreLines}
 use Rattle.cov_base.specs.declared.file_row.FileRow.{FileRow}
 use Rattle.cov_file.specs.Dated.{DatedLine, line_numbers_of, new_line, newest_of, with_change, with_line}
-use Rattle.cov_file.specs.Sights.{rows_by, IsSight}
+use Rattle.cov_file.specs.Sights.{rows_by}
 use Rattle.cov_values.specs.Values.{Agrees}
 use Rattle.cov_values.specs.declared.values.Evaluated.{Evaluated}
-use Rattle.cov_file.specs.declared.sights.Kept.{Kept}
 use Rattle.cov_file.specs.declared.sights.LineChange.{LineChange}
 use Rattle.cov_file.specs.declared.sights.LineChange.TheVariants as changes
 
@@ -29,7 +28,3 @@ IsChangeOf (changes.Delete line before vis) ls = (newest_of line ls ≡ before) 
 abbrev pub AreRowsAfter : LineChange → List Evaluated → List FileRow → List FileRow → Type 0
 AreRowsAfter change values rows after = (f : ℕ → Bool) (ls : List DatedLine) (at : ℕ)
     → Agrees f values → IsChangeOf change ls → rows_by f ls ≡ rows → rows_by f (lines_after change at ls) ≡ after
-
--- a kept list that is right before a change is right after it
-abbrev pub IsBroughtForward : LineChange → Kept → Kept → Type 0
-IsBroughtForward change k k' = (ls : List DatedLine) (at : ℕ) → IsChangeOf change ls → IsSight ls k → IsSight (lines_after change at ls) k'

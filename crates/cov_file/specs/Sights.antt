@@ -1,13 +1,13 @@
 -- What a file shows, by the values of the nodes of its lines.
 use Rattle.std.specs.Prelude.{◌≡◌, ℕ, ◌≤◌, Bool, List, map}
 use Rattle.std.specs.List.{AllByRecursion, filter}
-use Rattle.std.specs.Option.{IfSome}
 use Rattle.cov_base.specs.declared.file_row.FileRow.{FileRow}
 use Rattle.cov_dd.specs.declared.triple.Triple.{Triple}
 use Rattle.cov_file.specs.Dated.{DatedLine, newest_vis, file_row_of, is_visible, rows_at}
+use Rattle.cov_values.specs.Sights.{IsRight}
 use Rattle.cov_values.specs.Values.{on_choice, Agrees}
+use Rattle.cov_values.specs.declared.sights.Sight.{Sight}
 use Rattle.cov_values.specs.declared.values.Evaluated.{Evaluated}
-use Rattle.cov_file.specs.declared.sights.Kept.{Kept}
 
 -- two choices, or two positions, on which each line's node has the same value show the same lines
 abbrev pub ShownByValues : Type 0
@@ -18,12 +18,16 @@ ShownByValues = (table before : List Triple) (c d : List Bool) (p q : ℕ) (ls :
 abbrev pub rows_by : (ℕ → Bool) → List DatedLine → List FileRow
 rows_by f ls = map file_row_of (filter (λ l. f (newest_vis l.changes)) ls)
 
+-- what lines show, by values of their newest nodes
+abbrev pub shown_by : List DatedLine → (ℕ → Bool) → List FileRow
+shown_by ls f = rows_by f ls
+
 -- a kept list, if it wasn't let go, is what is shown by any values of nodes in which its nodes have theirs
-abbrev pub IsSight : List DatedLine → Kept → Type 0
-IsSight ls k = (f : ℕ → Bool) → Agrees f k.values → IfSome k.rows (λ rows. rows_by f ls ≡ rows)
+abbrev pub IsSight : List DatedLine → Sight (List FileRow) → Type 0
+IsSight ls k = IsRight (shown_by ls) k
 
 -- each kept list is
-abbrev pub AreSights : List DatedLine → List Kept → Type 0
+abbrev pub AreSights : List DatedLine → List (Sight (List FileRow)) → Type 0
 AreSights ls ks = AllByRecursion (IsSight ls) ks
 
 -- in any values of nodes in which these have theirs, the newest node of each line's changes has the value that it has on a choice

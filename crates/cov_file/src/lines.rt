@@ -257,11 +257,11 @@ impl FileLines {
     {
         let values = self.changes.values(table, choice)?;
         let rows = self.lines_at(table, choice, self.changes.latest())?;
-        let rows = Some(Shared::new(*self.texts.allocator(), rows)?);
+        let shown = Some(Shared::new(*self.texts.allocator(), rows)?);
         Ok(Kept {
             choice,
             values,
-            rows,
+            shown,
         })
     }
 

@@ -1,32 +1,21 @@
 // Lists of what a file shows that are kept, each with the values of nodes under which it is right.
-ghost use Rattle.std.specs.Prelude.{◌≡◌, ◌<◌, ◌≤◌, ◌+◌, ℕ, Bool, List, [], true, not, Some, filter, length, nat_eq, position, slice_get, IfSome, IfOk, OnOk};
+ghost use Rattle.std.specs.Prelude.{◌≡◌, ◌<◌, ◌≤◌, ◌+◌, ℕ, Bool, List, true, not, Some, filter, length, nat_eq, position, IfSome, IfOk};
 ghost use Rattle.std.specs.List.{insert};
-ghost use Rattle.std.specs.Option.{option_map};
 ghost use Rattle.cov_order.specs.Orders.{AreLines};
 ghost use Rattle.cov_file.specs.Dated.{DatedLine, file_row_of, line_numbers_of, new_line, newest_of, newest_vis, with_change, with_line};
-ghost use Rattle.cov_file.specs.declared.sights.Kept.{Kept};
-ghost use Rattle.cov_file.specs.Sights.{rows_by, AreSights, IsSight};
-ghost use Rattle.cov_values.specs.Values.{on_choice, Agrees};
-ghost use Rattle.cov_file.specs.Replaced.{AreReplacedLines};
-ghost use Rattle.cov_file.specs.Forward.{is_shown_by, lines_after, AreRowsAfter, IsBroughtForward, IsChangeOf};
+ghost use Rattle.cov_file.specs.Sights.{rows_by};
+ghost use Rattle.cov_values.specs.Values.{Agrees};
+ghost use Rattle.cov_file.specs.Forward.{is_shown_by, AreRowsAfter};
 
-use cov_base::{Choice, FileRow, FileRows, LineNo, Memory, Shared, SharedRows, Text};
-use cov_dd::{Node, Table};
-use cov_values::{Replacements, Values};
-use std::alloc::Global;
-use std::marker::Model;
+use cov_base::{FileRow, FileRows, LineNo, Memory, Shared, SharedRows, Text};
+use cov_dd::Node;
+use cov_values::{ShownChange, Sight, Values};
 
-/// How many lists are kept of one file.
-const MOST_KEPT: usize = 8;
+/// What a file shows where certain nodes have certain values, as they have on a choice; None once it was let go.
+pub(crate) type Kept = Sight<FileRows>;
 
-/// What a file shows where certain nodes have certain values, as they have on a choice; None once it was let go. Many lines share a
-/// node, so these are few.
-#[derive(Drop)]
-pub(crate) struct Kept {
-    pub(crate) choice: Choice,
-    pub(crate) values: Values,
-    pub(crate) rows: Option<SharedRows>,
-}
+/// The lists that are kept of a file.
+pub(crate) type Sights = cov_values::Sights<FileRows>;
 
 /// A change of the lines of a file.
 #[derive(Drop)]
@@ -47,271 +36,27 @@ pub(crate) enum LineChange<'a> {
     },
 }
 
-/// The lists that are kept of a file. The one that was right last is asked first. Once one couldn't be kept, none is until the nodes
-/// are renumbered.
-pub(crate) struct Sights {
-    kept: Vec<Kept>,
-    last: usize,
-    is_stopped: bool,
-}
+// It brings a list forward, or lets it go: where the value of a node of the change isn't known, or where the list changes and has
+// another owner, or where there is no memory.
+impl<'a> ShownChange<FileRows> for LineChange<'a> {
+    ghost use Rattle.cov_file.specs.Forward.{AreRowsAfter};
 
-impl Model for Sights {
-    ghost use Rattle.std.specs.Prelude.{List};
-    ghost use Rattle.cov_file.specs.declared.sights.Kept.{Kept};
+    ghost brings = { AreRowsAfter };
 
-    ghost Value = { List Kept };
-
-    ghost view = { λ s. s.kept.items };
-}
-
-// They are dropped by a call, so that whoever drops a file needn't know what is kept of it.
-impl Drop for Sights {
-    fn drop(self) {
-        let Sights {
-            kept,
-            last,
-            is_stopped,
-        } = self;
-        drop((last, is_stopped));
-        drop(kept);
-    }
-}
-
-impl Sights {
-    pub(crate) fn new(alloc: Global) -> Sights
-        ensures { result ≡ [] }
+    fn after(&self, shown: SharedRows, values: &Values) -> Option<SharedRows>
+        ensures { IfSome result (AreRowsAfter self.now values.now shown) }
     {
-        Sights {
-            kept: Vec::new(alloc),
-            last: 0,
-            is_stopped: false,
-        }
-    }
-
-    /// The list that is right on a choice, None where none is kept. It evaluates the nodes of kept lists, of each up to the first
-    /// that has another value.
-    pub(crate) fn find(&self, table: &Table, choice: Choice) -> Option<SharedRows>
-        ensures { IfSome result (λ rows. (ls : List DatedLine) → AreSights ls self.now →
-            rows_by (on_choice table.now choice) ls ≡ rows) }
-    {
-        match self.place(table, choice) {
-            Some(at) => self.share(at),
-            None => None,
-        }
-    }
-
-    // One more owner of the list at a place, None where it was let go or its owners can't be counted.
-    fn share(&self, at: usize) -> Option<SharedRows>
-        ensures { IfSome result (λ rows. option_map (λ k. k.rows) (slice_get self.now at) ≡
-            Some (Some rows)) }
-    {
-        match self.kept.get(at) {
-            Some(kept) => shared(kept),
-            None => None,
-        }
-    }
-
-    // Where a list is that is right on a choice.
-    fn place(&self, table: &Table, choice: Choice) -> Option<usize>
-        ensures within { IfSome result (λ at. at < length self.now) }
-        ensures agrees { IfSome result (λ at.
-            (k : Kept) → slice_get self.now at ≡ Some k →
-            Agrees (on_choice table.now choice) k.values) }
-    {
-        if self.fits(self.last, table, choice) {
-            return Some(self.last);
-        }
-        let mut at = 0;
-        while at < self.kept.len() {
-            if self.fits(at, table, choice) {
-                return Some(at);
+        match self {
+            LineChange::Insert {
+                anchor,
+                beside,
+                line,
+                text,
+                vis,
+            } => after_insert(shown, values, *anchor, *beside, *line, text, *vis),
+            LineChange::Delete { line, before, vis } => {
+                after_delete(shown, values, *line, *before, *vis)
             }
-            at += 1;
-        }
-        None
-    }
-
-    // Whether there is a list at a place, and the nodes have its values on a choice.
-    fn fits(&self, at: usize, table: &Table, choice: Choice) -> bool
-        ensures within { result ≡ true → at < length self.now }
-        ensures agrees { result ≡ true →
-            (k : Kept) → slice_get self.now at ≡ Some k →
-            Agrees (on_choice table.now choice) k.values }
-    {
-        match self.kept.get(at) {
-            Some(kept) => kept.rows.is_some() && kept.values.agree(table, choice),
-            None => false,
-        }
-    }
-
-    /// Whether no list is right on a choice, and one may be kept. If one is right, it is the one that is asked first from now on.
-    pub(crate) fn wants(&mut self, table: &Table, choice: Choice) -> bool
-        ensures { self.new ≡ self.old }
-    {
-        match self.place(table, choice) {
-            Some(at) => {
-                self.last = at;
-                false
-            }
-            None => !self.is_stopped,
-        }
-    }
-
-    /// Keeps a list more, in the place of one that was let go or, where there are as many as may be, of the next one. It is asked
-    /// first from now on, and passed over where there is no memory.
-    pub(crate) fn keep(&mut self, kept: Kept)
-        ensures { (ls : List DatedLine) → AreSights ls self.old → IsSight ls kept →
-            AreSights ls self.new }
-    {
-        let at = self.place_for_more();
-        self.last = at;
-        if at < self.kept.len() {
-            self.kept[at] = kept;
-            return;
-        }
-        match self.kept.push(kept) {
-            Ok(()) => (),
-            Err(_) => self.stop_keeping(),
-        }
-    }
-
-    // The place of a list that was let go, else one behind the others or, where there are as many as may be, the next one.
-    fn place_for_more(&self) -> usize {
-        let mut at = 0;
-        while at < self.kept.len() {
-            if self.kept[at].rows.is_none() {
-                return at;
-            }
-            at += 1;
-        }
-        if at < MOST_KEPT {
-            return at;
-        }
-        self.last.wrapping_add(1) % MOST_KEPT
-    }
-
-    /// Keeps no list more until the nodes are renumbered.
-    pub(crate) fn stop_keeping(&mut self)
-        ensures { self.new ≡ self.old }
-    {
-        self.is_stopped = true;
-    }
-
-    /// Whether there is none.
-    pub(crate) fn is_empty(&self) -> bool
-        ensures { result ≡ true → self.now ≡ [] }
-    {
-        self.kept.is_empty()
-    }
-
-    /// Lets the lists go. It takes no memory.
-    pub(crate) fn let_go(&mut self)
-        ensures { self.new ≡ [] }
-    {
-        self.kept.clear();
-        self.is_stopped = false;
-    }
-
-    /// Has each list go with nodes that take the places of those that it goes with, or lets it go.
-    pub(crate) fn renumber(&mut self, by: &Replacements)
-        ensures { (ls ls' : List DatedLine) → AreReplacedLines by.now ls ls' →
-            AreSights ls self.old → AreSights ls' self.new }
-    {
-        renumber_all(self.kept.as_mut_slice(), by);
-        self.is_stopped = false;
-    }
-
-    /// Has the value of a node with each list, as lines are about to get it. A list for which there is no memory is let go.
-    pub(crate) fn note(&mut self, table: &Table, node: Node)
-        ensures { (ls : List DatedLine) → AreSights ls self.old → AreSights ls self.new }
-    {
-        note_all(self.kept.as_mut_slice(), table, node);
-    }
-
-    /// Brings each list forward by a change of the lines, or lets it go: where the value of a node of the change isn't known, or
-    /// where the list changes and has another owner, or where there is no memory.
-    pub(crate) fn change(&mut self, change: &LineChange<'_>)
-        ensures { (ls : List DatedLine) (at : ℕ) → IsChangeOf change.now ls →
-            AreSights ls self.old → AreSights (lines_after change.now at ls) self.new }
-    {
-        change_all(self.kept.as_mut_slice(), change);
-    }
-}
-
-fn note_all(kept: &mut [Kept], table: &Table, node: Node)
-    ensures { (ls : List DatedLine) → AreSights ls kept.old → AreSights ls kept.new }
-{
-    let mut index = 0;
-    while index < kept.len() {
-        note_in(&mut kept[index], table, node);
-        index += 1;
-    }
-}
-
-fn note_in(kept: &mut Kept, table: &Table, node: Node)
-    ensures { (ls : List DatedLine) → IsSight ls kept.old → IsSight ls kept.new }
-{
-    match kept.values.evaluate(node, table, kept.choice) {
-        Ok(_) => (),
-        Err(_) => kept.rows = None,
-    }
-}
-
-fn renumber_all(kept: &mut [Kept], by: &Replacements)
-    ensures { (ls ls' : List DatedLine) → AreReplacedLines by.now ls ls' →
-        AreSights ls kept.old → AreSights ls' kept.new }
-{
-    let mut index = 0;
-    while index < kept.len() {
-        renumber_in(&mut kept[index], by);
-        index += 1;
-    }
-}
-
-fn renumber_in(kept: &mut Kept, by: &Replacements)
-    ensures { (ls ls' : List DatedLine) → AreReplacedLines by.now ls ls' →
-        IsSight ls kept.old → IsSight ls' kept.new }
-{
-    match kept.values.renumbered(by) {
-        Some(values) => kept.values = values,
-        None => kept.rows = None,
-    }
-}
-
-fn change_all(kept: &mut [Kept], change: &LineChange<'_>)
-    ensures { (ls : List DatedLine) (at : ℕ) → IsChangeOf change.now ls →
-        AreSights ls kept.old → AreSights (lines_after change.now at ls) kept.new }
-{
-    let mut index = 0;
-    while index < kept.len() {
-        change_in(&mut kept[index], change);
-        index += 1;
-    }
-}
-
-fn change_in(kept: &mut Kept, change: &LineChange<'_>)
-    ensures { IsBroughtForward change.now kept.old kept.new }
-{
-    match kept.rows.take() {
-        Some(rows) => kept.rows = rows_after(rows, &kept.values, change),
-        None => (),
-    }
-}
-
-// What a list is after a change of the lines, None where it is let go.
-fn rows_after(rows: SharedRows, values: &Values, change: &LineChange<'_>) -> Option<SharedRows>
-    ensures { IfSome result (AreRowsAfter change.now values.now rows) }
-{
-    match change {
-        LineChange::Insert {
-            anchor,
-            beside,
-            line,
-            text,
-            vis,
-        } => after_insert(rows, values, *anchor, *beside, *line, text, *vis),
-        LineChange::Delete { line, before, vis } => {
-            after_delete(rows, values, *line, *before, *vis)
         }
     }
 }
@@ -478,17 +223,4 @@ fn take_out(rows: &mut FileRows, line: LineNo)
     ensures { rows.new ≡ filter (λ r. not (nat_eq r.line line)) rows.old }
 {
     rows.retain(|row| !is_line(row, line));
-}
-
-// One more owner of a list, None where it was let go or its owners can't be counted.
-fn shared(kept: &Kept) -> Option<SharedRows>
-    ensures { IfSome result (λ more. kept.now.rows ≡ Some more) }
-{
-    match &kept.rows {
-        Some(rows) => match rows.share() {
-            Ok(more) => Some(more),
-            Err(_) => None,
-        },
-        None => None,
-    }
 }

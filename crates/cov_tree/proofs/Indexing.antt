@@ -6,7 +6,7 @@ use Rattle.std.specs.Option.{option_map}
 use Rattle.std.proofs.lemmas.Bool.{or_parts, eqb-true}
 use Rattle.std.proofs.lemmas.Bool.Decides.{nat_tests}
 use Rattle.std.proofs.lemmas.List.Quantifiers.{position-Some}
-use Rattle.cov_base.specs.Rows.{has_node, AreDistinct}
+use Rattle.cov_base.specs.Rows.{Row, has_node, AreDistinct}
 use Rattle.cov_base.proofs.CallerLemmas.{none-placed}
 use Rattle.cov_tree.specs.declared.entry.Entry.{Entry}
 use Rattle.cov_tree.specs.declared.dated.DatedEntry.{DatedEntry}
@@ -14,8 +14,8 @@ use Rattle.cov_tree.specs.Dated.{newest_entry, with_no_room, AreUntil}
 use Rattle.cov_tree.specs.Entries.{nodes_of}
 use Rattle.cov_tree.specs.Installing.{IsPlaceOf, IsIndex, IsPut, AreAllNoted}
 use Rattle.cov_tree.specs.Shown.{AreTrees}
-use Rattle.cov_tree.specs.declared.trees.KeptTree.{KeptTree}
 use Rattle.cov_tree.specs.Noted.{Noted, Keeps}
+use Rattle.cov_values.specs.declared.sights.Sight.{Sight}
 use Rattle.cov_tree.proofs.Noting.{all_kept, noted_but_room}
 use Rattle.cov_tree.proofs.Installing.{map_behind, same_newest, until_but_room}
 
@@ -119,12 +119,12 @@ index_put index more es new at count f put fresh long noted h n =
     by false e = h n ∙ sym (place_before (λ m. nat_eq m n) (nodes_of (map newest_entry es)) f.node e)
 
 -- what holds of entries, of the index of their places, of what is noted and of the trees that are kept
-abbrev pub AreSound : ℕ → List DatedEntry → List (ℕ × ℕ) → Noted → List KeptTree → Type 0
+abbrev pub AreSound : ℕ → List DatedEntry → List (ℕ × ℕ) → Noted → List (Sight (List Row)) → Type 0
 AreSound from es index all trees =
     AreDistinct (0 ∷ nodes_of (map newest_entry es)) × AreUntil from es × IsIndex index es × AreAllNoted all es × AreTrees (map newest_entry es) trees
 
 -- it still holds where there is more room, and more is noted
-pub still_sound : (from : ℕ) (es mid fs : List DatedEntry) (index more : List (ℕ × ℕ)) (old new : Noted) (trees : List KeptTree) → Keeps old new → map with_no_room mid ≡ map with_no_room es → fs ≡ mid → more ≡ index
+pub still_sound : (from : ℕ) (es mid fs : List DatedEntry) (index more : List (ℕ × ℕ)) (old new : Noted) (trees : List (Sight (List Row))) → Keeps old new → map with_no_room mid ≡ map with_no_room es → fs ≡ mid → more ≡ index
     → AreSound from es index old trees → AreSound from fs more new trees
 still_sound from es mid fs index more old new trees keeps same is index_is sound =
     subst (λ xs. AreSound from xs more new trees) (sym is)

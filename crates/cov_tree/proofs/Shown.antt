@@ -1,23 +1,20 @@
--- Trees of what nodes show, row by row, and those that are kept.
+-- Trees of what nodes show, row by row.
 use Rattle.std.specs.Prelude.{filter}
-use Rattle.std.proofs.Common.{◌≡◌, ◌<◌, ◌≤◌, ℕ, zero, suc, Bool, true, false, ◌||◌, cond, nat_eq, List, [], ◌∷◌, ◌++◌, map, length, get_or, slice_get, Some, append-nil, append_assoc, refl, sym, ap, subst, ◌∙◌, arith}
-use Rattle.std.specs.Option.{option_map}
+use Rattle.std.proofs.Common.{◌≡◌, ◌<◌, ◌≤◌, ℕ, Bool, true, false, ◌||◌, cond, nat_eq, List, [], ◌∷◌, ◌++◌, map, length, get_or, append-nil, append_assoc, refl, sym, ap, subst, ◌∙◌, arith}
 use Rattle.std.proofs.lemmas.Bool.{or_parts}
 use Rattle.std.proofs.lemmas.List.{map-append}
 use Rattle.std.proofs.lemmas.List.Folds.{list_any-append}
-use Rattle.std.proofs.lemmas.Option.{none-some, same_Some}
 use Rattle.cov_base.specs.Rows.{Row, has_node, is_present, AreDistinct, AreOnce}
 use Rattle.cov_base.specs.declared.number.Kind.{Kind}
 use Rattle.cov_base.proofs.CallerLemmas.{any-map, nat_eq-sym, rest-is, rest_of}
 use Rattle.cov_dd.specs.declared.triple.Triple.{Triple}
-use Rattle.cov_values.specs.Values.{on_choice, Agrees}
+use Rattle.cov_values.specs.Values.{on_choice}
 use Rattle.cov_tree.specs.declared.entry.Entry.{Entry}
 use Rattle.cov_tree.specs.declared.entry.Place.{Place}
 use Rattle.cov_tree.specs.declared.dated.DatedEntry.{DatedEntry}
-use Rattle.cov_tree.specs.declared.trees.KeptTree.{KeptTree}
 use Rattle.cov_tree.specs.Dated.{Dated, entry_at, rows_at, AreUntil}
 use Rattle.cov_tree.specs.Entries.{row_at, rows_in, rows_of}
-use Rattle.cov_tree.specs.Shown.{rows_by, rows_of_by, AreTrees}
+use Rattle.cov_tree.specs.Shown.{rows_by, rows_of_by}
 use Rattle.cov_tree.proofs.Installing.{nodes_are}
 use Rattle.cov_tree.proofs.Once.{nodes}
 
@@ -88,10 +85,3 @@ module _ (f : ℕ → Bool) (node : ℕ) (kind : Kind) where
 
   pub place_fresh : (p : Place) (rows : List Row) → AreOnce (rows ++ rows_of_by f node kind (p ∷ [])) → f p.vis ≡ true → is_present rows node ≡ false
   place_fresh p rows once is = fresh rows (row_at node kind p) [] (subst (λ rs. AreOnce (rows ++ rs)) (place_shown p is) once)
-
--- a kept tree that is found is right
-pub tree_found : (f : ℕ → Bool) (es : List Entry) (ks : List KeptTree) (at : ℕ) (tree : List Row) → option_map (λ (k : KeptTree). k.tree) (slice_get ks at) ≡ Some tree
-    → ((k : KeptTree) → slice_get ks at ≡ Some k → Agrees f k.values) → AreTrees es ks → rows_by f es ≡ tree
-tree_found f es [] at tree is agrees h = absurd (none-some tree is)
-tree_found f es (k ∷ ks) zero tree is agrees h = h.0 f (agrees k refl) ∙ same_Some k.tree tree is
-tree_found f es (k ∷ ks) (suc at) tree is agrees h = tree_found f es ks at tree is agrees h.1

@@ -27,7 +27,7 @@ use crate::entry::{Entry, Place};
 use crate::noted::NotedNodes;
 use crate::soundness::unsound;
 use crate::standing::{Standing, add_made, as_planned};
-use crate::trees::Trees;
+use crate::trees::{Trees, let_go_before};
 use cov_base::{Choice, Kind, Memory, Name, NodeNo, Position};
 use cov_dd::{Node, Table};
 use cov_view::{NodeRow, NodeRows};
@@ -189,7 +189,7 @@ impl Entries {
         ensures options { (table : List Triple) (count : ℕ) → AreUnreadAt table self.old count →
             AreUnreadWith table plan self.old count → AreUnreadAt table self.new count }
     {
-        self.trees.let_go_before(&plan);
+        let_go_before(&mut self.trees, &plan);
         change_all(&mut self.entries, &mut self.index, plan.into_entries(), at);
         self.from = at;
     }

@@ -1,3 +1,4 @@
 pub mod CallerLemmas
+pub mod Keeping
 pub mod Taking
 pub mod Valued

@@ -170,7 +170,11 @@ fn kept_tree(
     let mut tree = ShownTree::new(alloc);
     see_all(&mut tree, &mut values, entries, table, choice)?;
     let tree = Shared::new(alloc, tree)?;
-    Ok(KeptTree { values, tree })
+    Ok(KeptTree {
+        choice,
+        values,
+        shown: Some(tree),
+    })
 }
 
 // Adds the rows that the newest nodes have on a choice. The values of their visibilities are among the values then.

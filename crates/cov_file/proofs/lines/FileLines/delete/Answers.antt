@@ -8,6 +8,7 @@ use Rattle.cov_file.specs.Dated.{newest_of, with_change, line_numbers_of, AreAli
 use Rattle.cov_file.specs.Renumbered.{AddsNode}
 use Rattle.cov_file.specs.Rooms.{DatedFile, is_room_at}
 use Rattle.cov_file.specs.Kept.{dated_lines, changes_at, changes_in, is_at, with_node, position_of, changeable}
+use Rattle.cov_file.specs.Sights.{shown_by}
 use Rattle.cov_file.proofs.Changing.{numbers, deleted_alike}
 use Rattle.cov_file.proofs.Finding.{list_found, same_number}
 use Rattle.cov_file.proofs.Rooms.{as_many, room_for, delete_stays, deleted_kept, changeable_stays}
@@ -54,10 +55,12 @@ invariant_of-self c =
           (as_many c.self.inside.order.lines c.self.inside.texts.entries c.self.inside.changes c.self.inside.coming.deletes.items c.self.invariant.0 c.args.at (room_there b))
           c.args.at c.args.line c.args.vis c.in-Some.index (found_at b) c.set.new.self.lists
           (c.set.ensures.lists ∙ ap (λ cs. set c.self.inside.changes.lists c.in-Some.index (with_node c.args.at c.args.vis cs)) (changes_are b)))
-          (c.change.ensures (dated_lines c.self.inside.texts.entries c.self.inside.changes.lists c.self.inside.order.lines) c.args.at (
+          (c.change.ensures (shown_by (dated_lines c.self.inside.texts.entries c.self.inside.changes.lists c.self.inside.order.lines))
+          (shown_by (with_change c.args.line c.args.vis c.args.at (dated_lines c.self.inside.texts.entries c.self.inside.changes.lists c.self.inside.order.lines)))
+          (λ f values rows after brings agrees was. brings f (dated_lines c.self.inside.texts.entries c.self.inside.changes.lists c.self.inside.order.lines) c.args.at agrees (
             ap (λ (f : DatedFile). newest_of c.args.line f.lines) c.self.view_is ∙ sym c.vis-before.ensures.newest,
             subst AreLines (sym (numbers c.self.inside.texts.entries c.self.inside.changes.lists c.self.inside.order.lines)) c.lines_are_once.ensures,
-          )
+          ) was)
           c.self.invariant.1),
     )
 

@@ -9,6 +9,7 @@ use Rattle.cov_file.specs.Dated.{new_line, newest_of, with_line, line_numbers_of
 use Rattle.cov_file.specs.Renumbered.{AddsNode}
 use Rattle.cov_file.specs.Rooms.{DatedFile, is_room_at}
 use Rattle.cov_file.specs.Kept.{dated_lines, position_of, has_changed}
+use Rattle.cov_file.specs.Sights.{shown_by}
 use Rattle.cov_file.proofs.Changing.{numbers, has_after, inserted_alike, least_falls}
 use Rattle.cov_file.proofs.Finding.{put_last, same_number}
 use Rattle.cov_file.proofs.Rooms.{as_many, insert_stays, insert_own, inserted_kept, changeable_stays, changeable_changed}
@@ -53,8 +54,11 @@ invariant_of-self c = (
   sights_alike (dated_lines c.insert.new.self.entries c.push.new.self.lists c.insert_after.new.self.lines)
       (with_line c.args.anchor (new_line c.args.line c.args.text c.args.vis c.args.at) (dated_lines c.self.inside.texts.entries c.self.inside.changes.lists c.self.inside.order.lines))
       c.change.new.self (alike_now c)
-      (c.change.ensures (dated_lines c.self.inside.texts.entries c.self.inside.changes.lists c.self.inside.order.lines) c.args.at
-      (ap (λ (f : DatedFile). newest_of c.args.anchor f.lines) c.self.view_is ∙ sym c.vis-beside.ensures.newest) c.self.invariant.1),
+      (c.change.ensures (shown_by (dated_lines c.self.inside.texts.entries c.self.inside.changes.lists c.self.inside.order.lines))
+      (shown_by (with_line c.args.anchor (new_line c.args.line c.args.text c.args.vis c.args.at) (dated_lines c.self.inside.texts.entries c.self.inside.changes.lists c.self.inside.order.lines)))
+      (λ f values rows after brings agrees was. brings f (dated_lines c.self.inside.texts.entries c.self.inside.changes.lists c.self.inside.order.lines) c.args.at agrees
+      (ap (λ (f : DatedFile). newest_of c.args.anchor f.lines) c.self.view_is ∙ sym c.vis-beside.ensures.newest) was)
+      c.self.invariant.1),
 )
 
 pub returns-clause-lines : goal.returns-clause-lines
