@@ -24,7 +24,7 @@ filter-same : {X : Type 0} (p q : X → Bool) (xs : List X) → AllByRecursion (
 filter-same p q [] h = refl
 filter-same p q (x ∷ xs) h = ap (λ b. cond b (x ∷ filter p xs) (filter p xs)) h.0 ∙ ap (λ l. cond (q x) (x ∷ l) l) (filter-same p q xs h.1)
 
-filter-map : {X Y : Type 0} (g : X → Y) (p : Y → Bool) (xs : List X) → map g (filter (λ x. p (g x)) xs) ≡ filter p (map g xs)
+pub filter-map : {X Y : Type 0} (g : X → Y) (p : Y → Bool) (xs : List X) → map g (filter (λ x. p (g x)) xs) ≡ filter p (map g xs)
 filter-map g p [] = refl
 filter-map g p (x ∷ xs) = at (p (g x)) (filter-map g p xs)
   where

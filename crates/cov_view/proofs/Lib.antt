@@ -1,5 +1,6 @@
 pub mod Added
 pub mod Applying
+pub mod AtPlaces
 pub mod Below
 pub mod CallerLemmas
 pub mod Changes

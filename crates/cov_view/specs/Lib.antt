@@ -1,3 +1,4 @@
+pub mod AtPlaces
 pub mod Finding
 pub mod Held
 pub mod Keys

@@ -2,13 +2,14 @@
 ghost use Rattle.std.specs.Prelude.{◌≡◌, ◌<◌, ◌≤◌, ◌-◌, ◌∷◌, ◌++◌, [], length, true, false, get_or, map, replicate, set, vec_capacity, IfOk, OnOk, if◌then◌else◌};
 ghost use Rattle.cov_base.specs.declared.number.LineRef.TheVariants as lines;
 ghost use Rattle.cov_view.specs.Held.{left};
-ghost use Rattle.cov_view.specs.Lines.{is_among, without_ref, old_line};
+ghost use Rattle.cov_view.specs.Lines.{is_among, after_ref, without_ref, old_line};
 ghost use Rattle.cov_view.specs.References.{same_line};
 ghost use Rattle.cov_view.specs.SeenTree.{ended_lines};
 
-use crate::ViewLines;
 use crate::adding::old_line;
-use crate::line::same_line;
+use crate::line::{append_line, same_line};
+use crate::placed_lines::PlacedLines;
+use crate::{ViewLine, ViewLines};
 use cov_base::{FileRow, LineRef, Memory, SharedRows, Text};
 use std::alloc::Global;
 use std::marker::Model;
@@ -66,6 +67,15 @@ impl Held {
         is_left(self.rows.lend().as_slice(), self.gone.as_slice(), line)
     }
 
+    /// The lines that are left, with another directly after its anchor, or first where that is the head.
+    pub(crate) fn with_line(&self, after: &LineRef, line: ViewLine) -> Result<PlacedLines, Memory>
+        ensures { IfOk result (λ placed. placed ≡ after_ref after.now line self.now) }
+    {
+        let mut placed = PlacedLines::new(self.rows.share()?, self.gone.as_slice())?;
+        placed.insert_after(after, line)?;
+        Ok(placed)
+    }
+
     /// Takes a line out, without memory and in one pass over the lines. Other owners still have it.
     pub(crate) fn delete(&mut self, line: &LineRef)
         ensures { self.new ≡ without_ref line.now self.old }
@@ -118,8 +128,7 @@ fn append_if_left(text: &mut Text, row: &FileRow, is_gone: bool) -> Result<(), M
     if is_gone {
         return Ok(());
     }
-    text.append(row.text.as_slice())?;
-    text.push(10)
+    append_line(text, row.text.as_slice())
 }
 
 fn is_left(rows: &[FileRow], gone: &[bool], line: &LineRef) -> bool
@@ -145,7 +154,7 @@ fn shows(row: &FileRow, is_gone: bool, line: &LineRef) -> bool
 }
 
 // Whether a line was taken out. One that has no flag wasn't.
-fn is_gone(gone: &[bool], index: usize) -> bool
+pub(crate) fn is_gone(gone: &[bool], index: usize) -> bool
     ensures { result ≡ get_or gone.now index false }
 {
     match gone.get(index) {
@@ -179,7 +188,7 @@ fn take_out(rows: &[FileRow], gone: &mut [bool], line: &LineRef)
     }
 }
 
-fn is_line(row: &FileRow, line: &LineRef) -> bool
+pub(crate) fn is_line(row: &FileRow, line: &LineRef) -> bool
     ensures { result ≡ same_line (lines.Old row.now.line) line.now }
 {
     same_line(&LineRef::Old(row.line), line)

@@ -13,6 +13,7 @@ mod line;
 mod listing;
 mod node_index;
 mod node_row;
+mod placed_lines;
 mod row;
 mod row_index;
 mod row_lines;

@@ -1,5 +1,5 @@
 // The lines of one file.
-ghost use Rattle.std.specs.Prelude.{◌≡◌, ◌≤◌, ◌++◌, length, position, IfOk, OnOk, OnErr};
+ghost use Rattle.std.specs.Prelude.{◌≡◌, ◌≤◌, ◌∷◌, ◌++◌, [], length, position, IfOk, OnOk, OnErr};
 ghost use Rattle.std.specs.List.{insert};
 ghost use Rattle.cov_view.specs.References.{is_head, same_line};
 ghost use Rattle.cov_view.specs.Lines.{is_among, after_ref, without_ref};
@@ -46,11 +46,18 @@ pub(crate) fn append_text(lines: &ViewLines, text: &mut Text) -> Result<(), Memo
 {
     let mut ahead = lines.as_slice();
     while let [first, rest @ ..] = ahead {
-        text.append(first.text.as_slice())?;
-        text.push(10)?;
+        append_line(text, first.text.as_slice())?;
         ahead = rest;
     }
     Ok(())
+}
+
+/// Appends the bytes of a line and its end.
+pub(crate) fn append_line(text: &mut Text, line: &[u8]) -> Result<(), Memory>
+    ensures { OnOk result (text.new ≡ text.old ++ line.now ++ 10 ∷ []) }
+{
+    text.append(line)?;
+    text.push(10)
 }
 
 /// Puts a line directly after its anchor, or first where that is the head.

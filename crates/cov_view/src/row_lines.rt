@@ -5,22 +5,24 @@ ghost use Rattle.cov_view.specs.SeenTree.{ended_lines};
 
 use crate::adding::old_lines;
 use crate::held::Held;
+use crate::placed_lines::PlacedLines;
 use crate::{ViewLine, ViewLines, line};
 use cov_base::{LineRef, Memory, SharedRows, Text};
 use std::alloc::Global;
 use std::marker::Model;
 
-/// The lines of a file, in order. They are shared until one is put among them, and the view's own from then on.
+/// The lines of a file, in order. They are shared until one is put among them, and from then on named by their places.
 #[derive(Debug)]
 pub(crate) struct RowLines {
     lines: Lines,
 }
 
-/// Lines with one owner, or with several that don't change them.
+/// Lines with one owner, lines with several that don't change them, or those of both.
 #[derive(Debug, Drop)]
 enum Lines {
     Own(ViewLines),
     Shared(Held),
+    Placed(PlacedLines),
 }
 
 impl Model for RowLines {
@@ -57,6 +59,7 @@ impl RowLines {
         match &self.lines {
             Lines::Own(own) => line::copied(own),
             Lines::Shared(held) => held.copied(),
+            Lines::Placed(placed) => placed.copied(),
         }
     }
 
@@ -67,6 +70,7 @@ impl RowLines {
         match &self.lines {
             Lines::Own(own) => line::append_text(own, text),
             Lines::Shared(held) => held.append_text(text),
+            Lines::Placed(placed) => placed.append_text(text),
         }
     }
 
@@ -77,6 +81,7 @@ impl RowLines {
         match &self.lines {
             Lines::Own(own) => line::is_among(own.as_slice(), line),
             Lines::Shared(held) => held.has(line),
+            Lines::Placed(placed) => placed.has(line),
         }
     }
 
@@ -114,6 +119,7 @@ impl RowLines {
         match &self.lines {
             Lines::Own(own) => own.is_empty(),
             Lines::Shared(_) => false,
+            Lines::Placed(_) => false,
         }
     }
 
@@ -122,12 +128,12 @@ impl RowLines {
         ensures ok { OnOk result (self.new ≡ after_ref after.now line self.old) }
         ensures err { OnErr result (self.new ≡ self.old) }
     {
-        if let Lines::Own(own) = &mut self.lines {
-            return line::insert_after(own, after, line);
-        }
-        let mut own = self.copied()?;
-        line::insert_after(&mut own, after, line)?;
-        self.lines = Lines::Own(own);
+        let placed = match &mut self.lines {
+            Lines::Own(own) => return line::insert_after(own, after, line),
+            Lines::Placed(placed) => return placed.insert_after(after, line),
+            Lines::Shared(held) => held.with_line(after, line)?,
+        };
+        self.lines = Lines::Placed(placed);
         Ok(())
     }
 
@@ -138,6 +144,7 @@ impl RowLines {
         match &mut self.lines {
             Lines::Own(own) => line::delete(own, line),
             Lines::Shared(held) => held.delete(line),
+            Lines::Placed(placed) => placed.delete(line),
         }
     }
 }

@@ -2,7 +2,9 @@
 ghost use Rattle.std.specs.Prelude.{OnOk};
 ghost use Rattle.cov_view.specs.Soundness.{AreOld};
 
-use cov_base::{Kind, LineNo, LineRef, Name, NodeNo, NodeRef, Path, Text};
+use cov_base::{
+    FileRow, FileRows, Kind, LineNo, LineRef, Name, NodeNo, NodeRef, Path, Shared, Text,
+};
 use cov_edit::Edit;
 use cov_view::{DirRows, Fault, View, ViewLines};
 use std::alloc::Global;
@@ -165,6 +167,49 @@ fn check(rt: &impl Abort, alloc: Global, view: &mut View) -> Result<(), Fail> {
 fn edits_are_seen(rt: HostRuntime) -> Result<(), Fail> {
     let mut view = View::new(rt.alloc())?;
     let seen = check(&rt, rt.alloc(), &mut view);
+    drop(view);
+    seen
+}
+
+fn add_shared(alloc: Global, rows: &mut FileRows, line: u32, text: &[u8]) -> Result<(), Fail> {
+    let line = LineNo::new(line);
+    let text = Text::from_slice(alloc, text)?;
+    Ok(rows.push(FileRow { line, text })?)
+}
+
+// Shares three lines with that file.
+fn share_three(alloc: Global, view: &mut View) -> Result<(), Fail> {
+    let mut rows = FileRows::new(alloc);
+    add_shared(alloc, &mut rows, 1, b"one")?;
+    add_shared(alloc, &mut rows, 2, b"two")?;
+    add_shared(alloc, &mut rows, 3, b"three")?;
+    let rows = Shared::new(alloc, rows)?;
+    match view.kind(NodeRef::Old(NodeNo::new(1))) {
+        Some(Kind::File) => Ok(view.share_lines_at(0, NodeNo::new(1), rows)?),
+        Some(Kind::Dir) | None => Err(Fail::from("no file")),
+    }
+}
+
+fn check_turns(rt: &impl Abort, alloc: Global, view: &mut View) -> Result<(), Fail> {
+    add_file(alloc, view)?;
+    share_three(alloc, view)?;
+    has_text(rt, alloc, view, the_file(), b"one|two|three|")?;
+    delete(view, LineRef::Old(LineNo::new(2)))?;
+    insert(alloc, view, LineRef::Old(LineNo::new(1)), b"a")?;
+    has_text(rt, alloc, view, the_file(), b"one|a|three|")?;
+    delete(view, LineRef::New(0))?;
+    insert(alloc, view, LineRef::Old(LineNo::new(3)), b"b")?;
+    insert(alloc, view, LineRef::New(1), b"c")?;
+    has_text(rt, alloc, view, the_file(), b"one|three|b|c|")?;
+    insert(alloc, view, LineRef::Old(LineNo::new(0)), b"d")?;
+    delete(view, LineRef::Old(LineNo::new(1)))?;
+    has_text(rt, alloc, view, the_file(), b"d|three|b|c|")
+}
+
+#[test]
+fn shared_lines_are_edited_in_turns(rt: HostRuntime) -> Result<(), Fail> {
+    let mut view = View::new(rt.alloc())?;
+    let seen = check_turns(&rt, rt.alloc(), &mut view);
     drop(view);
     seen
 }
