@@ -17,7 +17,7 @@ use std::marker::Model;
 
 /// Lines that are named by their places: first those of shared lines, and behind these those of a view's own. So to put one among
 /// them copies four bytes a line, and no line. An own line that was taken out keeps its place until the view goes.
-#[derive(Debug)]
+#[derive(Debug, Drop)]
 pub(crate) struct PlacedLines {
     rows: SharedRows,
     own: ViewLines,
@@ -34,18 +34,6 @@ impl Model for PlacedLines {
     ghost view = { λ p. at_places (joined p.rows p.own) p.places.items };
 
     ghost invariant = { λ p. AreWithin (joined p.rows p.own) p.places.items };
-}
-
-// Places are taken out before their list is dropped, which would look at each of them.
-impl Drop for PlacedLines {
-    fn drop(self) {
-        let PlacedLines { rows, own, places } = self;
-        drop(rows);
-        drop(own);
-        let mut places = places;
-        take_all(&mut places);
-        drop(places);
-    }
 }
 
 impl PlacedLines {
@@ -121,12 +109,6 @@ impl PlacedLines {
         let rows = self.rows.lend().as_slice();
         let own = self.own.as_slice();
         take_out(rows, own, &mut self.places, line);
-    }
-}
-
-fn take_all(places: &mut Vec<u32>) {
-    while !places.is_empty() {
-        places.take_last();
     }
 }
 
