@@ -26,7 +26,9 @@ use crate::installing::add;
 use crate::option_positions::OptionPositions;
 use crate::state::{EngineState, make_ready};
 use crate::sweeping::{append_nodes, sweep};
-use crate::{Counts, FileFault, FileParts, Prepared, Receipt, Refusal, Visible};
+use crate::{
+    Counts, FileFault, FileParts, Holders, NoHolders, Prepared, Receipt, Refusal, Visible,
+};
 use cov_base::{Choice, FileRows, LineNo, Memory, MemoryOr, Name, NodeNo, Position};
 use cov_dd::{Node, Nodes, Table};
 use cov_edit::{Command, Commands};
@@ -301,11 +303,35 @@ impl Engine {
         ensures refused { IfErr result (λ refusal.
             RefusedBy refusal (verdict self.old.history command)) }
     {
+        self.append_releasing(command, &mut NoHolders, &())
+    }
+
+    /// As `append`. Of those who hold shares of what the engine keeps, the ones that are named let go once the command is accepted,
+    /// before it is installed; where it is refused, none does.
+    pub fn append_releasing<K, H: Holders<K>>(
+        &mut self,
+        command: Command,
+        holders: &mut H,
+        which: &K,
+    ) -> Result<Receipt, Refusal>
+        ensures appended { OnOk result (self.new.history ≡ self.old.history ++ command ∷ []) }
+        ensures accepted { OnOk result (verdict self.old.history command ≡ None) }
+        ensures position { IfOk result (λ receipt. receipt.position ≡ length self.old.history + 1) }
+        ensures number { IfOk result (λ receipt. receipt.number ≡
+            receipt_number self.old.history command) }
+        ensures same { OnErr result (self.new.history ≡ self.old.history) }
+        ensures extends { Extends self.old.table self.new.table }
+        ensures refused { IfErr result (λ refusal.
+            RefusedBy refusal (verdict self.old.history command)) }
+        ensures released { OnOk result (H.released which.now holders.old holders.new) }
+        ensures none_released { OnErr result (holders.new ≡ holders.old) }
+    {
         command.bounds_are_kept();
         let ready = match make_ready(&mut self.state, &command) {
             Ok(ready) => ready,
             Err(refusal) => return Err(refusal),
         };
+        holders.release(which);
         let number = add(&mut self.state, &command, ready);
         match self.state.commands.push(command) {
             Ok(()) => (),
