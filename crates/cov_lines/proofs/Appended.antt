@@ -1,5 +1,5 @@
 -- What the appending of a command comes to.
-use Rattle.std.proofs.Common.{◌≡◌, ◌⊎◌, inl, inr, refl, sym, ap, subst, ℕ, ◌+◌, ◌<◌, ◌≤◌, List, [], ◌∷◌, ◌++◌, length, None, option_map, Result, Ok, Err, arith}
+use Rattle.std.proofs.Common.{◌≡◌, ◌⊎◌, ◌∙◌, inl, inr, refl, sym, ap, subst, ℕ, ◌+◌, ◌<◌, ◌≤◌, List, [], ◌∷◌, ◌++◌, length, map, Option, None, option_map, Result, Ok, Err, arith}
 use Rattle.std.specs.Prelude.{IfErr, IfOk, OnOk}
 use Rattle.std.proofs.lemmas.List.{length-append}
 use Rattle.cov_base.specs.Causes.{Rose}
@@ -15,19 +15,21 @@ use Rattle.cov_history.specs.declared.refusal.Refusal.{Refusal}
 use Rattle.cov_history.specs.declared.refusal.Refusal.TheVariants as refusals
 use Rattle.cov_loop.specs.Answers.{StopsAnswer}
 use Rattle.cov_loop.specs.Keeping.{AreAll, IsEither}
-use Rattle.cov_session.specs.Calls.{AreOpen}
+use Rattle.cov_session.specs.Calls.{AreOpen, HasEnded}
 use Rattle.cov_session.specs.Faults.{unless}
 use Rattle.cov_session.specs.Laws.{OpenSessionsStay}
-use Rattle.cov_session.specs.Open.{SessionValue}
-use Rattle.cov_store.specs.Appending.{IsAppendFaultOf, LeavesHistory, OnRefusal, OnWriteFault}
+use Rattle.cov_session.specs.Open.{SessionValue, as_named}
+use Rattle.cov_store.specs.Appending.{IsAppendFaultOf, LeavesHistory, LeavesHolders, OnRefusal, OnWriteFault}
 use Rattle.cov_store.specs.Stands.{IsStored}
 use Rattle.cov_store.specs.declared.appending.AppendFault.{AppendFault}
 use Rattle.cov_store.specs.declared.appending.AppendFault.TheVariants as faults
 use Rattle.cov_lines.specs.Acting.{Changes, Stops}
-use Rattle.cov_lines.specs.Adding.{HasReceipt, added_as}
-use Rattle.cov_lines.specs.States.{State, with_command}
+use Rattle.cov_lines.specs.Adding.{HasReceipt, added_as, appended_ending, ended_by}
+use Rattle.cov_lines.specs.Finding.{Found, ◌>>=◌}
+use Rattle.cov_lines.specs.States.{State, with_command, with_sessions}
 use Rattle.cov_lines.specs.Step.{appended}
 use Rattle.cov_lines.specs.Storing.{IsNotGrown, grown, stored}
+use Rattle.cov_lines.proofs.Acted.{stops-later}
 use Rattle.cov_lines.proofs.Additions.{appended-as}
 use Rattle.cov_lines.proofs.Growing.{stay-open}
 use Rattle.cov_lines.proofs.Leaving.{accepted-grown, leaves-grown, leaves-same}
@@ -41,15 +43,29 @@ refusal-stops st k r h = record {
   told = refusal-code st.history k r h;
 }
 
--- the state with another history
-abbrev pub with_history : State → List Command → State
-with_history st now = record { history = now; sessions = st.sessions; trees = st.trees }
+-- the state of a history, of the sessions that are open with their views, and of the names of trees
+abbrev pub state_of : List Command → List SessionValue → List (List ℕ) → State
+state_of history ss trees = record { history = history; sessions = map as_named ss; trees = trees }
 
--- the sessions that are open stay so
-pub still-open : OpenSessionsStay → (history now : List Command) (k : Command) (ss : List SessionValue) (r : Result Receipt AppendFault) → LeavesHistory history k now r → AreOpen history ss → AreOpen now ss
-still-open law history now k ss (Ok receipt) leaves here = stay-open law history now k ss leaves here
-still-open law history now k ss (Err faults.DiskFault) leaves here = stay-open law history now k ss leaves here
-still-open law history now k ss (Err (faults.Refused refusal)) leaves here = subst (λ h. AreOpen h ss) (sym leaves) here
+module _ (history now : List Command) (k : Command) (ss left : List SessionValue) (ends : Option (List ℕ)) where
+  -- the sessions that are left are open still
+  pub still-open : OpenSessionsStay → (r : Result Receipt AppendFault) → LeavesHistory history k now r → LeavesHolders (HasEnded ends) ss left r → AreOpen history ss → AreOpen now left
+  still-open law (Ok receipt) leaves ended here = ended.open now (stay-open law history now k ss leaves here)
+  still-open law (Err faults.DiskFault) leaves ended here = ended.open now (stay-open law history now k ss leaves here)
+  still-open law (Err (faults.Refused refusal)) leaves same here = subst (AreOpen now) (sym same) (subst (λ h. AreOpen h ss) (sym leaves) here)
+
+  -- the state is the one that is wanted
+  pub appends : (trees : List (List ℕ)) (r : Result Receipt AppendFault) → LeavesHistory history k now r → LeavesHolders (HasEnded ends) ss left r
+      → OnOk r (verdict history k ≡ None) → IfErr r (IsAppendFaultOf (verdict history k))
+      → IfOk (added_as r) (Changes (appended_ending (state_of history ss trees) k ends) (state_of history ss trees) (state_of now left trees))
+  appends trees (Ok receipt) leaves ended accepted refused =
+      ap (λ (found : Found State). found >>= (λ next. Ok (ended_by next ends))) (appended-as (state_of history ss trees) k (state_of now ss trees) accepted (ap (λ h. state_of h ss trees) leaves))
+      ∙ ap (λ l. Ok (with_sessions (state_of now ss trees) l)) (sym ended.left)
+  appends trees (Err (faults.Refused refusal)) leaves same accepted refused =
+      let st = state_of history ss trees in
+      subst (λ (t : State). Stops (appended_ending st k ends) st t (refusal_stop refusal)) (sym (ap (λ h. state_of h left trees) leaves ∙ ap (λ s. state_of history s trees) same))
+      (stops-later (appended st k) (λ next. Ok (ended_by next ends)) st st (refusal_stop refusal) (refusal-stops st k refusal refused))
+  appends trees (Err faults.DiskFault) leaves ended accepted refused = tt
 
 module _ (history : List Command) (k : Command) (now : List Command) where
   longer : now ≡ history ++ k ∷ [] → length history ≤ length now
@@ -87,14 +103,6 @@ module _ {D : Type 0} (history : List Command) (k : Command) (old new : D) where
   settled images before count (Err (faults.Refused refusal)) accepted same failed stored = inr (inl same)
 
 module _ (st : State) (k : Command) (now : List Command) where
-  -- the state is the one that is wanted
-  pub appends : (r : Result Receipt AppendFault) → LeavesHistory st.history k now r → OnOk r (verdict st.history k ≡ None) → IfErr r (IsAppendFaultOf (verdict st.history k))
-      → IfOk (added_as r) (Changes (appended st k) st (with_history st now))
-  appends (Ok receipt) leaves accepted refused = appended-as st k (with_history st now) accepted (ap (with_history st) leaves)
-  appends (Err (faults.Refused refusal)) leaves accepted refused =
-      subst (λ (t : State). Stops (appended st k) st t (refusal_stop refusal)) (sym (ap (with_history st) leaves)) (refusal-stops st k refusal refused)
-  appends (Err faults.DiskFault) leaves accepted refused = tt
-
   pub has-receipt : (r : Result Receipt AppendFault) → IfOk r (λ receipt. receipt.number ≡ receipt_number st.history k) → IfOk r (λ receipt. receipt.position ≡ length st.history + 1)
       → IfOk (added_as r) (λ added. IfOk added (HasReceipt st.history k))
   has-receipt (Ok receipt) number position = record { number = number; position = position }

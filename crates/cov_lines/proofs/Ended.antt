@@ -1,5 +1,5 @@
 -- Sessions that end with their commits.
-use Rattle.std.proofs.Common.{◌≡◌, refl, ap, ℕ, ◌+◌, true, List, length, is_some, Option, Some, None, option_map, Ok}
+use Rattle.std.proofs.Common.{◌≡◌, refl, ap, ℕ, ◌+◌, List, length, Option, Some, None, option_map, Ok}
 use Rattle.std.specs.Prelude.{ok_or}
 use Rattle.cov_edit.specs.declared.command.Command.{Command}
 use Rattle.cov_history.specs.Sessions.{commit_of}
@@ -30,10 +30,6 @@ module _ (st : State) (name : List ℕ) (command : Command) (own : option_map (�
           let same : commit_of s.session ≡ command = cc in
           ap (λ c. appended st c >>= (λ next. Ok (ended next name, commit_reply (length st.history + 1)))) same
 
-  there : (o : Option NamedSession) → option_map (λ (s : NamedSession). commit_of s.session) o ≡ Some command → is_some o ≡ true
-  there None k = absurd (cc)
-  there (Some s) k = refl
-
   -- a session's commit is added, and the session ends with it
   pub commit-adds : IsAdding (plainly (committed st name)) st st commit
-  commit-adds = record { is = ap plainly committed-as; same = refl; there = there (named st.sessions name) own }
+  commit-adds = record { is = ap plainly committed-as; same = refl }

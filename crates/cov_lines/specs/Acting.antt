@@ -1,12 +1,11 @@
 -- What the functions that serve a line answer.
-use Rattle.std.specs.Prelude.{◌≡◌, ℕ, true, false, List, [], is_some, IfSome, IfOk, OnOk, Result, Ok, Err}
+use Rattle.std.specs.Prelude.{◌≡◌, ℕ, false, List, [], IfOk, OnOk, Result, Ok, Err}
 use Rattle.cov_edit.specs.History.{option_count}
 use Rattle.cov_loop.specs.Answers.{Gives, kind_of}
 use Rattle.cov_loop.specs.declared.answer.Reply.{Reply}
 use Rattle.cov_loop.specs.declared.ending.Ending.{Ending}
 use Rattle.cov_script.specs.Replies.{IsCodeOf}
 use Rattle.cov_script.specs.declared.code.Code.{Code}
-use Rattle.cov_session.specs.Named.{named}
 use Rattle.cov_lines.specs.Adding.{command_added}
 use Rattle.cov_lines.specs.Finding.{Found}
 use Rattle.cov_lines.specs.States.{State}
@@ -54,11 +53,10 @@ pub record IsPlain (text : List ℕ) (reply : Reply) : Type 0 where
   pub rows : reply.rows ≡ []
   pub answer : reply.answer ≡ kind_of text false
 
--- a line adds a command, and nothing has changed yet; a session that ends with it is there
+-- a line adds a command, and nothing has changed yet
 pub record IsAdding (wanted : Found Done) (old new : State) (a : Addition) : Type 0 where
   pub is : wanted ≡ plainly (command_added old a)
   pub same : new ≡ old
-  pub there : IfSome a.ends (λ name. is_some (named old.sessions name) ≡ true)
 
 -- a line is handled as it is wanted: it is done, and its history is as before, or the command that it adds is known
 abbrev pub Handles : Found Done → State → State → Result Handled Stop → Type 0

@@ -1,5 +1,5 @@
 -- What a command that a line adds comes to.
-use Rattle.std.specs.Prelude.{◌≡◌, ℕ, ◌+◌, List, length, Option, Some, None, Result, Ok, Err}
+use Rattle.std.specs.Prelude.{◌≡◌, ℕ, ◌+◌, List, length, Option, Result, Ok, Err}
 use Rattle.cov_edit.specs.declared.command.Command.{Command}
 use Rattle.cov_engine.specs.States.{receipt_number}
 use Rattle.cov_engine.specs.declared.prepared.Receipt.{Receipt}
@@ -8,9 +8,10 @@ use Rattle.cov_loop.specs.declared.ending.Ending.TheVariants as endings
 use Rattle.cov_script.specs.Replies.{constraint_reply, prefer_reply, default_reply, commit_reply}
 use Rattle.cov_store.specs.declared.appending.AppendFault.{AppendFault}
 use Rattle.cov_store.specs.declared.appending.AppendFault.TheVariants as faults
-use Rattle.cov_lines.specs.Finding.{◌>>=◌}
-use Rattle.cov_lines.specs.States.{State}
-use Rattle.cov_lines.specs.Step.{Act, appended, ended}
+use Rattle.cov_lines.specs.Finding.{Found, ◌>>=◌}
+use Rattle.cov_session.specs.Named.{left_by}
+use Rattle.cov_lines.specs.States.{State, with_sessions}
+use Rattle.cov_lines.specs.Step.{Act, appended}
 use Rattle.cov_codes.specs.Stops.{refusal_stop}
 use Rattle.cov_codes.specs.declared.stop.Stop.{Stop}
 use Rattle.cov_lines.specs.declared.handled.Addition.{Addition}
@@ -27,8 +28,11 @@ confirmed confirmations.Commit number position = commit_reply position
 
 -- the session of a name has ended, if there is a name
 abbrev pub ended_by : State → Option (List ℕ) → State
-ended_by st None = st
-ended_by st (Some name) = ended st name
+ended_by st ends = with_sessions st (left_by st.sessions ends)
+
+-- a command is appended, and the session that ends with it has ended
+abbrev pub appended_ending : State → Command → Option (List ℕ) → Found State
+appended_ending st command ends = appended st command >>= (λ next. Ok (ended_by next ends))
 
 -- a command is added: it is appended, the session that ends with it has ended, and the reply is told with its numbers
 abbrev pub command_added : State → Addition → Act

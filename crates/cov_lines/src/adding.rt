@@ -1,19 +1,16 @@
 // How a command is added: to the history and to the disk, before there is a reply.
-ghost use Rattle.std.specs.Prelude.{◌≡◌, ◌⊎◌, ◌<◌, ◌≤◌, true, length, is_some, IfOk, OnOk, IfErr, IfSome};
+ghost use Rattle.std.specs.Prelude.{◌≡◌, ◌⊎◌, ◌<◌, ◌≤◌, length, IfOk, OnOk, IfErr, IfSome};
 ghost use Rattle.cov_base.specs.Causes.{Rose};
 ghost use Rattle.cov_disk.specs.Images.{LeavesOnly};
 ghost use Rattle.cov_lines.specs.Acting.{Changes};
-ghost use Rattle.cov_lines.specs.Adding.{HasReceipt, added_as, ended_by, confirmed};
-ghost use Rattle.cov_lines.specs.Step.{appended};
+ghost use Rattle.cov_lines.specs.Adding.{HasReceipt, added_as, appended_ending, confirmed};
 ghost use Rattle.cov_lines.specs.Storing.{IsNotGrown, gated, grown, stored};
 ghost use Rattle.cov_loop.specs.Answers.{StopsAnswer};
 ghost use Rattle.cov_loop.specs.Keeping.{AreAll, IsEither};
-ghost use Rattle.cov_session.specs.Named.{named};
 ghost use Rattle.cov_store.specs.Stands.{IsStored};
 
 use crate::handled::Confirmation;
 use crate::server::Server;
-use crate::state::ServerState;
 use cov_base::{Memory, Name, Text};
 use cov_codes::Stop;
 use cov_disk::Disk;
@@ -21,22 +18,24 @@ use cov_edit::Command;
 use cov_engine::Receipt;
 use cov_loop::Ending;
 use cov_script::{reply_commit, reply_constraint, reply_default, reply_prefer};
-use cov_session::NoSession;
 use cov_session::laws::open_sessions_stay;
 use cov_store::{AppendFault, append};
 use std::alloc::Global;
 
 impl Server {
     /// Appends a command and stores its record on the disk, unless the history refuses it or memory is wanting; then server and disk are
-    /// as before. At an `Err` the server is to be given up.
+    /// as before. The session that ends with it, if one does, has ended before the command is installed, so that what its view shared
+    /// may be changed in place. At an `Err` the server is to be given up.
     pub(crate) fn append<D: Disk>(
         &mut self,
         command: Command,
+        ends: &Option<Name>,
         disk: &mut D,
     ) -> Result<Result<Receipt, Stop>, Ending>
         requires gate { IfSome (D.contents disk.old) (gated self.old.state) }
         ensures changes { IfOk result
-            (Changes (appended self.old.state command) self.old.state self.new.state) }
+            (Changes (appended_ending self.old.state command ends.now)
+            self.old.state self.new.state) }
         ensures receipt { IfOk result (λ added.
             IfOk added (HasReceipt self.old.state.history command)) }
         ensures commits { self.new.commits ≡ self.old.commits }
@@ -62,7 +61,14 @@ impl Server {
     {
         open_sessions_stay();
         let state = &mut self.state;
-        as_added(append(&mut state.engine, &mut self.journal, disk, command))
+        as_added(append(
+            &mut state.engine,
+            &mut self.journal,
+            disk,
+            command,
+            &mut state.sessions,
+            ends,
+        ))
     }
 }
 
@@ -74,22 +80,6 @@ fn as_added(appended: Result<Receipt, AppendFault>) -> Result<Result<Receipt, St
         Ok(receipt) => Ok(Ok(receipt)),
         Err(AppendFault::Refused(refusal)) => Ok(Err(Stop::from(refusal))),
         Err(AppendFault::DiskFault) => Err(Ending::DiskFault),
-    }
-}
-
-impl ServerState {
-    /// Ends the session of a name, if there is a name. Takes no memory.
-    pub(crate) fn end(&mut self, ends: &Option<Name>)
-        requires { IfSome ends.now (λ name. is_some (named self.old.state.sessions name) ≡ true) }
-        ensures { self.new.state ≡ ended_by self.old.state ends.now }
-    {
-        match ends {
-            Some(name) => match self.sessions.discard(name) {
-                Ok(()) => (),
-                Err(NoSession) => unreachable!(),
-            },
-            None => (),
-        }
     }
 }
 

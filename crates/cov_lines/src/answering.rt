@@ -1,24 +1,23 @@
 // How a line is answered: what it adds is stored before there is a reply.
-ghost use Rattle.std.specs.Prelude.{◌≡◌, ◌⊎◌, ◌<◌, ◌≤◌, ℕ, true, length, is_some, IfOk, OnOk, IfErr, IfSome};
+ghost use Rattle.std.specs.Prelude.{◌≡◌, ◌⊎◌, ◌<◌, ◌≤◌, ℕ, length, IfOk, OnOk, IfErr, IfSome};
 ghost use Rattle.cov_base.specs.Causes.{Rose};
 ghost use Rattle.cov_disk.specs.Images.{LeavesOnly};
 ghost use Rattle.cov_edit.specs.History.{option_count};
 ghost use Rattle.cov_lines.specs.Acting.{CanBeTold, Handles, IsPlain, Refuses};
-ghost use Rattle.cov_lines.specs.Adding.{command_added, ended_by, confirmed};
+ghost use Rattle.cov_lines.specs.Adding.{command_added, confirmed};
 ghost use Rattle.cov_lines.specs.Step.{acted, as_outcome, plainly, refused};
 ghost use Rattle.cov_lines.specs.Storing.{IsNotGrown, gated, grown, stored};
 ghost use Rattle.cov_lines.specs.Sweeping.{GoesOn, HasCounted};
 ghost use Rattle.cov_loop.specs.Answers.{Gives, StopsAnswer};
 ghost use Rattle.cov_loop.specs.Keeping.{AreAll, IsEither};
 ghost use Rattle.cov_script.specs.Replies.{IsCodeOf};
-ghost use Rattle.cov_session.specs.Named.{named};
 ghost use Rattle.cov_store.specs.Stands.{IsStored};
 
 use crate::adding::confirm;
 use crate::handled::{Addition, Confirmation, Handled};
 use crate::server::Server;
 use crate::sweeping::is_commit;
-use cov_base::{Memory, Name};
+use cov_base::Memory;
 use cov_codes::Stop;
 use cov_disk::Disk;
 use cov_engine::Receipt;
@@ -90,11 +89,9 @@ impl Server {
         self.state.act(line)
     }
 
-    // Adds a command, ends the session that ends with it, counts it if it is a commit, and makes the reply.
+    // Adds a command, with which the session ends that is to, counts it if it is a commit, and makes the reply.
     fn add<D: Disk>(&mut self, addition: Addition, disk: &mut D) -> Result<Reply, Ending>
         requires gate { IfSome (D.contents disk.old) (gated self.old.state) }
-        requires there { IfSome addition.ends (λ name.
-            is_some (named self.old.state.sessions name) ≡ true) }
         ensures gives { IfOk result
             (Gives (as_outcome self.old.state (plainly (command_added self.old.state addition)))
             self.new.state) }
@@ -124,34 +121,30 @@ impl Server {
             confirmation,
         } = addition;
         let is_commit = is_commit(&command);
-        match self.append(command, disk) {
+        match self.append(command, &ends, disk) {
             Ok(added) => match added {
-                Ok(receipt) => self.finish(is_commit, &ends, confirmation, &receipt),
+                Ok(receipt) => self.finish(is_commit, confirmation, &receipt),
                 Err(stop) => self.stop(&stop),
             },
             Err(ending) => Err(ending),
         }
     }
 
-    // Ends the session that ends with a command that was appended, counts it if it is a commit, and makes the reply.
+    // Counts a command that was appended, if it is a commit, and makes the reply.
     fn finish(
         &mut self,
         is_commit: bool,
-        ends: &Option<Name>,
         confirmation: Confirmation,
         receipt: &Receipt,
     ) -> Result<Reply, Ending>
-        requires there { IfSome ends.now (λ name.
-            is_some (named self.old.state.sessions name) ≡ true) }
-        requires fewer { self.old.commits < length self.old.state.history }
-        ensures ended { self.new.state ≡ ended_by self.old.state ends.now }
+        requires { self.old.commits < length self.old.state.history }
+        ensures state { self.new.state ≡ self.old.state }
         ensures counted { OnOk result (HasCounted is_commit self.old.commits self.new) }
         ensures gives { IfOk result
             (IsPlain (confirmed confirmation receipt.now.number receipt.now.position)) }
         ensures stopped { (disk disk' : ℕ) →
             IfErr result (λ ending. StopsAnswer ending disk disk') }
     {
-        self.state.end(ends);
         match self.count(is_commit) {
             Ok(()) => confirmed(self.state.alloc, confirmation, receipt),
             Err(Memory) => Err(Ending::NoMemory),

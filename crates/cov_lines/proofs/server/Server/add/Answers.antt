@@ -1,38 +1,35 @@
-use Rattle.std.proofs.Common.{◌∙◌, ap, subst, ℕ, ◌<◌, List, length, Result}
+use Rattle.std.proofs.Common.{◌∙◌, sym, ap, subst, ◌<◌, length, Result}
 use Rattle.std.specs.Prelude.{IfOk, IfSome, OnOk}
 use Rattle.std.proofs.lemmas.Result.{on_ok_weaker}
 use Rattle.cov_engine.specs.declared.prepared.Receipt.{Receipt}
-use Rattle.cov_store.specs.Stands.{IsStored, gate_of}
+use Rattle.cov_loop.specs.Keeping.{AreAll}
 use Rattle.cov_lines.specs.Acting.{Changes}
-use Rattle.cov_lines.specs.Adding.{HasReceipt}
+use Rattle.cov_lines.specs.Adding.{HasReceipt, appended_ending}
 use Rattle.cov_lines.specs.States.{State}
-use Rattle.cov_lines.specs.Step.{appended}
+use Rattle.cov_lines.specs.Storing.{gated, stored}
 use Rattle.cov_lines.specs.Sweeping.{HasCounted}
 use Rattle.cov_codes.specs.declared.stop.Stop.{Stop}
 use Rattle.cov_lines.proofs.Acted.{stops-history}
-use Rattle.cov_lines.proofs.Additions.{ended-history, finish-gives, finish-has, history-more, replied, stop-gives, stop-told, there-kept}
+use Rattle.cov_lines.proofs.Additions.{finish-gives, history-more, replied, stop-gives, stop-told}
 use Rattle.cov_lines.proofs.Counting.{goes-on-more, goes-on-same}
 use Rattle.cov_lines.proofs.server.Server.add.Goals as goal
 
-pub finish-requires-clause-there : goal.finish-requires-clause-there
-finish-requires-clause-there g c =
-    there-kept c.args.self.now.state c.args.addition.command c.append.new.self.state c.args.addition.ends
-    (subst (λ (r : Result Receipt Stop). Changes (appended c.args.self.now.state c.args.addition.command) c.args.self.now.state c.append.new.self.state r) c.in-Ok-added.is c.in-Ok.ensures.changes) c.requires.there
-
-pub finish-requires-clause-fewer : goal.finish-requires-clause-fewer
-finish-requires-clause-fewer g c =
+pub finish-requires : goal.finish-requires
+finish-requires g c =
     subst (λ (r : Result Receipt Stop). OnOk r (c.append.new.self.commits < length c.append.new.self.state.history)) c.in-Ok-added.is c.in-Ok.ensures.fewer
 
 pub stop-requires : goal.stop-requires
 stop-requires g c =
-    stop-told c.args.self.now.state c.append.new.self.state c.args.addition.command c.in-Err-added.stop
-    (subst (λ (r : Result Receipt Stop). Changes (appended c.args.self.now.state c.args.addition.command) c.args.self.now.state c.append.new.self.state r) c.in-Err-added.is c.in-Ok.ensures.changes)
+    let wanted = appended_ending c.args.self.now.state c.args.addition.command c.args.addition.ends in
+    stop-told c.args.self.now.state c.append.new.self.state wanted c.in-Err-added.stop
+    (subst (λ (r : Result Receipt Stop). Changes wanted c.args.self.now.state c.append.new.self.state r) c.in-Err-added.is c.in-Ok.ensures.changes)
 
 pub returns-in-Ok-added-clause-gives : goal.returns-in-Ok-added-clause-gives
 returns-in-Ok-added-clause-gives g c =
     finish-gives c.args.self.now.state c.append.new.self.state c.finish.new.self.state c.args.addition c.in-Ok-added.receipt c.finish.result
-    (subst (λ (r : Result Receipt Stop). Changes (appended c.args.self.now.state c.args.addition.command) c.args.self.now.state c.append.new.self.state r) c.in-Ok-added.is c.in-Ok.ensures.changes)
-    c.finish.ensures.ended
+    (subst (λ (r : Result Receipt Stop). Changes (appended_ending c.args.self.now.state c.args.addition.command c.args.addition.ends) c.args.self.now.state c.append.new.self.state r)
+    c.in-Ok-added.is c.in-Ok.ensures.changes)
+    c.finish.ensures.state
     (subst (λ (r : Result Receipt Stop). IfOk r (HasReceipt c.args.self.now.state.history c.args.addition.command)) c.in-Ok-added.is c.in-Ok.ensures.receipt)
     c.finish.ensures.gives
 
@@ -42,8 +39,9 @@ returns-in-Ok-added-clause-goes_on g c =
     let kept = c.append.new.self in
     let new = c.finish.new.self in
     let k = c.args.addition.command in
-    let more = history-more old.state k kept.state (subst (λ (r : Result Receipt Stop). Changes (appended old.state k) old.state kept.state r) c.in-Ok-added.is c.in-Ok.ensures.changes) in
-    let same = ap (λ (t : State). t.history) c.finish.ensures.ended ∙ ended-history kept.state c.args.addition.ends in
+    let ends = c.args.addition.ends in
+    let more = history-more old.state k ends kept.state (subst (λ (r : Result Receipt Stop). Changes (appended_ending old.state k ends) old.state kept.state r) c.in-Ok-added.is c.in-Ok.ensures.changes) in
+    let same = ap (λ (t : State). t.history) c.finish.ensures.state in
     on_ok_weaker c.finish.result
     (λ counted. goes-on-more old new k c.is_commit-is_commit.result c.is_commit-is_commit.ensures (same ∙ more) (subst (λ n. HasCounted c.is_commit-is_commit.result n new) c.append.ensures.commits counted)) c.finish.ensures.counted
 
@@ -51,27 +49,24 @@ pub returns-in-Ok-clause-goes_on : goal.returns-in-Ok-clause-goes_on
 returns-in-Ok-clause-goes_on g c =
     let old = c.args.self.now in
     let kept = c.append.new.self in
-    let wanted = appended old.state c.args.addition.command in
+    let wanted = appended_ending old.state c.args.addition.command c.args.addition.ends in
     let stops = subst (λ (r : Result Receipt Stop). Changes wanted old.state kept.state r) c.in-Err-added.is c.in-Ok.ensures.changes in
     replied c.stop.result (goes-on-same old kept c.append.ensures.commits (stops-history wanted old.state kept.state c.in-Err-added.stop stops))
 
 pub returns-in-Ok-added-clause-gate : goal.returns-in-Ok-added-clause-gate
 returns-in-Ok-added-clause-gate g c =
     replied c.finish.result
-    (finish-has c.args.self.now.state c.append.new.self.state c.finish.new.self.state c.args.addition c.in-Ok-added.receipt (λ h. IfSome (g.D.Disk.contents c.append.new.disk) (λ image. gate_of h < length image))
-    c.finish.ensures.ended c.in-Ok.ensures.gate)
+    (subst (λ (st : State). IfSome (g.D.Disk.contents c.append.new.disk) (gated st)) (sym c.finish.ensures.state) c.in-Ok.ensures.gate)
 
 pub returns-in-Ok-added-clause-stored : goal.returns-in-Ok-added-clause-stored
 returns-in-Ok-added-clause-stored g c = λ here.
     replied c.finish.result
-    (finish-has c.args.self.now.state c.append.new.self.state c.finish.new.self.state c.args.addition c.in-Ok-added.receipt (λ h. IfSome (g.D.Disk.contents c.append.new.disk) (λ image. IsStored image h))
-    c.finish.ensures.ended (c.in-Ok.ensures.stored here))
+    (subst (λ (st : State). IfSome (g.D.Disk.contents c.append.new.disk) (stored st)) (sym c.finish.ensures.state) (c.in-Ok.ensures.stored here))
 
 pub returns-in-Ok-added-clause-durable : goal.returns-in-Ok-added-clause-durable
 returns-in-Ok-added-clause-durable g c = λ all.
     replied c.finish.result
-    (finish-has c.args.self.now.state c.append.new.self.state c.finish.new.self.state c.args.addition c.in-Ok-added.receipt (λ h. (image : List ℕ) → g.D.Disk.images c.append.new.disk image → IsStored image h)
-    c.finish.ensures.ended (c.in-Ok.ensures.durable all))
+    (subst (λ (st : State). AreAll (stored st) (g.D.Disk.images c.append.new.disk)) (sym c.finish.ensures.state) (c.in-Ok.ensures.durable all))
 
 pub returns-in-Ok-added-clause-stopped : goal.returns-in-Ok-added-clause-stopped
 returns-in-Ok-added-clause-stopped g c = c.finish.ensures.stopped (g.D.Disk.faults c.args.disk.now) (g.D.Disk.faults c.append.new.disk)
@@ -79,7 +74,8 @@ returns-in-Ok-added-clause-stopped g c = c.finish.ensures.stopped (g.D.Disk.faul
 pub returns-in-Ok-clause-gives : goal.returns-in-Ok-clause-gives
 returns-in-Ok-clause-gives g c =
     stop-gives c.args.self.now.state c.append.new.self.state c.args.addition c.in-Err-added.stop c.stop.result
-    (subst (λ (r : Result Receipt Stop). Changes (appended c.args.self.now.state c.args.addition.command) c.args.self.now.state c.append.new.self.state r) c.in-Err-added.is c.in-Ok.ensures.changes) c.stop.ensures.gives
+    (subst (λ (r : Result Receipt Stop). Changes (appended_ending c.args.self.now.state c.args.addition.command c.args.addition.ends) c.args.self.now.state c.append.new.self.state r)
+    c.in-Err-added.is c.in-Ok.ensures.changes) c.stop.ensures.gives
 
 pub returns-in-Ok-clause-gate : goal.returns-in-Ok-clause-gate
 returns-in-Ok-clause-gate g c = replied c.stop.result c.in-Ok.ensures.gate

@@ -1,22 +1,21 @@
-use Rattle.std.proofs.Common.{◌≡◌, ◌⊎◌, ◌∙◌, sym, ap, subst, ℕ, ◌<◌, ◌≤◌, List, length, map, arith}
+use Rattle.std.proofs.Common.{◌≡◌, ◌⊎◌, ◌∙◌, sym, ap, subst, ℕ, ◌<◌, ◌≤◌, List, length, arith}
 use Rattle.std.specs.Prelude.{IfErr, IfOk, IfSome, OnOk}
 use Rattle.cov_base.specs.Causes.{Rose}
 use Rattle.cov_disk.specs.Images.{LeavesOnly}
 use Rattle.cov_loop.specs.Answers.{StopsAnswer}
 use Rattle.cov_loop.specs.Keeping.{AreAll, IsEither}
-use Rattle.cov_session.specs.Open.{as_named}
 use Rattle.cov_store.specs.Stands.{IsStored, gate_of}
 use Rattle.cov_lines.specs.Acting.{Changes}
-use Rattle.cov_lines.specs.Adding.{HasReceipt, added_as}
+use Rattle.cov_lines.specs.Adding.{HasReceipt, added_as, appended_ending}
 use Rattle.cov_lines.specs.States.{Serving, ServerValue, State}
-use Rattle.cov_lines.specs.Step.{appended}
 use Rattle.cov_lines.specs.Storing.{IsNotGrown, gated, grown, stored}
-use Rattle.cov_lines.proofs.Appended.{appends, carried, fewer-commits, has-receipt, moments, no-shorter, settled, still-open, unwritten, with_history, write-stops}
+use Rattle.cov_lines.proofs.Appended.{appends, carried, fewer-commits, has-receipt, moments, no-shorter, settled, state_of, still-open, unwritten, write-stops}
 use Rattle.cov_lines.proofs.server.Server.append.Goals as goal
 
 pub invariant_of-state : goal.invariant_of-state
 invariant_of-state g c =
-    still-open c.open_sessions_stay.ensures c.state.inside.engine.history c.append.new.engine.history c.args.command c.state.inside.sessions c.append.result c.append.ensures.history c.state.invariant
+    still-open c.state.inside.engine.history c.append.new.engine.history c.args.command c.state.inside.sessions c.append.new.holders c.args.ends.now
+    c.open_sessions_stay.ensures c.append.result c.append.ensures.history c.append.ensures.holders c.state.invariant
 
 pub invariant_of-self : goal.invariant_of-self
 invariant_of-self g c =
@@ -29,18 +28,20 @@ invariant_of-self g c =
 
 pub returns-clause-changes : goal.returns-clause-changes
 returns-clause-changes g c =
-    let st : State = record { history = c.state.inside.engine.history; sessions = map as_named c.state.inside.sessions; trees = c.state.inside.trees } in
+    let st = state_of c.state.inside.engine.history c.state.inside.sessions c.state.inside.trees in
     let is : st ≡ c.args.self.now.state = ap (λ (v : Serving). v.state) c.state.view_is ∙ ap (λ (v : ServerValue). v.state) c.self.view_is in
     let k = c.args.command in
-    let now = c.append.new.engine.history in
+    let ends = c.args.ends.now in
+    let next = state_of c.append.new.engine.history c.append.new.holders c.state.inside.trees in
     let r = c.append.result in
-    subst (λ res. IfOk res (Changes (appended c.args.self.now.state k) c.args.self.now.state (with_history st now))) (sym c.as_added.ensures)
-    (subst (λ (t : State). IfOk (added_as r) (Changes (appended t k) t (with_history st now))) is
-    (appends st k now r c.append.ensures.history c.append.ensures.accepted c.append.ensures.refused))
+    subst (λ res. IfOk res (Changes (appended_ending c.args.self.now.state k ends) c.args.self.now.state next)) (sym c.as_added.ensures)
+    (subst (λ (t : State). IfOk (added_as r) (Changes (appended_ending t k ends) t next)) is
+    (appends c.state.inside.engine.history c.append.new.engine.history k c.state.inside.sessions c.append.new.holders ends
+    c.state.inside.trees r c.append.ensures.history c.append.ensures.holders c.append.ensures.accepted c.append.ensures.refused))
 
 pub returns-clause-receipt : goal.returns-clause-receipt
 returns-clause-receipt g c =
-    let st : State = record { history = c.state.inside.engine.history; sessions = map as_named c.state.inside.sessions; trees = c.state.inside.trees } in
+    let st = state_of c.state.inside.engine.history c.state.inside.sessions c.state.inside.trees in
     let is : st ≡ c.args.self.now.state = ap (λ (v : Serving). v.state) c.state.view_is ∙ ap (λ (v : ServerValue). v.state) c.self.view_is in
     let k = c.args.command in
     let now = c.append.new.engine.history in
@@ -59,7 +60,7 @@ returns-clause-fewer g c =
 
 pub returns-clause-gate : goal.returns-clause-gate
 returns-clause-gate g c =
-    let st : State = record { history = c.state.inside.engine.history; sessions = map as_named c.state.inside.sessions; trees = c.state.inside.trees } in
+    let st = state_of c.state.inside.engine.history c.state.inside.sessions c.state.inside.trees in
     let is : st ≡ c.args.self.now.state = ap (λ (v : Serving). v.state) c.state.view_is ∙ ap (λ (v : ServerValue). v.state) c.self.view_is in
     let k = c.args.command in
     let now = c.append.new.engine.history in
@@ -72,7 +73,7 @@ returns-clause-gate g c =
 
 pub returns-clause-stored : goal.returns-clause-stored
 returns-clause-stored g c here =
-    let st : State = record { history = c.state.inside.engine.history; sessions = map as_named c.state.inside.sessions; trees = c.state.inside.trees } in
+    let st = state_of c.state.inside.engine.history c.state.inside.sessions c.state.inside.trees in
     let is : st ≡ c.args.self.now.state = ap (λ (v : Serving). v.state) c.state.view_is ∙ ap (λ (v : ServerValue). v.state) c.self.view_is in
     let k = c.args.command in
     let now = c.append.new.engine.history in
@@ -85,7 +86,7 @@ returns-clause-stored g c here =
 
 pub returns-clause-durable : goal.returns-clause-durable
 returns-clause-durable g c all =
-    let st : State = record { history = c.state.inside.engine.history; sessions = map as_named c.state.inside.sessions; trees = c.state.inside.trees } in
+    let st = state_of c.state.inside.engine.history c.state.inside.sessions c.state.inside.trees in
     let is : st ≡ c.args.self.now.state = ap (λ (v : Serving). v.state) c.state.view_is ∙ ap (λ (v : ServerValue). v.state) c.self.view_is in
     let k = c.args.command in
     let now = c.append.new.engine.history in
@@ -98,7 +99,7 @@ returns-clause-durable g c all =
 
 pub returns-clause-any_moment : goal.returns-clause-any_moment
 returns-clause-any_moment g c all =
-    let st : State = record { history = c.state.inside.engine.history; sessions = map as_named c.state.inside.sessions; trees = c.state.inside.trees } in
+    let st = state_of c.state.inside.engine.history c.state.inside.sessions c.state.inside.trees in
     let is : st ≡ c.args.self.now.state = ap (λ (v : Serving). v.state) c.state.view_is ∙ ap (λ (v : ServerValue). v.state) c.self.view_is in
     let k = c.args.command in
     let now = c.append.new.engine.history in
@@ -120,7 +121,7 @@ returns-clause-stopped g c =
 
 pub returns-clause-unwritten : goal.returns-clause-unwritten
 returns-clause-unwritten g c none =
-    let st : State = record { history = c.state.inside.engine.history; sessions = map as_named c.state.inside.sessions; trees = c.state.inside.trees } in
+    let st = state_of c.state.inside.engine.history c.state.inside.sessions c.state.inside.trees in
     let is : st ≡ c.args.self.now.state = ap (λ (v : Serving). v.state) c.state.view_is ∙ ap (λ (v : ServerValue). v.state) c.self.view_is in
     let k = c.args.command in
     unwritten st.history k c.args.disk.now c.append.new.disk c.append.result c.append.ensures.accepted c.append.ensures.refused c.append.ensures.same
@@ -128,7 +129,7 @@ returns-clause-unwritten g c none =
 
 pub returns-clause-settled : goal.returns-clause-settled
 returns-clause-settled g c all =
-    let st : State = record { history = c.state.inside.engine.history; sessions = map as_named c.state.inside.sessions; trees = c.state.inside.trees } in
+    let st = state_of c.state.inside.engine.history c.state.inside.sessions c.state.inside.trees in
     let is : st ≡ c.args.self.now.state = ap (λ (v : Serving). v.state) c.state.view_is ∙ ap (λ (v : ServerValue). v.state) c.self.view_is in
     let k = c.args.command in
     let old = c.args.disk.now in
