@@ -1,13 +1,15 @@
 -- Sessions by their names: what is done to them with their views and without.
-use Rattle.std.proofs.Common.{◌≡◌, ◌∙◌, refl, sym, ap, subst, ℕ, Bool, true, false, cond, not, List, [], ◌∷◌, ◌++◌, map, filter, Some, None, option_map}
+use Rattle.std.proofs.Common.{◌≡◌, ◌∙◌, refl, sym, ap, subst, ℕ, Bool, true, false, cond, not, List, [], ◌∷◌, ◌++◌, map, filter, Some, None, option_map, Result, Ok, Err}
+use Rattle.std.specs.Prelude.{OnOk, OnErr}
 use Rattle.std.specs.List.{find}
+use Rattle.std.specs.Str.{bytes_eq}
 use Rattle.std.proofs.lemmas.Slice.Eq.{bytes_eq-Decides}
 use Rattle.cov_base.proofs.CallerLemmas.{all-append, all-filter, all-map}
 use Rattle.cov_edit.specs.declared.command.Command.{Command}
-use Rattle.cov_session.specs.Calls.{AreOpen, IsOfName}
+use Rattle.cov_session.specs.Calls.{AreOpen, HasEnded, IsOfName}
 use Rattle.cov_session.specs.Laws.{OpenSessionsStay}
 use Rattle.cov_session.specs.Named.{named, with_session, without}
-use Rattle.cov_session.specs.Open.{SessionValue, as_named, IsOpen}
+use Rattle.cov_session.specs.Open.{NamedSession, SessionValue, as_named, IsOpen}
 use Rattle.cov_session.proofs.Keeping.{has_name}
 
 -- the session of a name is found without its view too
@@ -55,6 +57,22 @@ named-without name (s ∷ ss) = at (has_name name s) (named-without name ss)
         → map as_named (cond (not b) (s ∷ filter (λ u. not (has_name name u)) ss) (filter (λ u. not (has_name name u)) ss)) ≡ cond (not b) (as_named s ∷ without (map as_named ss) name) (without (map as_named ss) name)
     at true rest = rest
     at false rest = ap (λ l. as_named s ∷ l) rest
+
+-- where no session has the name, none is left out
+pub without-none : (name : List ℕ) (ss : List NamedSession) → named ss name ≡ None → without ss name ≡ ss
+without-none name [] h = refl
+without-none name (s ∷ ss) h = at (bytes_eq s.name name) h (without-none name ss)
+  where
+    at : (b : Bool) → cond b (Some s) (named ss name) ≡ None → (named ss name ≡ None → without ss name ≡ ss) → cond (not b) (s ∷ without ss name) (without ss name) ≡ s ∷ ss
+    at true k rest = absurd (cc)
+    at false k rest = ap (λ l. s ∷ l) (rest k)
+
+-- what a discard leaves, refused or not
+pub has-ended : {X E : Type 0} (name : List ℕ) (before after : List SessionValue) (done : Result X E)
+    → OnOk done (map as_named after ≡ without (map as_named before) name) → OnErr done (named (map as_named before) name ≡ None) → OnErr done (after ≡ before)
+    → ((history : List Command) → AreOpen history before → AreOpen history after) → HasEnded (Some name) before after
+has-ended name before after (Ok x) left none same stays = record { left = left; stays = stays }
+has-ended name before after (Err e) left none same stays = record { left = ap (map as_named) same ∙ sym (without-none name (map as_named before) none); stays = stays }
 
 -- an open session of a name is open
 pub named-open : (history : List Command) (name : List ℕ) (ss : List SessionValue) (s : SessionValue) → AreOpen history ss → IsOfName ss name s → IsOpen history s

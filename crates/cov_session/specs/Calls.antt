@@ -1,5 +1,5 @@
 -- What the calls on open sessions come to.
-use Rattle.std.specs.Prelude.{◌≡◌, ℕ, nat_le, Bool, List, length, is_some, Option, Some, None, Result, Ok, Err, if◌then◌else◌}
+use Rattle.std.specs.Prelude.{◌≡◌, ℕ, nat_le, Bool, List, length, map, is_some, Option, Some, None, Result, Ok, Err, if◌then◌else◌}
 use Rattle.std.specs.List.{find, AllByRecursion}
 use Rattle.std.specs.Str.{bytes_eq}
 use Rattle.cov_expr.specs.Formula.{Formula}
@@ -9,8 +9,8 @@ use Rattle.cov_view.specs.declared.fault.EditFault.TheVariants as edit_faults
 use Rattle.cov_history.specs.Sessions.{Session}
 use Rattle.cov_session.specs.Adding.{addition_fault, with_edits}
 use Rattle.cov_session.specs.Faults.{unless}
-use Rattle.cov_session.specs.Named.{named, with_session}
-use Rattle.cov_session.specs.Open.{NamedSession, SessionValue, IsOpen}
+use Rattle.cov_session.specs.Named.{named, left_by, with_session}
+use Rattle.cov_session.specs.Open.{NamedSession, SessionValue, IsOpen, as_named}
 use Rattle.cov_session.specs.Opening.{opened}
 use Rattle.cov_session.specs.Refreshing.{refreshed}
 use Rattle.cov_session.specs.declared.fault.SessionFault.{SessionFault}
@@ -64,3 +64,8 @@ pub record Makes (wanted : Result Session SessionFault) (open_with : Session →
   pub left : new ≡ open_with session
   pub base : answer.base ≡ session.base
   pub choice : answer.choice ≡ session.choice
+
+-- the session of a name has ended, if there is a name and an open session has it; those that are left are open where they were
+pub record HasEnded (name : Option (List ℕ)) (before after : List SessionValue) : Type 0 where
+  pub left : map as_named after ≡ left_by (map as_named before) name
+  pub stays : (history : List Command) → AreOpen history before → AreOpen history after

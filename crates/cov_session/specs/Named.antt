@@ -1,5 +1,5 @@
 -- Sessions by their names.
-use Rattle.std.specs.Prelude.{ℕ, List, Option, not, map, if◌then◌else◌}
+use Rattle.std.specs.Prelude.{ℕ, List, Option, None, Some, not, map, if◌then◌else◌}
 use Rattle.std.specs.List.{filter, find}
 use Rattle.std.specs.Str.{bytes_eq}
 use Rattle.cov_session.specs.Open.{NamedSession}
@@ -15,3 +15,8 @@ with_session ss new = map (λ s. if bytes_eq s.name new.name then new else s) ss
 -- the sessions but that of a name
 abbrev pub without : List NamedSession → List ℕ → List NamedSession
 without ss name = filter (λ s. not (bytes_eq s.name name)) ss
+
+-- the sessions that are left once that of a name has ended, if there is a name
+abbrev pub left_by : List NamedSession → Option (List ℕ) → List NamedSession
+left_by ss None = ss
+left_by ss (Some name) = without ss name

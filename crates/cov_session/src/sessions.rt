@@ -21,6 +21,8 @@ ghost use Rattle.cov_session.specs.Named.{named, with_session, without};
 ghost use Rattle.cov_session.specs.Open.{SessionValue, as_named};
 ghost use Rattle.cov_session.specs.Opening.{NamesDeclared};
 
+mod ending;
+
 use crate::{NoSession, OpenSession, Opened, SessionFault};
 use cov_base::{LineRef, Memory, MemoryOr, Name, NodeRef, Text};
 use cov_edit::{Command, Edit};

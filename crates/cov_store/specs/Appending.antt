@@ -26,3 +26,9 @@ abbrev pub LeavesHistory : {X : Type 0} → List Command → Command → List Co
 LeavesHistory before command now (Ok receipt) = now ≡ before ++ command ∷ []
 LeavesHistory before command now (Err faults.DiskFault) = now ≡ before ++ command ∷ []
 LeavesHistory before command now (Err (faults.Refused refusal)) = now ≡ before
+
+-- those who are to let go have done so, but where the command is refused
+abbrev pub LeavesHolders : {H X : Type 0} → (H → H → Type 0) → H → H → Result X AppendFault → Type 0
+LeavesHolders released before now (Ok receipt) = released before now
+LeavesHolders released before now (Err faults.DiskFault) = released before now
+LeavesHolders released before now (Err (faults.Refused refusal)) = now ≡ before

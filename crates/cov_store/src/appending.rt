@@ -8,13 +8,13 @@ ghost use Rattle.cov_engine.specs.States.{receipt_number};
 ghost use Rattle.cov_history.specs.Verdict.{verdict};
 ghost use Rattle.cov_journal.specs.Gates.{HasGate};
 ghost use Rattle.cov_record.specs.Laws.{IsRecordOf};
-ghost use Rattle.cov_store.specs.Appending.{IsAppendFaultOf, LeavesHistory, OnRefusal, OnWriteFault};
+ghost use Rattle.cov_store.specs.Appending.{IsAppendFaultOf, LeavesHistory, LeavesHolders, OnRefusal, OnWriteFault};
 ghost use Rattle.cov_store.specs.Stands.{IsStored, IsJournalOf, gate_of};
 
 use cov_base::{Failed, Memory, Text};
 use cov_disk::Disk;
 use cov_edit::Command;
-use cov_engine::{Engine, Receipt, Refusal};
+use cov_engine::{Engine, Holders, Receipt, Refusal};
 use cov_journal::Journal;
 use cov_record::encode;
 use std::alloc::Global;
@@ -30,12 +30,16 @@ pub enum AppendFault {
 }
 
 /// Appends a command to a history that is lent, and its record to the journal that goes on behind it, as `Store::apply` does. Want of
-/// memory and the refusal come before the first write. It takes the time of `Engine::append`, and of writing the record.
-pub fn append<D: Disk>(
+/// memory and the refusal come before the first write. Of those who hold shares of what the engine keeps, the ones that are named let go
+/// once the command is accepted, whether its record gets written or not; where it is refused, none does. It takes the time of
+/// `Engine::append`, and of writing the record.
+pub fn append<D: Disk, K, H: Holders<K>>(
     engine: &mut Engine,
     journal: &mut Journal,
     disk: &mut D,
     command: Command,
+    holders: &mut H,
+    which: &K,
 ) -> Result<Receipt, AppendFault>
     requires journal { IsJournalOf journal.old engine.old.history }
     requires gate { HasGate (D.contents disk.old) (gate_of engine.old.history) }
@@ -65,10 +69,11 @@ pub fn append<D: Disk>(
         (λ image. IsStored image engine.old.history
         ⊎ IsStored image (engine.old.history ++ command ∷ [])) }
     ensures later { D.faults disk.old ≤ D.faults disk.new }
+    ensures holders { LeavesHolders (H.released which.now) holders.old holders.new result }
 {
     engine.history_is_legal();
     match make_record(engine.table().allocator(), journal, &command) {
-        Ok(payload) => match engine.append(command) {
+        Ok(payload) => match engine.append_releasing(command, holders, which) {
             Ok(receipt) => match journal.extend(disk, payload.as_slice()) {
                 Ok(()) => Ok(receipt),
                 Err(Failed) => Err(AppendFault::DiskFault),

@@ -20,7 +20,7 @@ use crate::replaying::{close, replay_all};
 use crate::{AppendFault, StoreFault};
 use cov_disk::Disk;
 use cov_edit::Command;
-use cov_engine::{Engine, Receipt, Refusal};
+use cov_engine::{Engine, NoHolders, Receipt, Refusal};
 use cov_journal::{Journal, OpenFault, Reader};
 use std::alloc::Global;
 use std::marker::Model;
@@ -142,7 +142,14 @@ impl Store {
             mut engine,
             mut journal,
         } = self;
-        match append(&mut engine, &mut journal, disk, command) {
+        match append(
+            &mut engine,
+            &mut journal,
+            disk,
+            command,
+            &mut NoHolders,
+            &(),
+        ) {
             Ok(receipt) => Ok((Store { engine, journal }, receipt)),
             Err(AppendFault::Refused(refusal)) => {
                 Err(ApplyFault::Refused(Store { engine, journal }, refusal))
