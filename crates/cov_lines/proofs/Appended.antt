@@ -50,8 +50,8 @@ state_of history ss trees = record { history = history; sessions = map as_named 
 module _ (history now : List Command) (k : Command) (ss left : List SessionValue) (ends : Option (List ℕ)) where
   -- the sessions that are left are open still
   pub still-open : OpenSessionsStay → (r : Result Receipt AppendFault) → LeavesHistory history k now r → LeavesHolders (HasEnded ends) ss left r → AreOpen history ss → AreOpen now left
-  still-open law (Ok receipt) leaves ended here = ended.open now (stay-open law history now k ss leaves here)
-  still-open law (Err faults.DiskFault) leaves ended here = ended.open now (stay-open law history now k ss leaves here)
+  still-open law (Ok receipt) leaves ended here = ended.stays now (stay-open law history now k ss leaves here)
+  still-open law (Err faults.DiskFault) leaves ended here = ended.stays now (stay-open law history now k ss leaves here)
   still-open law (Err (faults.Refused refusal)) leaves same here = subst (AreOpen now) (sym same) (subst (λ h. AreOpen h ss) (sym leaves) here)
 
   -- the state is the one that is wanted
