@@ -24,7 +24,7 @@ def opened(sessions):
 
 def asked(session, file, visit):
     """The lines of a turn, each with what it is: each form of an edit of lines, and what is shown. The first insert of a session into a
-    file makes the list of its lines the session's own."""
+    file goes over its lines, which are named by their places from then on."""
     path, old = '/f%d' % file, file * LINES + 2 * visit + 1
     yield 'insert' if visit else 'first insert', 'insert s%d %s 0 another line' % (session, path)
     yield 'delete', 'delete s%d %s %d' % (session, path, old)
