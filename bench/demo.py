@@ -8,7 +8,8 @@ from variants import COMMITS, TREES, as_author, by_git, digest
 NUMBER, REPETITIONS = '7', 5
 # Functions that do parts of the work, none of which calls another.
 PARTS = {'making the text': 'demonstration::append_commits', 'what sessions and checkouts see': 'Engine::view',
-         'the edits of sessions': 'ServerState::edit', 'the history': 'Engine::append', 'sweeps': 'sweep', 'SHA-256': 'Core256::update'}
+         'the edits of sessions': 'ServerState::edit', 'making commands ready': 'state::make_ready', 'installing them': 'installing::add',
+         'sweeps': 'sweep', 'SHA-256': 'Core256::update'}
 
 
 def by_store(program):
