@@ -13,6 +13,7 @@ pub mod PartCounts
 pub mod PartialLemmas
 pub mod Printing
 pub mod ReadingBindings
+pub mod SameParts
 pub mod Spelt
 pub mod Texts
 pub mod Words

@@ -13,6 +13,7 @@ pub mod Partials
 pub mod Parts
 pub mod Reading
 pub mod Readings
+pub mod SameParts
 pub mod Sizes
 pub mod Tokens
 pub mod Validity

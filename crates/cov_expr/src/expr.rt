@@ -1,11 +1,11 @@
 // Expressions of a bounded size.
-ghost use Rattle.std.specs.Prelude.{◌≡◌, ◌<◌, ◌≤◌, IfOk, OnErr, length};
+ghost use Rattle.std.specs.Prelude.{◌≡◌, ◌<◌, ◌≤◌, true, IfOk, OnErr, length};
 ghost use Rattle.cov_expr.specs.ExpressionText.{text_of};
 ghost use Rattle.cov_expr.specs.Formula.{part_count, reach, value};
 ghost use Rattle.cov_expr.specs.Options.{option_name};
 
 use crate::Options;
-use crate::part::{Part, copy_part, room_after, value_of};
+use crate::part::{Part, are_same_parts, copy_part, room_after, value_of};
 use crate::part_text::append_part;
 use cov_base::{Choice, MOST_PARTS, Memory, Text};
 use std::alloc::Global;
@@ -82,6 +82,14 @@ impl Expr {
         Ok(Expr {
             part: copy_part(alloc, &self.part)?,
         })
+    }
+
+    /// Whether two expressions are the same as they are written: `a | !a` isn't `True`. Takes no memory.
+    pub fn is_same(&self, other: &Expr) -> bool
+        ensures same { result ≡ true → self.now ≡ other.now }
+        ensures alike { self.now ≡ other.now → result ≡ true }
+    {
+        are_same_parts(&self.part, &other.part)
     }
 
     /// The truth value on a choice that binds each option of the expression. Takes no memory.

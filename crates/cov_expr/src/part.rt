@@ -2,6 +2,7 @@
 ghost use Rattle.std.specs.Prelude.{◌≡◌, ◌+◌, ◌<◌, ◌≤◌, MatchOption, IfOk, length};
 ghost use Rattle.cov_expr.specs.Formula.{Not, And, Or, part_count, reach, value};
 ghost use Rattle.cov_expr.specs.Parts.{formula};
+ghost use Rattle.cov_expr.specs.SameParts.{is_same_formula};
 
 use cov_base::{Choice, Memory, OptionId};
 use std::alloc::Global;
@@ -92,5 +93,32 @@ pub(crate) fn value_of(part: &Part, choice: &Choice) -> bool
         Part::Not(inner) => !value_of(inner, choice),
         Part::And(left, right) => value_of(left, choice) && value_of(right, choice),
         Part::Or(left, right) => value_of(left, choice) || value_of(right, choice),
+    }
+}
+
+/// Whether two parts consist of the same parts. The depth of recursion is at most that of either.
+pub(crate) fn are_same_parts(part: &Part, other: &Part) -> bool
+    ensures { result ≡ is_same_formula (formula part.now) (formula other.now) }
+{
+    match part {
+        Part::False => matches!(other, Part::False),
+        Part::True => matches!(other, Part::True),
+        Part::Option(option) => match other {
+            Part::Option(number) => *option == *number,
+            _ => false,
+        },
+        Part::Not(operand) => match other {
+            Part::Not(inner) => are_same_parts(operand, inner),
+            _ => false,
+        },
+        Part::And(left, right) => match other {
+            Part::And(first, second) => are_same_parts(left, first)
+                && are_same_parts(right, second),
+            _ => false,
+        },
+        Part::Or(left, right) => match other {
+            Part::Or(first, second) => are_same_parts(left, first) && are_same_parts(right, second),
+            _ => false,
+        },
     }
 }
