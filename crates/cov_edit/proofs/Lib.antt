@@ -1,5 +1,8 @@
 pub mod CallerLemmas
 pub mod Examples
+pub mod Fits
 pub mod Replays
 pub mod Rising
+pub mod Runs
+pub mod Sides
 pub mod TouchedNodes

@@ -11,6 +11,7 @@ use Rattle.cov_edit.specs.declared.edit.Edit.{Edit}
 use Rattle.cov_edit.specs.declared.edit.Edit.TheVariants as edits
 use Rattle.cov_edit.specs.declared.command.Command.{Command}
 use Rattle.cov_edit.specs.declared.command.Command.TheVariants as commands
+use Rattle.cov_edit.specs.Sides.{unsided}
 
 -- how many nodes a history made, without the root, and the addresses of its lines 1, 2 and so on
 pub record Numbers : Type 0 where
@@ -77,7 +78,7 @@ numbers_after ns es = record {
 -- the numbers after more of a history
 abbrev pub numbers_from : Numbers → List Command → Numbers
 numbers_from ns [] = ns
-numbers_from ns (commands.Commit base choice ambition es ∷ history) = numbers_from (numbers_after ns es) history
+numbers_from ns (commands.Commit base choice ambition ss ∷ history) = numbers_from (numbers_after ns (unsided ss)) history
 numbers_from ns (_ ∷ history) = numbers_from ns history
 
 -- the numbers after a history

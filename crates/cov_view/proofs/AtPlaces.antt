@@ -1,6 +1,6 @@
 -- Lines by their places: what a new line and its place leave of the others.
-use Rattle.std.proofs.Common.{◌≡◌, ℕ, suc, ◌+◌, ◌<◌, ◌≤◌, Bool, true, false, cond, List, [], ◌∷◌, ◌++◌, append_assoc, append-nil, length-append, get_or, length, map, refl, sym, ap, subst, ◌∙◌, arith}
-use Rattle.std.specs.List.{insert, AllByRecursion}
+use Rattle.std.proofs.Common.{◌≡◌, ℕ, suc, ◌+◌, ◌<◌, ◌≤◌, Bool, true, false, cond, List, [], ◌∷◌, ◌++◌, append_assoc, length-append, get_or, length, map, refl, sym, ap, subst, ◌∙◌, arith}
+use Rattle.std.specs.List.{AllByRecursion}
 use Rattle.std.proofs.Math.Seq.{get_or-append_seam}
 use Rattle.std.proofs.lemmas.List.{get_or-map, get_or_append_left, length-map, map-append}
 use Rattle.cov_base.proofs.CallerLemmas.{all-append, all-map}
@@ -8,7 +8,6 @@ use Rattle.cov_base.specs.Addresses.{after_first}
 use Rattle.cov_base.specs.declared.file_row.FileRow.{FileRow}
 use Rattle.cov_base.specs.declared.number.LineRef.{LineRef}
 use Rattle.cov_view.specs.AtPlaces.{joined, line_at, at_places, after_place, AreWithin}
-use Rattle.cov_view.specs.Held.{left}
 use Rattle.cov_view.specs.Lines.{after_ref, old_line}
 use Rattle.cov_view.specs.References.{is_head, same_line}
 use Rattle.cov_view.specs.declared.line.ViewLine.{ViewLine}

@@ -10,7 +10,7 @@ use Rattle.cov_expr.specs.Formula.{True}
 use Rattle.cov_edit.specs.declared.edit.Edit.{Edit}
 use Rattle.cov_edit.specs.declared.edit.Edit.TheVariants as edits
 use Rattle.cov_edit.specs.declared.command.Command.{Command}
-use Rattle.cov_edit.specs.declared.command.Command.TheVariants as commands
+use Rattle.cov_edit.proofs.CallerLemmas.{commit}
 use Rattle.cov_edit.specs.Numbering.{numbers_of}
 use Rattle.cov_edit.specs.Replay.{replay}
 use Rattle.cov_view.specs.Refusals.{first_refused}
@@ -22,7 +22,7 @@ use Rattle.cov_view.specs.declared.fault.EditFault.TheVariants as faults
 -- the file 1 with the lines 1 and 2, and the directory 2
 abbrev two_lines : List Command
 two_lines =
-    commands.Commit 0 [] True (
+    commit 0 [] True (
     edits.New kinds.File (nodes.Old 0) (codes "m")
     ∷ edits.New kinds.Dir (nodes.Old 0) (codes "d")
     ∷ edits.Insert (nodes.New 0) (lines.Old 0) (codes "one")

@@ -1,4 +1,4 @@
-use Rattle.std.proofs.Common.{◌≡◌, ◌<◌, ◌∙◌, [], arith, length, subst, sym}
+use Rattle.std.proofs.Common.{◌<◌, ◌∙◌, [], arith, length, subst, sym}
 use Rattle.cov_base.specs.declared.file_row.FileRow.{FileRow}
 use Rattle.cov_view.proofs.AtPlaces.{one_few, one_more, one_within}
 use Rattle.cov_view.proofs.placed_lines.places_left.Goals as goal

@@ -1,4 +1,4 @@
-use Rattle.std.proofs.Common.{ℕ, not, sym, ap, subst, ◌≡◌, ◌<◌, ◌∙◌, length}
+use Rattle.std.proofs.Common.{not, sym, ap, subst, ◌≡◌, ◌<◌, ◌∙◌, length}
 use Rattle.cov_base.proofs.CallerLemmas.{all-filter}
 use Rattle.cov_view.specs.AtPlaces.{joined, line_at, at_places, without_place, AreWithin}
 use Rattle.cov_view.specs.Lines.{without_ref}

@@ -2,7 +2,7 @@ use Rattle.std.proofs.Common.{◌≡◌, ◌+◌, ◌++◌, ◌∷◌, [], lengt
 use Rattle.std.specs.List.{insert}
 use Rattle.cov_view.specs.AtPlaces.{joined, at_places, after_place, AreWithin}
 use Rattle.cov_view.specs.Lines.{after_ref}
-use Rattle.cov_view.proofs.AtPlaces.{all_within, nothing_shown, shown_after, within_after}
+use Rattle.cov_view.proofs.AtPlaces.{nothing_shown, shown_after, within_after}
 use Rattle.cov_view.proofs.placed_lines.PlacedLines.insert_after.Goals as goal
 
 at_err : {A F P : Type 0} (q : Result A F) → P → OnErr q P
