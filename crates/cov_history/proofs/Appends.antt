@@ -2,11 +2,12 @@
 use Rattle.std.proofs.Common.{◌≡◌, ℕ, ◌+◌, Bool, List, [], ◌∷◌, ◌++◌, length, refl, ap, ◌∙◌, arith}
 use Rattle.std.specs.List.{fold}
 use Rattle.cov_expr.specs.Formula.{Formula}
-use Rattle.cov_edit.specs.declared.edit.Edit.{Edit}
+use Rattle.cov_edit.specs.declared.sided.Sided.{Sided}
 use Rattle.cov_edit.specs.declared.command.Command.{Command}
 use Rattle.cov_edit.specs.declared.command.Command.TheVariants as commands
 use Rattle.cov_edit.specs.Numbering.{Numbers, no_numbers, numbers_after, numbers_from, numbers_of}
 use Rattle.cov_edit.specs.Replay.{Change, commit_changes}
+use Rattle.cov_edit.specs.Sides.{unsided}
 use Rattle.cov_history.specs.Kept.{kept_with, entries_with, Holding, nothing_held, held_with, held_from, held_by, kept_of, entries_of}
 
 held_from-append : (p q : ℕ) (held : Holding) (ns : Numbers) (history later : List Command) → p ≡ q + length history
@@ -14,8 +15,8 @@ held_from-append : (p q : ℕ) (held : Holding) (ns : Numbers) (history later : 
 held_from-append p q held ns [] later e =
     let same : q ≡ p = omega (arith, e) in
     ap (λ k. held_from k held ns later) same
-held_from-append p q held ns (commands.Commit base choice ambition es ∷ history) later e =
-    held_from-append p (q + 1) (fold (held_with (q + 1)) held (commit_changes ns ambition es)) (numbers_after ns es) history later (omega (arith, e))
+held_from-append p q held ns (commands.Commit base choice ambition ss ∷ history) later e =
+    held_from-append p (q + 1) (fold (held_with (q + 1)) held (commit_changes ns ambition ss)) (numbers_after ns (unsided ss)) history later (omega (arith, e))
 held_from-append p q held ns (commands.Option name ∷ history) later e = held_from-append p (q + 1) held ns history later (omega (arith, e))
 held_from-append p q held ns (commands.Constraint expr ∷ history) later e = held_from-append p (q + 1) held ns history later (omega (arith, e))
 held_from-append p q held ns (commands.Prefer expr ∷ history) later e = held_from-append p (q + 1) held ns history later (omega (arith, e))
@@ -32,14 +33,14 @@ pub rows-edits : (q : ℕ) (held : Holding) (changes : List Change) → (fold (h
 rows-edits q held [] = refl
 rows-edits q held (change ∷ changes) = rows-edits q (held_with q held change) changes
 
-pub commit-lines : (history : List Command) (base : ℕ) (choice : List Bool) (ambition : Formula ℕ) (es : List Edit)
-    → kept_of (history ++ commands.Commit base choice ambition es ∷ []) ≡ fold (kept_with (length history + 1)) (kept_of history) (commit_changes (numbers_of history) ambition es)
-commit-lines history base choice ambition es =
-    ap (λ (held : Holding). held.lines) (holding-goes_on history (commands.Commit base choice ambition es ∷ []))
-    ∙ lines-edits (length history + 1) (held_by history) (commit_changes (numbers_of history) ambition es)
+pub commit-lines : (history : List Command) (base : ℕ) (choice : List Bool) (ambition : Formula ℕ) (ss : List Sided)
+    → kept_of (history ++ commands.Commit base choice ambition ss ∷ []) ≡ fold (kept_with (length history + 1)) (kept_of history) (commit_changes (numbers_of history) ambition ss)
+commit-lines history base choice ambition ss =
+    ap (λ (held : Holding). held.lines) (holding-goes_on history (commands.Commit base choice ambition ss ∷ []))
+    ∙ lines-edits (length history + 1) (held_by history) (commit_changes (numbers_of history) ambition ss)
 
-pub commit-rows : (history : List Command) (base : ℕ) (choice : List Bool) (ambition : Formula ℕ) (es : List Edit)
-    → entries_of (history ++ commands.Commit base choice ambition es ∷ []) ≡ fold (entries_with (length history + 1)) (entries_of history) (commit_changes (numbers_of history) ambition es)
-commit-rows history base choice ambition es =
-    ap (λ (held : Holding). held.rows) (holding-goes_on history (commands.Commit base choice ambition es ∷ []))
-    ∙ rows-edits (length history + 1) (held_by history) (commit_changes (numbers_of history) ambition es)
+pub commit-rows : (history : List Command) (base : ℕ) (choice : List Bool) (ambition : Formula ℕ) (ss : List Sided)
+    → entries_of (history ++ commands.Commit base choice ambition ss ∷ []) ≡ fold (entries_with (length history + 1)) (entries_of history) (commit_changes (numbers_of history) ambition ss)
+commit-rows history base choice ambition ss =
+    ap (λ (held : Holding). held.rows) (holding-goes_on history (commands.Commit base choice ambition ss ∷ []))
+    ∙ rows-edits (length history + 1) (held_by history) (commit_changes (numbers_of history) ambition ss)

@@ -11,7 +11,7 @@ pub use Rattle.cov_history.proofs.Older.{accepted-anchored, accepted-there, lega
 pub use Rattle.cov_history.proofs.Once.{IsOther, deleted-once}
 pub use Rattle.cov_history.proofs.Orders.{any-mapped, any-none, file-shows, insert-dated, no_commit-holds, order-takes}
 pub use Rattle.cov_history.proofs.Replays.{replay-seen}
-pub use Rattle.cov_history.proofs.RowChanges.{committed-where, rows-committed, rows-kept}
+pub use Rattle.cov_history.proofs.RowChanges.{rows-committed, rows-kept}
 pub use Rattle.cov_history.proofs.RowsRising.{fault-as_stands, replay-few, replay-in_order, replay-once}
 pub use Rattle.cov_history.proofs.Seen.{seen-cons}
 pub use Rattle.cov_history.proofs.Sessions.{edit-accepted, good-passes, rest-accepted}

@@ -6,13 +6,16 @@ use Rattle.cov_base.specs.Rows.{Row, Renamed, Removed}
 use Rattle.cov_base.specs.declared.number.Kind.TheVariants as kinds
 use Rattle.cov_base.specs.declared.number.NodeRef.TheVariants as nodes
 use Rattle.cov_base.specs.declared.number.LineRef.TheVariants as lines
-use Rattle.cov_expr.specs.Formula.{True, On, Not, And}
+use Rattle.cov_expr.specs.Formula.{Formula, True, On, Not, And}
 use Rattle.cov_edit.specs.declared.edit.Edit.{Edit}
 use Rattle.cov_edit.specs.declared.edit.Edit.TheVariants as edits
 use Rattle.cov_edit.specs.declared.command.Command.{Command}
 use Rattle.cov_edit.specs.declared.command.Command.TheVariants as commands
 use Rattle.cov_edit.specs.Numbering.{OnRows, Deleted}
-use Rattle.cov_edit.proofs.CallerLemmas.{make_m, absent_anchor as history}
+use Rattle.cov_edit.specs.Replay.{replay}
+use Rattle.cov_edit.specs.Sides.{sided}
+use Rattle.cov_edit.specs.Variant.{lines_of}
+use Rattle.cov_edit.proofs.CallerLemmas.{commit, make_m, absent_anchor as history}
 use Rattle.cov_history.specs.Verdict.{verdict}
 use Rattle.cov_history.specs.declared.refusal.Refusal.TheVariants as refusals
 use Rattle.cov_history.specs.FileNodes.{files_made, files_of}
@@ -80,40 +83,40 @@ abbrev insert_1 : List ℕ → Edit
 insert_1 text = edits.Insert (nodes.Old 1) (lines.Old 1) text
 
 abbrev made_m : Command
-made_m = commands.Commit 0 [] True (make_m ∷ edits.Insert (nodes.New 0) (lines.Old 0) (codes "one") ∷ [])
+made_m = commit 0 [] True (make_m ∷ edits.Insert (nodes.New 0) (lines.Old 0) (codes "one") ∷ [])
 
 abbrev two : Command
-two = commands.Commit 1 [] True (insert_1 (codes "two") ∷ [])
+two = commit 1 [] True (insert_1 (codes "two") ∷ [])
 
-is_overtaken : verdict (made_m ∷ two ∷ []) (commands.Commit 1 [] True (insert_1 (codes "three") ∷ [])) ≡ Some (refusals.Overtaken 2)
+is_overtaken : verdict (made_m ∷ two ∷ []) (commit 1 [] True (insert_1 (codes "three") ∷ [])) ≡ Some (refusals.Overtaken 2)
 is_overtaken = refl
 
-is_refreshed : verdict (made_m ∷ two ∷ []) (commands.Commit 2 [] True (insert_1 (codes "three") ∷ [])) ≡ None
+is_refreshed : verdict (made_m ∷ two ∷ []) (commit 2 [] True (insert_1 (codes "three") ∷ [])) ≡ None
 is_refreshed = refl
 
 -- so of two that delete the line
-is_gone : verdict (made_m ∷ commands.Commit 1 [] True (edits.Delete (nodes.Old 1) (lines.Old 1) ∷ []) ∷ []) (commands.Commit 1 [] True (edits.Delete (nodes.Old 1) (lines.Old 1) ∷ [])) ≡ Some (refusals.Overtaken 2)
+is_gone : verdict (made_m ∷ commit 1 [] True (edits.Delete (nodes.Old 1) (lines.Old 1) ∷ []) ∷ []) (commit 1 [] True (edits.Delete (nodes.Old 1) (lines.Old 1) ∷ [])) ≡ Some (refusals.Overtaken 2)
 is_gone = refl
 
 -- a new file in the root overtakes nobody
-is_beside : verdict (made_m ∷ commands.Commit 1 [] True (edits.New kinds.File (nodes.Old 0) (codes "n") ∷ []) ∷ []) two ≡ None
+is_beside : verdict (made_m ∷ commit 1 [] True (edits.New kinds.File (nodes.Old 0) (codes "n") ∷ []) ∷ []) two ≡ None
 is_beside = refl
 
 -- where the ambitions share no choice, or none that is valid now, nobody is overtaken
 abbrev with_two_options : List Command
 with_two_options =
     commands.Option (codes "d") ∷ commands.Option (codes "e")
-    ∷ commands.Commit 2 (true ∷ true ∷ []) True (make_m ∷ edits.Insert (nodes.New 0) (lines.Old 0) (codes "one") ∷ [])
-    ∷ commands.Commit 3 (true ∷ false ∷ []) (On 0) (insert_1 (codes "yes") ∷ [])
+    ∷ commit 2 (true ∷ true ∷ []) True (make_m ∷ edits.Insert (nodes.New 0) (lines.Old 0) (codes "one") ∷ [])
+    ∷ commit 3 (true ∷ false ∷ []) (On 0) (insert_1 (codes "yes") ∷ [])
     ∷ []
 
-no_choice : verdict with_two_options (commands.Commit 3 (false ∷ false ∷ []) (Not (On 0)) (insert_1 (codes "no") ∷ [])) ≡ None
+no_choice : verdict with_two_options (commit 3 (false ∷ false ∷ []) (Not (On 0)) (insert_1 (codes "no") ∷ [])) ≡ None
 no_choice = refl
 
-one_choice : verdict with_two_options (commands.Commit 3 (false ∷ true ∷ []) (On 1) (insert_1 (codes "no") ∷ [])) ≡ Some (refusals.Overtaken 4)
+one_choice : verdict with_two_options (commit 3 (false ∷ true ∷ []) (On 1) (insert_1 (codes "no") ∷ [])) ≡ Some (refusals.Overtaken 4)
 one_choice = refl
 
-no_valid_choice : verdict (with_two_options ++ commands.Constraint (Not (And (On 0) (On 1))) ∷ []) (commands.Commit 3 (false ∷ true ∷ []) (On 1) (insert_1 (codes "no") ∷ [])) ≡ None
+no_valid_choice : verdict (with_two_options ++ commands.Constraint (Not (And (On 0) (On 1))) ∷ []) (commit 3 (false ∷ true ∷ []) (On 1) (insert_1 (codes "no") ∷ [])) ≡ None
 no_valid_choice = refl
 
 -- a rename, a move and a removal of a node are overtaken by another edit of it, and a new node in it isn't
@@ -122,32 +125,32 @@ make_dir name = edits.New kinds.Dir (nodes.Old 0) name
 
 abbrev renamed_twice : List Command
 renamed_twice =
-    commands.Commit 0 [] True (make_dir (codes "a") ∷ make_dir (codes "b") ∷ [])
-    ∷ commands.Commit 1 [] True (edits.Rename (nodes.Old 1) (codes "c") ∷ [])
+    commit 0 [] True (make_dir (codes "a") ∷ make_dir (codes "b") ∷ [])
+    ∷ commit 1 [] True (edits.Rename (nodes.Old 1) (codes "c") ∷ [])
     ∷ []
 
-late_rename : verdict renamed_twice (commands.Commit 1 [] True (edits.Rename (nodes.Old 1) (codes "d") ∷ [])) ≡ Some (refusals.Overtaken 2)
+late_rename : verdict renamed_twice (commit 1 [] True (edits.Rename (nodes.Old 1) (codes "d") ∷ [])) ≡ Some (refusals.Overtaken 2)
 late_rename = refl
 
-late_move : verdict renamed_twice (commands.Commit 1 [] True (edits.Move (nodes.Old 1) (nodes.Old 2) ∷ [])) ≡ Some (refusals.Overtaken 2)
+late_move : verdict renamed_twice (commit 1 [] True (edits.Move (nodes.Old 1) (nodes.Old 2) ∷ [])) ≡ Some (refusals.Overtaken 2)
 late_move = refl
 
-late_removal : verdict renamed_twice (commands.Commit 1 [] True (edits.Remove (nodes.Old 1) ∷ [])) ≡ Some (refusals.Overtaken 2)
+late_removal : verdict renamed_twice (commit 1 [] True (edits.Remove (nodes.Old 1) ∷ [])) ≡ Some (refusals.Overtaken 2)
 late_removal = refl
 
-late_target : verdict renamed_twice (commands.Commit 1 [] True (edits.Move (nodes.Old 2) (nodes.Old 1) ∷ [])) ≡ None
+late_target : verdict renamed_twice (commit 1 [] True (edits.Move (nodes.Old 2) (nodes.Old 1) ∷ [])) ≡ None
 late_target = refl
 
-taken_name : verdict renamed_twice (commands.Commit 2 [] True (make_dir (codes "d") ∷ edits.Rename (nodes.Old 1) (codes "b") ∷ [])) ≡ Some (refusals.BadRecord 1)
+taken_name : verdict renamed_twice (commit 2 [] True (make_dir (codes "d") ∷ edits.Rename (nodes.Old 1) (codes "b") ∷ [])) ≡ Some (refusals.BadRecord 1)
 taken_name = refl
 
-into_itself : verdict renamed_twice (commands.Commit 2 [] True (edits.Move (nodes.Old 1) (nodes.Old 2) ∷ edits.Move (nodes.Old 2) (nodes.Old 1) ∷ [])) ≡ Some (refusals.BadRecord 1)
+into_itself : verdict renamed_twice (commit 2 [] True (edits.Move (nodes.Old 1) (nodes.Old 2) ∷ edits.Move (nodes.Old 2) (nodes.Old 1) ∷ [])) ≡ Some (refusals.BadRecord 1)
 into_itself = refl
 
-not_empty : verdict renamed_twice (commands.Commit 2 [] True (edits.Move (nodes.Old 1) (nodes.Old 2) ∷ edits.Remove (nodes.Old 2) ∷ [])) ≡ Some (refusals.BadRecord 1)
+not_empty : verdict renamed_twice (commit 2 [] True (edits.Move (nodes.Old 1) (nodes.Old 2) ∷ edits.Remove (nodes.Old 2) ∷ [])) ≡ Some (refusals.BadRecord 1)
 not_empty = refl
 
-emptied : verdict renamed_twice (commands.Commit 2 [] True (edits.Remove (nodes.Old 1) ∷ edits.Remove (nodes.Old 2) ∷ [])) ≡ None
+emptied : verdict renamed_twice (commit 2 [] True (edits.Remove (nodes.Old 1) ∷ edits.Remove (nodes.Old 2) ∷ [])) ≡ None
 emptied = refl
 
 -- a file that is there where d is on has its name taken by another that would be there everywhere
@@ -155,33 +158,33 @@ abbrev make_x : Edit
 make_x = edits.New kinds.File (nodes.Old 0) (codes "x")
 
 abbrev with_x : List Command
-with_x = commands.Option (codes "d") ∷ commands.Commit 1 (true ∷ []) (On 0) (make_x ∷ []) ∷ []
+with_x = commands.Option (codes "d") ∷ commit 1 (true ∷ []) (On 0) (make_x ∷ []) ∷ []
 
-is_clash : verdict with_x (commands.Commit 2 (false ∷ []) True (make_x ∷ [])) ≡ Some (refusals.Clash 1 2 (true ∷ []))
+is_clash : verdict with_x (commit 2 (false ∷ []) True (make_x ∷ [])) ≡ Some (refusals.Clash 1 2 (true ∷ []))
 is_clash = refl
 
 -- not so where they meet on no choice, or on none that is valid
-is_apart : verdict with_x (commands.Commit 2 (false ∷ []) (Not (On 0)) (make_x ∷ [])) ≡ None
+is_apart : verdict with_x (commit 2 (false ∷ []) (Not (On 0)) (make_x ∷ [])) ≡ None
 is_apart = refl
 
-is_invalid : verdict (with_x ++ commands.Constraint (Not (On 0)) ∷ []) (commands.Commit 3 (false ∷ []) True (make_x ∷ [])) ≡ None
+is_invalid : verdict (with_x ++ commands.Constraint (Not (On 0)) ∷ []) (commit 3 (false ∷ []) True (make_x ∷ [])) ≡ None
 is_invalid = refl
 
 -- of several choices the first is named
-first_choice : verdict (with_x ++ commands.Option (codes "e") ∷ []) (commands.Commit 3 (false ∷ true ∷ []) True (make_x ∷ [])) ≡ Some (refusals.Clash 1 2 (true ∷ false ∷ []))
+first_choice : verdict (with_x ++ commands.Option (codes "e") ∷ []) (commit 3 (false ∷ true ∷ []) True (make_x ∷ [])) ≡ Some (refusals.Clash 1 2 (true ∷ false ∷ []))
 first_choice = refl
 
 -- a commit that is overtaken too is refused as such, and for its fault once its base is the end
 abbrev with_z : List Command
 with_z =
     commands.Option (codes "d")
-    ∷ commands.Commit 1 (false ∷ []) (Not (On 0)) (edits.New kinds.File (nodes.Old 0) (codes "z") ∷ [])
-    ∷ commands.Commit 1 (true ∷ []) (On 0) (make_x ∷ [])
-    ∷ commands.Commit 3 (true ∷ []) (On 0) (edits.Rename (nodes.Old 2) (codes "y") ∷ [])
+    ∷ commit 1 (false ∷ []) (Not (On 0)) (edits.New kinds.File (nodes.Old 0) (codes "z") ∷ [])
+    ∷ commit 1 (true ∷ []) (On 0) (make_x ∷ [])
+    ∷ commit 3 (true ∷ []) (On 0) (edits.Rename (nodes.Old 2) (codes "y") ∷ [])
     ∷ []
 
 abbrev another_z : ℕ → Command
-another_z base = commands.Commit base (true ∷ []) True (edits.Rename (nodes.Old 2) (codes "w") ∷ edits.New kinds.File (nodes.Old 0) (codes "z") ∷ [])
+another_z base = commit base (true ∷ []) True (edits.Rename (nodes.Old 2) (codes "w") ∷ edits.New kinds.File (nodes.Old 0) (codes "z") ∷ [])
 
 late_clash : verdict with_z (another_z 3) ≡ Some (refusals.Overtaken 4)
 late_clash = refl
@@ -193,28 +196,28 @@ then_clash = refl
 abbrev with_child : List Command
 with_child =
     commands.Option (codes "d")
-    ∷ commands.Commit 1 (true ∷ []) True (make_dir (codes "a") ∷ [])
-    ∷ commands.Commit 2 (true ∷ []) (On 0) (edits.New kinds.File (nodes.Old 1) (codes "x") ∷ [])
+    ∷ commit 1 (true ∷ []) True (make_dir (codes "a") ∷ [])
+    ∷ commit 2 (true ∷ []) (On 0) (edits.New kinds.File (nodes.Old 1) (codes "x") ∷ [])
     ∷ []
 
-is_orphan : verdict with_child (commands.Commit 3 (false ∷ []) True (edits.Remove (nodes.Old 1) ∷ [])) ≡ Some (refusals.Orphan 2 (true ∷ []))
+is_orphan : verdict with_child (commit 3 (false ∷ []) True (edits.Remove (nodes.Old 1) ∷ [])) ≡ Some (refusals.Orphan 2 (true ∷ []))
 is_orphan = refl
 
-not_there : verdict with_child (commands.Commit 3 (false ∷ []) (Not (On 0)) (edits.Remove (nodes.Old 1) ∷ [])) ≡ None
+not_there : verdict with_child (commit 3 (false ∷ []) (Not (On 0)) (edits.Remove (nodes.Old 1) ∷ [])) ≡ None
 not_there = refl
 
 -- two directories, each moved into the other, and a file in a directory that is gone where p is on
 abbrev with_move : List Command
 with_move =
     commands.Option (codes "p")
-    ∷ commands.Commit 1 (true ∷ []) True (make_dir (codes "a") ∷ make_dir (codes "b") ∷ make_dir (codes "c") ∷ [])
-    ∷ commands.Commit 2 (true ∷ []) (On 0) (edits.Move (nodes.Old 1) (nodes.Old 2) ∷ edits.Remove (nodes.Old 3) ∷ [])
+    ∷ commit 1 (true ∷ []) True (make_dir (codes "a") ∷ make_dir (codes "b") ∷ make_dir (codes "c") ∷ [])
+    ∷ commit 2 (true ∷ []) (On 0) (edits.Move (nodes.Old 1) (nodes.Old 2) ∷ edits.Remove (nodes.Old 3) ∷ [])
     ∷ []
 
-is_loop : verdict with_move (commands.Commit 3 (false ∷ []) True (edits.Move (nodes.Old 2) (nodes.Old 1) ∷ [])) ≡ Some (refusals.Loop 1 (true ∷ []))
+is_loop : verdict with_move (commit 3 (false ∷ []) True (edits.Move (nodes.Old 2) (nodes.Old 1) ∷ [])) ≡ Some (refusals.Loop 1 (true ∷ []))
 is_loop = refl
 
-new_orphan : verdict with_move (commands.Commit 3 (false ∷ []) True (edits.New kinds.File (nodes.Old 3) (codes "x") ∷ [])) ≡ Some (refusals.Orphan 4 (true ∷ []))
+new_orphan : verdict with_move (commit 3 (false ∷ []) True (edits.New kinds.File (nodes.Old 3) (codes "x") ∷ [])) ≡ Some (refusals.Orphan 4 (true ∷ []))
 new_orphan = refl
 
 -- of two directories with a file each, the nodes 2 and 4 are files, whatever happens to them later
@@ -224,9 +227,9 @@ in_dirs = make_dir (codes "a") ∷ edits.New kinds.File (nodes.New 0) (codes "x"
 abbrev with_files : List Command
 with_files =
     commands.Option (codes "d")
-    ∷ commands.Commit 1 (true ∷ []) (On 0) in_dirs
-    ∷ commands.Commit 2 (true ∷ []) True (edits.Rename (nodes.Old 4) (codes "z") ∷ edits.Move (nodes.Old 2) (nodes.Old 3) ∷ edits.Remove (nodes.Old 1) ∷ [])
-    ∷ commands.Commit 2 (false ∷ []) (Not (On 0)) (make_m ∷ edits.Insert (nodes.New 0) (lines.Old 0) (codes "A") ∷ [])
+    ∷ commit 1 (true ∷ []) (On 0) in_dirs
+    ∷ commit 2 (true ∷ []) True (edits.Rename (nodes.Old 4) (codes "z") ∷ edits.Move (nodes.Old 2) (nodes.Old 3) ∷ edits.Remove (nodes.Old 1) ∷ [])
+    ∷ commit 2 (false ∷ []) (Not (On 0)) (make_m ∷ edits.Insert (nodes.New 0) (lines.Old 0) (codes "A") ∷ [])
     ∷ []
 
 files_of_edits : files_made 7 in_dirs ≡ 9 ∷ 11 ∷ []
@@ -250,3 +253,68 @@ own_line_gone = refl
 
 own_line_kept : own_line_seen (false ∷ []) ≡ (1, codes "one") ∷ []
 own_line_kept = refl
+
+-- one commit makes a file and inserts a first line on all choices, and on the side d a second line
+abbrev both_lines : Command
+both_lines =
+    commands.Commit 1 (true ∷ []) True
+    (sided True make_m
+    ∷ sided True (edits.Insert (nodes.New 0) (lines.Old 0) (codes "one"))
+    ∷ sided (On 0) (edits.Insert (nodes.New 0) (lines.New 0) (codes "two"))
+    ∷ [])
+
+abbrev with_both_lines : List Command
+with_both_lines = commands.Option (codes "d") ∷ commands.Option (codes "e") ∷ both_lines ∷ commands.Default 1 false ∷ []
+
+is_accepted : verdict (commands.Option (codes "d") ∷ commands.Option (codes "e") ∷ []) both_lines ≡ None
+is_accepted = refl
+
+abbrev both_replayed : List Bool → List (ℕ × List ℕ)
+both_replayed c = map (λ l. (line_of l.address, l.text)) (lines_of (replay c with_both_lines) 1)
+
+on_side : both_replayed (true ∷ false ∷ []) ≡ (1, codes "one") ∷ (2, codes "two") ∷ []
+on_side = refl
+
+off_side : both_replayed (false ∷ false ∷ []) ≡ (1, codes "one") ∷ []
+off_side = refl
+
+-- each line is kept with the position of the commit, and with the ambition and its own side
+both_kept : map {B = ℕ × List (ℕ × Formula ℕ)} (λ k. (kept_number k, k.changes)) (kept_of with_both_lines) ≡ (1, (3, And True True) ∷ []) ∷ (2, (3, And True (On 0)) ∷ []) ∷ []
+both_kept = refl
+
+-- two files, then an edit of the first on the side d and one of the second on the side e
+abbrev into : ℕ → Edit
+into file = edits.Insert (nodes.Old file) (lines.Old 0) (codes "x")
+
+abbrev with_sides : List Command
+with_sides =
+    commands.Option (codes "d") ∷ commands.Option (codes "e")
+    ∷ commit 2 (true ∷ true ∷ []) True (make_m ∷ edits.New kinds.File (nodes.Old 0) (codes "n") ∷ [])
+    ∷ commands.Commit 3 (true ∷ true ∷ []) True (sided (On 0) (into 1) ∷ sided (On 1) (into 2) ∷ [])
+    ∷ []
+
+-- edits on the other sides are overtaken by neither, though the commits share choices
+apart_by_sides : verdict with_sides (commands.Commit 3 (false ∷ false ∷ []) True (sided (Not (On 0)) (into 1) ∷ sided (Not (On 1)) (into 2) ∷ [])) ≡ None
+apart_by_sides = refl
+
+-- one of them with a wider side is overtaken
+met_on_a_side : verdict with_sides (commands.Commit 3 (false ∷ false ∷ []) True (sided (Not (On 0)) (into 1) ∷ sided True (into 2) ∷ [])) ≡ Some (refusals.Overtaken 4)
+met_on_a_side = refl
+
+-- but not where the sides share no choice within the ambition that is valid now
+no_valid_side : verdict (with_sides ++ commands.Constraint (Not (And (On 1) (Not (On 0)))) ∷ []) (commands.Commit 3 (false ∷ false ∷ []) (Not (On 0)) (sided (Not (On 0)) (into 1) ∷ sided True (into 2) ∷ [])) ≡ None
+no_valid_side = refl
+
+-- each side is true on the choice, and has only options of the base
+outside_a_side : verdict with_sides (commands.Commit 4 (true ∷ false ∷ []) True (sided True (into 1) ∷ sided (On 1) (into 2) ∷ [])) ≡ Some (refusals.OutsideSide 1)
+outside_a_side = refl
+
+side_beyond_base : verdict with_sides (commands.Commit 4 (true ∷ false ∷ []) True (sided (On 2) (into 1) ∷ [])) ≡ Some refusals.BadOption
+side_beyond_base = refl
+
+-- the ambition is tested before the sides, and an edit that the variant refuses after them
+outside_ambition_first : verdict with_sides (commands.Commit 4 (true ∷ false ∷ []) (On 1) (sided (On 1) (into 1) ∷ [])) ≡ Some refusals.OutsideAmbition
+outside_ambition_first = refl
+
+outside_side_first : verdict with_sides (commands.Commit 4 (true ∷ false ∷ []) True (sided (On 0) (into 3) ∷ sided (On 1) (into 1) ∷ [])) ≡ Some (refusals.OutsideSide 1)
+outside_side_first = refl

@@ -16,7 +16,9 @@ use Rattle.cov_edit.specs.declared.command.Command.TheVariants as commands
 use Rattle.cov_edit.specs.Numbering.{Numbers, node_number, node_count_after, line_count_after, nodes_made, no_numbers, numbers_after, numbers_from, numbers_of, numbered_edit, numbered_from}
 use Rattle.cov_edit.specs.Touched.{AreRising}
 use Rattle.cov_edit.specs.Variant.{Variant, bare, edited}
-use Rattle.cov_edit.specs.Replay.{conditions, applying, first_within, rest_within, changes_within, commit_changes, changes_from, applied, replay}
+use Rattle.cov_edit.specs.Replay.{applying, first_within, rest_within, changes_within, commit_changes, changes_from, applied, replay}
+use Rattle.cov_edit.specs.Sides.{unsided, conditions}
+use Rattle.cov_edit.specs.declared.sided.Sided.{Sided}
 use Rattle.cov_edit.proofs.CallerLemmas.{fold-append, node_count_after-is}
 use Rattle.cov_view.specs.References.{is_dir_kind}
 use Rattle.cov_history.specs.FileNodes.{if_file, file_made, files_made, files_from, files_of}
@@ -84,7 +86,8 @@ rise-append low high (x ∷ xs) ys up above h k =
 -- so it is with more of a history
 pub from-within : (ns : Numbers) (history : List Command) → AreWithin ns.nodes (numbers_from ns history).nodes (files_from ns.nodes history)
 from-within ns [] = tt
-from-within ns (commands.Commit base choice ambition es ∷ history) =
+from-within ns (commands.Commit base choice ambition ss ∷ history) =
+    let es : List Edit = unsided ss in
     let n : ℕ = ns.nodes in
     let total : ℕ = (numbers_from (numbers_after ns es) history).nodes in
     let grown : n + nodes_made es ≤ total = nodes-grow (numbers_after ns es) history in
@@ -98,7 +101,8 @@ from-within ns (commands.Default option on ∷ history) = from-within ns history
 
 from-rise : (ns : Numbers) (history : List Command) → AreRising (files_from ns.nodes history)
 from-rise ns [] = tt
-from-rise ns (commands.Commit base choice ambition es ∷ history) =
+from-rise ns (commands.Commit base choice ambition ss ∷ history) =
+    let es : List Edit = unsided ss in
     let n : ℕ = ns.nodes in
     rise-append (n + nodes_made es) (numbers_from (numbers_after ns es) history).nodes (files_made n es) (files_from (n + nodes_made es) history)
     (all-map (λ x. (n < x) × (x ≤ n + nodes_made es)) (λ x. x ≤ n + nodes_made es) (λ x own. own.1) (files_made n es) (made-within n es))
@@ -125,7 +129,8 @@ made-append n (e ∷ es) fs =
 
 from-append : (ns : Numbers) (history later : List Command) → files_from ns.nodes (history ++ later) ≡ files_from ns.nodes history ++ files_from (numbers_from ns history).nodes later
 from-append ns [] later = refl
-from-append ns (commands.Commit base choice ambition es ∷ history) later =
+from-append ns (commands.Commit base choice ambition ss ∷ history) later =
+    let es : List Edit = unsided ss in
     ap (λ xs. files_made ns.nodes es ++ xs) (from-append (numbers_after ns es) history later)
     ∙ sym (append_assoc (files_made ns.nodes es) (files_from (ns.nodes + nodes_made es) history) (files_from (numbers_from (numbers_after ns es) history).nodes later))
 from-append ns (commands.Option name ∷ history) later = from-append ns history later
@@ -136,14 +141,14 @@ from-append ns (commands.Default option on ∷ history) later = from-append ns h
 pub files-append : (history later : List Command) → files_of (history ++ later) ≡ files_of history ++ files_from (numbers_of history).nodes later
 files-append history later = from-append no_numbers history later
 
-pub files-commit : (history : List Command) (base : ℕ) (choice : List Bool) (ambition : Formula ℕ) (es : List Edit)
-    → files_of (history ++ commands.Commit base choice ambition es ∷ []) ≡ files_of history ++ files_made (numbers_of history).nodes es
-files-commit history base choice ambition es =
-    files-append history (commands.Commit base choice ambition es ∷ []) ∙ ap (λ xs. files_of history ++ xs) (append-nil (files_made (numbers_of history).nodes es))
+pub files-commit : (history : List Command) (base : ℕ) (choice : List Bool) (ambition : Formula ℕ) (ss : List Sided)
+    → files_of (history ++ commands.Commit base choice ambition ss ∷ []) ≡ files_of history ++ files_made (numbers_of history).nodes (unsided ss)
+files-commit history base choice ambition ss =
+    files-append history (commands.Commit base choice ambition ss ∷ []) ∙ ap (λ xs. files_of history ++ xs) (append-nil (files_made (numbers_of history).nodes (unsided ss)))
 
 pub files-go_on : (history : List Command) → ((later : List Command) → files_of (history ++ later) ≡ files_of history ++ files_from (numbers_of history).nodes later)
-    × ((base : ℕ) (choice : List Bool) (ambition : Formula ℕ) (es : List Edit)
-    → files_of (history ++ commands.Commit base choice ambition es ∷ []) ≡ files_of history ++ files_made (numbers_of history).nodes es)
+    × ((base : ℕ) (choice : List Bool) (ambition : Formula ℕ) (ss : List Sided)
+    → files_of (history ++ commands.Commit base choice ambition ss ∷ []) ≡ files_of history ++ files_made (numbers_of history).nodes (unsided ss))
 files-go_on history = (files-append history, files-commit history)
 
 -- a number among the first is among all
@@ -257,13 +262,14 @@ module _ (c : List Bool) where
   from-told : (ns : Numbers) (v : Variant) (files all : List ℕ) (history : List Command) → all ≡ files ++ files_from ns.nodes history → AreTold ns.nodes files v
       → AreTold (numbers_from ns history).nodes all (fold (applied c) v (changes_from ns history))
   from-told ns v files all [] f h = subst (λ xs. AreTold ns.nodes xs v) (sym (f ∙ append-nil files)) h
-  from-told ns v files all (commands.Commit base choice ambition es ∷ history) f h =
+  from-told ns v files all (commands.Commit base choice ambition ss ∷ history) f h =
+      let es : List Edit = unsided ss in
       let made : List ℕ = files_made ns.nodes es in
       subst (AreTold (numbers_from (numbers_after ns es) history).nodes all)
-      (sym (fold-append (applied c) v (commit_changes ns ambition es) (changes_from (numbers_after ns es) history)))
-      (from-told (numbers_after ns es) (fold (applied c) v (commit_changes ns ambition es)) (files ++ made) all history
+      (sym (fold-append (applied c) v (commit_changes ns ambition ss) (changes_from (numbers_after ns es) history)))
+      (from-told (numbers_after ns es) (fold (applied c) v (commit_changes ns ambition ss)) (files ++ made) all history
       (f ∙ sym (append_assoc files made (files_from (ns.nodes + nodes_made es) history)))
-      (edits-told (conditions ambition es) ns (numbers_after ns es).addresses ns.nodes _ (ns.nodes + nodes_made es) v files (files ++ made) es refl refl h))
+      (edits-told (conditions ambition ss) ns (numbers_after ns es).addresses ns.nodes _ (ns.nodes + nodes_made es) v files (files ++ made) es refl refl h))
   from-told ns v files all (commands.Option name ∷ history) f h = from-told ns v files all history f h
   from-told ns v files all (commands.Constraint expr ∷ history) f h = from-told ns v files all history f h
   from-told ns v files all (commands.Prefer expr ∷ history) f h = from-told ns v files all history f h

@@ -9,7 +9,8 @@ use Rattle.cov_edit.specs.declared.edit.Edit.TheVariants as edits
 use Rattle.cov_edit.specs.declared.command.Command.{Command}
 use Rattle.cov_edit.specs.declared.command.Command.TheVariants as commands
 use Rattle.cov_edit.specs.Numbering.{Numbers, node_number, line_number, line_count_after, anchors_of, no_numbers, numbers_after, numbered_from}
-use Rattle.cov_edit.specs.Replay.{conditions, first_within, rest_within, changes_within, commit_changes}
+use Rattle.cov_edit.specs.Replay.{first_within, rest_within, changes_within, commit_changes}
+use Rattle.cov_edit.specs.Sides.{unsided, conditions}
 use Rattle.cov_edit.specs.Variant.{Line, is_line}
 use Rattle.cov_edit.proofs.CallerLemmas.{line_count_after-is}
 use Rattle.cov_history.specs.InsertedTexts.{new_text, new_texts, texts_in, HasText}
@@ -89,18 +90,19 @@ texts-along q ns held (commands.Option name ∷ history) texts table e h = texts
 texts-along q ns held (commands.Constraint expr ∷ history) texts table e h = texts-along (q + 1) ns held history texts table e h
 texts-along q ns held (commands.Prefer expr ∷ history) texts table e h = texts-along (q + 1) ns held history texts table e h
 texts-along q ns held (commands.Default option on ∷ history) texts table e h = texts-along (q + 1) ns held history texts table e h
-texts-along q ns held (commands.Commit base choice ambition es ∷ history) texts table e h =
+texts-along q ns held (commands.Commit base choice ambition ss ∷ history) texts table e h =
+    let es : List Edit = unsided ss in
     let m : ℕ = length ns.addresses in
     let t : List (List ℕ) = (numbers_after ns es).addresses in
-    let after : Holding = fold (held_with (q + 1)) held (commit_changes ns ambition es) in
+    let after : Holding = fold (held_with (q + 1)) held (commit_changes ns ambition ss) in
     let grown : length t ≡ m + length (anchors_of m es) = length-with_lines ns.addresses (anchors_of m es) in
     let count : length (texts ++ new_texts es) ≡ length t =
     (let all = length-append texts (new_texts es) in let new = texts-count m es in omega (arith, all, new, grown, e)) in
     subst (λ ts. AllByRecursion (HasText ts) (held_from (q + 1) after (numbers_after ns es) history).lines)
     (append_assoc texts (new_texts es) (texts_in history))
     (texts-along (q + 1) (numbers_after ns es) after history (texts ++ new_texts es) (table-after ns es table) count
-    (subst (AllByRecursion (HasText (texts ++ new_texts es))) (sym (lines-edits (q + 1) held (commit_changes ns ambition es)))
-    (texts-edits (q + 1) (conditions ambition es) ns t ns.nodes m m es held.lines texts (table-after ns es table) (omega (arith, grown)) e h)))
+    (subst (AllByRecursion (HasText (texts ++ new_texts es))) (sym (lines-edits (q + 1) held (commit_changes ns ambition ss)))
+    (texts-edits (q + 1) (conditions ambition ss) ns t ns.nodes m m es held.lines texts (table-after ns es table) (omega (arith, grown)) e h)))
 
 pub lines-keep_texts : LinesKeepTheirTexts
 lines-keep_texts history = texts-along 0 no_numbers nothing_held history [] no_table refl tt

@@ -1,5 +1,5 @@
 -- The files that edits name, and those of the lines that a history holds.
-use Rattle.std.proofs.Common.{◌≡◌, ℕ, zero, suc, ◌+◌, ◌≤◌, Bool, true, false, cond, ◌||◌, not, nat_eq, List, [], ◌∷◌, ◌++◌, length, take, drop, append_assoc, append-nil, Some, None, refl, sym, ap, subst, ◌∙◌, arith}
+use Rattle.std.proofs.Common.{◌≡◌, ℕ, zero, suc, ◌+◌, ◌≤◌, Bool, true, false, cond, ◌||◌, not, nat_eq, List, [], ◌∷◌, ◌++◌, length, map, take, drop, append_assoc, append-nil, Some, None, refl, sym, ap, subst, ◌∙◌, arith}
 use Rattle.std.specs.List.{fold, list_any, cons_option, AllByRecursion}
 use Rattle.std.proofs.lemmas.Bool.{and_parts}
 use Rattle.std.proofs.lemmas.Bool.Decides.{nat_tests}
@@ -13,22 +13,24 @@ use Rattle.cov_base.specs.declared.number.NodeRef.{NodeRef}
 use Rattle.cov_base.specs.declared.number.NodeRef.TheVariants as nodes
 use Rattle.cov_base.specs.declared.number.LineRef.{LineRef}
 use Rattle.cov_base.proofs.CallerLemmas.{all-map, all-placed, or_second}
-use Rattle.cov_expr.specs.Formula.{Formula, True, value}
+use Rattle.cov_expr.specs.Formula.{Formula, True}
 use Rattle.cov_edit.specs.declared.edit.Edit.{Edit}
 use Rattle.cov_edit.specs.declared.edit.Edit.TheVariants as edits
 use Rattle.cov_edit.specs.declared.command.Command.{Command}
 use Rattle.cov_edit.specs.declared.command.Command.TheVariants as commands
-use Rattle.cov_edit.specs.Numbering.{Numbers, node_number, line_number, node_count_after, line_count_after, nodes_made, numbers_after, numbers_of, numbered_edit, numbered_from}
+use Rattle.cov_edit.specs.Numbering.{Numbers, NumberedEdit, node_number, line_number, node_count_after, line_count_after, nodes_made, numbers_after, numbers_of, numbered_edit, numbered_from}
 use Rattle.cov_edit.specs.Variant.{Variant, Line, is_line, edited}
-use Rattle.cov_edit.specs.Replay.{conditions, first_within, rest_within, changes_within, replay}
-use Rattle.cov_edit.proofs.CallerLemmas.{all_within, each_change, each_condition}
+use Rattle.cov_edit.specs.Replay.{applies, first_within, rest_within, changes_within, applied, replay}
+use Rattle.cov_edit.specs.Sides.{unsided, conditions}
+use Rattle.cov_edit.specs.declared.sided.Sided.{Sided}
+use Rattle.cov_edit.proofs.CallerLemmas.{all_within}
 use Rattle.cov_view.specs.References.{is_dir_kind, is_known_node}
 use Rattle.cov_view.specs.Refusals.{shows_node, row_is_dir, is_dir, refusal, refused_from, first_refused}
 use Rattle.cov_view.proofs.CallerLemmas.{node-known, none-when, insert-accepted, delete-accepted}
 use Rattle.cov_history.specs.FileNodes.{if_file, files_made, files_from, files_of, NamesFile}
 use Rattle.cov_history.specs.Insertions.{lines_before, table_of, numbered_amid, held_amid}
 use Rattle.cov_history.specs.Kept.{Kept, hidden, hidden_where, kept_address, new_line, kept_after, kept_with, Holding, held_by, kept_of}
-use Rattle.cov_history.specs.Sessions.{Session, within_of, IsGood, has_commit}
+use Rattle.cov_history.specs.Sessions.{Session, edits_of, within_of, IsGood, has_commit}
 use Rattle.cov_history.specs.Verdict.{verdict, IsLegalFrom, IsLegal}
 use Rattle.cov_history.proofs.Appends.{commit-lines, lines-edits}
 use Rattle.cov_history.proofs.FileNodes.{AreTold, absent-low, absent-high, made-within, made-append, files-append, files-commit, among-more, among-last, edits-told, replay-told}
@@ -128,6 +130,17 @@ each-turn : (P : Edit → Type 0) (begun es : List Edit) → ((before : List Edi
 each-turn P begun [] f = tt
 each-turn P begun (e ∷ es) f = (f begun e es refl, each-turn P (begun ++ e ∷ []) es (λ before d later same. f before d later (same ∙ append_assoc begun (e ∷ []) es)))
 
+-- edits that apply everywhere
+abbrev everywhere : List NumberedEdit → List (Formula ℕ)
+everywhere ds = map (λ d. True) ds
+
+all_of : (c : List Bool) (v : Variant) (ds : List NumberedEdit) → fold (applied c) v (changes_within (everywhere ds) ds) ≡ fold edited v ds
+all_of c v ds = all_within c v (everywhere ds) ds (each ds)
+  where
+    each : (ds : List NumberedEdit) → AllByRecursion (λ change. applies c change ≡ true) (changes_within (everywhere ds) ds)
+    each [] = tt
+    each (d ∷ ds) = (refl, each ds)
+
 -- edits that the base accepts
 module _ (history : List Command) (base : ℕ) (choice : List Bool) (es : List Edit) (accepted : first_refused (numbers_of (take base history)) (replay choice (take base history)) es ≡ None) where
   abbrev nb : Numbers
@@ -147,9 +160,8 @@ module _ (history : List Command) (base : ℕ) (choice : List Bool) (es : List E
   amid-told : (begun : List Edit) → AllByRecursion (λ r. has_node r.node (files_of (take base history) ++ files_made nb.nodes begun) ≡ not (is_dir_kind r.kind)) (amid begun).rows
   amid-told begun =
       let ds = numbered_from nb (numbers_after nb es).addresses nb.nodes (length nb.addresses) begun in
-      (subst (AreTold (nb.nodes + nodes_made begun) (files_of (take base history) ++ files_made nb.nodes begun)) (all_within choice (replay choice (take base history)) (conditions True begun) ds
-      (each_change (λ w. value w choice ≡ true) True nb (numbers_after nb es).addresses nb.nodes (length nb.addresses) begun (each_condition (λ w. value w choice ≡ true) True begun refl)))
-      (edits-told choice (conditions True begun) nb (numbers_after nb es).addresses nb.nodes (length nb.addresses) (nb.nodes + nodes_made begun) (replay choice (take base history))
+      (subst (AreTold (nb.nodes + nodes_made begun) (files_of (take base history) ++ files_made nb.nodes begun)) (all_of choice (replay choice (take base history)) ds)
+      (edits-told choice (everywhere ds) nb (numbers_after nb es).addresses nb.nodes (length nb.addresses) (nb.nodes + nodes_made begun) (replay choice (take base history))
       (files_of (take base history)) (files_of (take base history) ++ files_made nb.nodes begun) begun refl refl (replay-told choice (take base history)))).2
 
   all-files : files_of history ≡ files_of (take base history) ++ files_from nb.nodes (drop base history)
@@ -187,15 +199,16 @@ module _ (history : List Command) (base : ℕ) (choice : List Bool) (es : List E
       (names-more (files_amid before) (files_made (n + nodes_made before) (e ∷ rest)) n e
       (named-in_turn before e (rest ++ later) (sym (append_assoc before (e ∷ rest) later) ∙ ap (λ xs. xs ++ later) same ∙ all)))))
 
-pub accepted-names : (history : List Command) (base : ℕ) (choice : List Bool) (ambition : Formula ℕ) (es : List Edit) → verdict history (commands.Commit base choice ambition es) ≡ None
-    → AllByRecursion (NamesFile (files_of (history ++ commands.Commit base choice ambition es ∷ [])) (numbers_of history).nodes) es
-accepted-names history base choice ambition es h =
-    subst (λ files. AllByRecursion (NamesFile files (numbers_of history).nodes) es) (sym (files-commit history base choice ambition es))
-    (begun-named history base choice es (edits-accepted history base choice ambition es h) es [] (append-nil es))
+pub accepted-names : (history : List Command) (base : ℕ) (choice : List Bool) (ambition : Formula ℕ) (ss : List Sided) → verdict history (commands.Commit base choice ambition ss) ≡ None
+    → AllByRecursion (NamesFile (files_of (history ++ commands.Commit base choice ambition ss ∷ [])) (numbers_of history).nodes) (unsided ss)
+accepted-names history base choice ambition ss h =
+    let es : List Edit = unsided ss in
+    subst (λ files. AllByRecursion (NamesFile files (numbers_of history).nodes) es) (sym (files-commit history base choice ambition ss))
+    (begun-named history base choice es (edits-accepted history base choice ambition ss h) es [] (append-nil es))
 
-pub turn-names : (history : List Command) (s : Session) (begun later : List Edit) (e : Edit) → IsGood history s → begun ++ e ∷ later ≡ s.edits
+pub turn-names : (history : List Command) (s : Session) (begun later : List Edit) (e : Edit) → IsGood history s → begun ++ e ∷ later ≡ edits_of s
     → NamesFile (files_of history ++ files_made (numbers_of history).nodes begun) (numbers_of history).nodes e
-turn-names history s begun later e good all = named-in_turn history s.base s.choice s.edits good.accepted begun e later all
+turn-names history s begun later e good all = named-in_turn history s.base s.choice (edits_of s) good.accepted begun e later all
 
 -- held lines are in these files
 abbrev pub AreLinesIn : List ℕ → List (Kept Line) → Type 0
@@ -241,12 +254,13 @@ same-held history k none no_file h =
     (subst (λ (held : Holding). AreLinesIn (files_of history) held.lines) (sym (no_commit-holds history (k ∷ []) none)) h)
 
 held-one : (history : List Command) (k : Command) → verdict history k ≡ None → AreHeldInFiles history → AreHeldInFiles (history ++ k ∷ [])
-held-one history (commands.Commit base choice ambition es) accepted h =
+held-one history (commands.Commit base choice ambition ss) accepted h =
+    let es : List Edit = unsided ss in
     let ns : Numbers = numbers_of history in
-    let all : List ℕ = files_of (history ++ commands.Commit base choice ambition es ∷ []) in
-    subst (AreLinesIn all) (sym (commit-lines history base choice ambition es))
-    (edits-in_files (length history + 1) (conditions ambition es) ns (numbers_after ns es).addresses ns.nodes (length ns.addresses) all (kept_of history) es (accepted-names history base choice ambition es accepted)
-    (subst (λ files. AreLinesIn files (kept_of history)) (sym (files-commit history base choice ambition es)) (in_files-more (files_of history) (files_made ns.nodes es) (kept_of history) h)))
+    let all : List ℕ = files_of (history ++ commands.Commit base choice ambition ss ∷ []) in
+    subst (AreLinesIn all) (sym (commit-lines history base choice ambition ss))
+    (edits-in_files (length history + 1) (conditions ambition ss) ns (numbers_after ns es).addresses ns.nodes (length ns.addresses) all (kept_of history) es (accepted-names history base choice ambition ss accepted)
+    (subst (λ files. AreLinesIn files (kept_of history)) (sym (files-commit history base choice ambition ss)) (in_files-more (files_of history) (files_made ns.nodes es) (kept_of history) h)))
 held-one history (commands.Option name) accepted h = same-held history (commands.Option name) refl refl h
 held-one history (commands.Constraint expr) accepted h = same-held history (commands.Constraint expr) refl refl h
 held-one history (commands.Prefer expr) accepted h = same-held history (commands.Prefer expr) refl refl h
@@ -259,12 +273,12 @@ held-from before (k ∷ history) legal h = subst AreHeldInFiles (append_assoc be
 pub legal-in_files : (history : List Command) → IsLegal history → AreLinesIn (files_of history) (kept_of history)
 legal-in_files history legal = held-from [] history legal tt
 
-pub amid-in_files : (history : List Command) (s : Session) (begun later : List Edit) → IsLegal history → IsGood history s → begun ++ later ≡ s.edits
-    → AreLinesIn (files_of history ++ files_made (numbers_of history).nodes begun) (held_amid history (within_of s) s.edits begun).lines
+pub amid-in_files : (history : List Command) (s : Session) (begun later : List Edit) → IsLegal history → IsGood history s → begun ++ later ≡ edits_of s
+    → AreLinesIn (files_of history ++ files_made (numbers_of history).nodes begun) (held_amid history (within_of s) (edits_of s) begun).lines
 amid-in_files history s begun later legal good all =
     let ns : Numbers = numbers_of history in
     let files : List ℕ = files_of history ++ files_made ns.nodes begun in
-    subst (AreLinesIn files) (sym (lines-edits (length history + 1) (held_by history) (changes_within (within_of s) (numbered_amid history s.edits begun))))
-    (edits-in_files (length history + 1) (within_of s) ns (table_of history s.edits) ns.nodes (lines_before history) files (kept_of history) begun
-    (begun-named history s.base s.choice s.edits good.accepted begun later all)
+    subst (AreLinesIn files) (sym (lines-edits (length history + 1) (held_by history) (changes_within (within_of s) (numbered_amid history (edits_of s) begun))))
+    (edits-in_files (length history + 1) (within_of s) ns (table_of history (edits_of s)) ns.nodes (lines_before history) files (kept_of history) begun
+    (begun-named history s.base s.choice (edits_of s) good.accepted begun later all)
     (in_files-more (files_of history) (files_made ns.nodes begun) (kept_of history) (legal-in_files history legal)))

@@ -2,12 +2,12 @@
 use Rattle.std.proofs.Common.{◌≡◌, ℕ, suc, ◌+◌, ◌<◌, ◌≤◌, Bool, true, false, cond, ◌||◌, ◌&&◌, nat_eq, List, [], ◌∷◌, ◌++◌, length, map, take, drop, Option, Some, None, refl, sym, ap, subst, ◌∙◌, arith}
 use Rattle.std.specs.List.{filter, list_any, filter_map, cons_option, AllByRecursion}
 use Rattle.std.proofs.Math.Seq.{take-length}
-use Rattle.std.proofs.lemmas.Bool.{or_right}
+use Rattle.std.proofs.lemmas.Bool.{or_parts, or_right}
 use Rattle.std.proofs.lemmas.Bool.Decides.{nat_tests}
 use Rattle.cov_base.specs.Addresses.{address_in, with_lines, IsTable, IsLineOf}
 use Rattle.cov_base.specs.declared.number.NodeRef.{NodeRef}
 use Rattle.cov_base.specs.declared.number.NodeRef.TheVariants as nodes
-use Rattle.cov_base.proofs.CallerLemmas.{all-map, all-filter, inside, address_in-with_lines, length-with_lines}
+use Rattle.cov_base.proofs.CallerLemmas.{all-map, all-both, all-filter, inside, address_in-with_lines, length-with_lines}
 use Rattle.cov_expr.specs.Formula.{Formula, value, reach}
 use Rattle.cov_edit.specs.declared.edit.Edit.{Edit}
 use Rattle.cov_edit.specs.declared.edit.Edit.TheVariants as edits
@@ -15,19 +15,21 @@ use Rattle.cov_edit.specs.declared.command.Command.{Command}
 use Rattle.cov_edit.specs.declared.command.Command.TheVariants as commands
 use Rattle.cov_edit.specs.History.{option_count, is_valid_in}
 use Rattle.cov_edit.specs.Numbering.{Numbers, anchors_of, numbers_after, numbers_of}
-use Rattle.cov_edit.specs.Touched.{old_node, touched_by, has_number, have_common, touched, touch}
+use Rattle.cov_edit.specs.Sides.{unsided, condition, conditions, reach_within}
+use Rattle.cov_edit.specs.declared.sided.Sided.{Sided}
+use Rattle.cov_edit.specs.Touched.{old_node, touched_by, has_number, is_number, are_same, touches, touch}
 use Rattle.cov_edit.specs.Variant.{Line, lines_of}
 use Rattle.cov_edit.specs.Replay.{replay}
-use Rattle.cov_edit.proofs.CallerLemmas.{anchors-same_count, replay-commit, all-apply, touched-rising}
+use Rattle.cov_edit.proofs.CallerLemmas.{anchors-same_count, conditions-low, replay-commit, all-apply, touched-rising}
 use Rattle.cov_rules.proofs.CallerLemmas.{fails_on_each, value_by_first_options}
 use Rattle.cov_view.specs.References.{is_known_node}
 use Rattle.cov_view.specs.Paths.{kind_of}
 use Rattle.cov_history.specs.BadChoices.{unsound_refusal}
 use Rattle.cov_history.specs.Kept.{Kept, seen_at, is_seen, the_item, items_seen, held_by}
 use Rattle.cov_history.specs.Laws.{text_of}
-use Rattle.cov_history.specs.Overtaking.{share_choice, overtakes, overtaken_from, overtaken}
+use Rattle.cov_history.specs.Overtaking.{share_choice, meet, overtakes, overtaken_from, overtaken}
 use Rattle.cov_history.specs.Reach.{AreReached, IsHeldInReach}
-use Rattle.cov_history.specs.Sessions.{Session, IsGood, seen, commit_of}
+use Rattle.cov_history.specs.Sessions.{Session, edits_of, IsGood, seen, commit_of}
 use Rattle.cov_history.specs.Verdict.{IsLegal, verdict, when_full, size_refusals, has_no_edits, as_overtaken}
 use Rattle.cov_history.specs.declared.refusal.Refusal.{Refusal}
 use Rattle.cov_history.specs.declared.refusal.Refusal.TheVariants as refusals
@@ -40,9 +42,9 @@ use Rattle.cov_history.proofs.Older.{legal-take}
 use Rattle.cov_history.proofs.Reaching.{seen-reached, legal-reached}
 use Rattle.cov_history.proofs.Renumbering.{renumbered, address_renumbered, renumbered-low, table-start, table-lines, table-grows}
 use Rattle.cov_history.proofs.Replays.{joined, replay-seen}
-use Rattle.cov_history.proofs.Sessions.{good-passes}
+use Rattle.cov_history.proofs.Sessions.{good-passes, sides-true}
 use Rattle.cov_history.proofs.Shown.{replay-stands}
-use Rattle.cov_history.proofs.Touching.{IsSameAt, kind_by, LeavesOn, replay-left}
+use Rattle.cov_history.proofs.Touching.{IsSameAt, kind_by, AreLeft, LeavesOn, replay-left}
 
 -- only the options that a history declares count in its replay
 module _ (history : List Command) (c : List Bool) where
@@ -76,47 +78,73 @@ module _ (history : List Command) (c : List Bool) where
       ∙ joined (items-front (held_by history).rows reached.of_rows) (items-front (held_by history).lines reached.of_lines)
       ∙ replay-seen (take count c) p history ∙ ap (replay (take count c)) (take-length history)
 
--- a commit that isn't overtaken shares its nodes with no later commit on a valid choice of its ambition
-any-one : (node : ℕ) (t : ℕ → Bool) (xs : List ℕ) → list_any (λ x. nat_eq x node) xs ≡ true → t node ≡ true → list_any t xs ≡ true
-any-one node t [] h k = absurd (cc)
-any-one node t (x ∷ xs) h k = at (nat_eq x node) refl h (λ j. any-one node t xs j k)
-  where
-    at : (b : Bool) → nat_eq x node ≡ b → (b || list_any (λ y. nat_eq y node) xs) ≡ true → (list_any (λ y. nat_eq y node) xs ≡ true → list_any t xs ≡ true) → (t x || list_any t xs) ≡ true
-    at true e j rest = let is : node ≡ x = grind (arith, nat_tests, e) in ap (λ b. b || list_any t xs) (subst (λ y. t y ≡ true) is k)
-    at false e j rest = or_right (t x) (list_any t xs) (rest j)
+-- edits that touch a node touch a common one
+common-node : (node : ℕ) (o p : Option ℕ) → is_number node o ≡ true → is_number node p ≡ true → are_same o p ≡ true
+common-node node None p h k = absurd (cc)
+common-node node (Some x) None h k = absurd (cc)
+common-node node (Some x) (Some y) h k = grind (arith, nat_tests, h, k)
 
-module _ (history : List Command) (ambition : Formula ℕ) (es : List Edit) (c : List Bool) (node : ℕ)
-    (whole : length c ≡ option_count history) (valid : is_valid_in history c ≡ true) (inside : value ambition c ≡ true) (own : touch node es ≡ true) where
-  left-one : (k : Command) → overtakes history ambition es k ≡ false → LeavesOn node c k
+-- whether one of the edits touches a node
+any-touches : (node : ℕ) (ss : List Sided) → has_number node (filter_map touched_by (unsided ss)) ≡ list_any (λ s. touches node s.edit) ss
+any-touches node [] = refl
+any-touches node (s ∷ ss) = at (touched_by s.edit) ∙ ap (λ b. touches node s.edit || b) (any-touches node ss)
+  where
+    at : (o : Option ℕ) → has_number node (cons_option o (filter_map touched_by (unsided ss))) ≡ (is_number node o || has_number node (filter_map touched_by (unsided ss)))
+    at None = refl
+    at (Some x) = refl
+
+-- a commit that isn't overtaken shares its nodes with no later commit's edit on a valid choice on which its own edits apply
+module _ (history : List Command) (ambition : Formula ℕ) (ss : List Sided) (c : List Bool) (node : ℕ)
+    (whole : length c ≡ option_count history) (valid : is_valid_in history c ≡ true) (inside : AllByRecursion (λ w. value w c ≡ true) (conditions ambition ss))
+    (own : touch node (unsided ss) ≡ true) where
+  both-share : (a b : Formula ℕ) → value a c ≡ true → value b c ≡ true → share_choice history a b ≡ true
+  both-share a b f g = at (share_choice history a b) refl
+    where
+      at : (t : Bool) → share_choice history a b ≡ t → t ≡ true
+      at true e = refl
+      at false e =
+          let none = fails_on_each (option_count history) (λ d. is_valid_in history d && (value a d && value b d)) e c whole in
+          absurd (let all : (is_valid_in history c && (value a c && value b c)) ≡ true = rw (valid, f, g) refl in cc)
+
+  -- an edit that touches the node and applies meets one of these edits
+  meets-one : (other : Formula ℕ) (e : Sided) (fs : List Sided) → value (condition other e) c ≡ true → touches node e.edit ≡ true → AllByRecursion (λ w. value w c ≡ true) (conditions ambition fs)
+      → list_any (λ f. touches node f.edit) fs ≡ true → list_any (meet history other e ambition) fs ≡ true
+  meets-one other e [] applies it all h = absurd (cc)
+  meets-one other e (f ∷ fs) applies it all h = at (touches node f.edit) refl h (meets-one other e fs applies it all.1)
+    where
+      at : (b : Bool) → touches node f.edit ≡ b → (b || list_any (λ g. touches node g.edit) fs) ≡ true → (list_any (λ g. touches node g.edit) fs ≡ true → list_any (meet history other e ambition) fs ≡ true)
+          → (meet history other e ambition f || list_any (meet history other e ambition) fs) ≡ true
+      at true k j rest =
+          ap (λ b. b || list_any (meet history other e ambition) fs)
+          (λ i. common-node node (touched_by e.edit) (touched_by f.edit) it k i && both-share (condition other e) (condition ambition f) applies all.0 i)
+      at false k j rest = or_right (meet history other e ambition f) (list_any (meet history other e ambition) fs) (rest j)
+
+  none-touch : (other : Formula ℕ) (others : List Sided) → list_any (λ e. list_any (meet history other e ambition) ss) others ≡ false → AreLeft node c other others
+  none-touch other [] h = tt
+  none-touch other (e ∷ others) h =
+      let parts = or_parts (list_any (meet history other e ambition) ss) (list_any (λ f. list_any (meet history other f ambition) ss) others) h in
+      (λ applies. at applies parts.0 (touches node e.edit) refl, none-touch other others parts.1)
+    where
+      some : list_any (λ f. touches node f.edit) ss ≡ true
+      some = sym (any-touches node ss) ∙ sym ((touched-rising (unsided ss)).1 node) ∙ own
+
+      at : value (condition other e) c ≡ true → list_any (meet history other e ambition) ss ≡ false → (b : Bool) → touches node e.edit ≡ b → b ≡ false
+      at applies none false it = refl
+      at applies none true it = absurd (let met = meets-one other e ss applies it inside some in cc)
+
+  left-one : (k : Command) → overtakes history ambition ss k ≡ false → LeavesOn node c k
   left-one (commands.Option name) h = tt
   left-one (commands.Constraint expr) h = tt
   left-one (commands.Prefer expr) h = tt
   left-one (commands.Default option on) h = tt
-  left-one (commands.Commit base choice other fs) h = λ applies. at applies (touch node fs) refl
-    where
-      shared : Bool
-      shared = share_choice history other ambition
+  left-one (commands.Commit base choice other others) h = none-touch other others h
 
-      both : (a : Bool) → a ≡ true → (a && shared) ≡ false → shared ≡ false
-      both true e j = j
-      both false e j = absurd (cc)
-
-      fails : shared ≡ false → (is_valid_in history c && (value other c && value ambition c)) ≡ false
-      fails j = fails_on_each (option_count history) (λ d. is_valid_in history d && (value other d && value ambition d)) j c whole
-
-      at : value other c ≡ true → (b : Bool) → touch node fs ≡ b → b ≡ false
-      at applies false e = refl
-      at applies true e =
-          let common : have_common (touched fs) (touched es) ≡ true = any-one node (λ x. touch x es) (touched fs) e own in
-          let none = fails (both (have_common (touched fs) (touched es)) common h) in
-          absurd (let all : (is_valid_in history c && (value other c && value ambition c)) ≡ true = rw (valid, applies, inside) refl in cc)
-
-  left-all : (p : ℕ) (later : List Command) → overtaken_from history ambition es p later ≡ None → AllByRecursion (LeavesOn node c) later
+  left-all : (p : ℕ) (later : List Command) → overtaken_from history ambition ss p later ≡ None → AllByRecursion (LeavesOn node c) later
   left-all p [] h = tt
-  left-all p (k ∷ later) h = at (overtakes history ambition es k) refl h (left-all (p + 1) later)
+  left-all p (k ∷ later) h = at (overtakes history ambition ss k) refl h (left-all (p + 1) later)
     where
-      at : (b : Bool) → overtakes history ambition es k ≡ b → cond b (Some (p + 1)) (overtaken_from history ambition es (p + 1) later) ≡ None
-          → (overtaken_from history ambition es (p + 1) later ≡ None → AllByRecursion (LeavesOn node c) later) → AllByRecursion (LeavesOn node c) (k ∷ later)
+      at : (b : Bool) → overtakes history ambition ss k ≡ b → cond b (Some (p + 1)) (overtaken_from history ambition ss (p + 1) later) ≡ None
+          → (overtaken_from history ambition ss (p + 1) later ≡ None → AllByRecursion (LeavesOn node c) later) → AllByRecursion (LeavesOn node c) (k ∷ later)
       at true e j rest = absurd (cc)
       at false e j rest = (left-one k e, rest j)
 
@@ -129,7 +157,7 @@ not-overtaken : (history : List Command) (s : Session) → IsGood history s → 
 not-overtaken history s good accepted =
     no-position (overtaken history s.base s.ambition s.edits)
     (none-first late (unsound ∷ [])
-    (none-behind (when_full history ∷ (size_refusals history s.edits ++ when (has_no_edits s.edits) refusals.Empty ∷ [])) (late ∷ unsound ∷ [])
+    (none-behind (when_full history ∷ (size_refusals history (edits_of s) ++ when (has_no_edits s.edits) refusals.Empty ∷ [])) (late ∷ unsound ∷ [])
     (sym (good-passes history s good) ∙ accepted))).0
   where
     late : Option Refusal
@@ -184,7 +212,10 @@ texts-renumbered n m (l ∷ ls) = ap (λ ts. l.text ∷ ts) (texts-renumbered n 
 
 module _ (history : List Command) (s : Session) (c : List Bool) (file : ℕ) (legal : IsLegal history) (good : IsGood history s)
     (accepted : verdict history (commit_of s) ≡ None) (whole : length c ≡ option_count history) (valid : is_valid_in history c ≡ true)
-    (front : take (length s.choice) c ≡ s.choice) (own : touch file s.edits ≡ true) where
+    (front : take (length s.choice) c ≡ s.choice) (own : touch file (edits_of s) ≡ true) where
+  abbrev es : List Edit
+  es = edits_of s
+
   abbrev before : List Command
   before = take s.base history
 
@@ -201,27 +232,30 @@ module _ (history : List Command) (s : Session) (c : List Bool) (file : ℕ) (le
   m = length nh.addresses
 
   abbrev tb : List (List ℕ)
-  tb = (numbers_after nb s.edits).addresses
+  tb = (numbers_after nb es).addresses
 
   abbrev th : List (List ℕ)
-  th = (numbers_after nh s.edits).addresses
+  th = (numbers_after nh es).addresses
 
   more : n ≤ m
   more = (table-grows s.base history).0
 
-  known : AreKnown nb.nodes n s.edits
-  known = accepted-known nb tb nb.nodes n 0 (replay s.choice before) s.edits good.accepted
+  known : AreKnown nb.nodes n es
+  known = accepted-known nb tb nb.nodes n 0 (replay s.choice before) es good.accepted
 
   alone : overtaken history s.base s.ambition s.edits ≡ None
   alone = not-overtaken history s good accepted
 
   old : file ≤ nb.nodes
-  old = touched-low nb.nodes n file s.edits known (sym ((touched-rising s.edits).1 file) ∙ own)
+  old = touched-low nb.nodes n file es known (sym ((touched-rising es).1 file) ∙ own)
 
-  inside-ambition : value s.ambition c ≡ true
-  inside-ambition =
-      let low : reach s.ambition ≤ length s.choice = subst (λ k. reach s.ambition ≤ k) (sym good.of_all_options) good.in_reach in
-      sym (value_by_first_options (length s.choice) s.ambition c low) ∙ ap (value s.ambition) front ∙ good.in_ambition
+  -- all its edits apply on the choice
+  inside-sides : AllByRecursion (λ w. value w c ≡ true) (conditions s.ambition s.edits)
+  inside-sides =
+      let low : reach_within s.ambition s.edits ≤ length s.choice = subst (λ k. reach_within s.ambition s.edits ≤ k) (sym good.of_all_options) good.in_reach in
+      all-both (λ w. reach w ≤ length s.choice) (λ w. value w s.choice ≡ true) (λ w. value w c ≡ true)
+      (λ w reached true_there. sym (value_by_first_options (length s.choice) w c reached) ∙ ap (value w) front ∙ true_there)
+      (conditions s.ambition s.edits) (conditions-low (length s.choice) s.ambition s.edits low) (sides-true s.choice s.ambition s.edits good.in_ambition good.in_sides)
 
   -- at the base, the choices show the same
   at-base : replay c before ≡ replay s.choice before
@@ -233,16 +267,16 @@ module _ (history : List Command) (s : Session) (c : List Bool) (file : ℕ) (le
   since-base : IsSameAt file (replay s.choice before) (replay c history)
   since-base =
       subst (λ v. IsSameAt file v (replay c history)) at-base
-      (replay-left file c s.base history old (left-all history s.ambition s.edits c file whole valid inside-ambition own s.base (drop s.base history) alone))
+      (replay-left file c s.base history old (left-all history s.ambition s.edits c file whole valid inside-sides own s.base (drop s.base history) alone))
 
   same : (y : ℕ) → address_in th (renumbered n m y) ≡ address_renumbered n m (address_in tb y)
   same =
       let start = table-start nb.addresses nh.addresses (is_table-of before []) more (table-grows s.base history).1 in
       subst (λ anchors. (y : ℕ) → address_in (with_lines nh.addresses anchors) (renumbered n m y) ≡ address_renumbered n m (address_in tb y))
-      (sym (anchors-renumbered n m more nb.nodes s.edits known))
-      (table-lines n m more nb.addresses nh.addresses (anchors_of n s.edits) start).addresses
+      (sym (anchors-renumbered n m more nb.nodes es known))
+      (table-lines n m more nb.addresses nh.addresses (anchors_of n es) start).addresses
 
-  start-alike : IsAlike nb nh more tb th (is_table-of before s.edits) (is_table-of history s.edits) same file old (base-nodes s.base history) (replay s.choice before) (replay c history)
+  start-alike : IsAlike nb nh more tb th (is_table-of before es) (is_table-of history es) same file old (base-nodes s.base history) (replay s.choice before) (replay c history)
   start-alike = record {
     kind = ap (kind_by file) since-base.row;
     lines = since-base.lines
@@ -250,16 +284,17 @@ module _ (history : List Command) (s : Session) (c : List Bool) (file : ℕ) (le
         (all-filter (λ l. IsLineOf nb.addresses n l.address) (λ l. nat_eq l.file file) (replay s.choice before).lines (replay-stands s.choice before).1));
   }
 
-  end-alike : IsAlike nb nh more tb th (is_table-of before s.edits) (is_table-of history s.edits) same file old (base-nodes s.base history)
+  end-alike : IsAlike nb nh more tb th (is_table-of before es) (is_table-of history es) same file old (base-nodes s.base history)
       (seen s history) (replay c (history ++ commit_of s ∷ []))
   end-alike =
-      subst (IsAlike nb nh more tb th (is_table-of before s.edits) (is_table-of history s.edits) same file old (base-nodes s.base history) (seen s history))
-      (sym (replay-commit c history s.base s.choice s.ambition s.edits ∙ all-apply c (replay c history) nh s.ambition s.edits inside-ambition))
-      (edits-alike nb nh more tb th (is_table-of before s.edits) (is_table-of history s.edits) same file old (base-nodes s.base history)
-      nb.nodes nh.nodes n m 0 (replay s.choice before) (replay c history) s.edits (omega arith) (omega arith) (omega arith) (omega arith)
-      (let count = length-with_lines nb.addresses (anchors_of n s.edits) in omega (arith, count))
-      (let count = length-with_lines nh.addresses (anchors_of m s.edits) in let few = anchors-same_count m n s.edits in omega (arith, count, few))
-      known (replay-in_table s.choice before s.edits) (replay-in_table c history s.edits) start-alike)
+      subst (IsAlike nb nh more tb th (is_table-of before es) (is_table-of history es) same file old (base-nodes s.base history) (seen s history))
+      (sym (replay-commit c history s.base s.choice s.ambition s.edits
+      ∙ all-apply c (replay c history) nh s.ambition s.edits inside-sides))
+      (edits-alike nb nh more tb th (is_table-of before es) (is_table-of history es) same file old (base-nodes s.base history)
+      nb.nodes nh.nodes n m 0 (replay s.choice before) (replay c history) es (omega arith) (omega arith) (omega arith) (omega arith)
+      (let count = length-with_lines nb.addresses (anchors_of n es) in omega (arith, count))
+      (let count = length-with_lines nh.addresses (anchors_of m es) in let few = anchors-same_count m n es in omega (arith, count, few))
+      known (replay-in_table s.choice before es) (replay-in_table c history es) start-alike)
 
   -- the commit shows of a file that it touches what its session saw
   pub commit-shows_file : (kind_of (replay c (history ++ commit_of s ∷ [])).rows file ≡ kind_of (seen s history).rows file)

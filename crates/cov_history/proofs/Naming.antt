@@ -9,7 +9,7 @@ use Rattle.cov_base.specs.Rows.{Row, with_name, with_parent, is_present}
 use Rattle.cov_base.specs.declared.number.NodeRef.{NodeRef}
 use Rattle.cov_base.specs.declared.number.NodeRef.TheVariants as nodes
 use Rattle.cov_base.proofs.CallerLemmas.{all-map, all-append, all-filter, all-placed, or_second}
-use Rattle.cov_expr.specs.Formula.{Formula, value, reach}
+use Rattle.cov_expr.specs.Formula.{Formula, value}
 use Rattle.cov_edit.specs.declared.edit.Edit.{Edit}
 use Rattle.cov_edit.specs.declared.edit.Edit.TheVariants as edits
 use Rattle.cov_edit.specs.declared.command.Command.{Command}
@@ -17,7 +17,9 @@ use Rattle.cov_edit.specs.declared.command.Command.TheVariants as commands
 use Rattle.cov_edit.specs.History.{option_count, first_false_in}
 use Rattle.cov_edit.specs.Numbering.{Numbers, node_number, line_number, node_count_after, line_count_after, nodes_made, no_numbers, numbers_after, numbers_from, numbers_of, numbered_edit, numbered_from}
 use Rattle.cov_edit.specs.Variant.{Variant, Line, bare, line_address, is_line, edited}
-use Rattle.cov_edit.specs.Replay.{conditions, applying, first_within, rest_within, changes_within, commit_changes, changes_from, applied, replay}
+use Rattle.cov_edit.specs.Replay.{applying, first_within, rest_within, changes_within, commit_changes, changes_from, applied, replay}
+use Rattle.cov_edit.specs.Sides.{unsided, conditions, reach_within}
+use Rattle.cov_edit.specs.declared.sided.Sided.{Sided}
 use Rattle.cov_edit.proofs.CallerLemmas.{fold-append, node_count_after-is, numbers_from-append, replay-append, replay-commit}
 use Rattle.cov_view.proofs.CallerLemmas.{new-accepted, insert-accepted, delete-accepted, rename-accepted, move-accepted, remove-accepted, none-first, none-behind}
 use Rattle.cov_view.specs.References.{is_known_node, is_made_node}
@@ -28,7 +30,7 @@ use Rattle.cov_history.specs.declared.refusal.Refusal.TheVariants as refusals
 use Rattle.cov_history.specs.BadChoices.{unsound_refusal}
 use Rattle.cov_history.specs.Naming.{NamesOnlyMade}
 use Rattle.cov_history.specs.Overtaking.{overtaken}
-use Rattle.cov_history.specs.Verdict.{verdict, when_full, size_refusals, as_invalid, as_bad_record, as_overtaken, has_no_edits, IsLegalFrom, IsLegal}
+use Rattle.cov_history.specs.Verdict.{verdict, when_full, size_refusals, as_invalid, as_bad_record, as_overtaken, as_outside, first_outside, has_no_edits, IsLegalFrom, IsLegal}
 use Rattle.cov_history.proofs.ChangedRows.{renamed-field, moved-field}
 use Rattle.cov_history.proofs.Sessions.{edit-accepted, rest-accepted}
 use Rattle.cov_history.proofs.Standing.{all-mapped}
@@ -227,11 +229,12 @@ module _ (c : List Bool) where
   nodes-from : (ns : Numbers) (v : Variant) (history : List Command) → AreUpTo the_node ns.nodes v.rows
       → AreUpTo the_node (numbers_from ns history).nodes (fold (applied c) v (changes_from ns history)).rows
   nodes-from ns v [] h = h
-  nodes-from ns v (commands.Commit base choice ambition es ∷ history) h =
+  nodes-from ns v (commands.Commit base choice ambition ss ∷ history) h =
+      let es : List Edit = unsided ss in
       subst (λ (w : Variant). AreUpTo the_node (numbers_from (numbers_after ns es) history).nodes w.rows)
-      (sym (fold-append (applied c) v (commit_changes ns ambition es) (changes_from (numbers_after ns es) history)))
-      (nodes-from (numbers_after ns es) (fold (applied c) v (commit_changes ns ambition es)) history
-      (nodes-edits c (conditions ambition es) ns (numbers_after ns es).addresses ns.nodes (length ns.addresses) (numbers_after ns es).nodes v es refl h))
+      (sym (fold-append (applied c) v (commit_changes ns ambition ss) (changes_from (numbers_after ns es) history)))
+      (nodes-from (numbers_after ns es) (fold (applied c) v (commit_changes ns ambition ss)) history
+      (nodes-edits c (conditions ambition ss) ns (numbers_after ns es).addresses ns.nodes (length ns.addresses) (numbers_after ns es).nodes v es refl h))
   nodes-from ns v (commands.Option name ∷ history) h = nodes-from ns v history h
   nodes-from ns v (commands.Constraint expr ∷ history) h = nodes-from ns v history h
   nodes-from ns v (commands.Prefer expr ∷ history) h = nodes-from ns v history h
@@ -242,7 +245,8 @@ module _ (c : List Bool) where
 
 pub nodes-grow : (ns : Numbers) (history : List Command) → ns.nodes ≤ (numbers_from ns history).nodes
 nodes-grow ns [] = omega arith
-nodes-grow ns (commands.Commit base choice ambition es ∷ history) =
+nodes-grow ns (commands.Commit base choice ambition ss ∷ history) =
+    let es : List Edit = unsided ss in
     let rest : ns.nodes + nodes_made es ≤ (numbers_from (numbers_after ns es) history).nodes = nodes-grow (numbers_after ns es) history in
     let less : ns.nodes ≤ (numbers_from (numbers_after ns es) history).nodes = omega (arith, rest) in
     less
@@ -263,36 +267,36 @@ no-record None h = refl
 no-record (Some r) h = absurd (cc)
 
 -- none of its last refusals holds
-ends-accepted : (history : List Command) (base : ℕ) (choice : List Bool) (ambition : Formula ℕ) (es : List Edit) → verdict history (commands.Commit base choice ambition es) ≡ None
-    → (first_refused (numbers_of (take base history)) (replay choice (take base history)) es ≡ None) × (unsound_refusal history ambition (commands.Commit base choice ambition es) ≡ None)
-ends-accepted history base choice ambition es h =
+ends-accepted : (history : List Command) (base : ℕ) (choice : List Bool) (ambition : Formula ℕ) (ss : List Sided) → verdict history (commands.Commit base choice ambition ss) ≡ None
+    → (first_refused (numbers_of (take base history)) (replay choice (take base history)) (unsided ss) ≡ None) × (unsound_refusal history ambition (commands.Commit base choice ambition ss) ≡ None)
+ends-accepted history base choice ambition ss h =
     let behind = none-first bad_record (late ∷ unsound ∷ []) (none-behind front (bad_record ∷ late ∷ unsound ∷ []) h) in
     let at_end = none-first unsound [] (none-first late (unsound ∷ []) behind.1).1 in
-    (no-record (first_refused (numbers_of (take base history)) (replay choice (take base history)) es) behind.0, at_end.0)
+    (no-record (first_refused (numbers_of (take base history)) (replay choice (take base history)) (unsided ss)) behind.0, at_end.0)
   where
     bad_record : Option Refusal
-    bad_record = as_bad_record (first_refused (numbers_of (take base history)) (replay choice (take base history)) es)
+    bad_record = as_bad_record (first_refused (numbers_of (take base history)) (replay choice (take base history)) (unsided ss))
 
     late : Option Refusal
-    late = as_overtaken (overtaken history base ambition es)
+    late = as_overtaken (overtaken history base ambition ss)
 
     unsound : Option Refusal
-    unsound = unsound_refusal history ambition (commands.Commit base choice ambition es)
+    unsound = unsound_refusal history ambition (commands.Commit base choice ambition ss)
 
     front : List (Option Refusal)
     front =
         when_full history ∷ when (nat_lt (length history) base) refusals.BadBase
-        ∷ when (not (nat_eq (length choice) (option_count (take base history))) || nat_lt (option_count (take base history)) (reach ambition)) refusals.BadOption
-        ∷ (size_refusals history es ++ as_invalid (first_false_in (take base history) choice) ∷ when (not (value ambition choice)) refusals.OutsideAmbition ∷ when (has_no_edits es) refusals.Empty ∷ [])
+        ∷ when (not (nat_eq (length choice) (option_count (take base history))) || nat_lt (option_count (take base history)) (reach_within ambition ss)) refusals.BadOption
+        ∷ (size_refusals history (unsided ss) ++ as_invalid (first_false_in (take base history) choice) ∷ when (not (value ambition choice)) refusals.OutsideAmbition ∷ as_outside (first_outside choice ss) ∷ when (has_no_edits ss) refusals.Empty ∷ [])
 
-pub edits-accepted : (history : List Command) (base : ℕ) (choice : List Bool) (ambition : Formula ℕ) (es : List Edit) → verdict history (commands.Commit base choice ambition es) ≡ None
-    → first_refused (numbers_of (take base history)) (replay choice (take base history)) es ≡ None
-edits-accepted history base choice ambition es h = (ends-accepted history base choice ambition es h).0
+pub edits-accepted : (history : List Command) (base : ℕ) (choice : List Bool) (ambition : Formula ℕ) (ss : List Sided) → verdict history (commands.Commit base choice ambition ss) ≡ None
+    → first_refused (numbers_of (take base history)) (replay choice (take base history)) (unsided ss) ≡ None
+edits-accepted history base choice ambition ss h = (ends-accepted history base choice ambition ss h).0
 
 -- and it would leave no fault within its ambition
-pub sound-accepted : (history : List Command) (base : ℕ) (choice : List Bool) (ambition : Formula ℕ) (es : List Edit) → verdict history (commands.Commit base choice ambition es) ≡ None
-    → unsound_refusal history ambition (commands.Commit base choice ambition es) ≡ None
-sound-accepted history base choice ambition es h = (ends-accepted history base choice ambition es h).1
+pub sound-accepted : (history : List Command) (base : ℕ) (choice : List Bool) (ambition : Formula ℕ) (ss : List Sided) → verdict history (commands.Commit base choice ambition ss) ≡ None
+    → unsound_refusal history ambition (commands.Commit base choice ambition ss) ≡ None
+sound-accepted history base choice ambition ss h = (ends-accepted history base choice ambition ss h).1
 
 -- what a legal history's replay names is made
 module _ (c : List Bool) where
@@ -315,16 +319,17 @@ module _ (c : List Bool) where
   names-one history (commands.Default option on) accepted h =
       as-before (numbers_of (history ++ commands.Default option on ∷ [])) (numbers_of history) (replay c (history ++ commands.Default option on ∷ [])) (replay c history)
       (numbers_from-append no_numbers history (commands.Default option on ∷ [])) (replay-append c history (commands.Default option on ∷ [])) h
-  names-one history (commands.Commit base choice ambition es) accepted h =
+  names-one history (commands.Commit base choice ambition ss) accepted h =
+      let es : List Edit = unsided ss in
       let ns : Numbers = numbers_of history in
       let nb : Numbers = numbers_of (take base history) in
-      as-before (numbers_of (history ++ commands.Commit base choice ambition es ∷ [])) (numbers_after (numbers_of history) es) (replay c (history ++ commands.Commit base choice ambition es ∷ [])) _
-      (numbers_from-append no_numbers history (commands.Commit base choice ambition es ∷ [])) (replay-commit c history base choice ambition es)
-      (names-edits c (conditions ambition es) nb.nodes ns (numbers_after ns es).addresses ns.nodes 0 (length ns.addresses) (numbers_after ns es).nodes (replay c history) es
+      as-before (numbers_of (history ++ commands.Commit base choice ambition ss ∷ [])) (numbers_after (numbers_of history) es) (replay c (history ++ commands.Commit base choice ambition ss ∷ [])) _
+      (numbers_from-append no_numbers history (commands.Commit base choice ambition ss ∷ [])) (replay-commit c history base choice ambition ss)
+      (names-edits c (conditions ambition ss) nb.nodes ns (numbers_after ns es).addresses ns.nodes 0 (length ns.addresses) (numbers_after ns es).nodes (replay c history) es
       (base-nodes base history) (omega arith) refl
       (accepted-named nb (numbers_after nb es).addresses nb.nodes 0 (length nb.addresses) 0 (replay choice (take base history)) es (omega arith)
       (further the_node nb.nodes (nb.nodes + 0) (replay choice (take base history)).rows (omega arith) (nodes-replay choice (take base history)))
-      (edits-accepted history base choice ambition es accepted)) h)
+      (edits-accepted history base choice ambition ss accepted)) h)
 
   names-from : (before history : List Command) → IsLegalFrom before history → Names before → Names (before ++ history)
   names-from before [] legal h = subst Names (sym (append-nil before)) h

@@ -20,6 +20,7 @@ use Rattle.cov_edit.specs.declared.command.Command.TheVariants as commands
 use Rattle.cov_edit.specs.Numbering.{Numbers, NumberedEdit, OnRows, Inserted, Deleted, node_number, line_number, node_count_after, line_count_after, anchors_of, numbers_after, numbers_of, numbered_edit, numbered_from}
 use Rattle.cov_edit.specs.Variant.{Variant, Line, line_address, is_line, edited}
 use Rattle.cov_edit.specs.Replay.{Change, first_within, rest_within, changes_within, commit_changes, replay}
+use Rattle.cov_edit.specs.Sides.{unsided}
 use Rattle.cov_edit.proofs.CallerLemmas.{anchors-same_count, line_count_after-is}
 use Rattle.cov_view.proofs.CallerLemmas.{node-known, insert-accepted, delete-accepted, head-number, below-head}
 use Rattle.cov_view.specs.References.{is_head, is_known_node, is_known_line}
@@ -28,7 +29,7 @@ use Rattle.cov_history.specs.Kept.{Kept, kept_number, new_line, kept_after, kept
 use Rattle.cov_history.specs.Files.{file_order}
 use Rattle.cov_history.specs.Insertions.{Insertion, the_insert, all_edits, lines_before, table_of, numbered_amid, held_amid, file_of, anchor_of, held_before}
 use Rattle.cov_history.specs.Deletions.{Deletion, the_delete, all_with, delete_file, delete_line, before_delete}
-use Rattle.cov_history.specs.Sessions.{Session, within_of, IsGood}
+use Rattle.cov_history.specs.Sessions.{Session, edits_of, within_of, IsGood}
 use Rattle.cov_history.specs.Verdict.{IsLegalFrom, IsLegal}
 use Rattle.cov_history.proofs.Appends.{holding-goes_on, lines-edits}
 use Rattle.cov_history.proofs.Deletes.{order-hidden}
@@ -66,9 +67,9 @@ module _ (file line : ℕ) where
 
   anchor-from : (q : ℕ) (held : Holding) (ns : Numbers) (history : List Command) → is_kept_anchor file line held.lines ≡ true → is_kept_anchor file line (held_from q held ns history).lines ≡ true
   anchor-from q held ns [] h = h
-  anchor-from q held ns (commands.Commit base choice ambition es ∷ history) h =
-      anchor-from (q + 1) (fold (held_with (q + 1)) held (commit_changes ns ambition es)) (numbers_after ns es) history
-      (ap (is_kept_anchor file line) (lines-edits (q + 1) held (commit_changes ns ambition es)) ∙ anchor-edits (q + 1) held.lines (commit_changes ns ambition es) h)
+  anchor-from q held ns (commands.Commit base choice ambition ss ∷ history) h =
+      anchor-from (q + 1) (fold (held_with (q + 1)) held (commit_changes ns ambition ss)) (numbers_after ns (unsided ss)) history
+      (ap (is_kept_anchor file line) (lines-edits (q + 1) held (commit_changes ns ambition ss)) ∙ anchor-edits (q + 1) held.lines (commit_changes ns ambition ss) h)
   anchor-from q held ns (commands.Option name ∷ history) h = anchor-from (q + 1) held ns history h
   anchor-from q held ns (commands.Constraint expr ∷ history) h = anchor-from (q + 1) held ns history h
   anchor-from q held ns (commands.Prefer expr ∷ history) h = anchor-from (q + 1) held ns history h
@@ -229,14 +230,14 @@ module _ (history : List Command) (s : Session) (legal : IsLegal history) (good 
   before = take s.base history
 
   -- each edit of a good session is accepted at its base when it is its turn
-  edit-at_base : (begun : List Edit) (e : Edit) (later : List Edit) → begun ++ e ∷ later ≡ s.edits
+  edit-at_base : (begun : List Edit) (e : Edit) (later : List Edit) → begun ++ e ∷ later ≡ edits_of s
       → refusal (numbers_of before) (fold edited (replay s.choice before) (numbered_amid before (begun ++ e ∷ later) begun)) e ≡ None
   edit-at_base begun e later all =
       turn-accepted (numbers_of before) (table_of before (begun ++ e ∷ later)) (numbers_of before).nodes (lines_before before) 0 (replay s.choice before) begun e later
       (ap (first_refused (numbers_of before) (replay s.choice before)) all ∙ good.accepted)
 
   -- what it sees then of its own lines and those of the base is kept now
-  amid-now : (begun later : List Edit) → begun ++ later ≡ s.edits
+  amid-now : (begun later : List Edit) → begun ++ later ≡ edits_of s
       → AreKeptNow (numbers_of before) (numbers_of history) (fold edited (replay s.choice before) (numbered_amid before (begun ++ later) begun)) (held_amid history (within_of s) (begun ++ later) begun).lines
   amid-now begun later all =
       let nb : Numbers = numbers_of before in
@@ -252,7 +253,7 @@ module _ (history : List Command) (s : Session) (legal : IsLegal history) (good 
       (start-now s.base history s.choice legal))
 
   -- each insert of a good session has its anchor kept when it is its turn, also on an older base
-  pub accepted-anchored : (i : Insertion) → all_edits i ≡ s.edits → is_kept_anchor (file_of history i) (anchor_of history i) (held_before history (within_of s) i).lines ≡ true
+  pub accepted-anchored : (i : Insertion) → all_edits i ≡ edits_of s → is_kept_anchor (file_of history i) (anchor_of history i) (held_before history (within_of s) i).lines ≡ true
   accepted-anchored i all =
       let nb : Numbers = numbers_of before in
       let accepted = insert-accepted nb v i.file i.after i.text (edit-at_base i.begun (the_insert i) i.later all) in
@@ -268,7 +269,7 @@ module _ (history : List Command) (s : Session) (legal : IsLegal history) (good 
       at false e k rest = rest k
 
   -- each delete of a good session has its line in its file when it is its turn, also on an older base
-  pub accepted-there : (d : Deletion) → all_with d ≡ s.edits → orders.has_line (delete_line history d) (file_order (delete_file history d) (before_delete history (within_of s) d).lines) ≡ true
+  pub accepted-there : (d : Deletion) → all_with d ≡ edits_of s → orders.has_line (delete_line history d) (file_order (delete_file history d) (before_delete history (within_of s) d).lines) ≡ true
   accepted-there d all =
       let nb : Numbers = numbers_of before in
       let accepted = delete-accepted nb v d.file d.line (edit-at_base d.begun (the_delete d) d.later all) in

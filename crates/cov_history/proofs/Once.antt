@@ -1,6 +1,6 @@
 -- A line that the edits of a session delete is deleted once.
 use Rattle.std.proofs.Common.{◌≡◌, ℕ, suc, ◌+◌, ◌<◌, ◌≤◌, Bool, true, false, cond, ◌&&◌, ◌||◌, not, nat_eq, List, [], ◌∷◌, ◌++◌, length, take, append-nil, None, refl, sym, ap, subst, ◌∙◌, arith}
-use Rattle.std.specs.List.{fold, filter, list_any, AllByRecursion}
+use Rattle.std.specs.List.{filter, list_any, AllByRecursion}
 use Rattle.std.proofs.lemmas.Bool.{and_parts}
 use Rattle.std.proofs.lemmas.Bool.Decides.{nat_tests}
 use Rattle.cov_base.specs.Addresses.{address_in, line_of, IsTable, IsLineOf}
@@ -12,15 +12,15 @@ use Rattle.cov_base.proofs.CallerLemmas.{all-map, any-filter, at_one, line_is, l
 use Rattle.cov_edit.specs.declared.edit.Edit.{Edit}
 use Rattle.cov_edit.specs.declared.edit.Edit.TheVariants as edits
 use Rattle.cov_edit.specs.declared.command.Command.{Command}
-use Rattle.cov_edit.specs.Numbering.{Numbers, NumberedEdit, Inserted, Deleted, node_number, line_number, node_count_after, line_count_after, anchors_of, numbers_after, numbers_of, numbered_edit, numbered_from}
+use Rattle.cov_edit.specs.Numbering.{Numbers, Deleted, node_number, line_number, node_count_after, line_count_after, anchors_of, numbers_of, numbered_edit, numbered_from}
 use Rattle.cov_edit.specs.Replay.{replay}
 use Rattle.cov_edit.specs.Variant.{Variant, Line, line_address, is_line, edited}
 use Rattle.cov_edit.proofs.CallerLemmas.{line_count_after-is}
-use Rattle.cov_view.proofs.CallerLemmas.{delete-accepted, node-known}
+use Rattle.cov_view.proofs.CallerLemmas.{delete-accepted}
 use Rattle.cov_view.specs.References.{is_known_node, is_known_line}
-use Rattle.cov_view.specs.Refusals.{shows_line, refusal, refused_from, first_refused}
-use Rattle.cov_history.specs.Insertions.{lines_before, table_of}
-use Rattle.cov_history.specs.Sessions.{Session, IsGood}
+use Rattle.cov_view.specs.Refusals.{refusal, refused_from, first_refused}
+use Rattle.cov_history.specs.Insertions.{table_of}
+use Rattle.cov_history.specs.Sessions.{Session, edits_of, IsGood}
 use Rattle.cov_history.proofs.Alike.{AreKnown, IsInTable, IsKnown, accepted-known, in_table-edit}
 use Rattle.cov_history.proofs.Files.{any-placed}
 use Rattle.cov_history.proofs.Inserts.{amid-within, is_table-of}
@@ -206,7 +206,7 @@ known-behind n m [] later h = h
 known-behind n m (e ∷ begun) later h = known-behind n m begun later h.1
 
 -- a line that a good session deletes is deleted by none of its later edits
-pub deleted-once : (history : List Command) (s : Session) (begun : List Edit) (file : NodeRef) (line : LineRef) (later : List Edit) → IsGood history s → begun ++ edits.Delete file line ∷ later ≡ s.edits
+pub deleted-once : (history : List Command) (s : Session) (begun : List Edit) (file : NodeRef) (line : LineRef) (later : List Edit) → IsGood history s → begun ++ edits.Delete file line ∷ later ≡ edits_of s
     → AllByRecursion (IsOther (numbers_of history).nodes (length (numbers_of history).addresses) file line) later
 deleted-once history s begun file line later good all =
     let before : List Command = take s.base history in

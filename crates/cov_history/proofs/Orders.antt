@@ -21,7 +21,7 @@ use Rattle.cov_history.proofs.Inserts.{is_table, in_table, insert-anchor, insert
 
 same-held : (q : ℕ) (held : Holding) (ns : Numbers) (history : List Command) → has_commit history ≡ false → held_from q held ns history ≡ held
 same-held q held ns [] h = refl
-same-held q held ns (commands.Commit base choice ambition es ∷ history) h = absurd (cc)
+same-held q held ns (commands.Commit base choice ambition ss ∷ history) h = absurd (cc)
 same-held q held ns (commands.Option name ∷ history) h = same-held (q + 1) held ns history h
 same-held q held ns (commands.Constraint expr ∷ history) h = same-held (q + 1) held ns history h
 same-held q held ns (commands.Prefer expr ∷ history) h = same-held (q + 1) held ns history h

@@ -8,13 +8,14 @@ use Rattle.std.proofs.lemmas.Bool.Decides.{nat_tests}
 use Rattle.cov_base.specs.Rows.{Row, RowChange, Created, Renamed, Moved, Removed, with_name, with_parent}
 use Rattle.cov_base.proofs.CallerLemmas.{all-map, all-append, all-placed}
 use Rattle.cov_expr.specs.Formula.{Formula, value, reach}
-use Rattle.cov_edit.specs.declared.edit.Edit.{Edit}
+use Rattle.cov_edit.specs.declared.sided.Sided.{Sided}
 use Rattle.cov_edit.specs.declared.command.Command.{Command}
 use Rattle.cov_edit.specs.declared.command.Command.TheVariants as commands
 use Rattle.cov_edit.specs.History.{option_count, first_false_in}
 use Rattle.cov_edit.specs.Numbering.{Numbers, NumberedEdit, OnRows, Inserted, Deleted, no_numbers, numbers_after, numbers_of}
 use Rattle.cov_edit.specs.Replay.{Change, commit_changes, replay}
-use Rattle.cov_edit.proofs.CallerLemmas.{each_change, each_condition}
+use Rattle.cov_edit.specs.Sides.{unsided, reach_within}
+use Rattle.cov_edit.proofs.CallerLemmas.{conditions-low, each_change}
 use Rattle.cov_edit.specs.Variant.{Line, is_line}
 use Rattle.cov_view.proofs.CallerLemmas.{none-first, none-when}
 use Rattle.cov_view.specs.Refusals.{when, first_refused}
@@ -24,7 +25,7 @@ use Rattle.cov_history.specs.BadChoices.{unsound_refusal}
 use Rattle.cov_history.specs.Kept.{Kept, seen_at, new_item, hidden, taken_up, hidden_where, replaced_where, kept_address, new_line, is_row, rows_kept_after, Holding, nothing_held, held_after, held_with, held_from, held_by}
 use Rattle.cov_history.specs.Reach.{IsReached, AreReached, IsHeldInReach}
 use Rattle.cov_history.specs.Overtaking.{overtaken}
-use Rattle.cov_history.specs.Verdict.{verdict, when_full, size_refusals, as_invalid, as_bad_record, as_overtaken, has_no_edits, IsLegalFrom, IsLegal}
+use Rattle.cov_history.specs.Verdict.{verdict, when_full, size_refusals, as_invalid, as_bad_record, as_overtaken, as_outside, first_outside, has_no_edits, IsLegalFrom, IsLegal}
 use Rattle.cov_history.proofs.Standing.{all-mapped}
 
 -- later, more options are declared
@@ -36,7 +37,7 @@ options-later (suc p) (suc q) (commands.Option name ∷ history) h = let rest = 
 options-later (suc p) (suc q) (commands.Constraint expr ∷ history) h = options-later p q history (omega (arith, h))
 options-later (suc p) (suc q) (commands.Prefer expr ∷ history) h = options-later p q history (omega (arith, h))
 options-later (suc p) (suc q) (commands.Default option on ∷ history) h = options-later p q history (omega (arith, h))
-options-later (suc p) (suc q) (commands.Commit base choice ambition es ∷ history) h = options-later p q history (omega (arith, h))
+options-later (suc p) (suc q) (commands.Commit base choice ambition ss ∷ history) h = options-later p q history (omega (arith, h))
 
 module _ (history : List Command) where
   pub seen-reached : (q : ℕ) (changes : List (ℕ × Formula ℕ)) → AllByRecursion (IsReached history) changes → reach (seen_at changes q) ≤ option_count (take q history)
@@ -115,14 +116,14 @@ held-longer history later held h = record {
 }
 
 -- an accepted commit's base is in the history, and its ambition and sides name only options declared there
-pub accepted-reach : (history : List Command) (base : ℕ) (choice : List Bool) (ambition : Formula ℕ) (es : List Edit) → verdict history (commands.Commit base choice ambition es) ≡ None
-    → (base ≤ length history) × (reach ambition ≤ option_count (take base history))
-accepted-reach history base choice ambition es h =
+pub accepted-reach : (history : List Command) (base : ℕ) (choice : List Bool) (ambition : Formula ℕ) (ss : List Sided) → verdict history (commands.Commit base choice ambition ss) ≡ None
+    → (base ≤ length history) × (reach_within ambition ss ≤ option_count (take base history))
+accepted-reach history base choice ambition ss h =
     let behind_full = none-first (when_full history) (bad_base ∷ bad_option ∷ others) h in
     let behind_base = none-when (nat_lt (length history) base) refusals.BadBase (bad_option ∷ others) behind_full.1 in
     let behind_option = none-when (differs || beyond) refusals.BadOption others behind_base.1 in
     let at_base : nat_lt (length history) base ≡ false = behind_base.0 in
-    let named : nat_lt (option_count (take base history)) (reach ambition) ≡ false = (or_parts differs beyond behind_option.0).1 in
+    let named : nat_lt (option_count (take base history)) (reach_within ambition ss) ≡ false = (or_parts differs beyond behind_option.0).1 in
     (grind (arith, nat_tests, at_base), grind (arith, nat_tests, named))
   where
     bad_base : Option Refusal
@@ -132,45 +133,45 @@ accepted-reach history base choice ambition es h =
     differs = not (nat_eq (length choice) (option_count (take base history)))
 
     beyond : Bool
-    beyond = nat_lt (option_count (take base history)) (reach ambition)
+    beyond = nat_lt (option_count (take base history)) (reach_within ambition ss)
 
     bad_option : Option Refusal
     bad_option = when (differs || beyond) refusals.BadOption
 
     others : List (Option Refusal)
     others =
-        size_refusals history es ++ as_invalid (first_false_in (take base history) choice) ∷ when (not (value ambition choice)) refusals.OutsideAmbition
-        ∷ when (has_no_edits es) refusals.Empty ∷ as_bad_record (first_refused (numbers_of (take base history)) (replay choice (take base history)) es)
-        ∷ as_overtaken (overtaken history base ambition es) ∷ unsound_refusal history ambition (commands.Commit base choice ambition es) ∷ []
+        size_refusals history (unsided ss) ++ as_invalid (first_false_in (take base history) choice) ∷ when (not (value ambition choice)) refusals.OutsideAmbition
+        ∷ as_outside (first_outside choice ss) ∷ when (has_no_edits ss) refusals.Empty ∷ as_bad_record (first_refused (numbers_of (take base history)) (replay choice (take base history)) (unsided ss))
+        ∷ as_overtaken (overtaken history base ambition ss) ∷ unsound_refusal history ambition (commands.Commit base choice ambition ss) ∷ []
 
-commit-reached : (history : List Command) (q base : ℕ) (choice : List Bool) (ambition : Formula ℕ) (es : List Edit) (held : Holding) (ns : Numbers)
-    → q ≡ length history → verdict history (commands.Commit base choice ambition es) ≡ None → IsHeldInReach history held
-    → IsHeldInReach (history ++ commands.Commit base choice ambition es ∷ []) (fold (held_with (q + 1)) held (commit_changes ns ambition es))
-commit-reached history q base choice ambition es held ns e h reached =
-    let accepted = accepted-reach history base choice ambition es h in
+commit-reached : (history : List Command) (q base : ℕ) (choice : List Bool) (ambition : Formula ℕ) (ss : List Sided) (held : Holding) (ns : Numbers)
+    → q ≡ length history → verdict history (commands.Commit base choice ambition ss) ≡ None → IsHeldInReach history held
+    → IsHeldInReach (history ++ commands.Commit base choice ambition ss ∷ []) (fold (held_with (q + 1)) held (commit_changes ns ambition ss))
+commit-reached history q base choice ambition ss held ns e h reached =
+    let accepted = accepted-reach history base choice ambition ss h in
     let within : base ≤ length history = accepted.0 in
-    let grown = length-append history (commands.Commit base choice ambition es ∷ []) in
-    edits-reached longer (q + 1) held (commit_changes ns ambition es) (omega (arith, e, grown))
-    (each_change (λ w. reach w ≤ option_count (take (q + 1) longer)) ambition ns (numbers_after ns es).addresses ns.nodes (length ns.addresses) es
-    (each_condition (λ w. reach w ≤ option_count (take (q + 1) longer)) ambition es (
-    let named : reach ambition ≤ option_count (take base longer) =
-    subst (λ l. reach ambition ≤ option_count l) (sym (take-append-le base history (commands.Commit base choice ambition es ∷ []) within)) accepted.1 in
+    let grown = length-append history (commands.Commit base choice ambition ss ∷ []) in
+    edits-reached longer (q + 1) held (commit_changes ns ambition ss) (omega (arith, e, grown))
+    (each_change (λ w. reach w ≤ option_count (take (q + 1) longer)) ambition ns (numbers_after ns (unsided ss)).addresses ns.nodes (length ns.addresses) ss
+    (conditions-low (option_count (take (q + 1) longer)) ambition ss (
+    let named : reach_within ambition ss ≤ option_count (take base longer) =
+    subst (λ l. reach_within ambition ss ≤ option_count l) (sym (take-append-le base history (commands.Commit base choice ambition ss ∷ []) within)) accepted.1 in
     let more = options-later base (q + 1) longer (omega (arith, within, e)) in
     omega (arith, named, more)
     )))
-    (held-longer history (commands.Commit base choice ambition es ∷ []) held reached)
+    (held-longer history (commands.Commit base choice ambition ss ∷ []) held reached)
   where
     longer : List Command
-    longer = history ++ commands.Commit base choice ambition es ∷ []
+    longer = history ++ commands.Commit base choice ambition ss ∷ []
 
 reached-from : (before : List Command) (q : ℕ) (held : Holding) (ns : Numbers) (history : List Command) → q ≡ length before → IsLegalFrom before history → IsHeldInReach before held
     → IsHeldInReach (before ++ history) (held_from q held ns history)
 reached-from before q held ns [] e legal h = subst (λ l. IsHeldInReach l held) (sym (append-nil before)) h
-reached-from before q held ns (commands.Commit base choice ambition es ∷ history) e legal h =
-    subst (λ l. IsHeldInReach l (held_from (q + 1) (fold (held_with (q + 1)) held (commit_changes ns ambition es)) (numbers_after ns es) history)) (append_assoc before (commands.Commit base choice ambition es ∷ []) history)
-    (reached-from (before ++ commands.Commit base choice ambition es ∷ []) (q + 1) (fold (held_with (q + 1)) held (commit_changes ns ambition es)) (numbers_after ns es) history
-    (omega (arith, e, length-append before (commands.Commit base choice ambition es ∷ []))) legal.2
-    (commit-reached before q base choice ambition es held ns e legal.1 h))
+reached-from before q held ns (commands.Commit base choice ambition ss ∷ history) e legal h =
+    subst (λ l. IsHeldInReach l (held_from (q + 1) (fold (held_with (q + 1)) held (commit_changes ns ambition ss)) (numbers_after ns (unsided ss)) history)) (append_assoc before (commands.Commit base choice ambition ss ∷ []) history)
+    (reached-from (before ++ commands.Commit base choice ambition ss ∷ []) (q + 1) (fold (held_with (q + 1)) held (commit_changes ns ambition ss)) (numbers_after ns (unsided ss)) history
+    (omega (arith, e, length-append before (commands.Commit base choice ambition ss ∷ []))) legal.2
+    (commit-reached before q base choice ambition ss held ns e legal.1 h))
 reached-from before q held ns (commands.Option name ∷ history) e legal h =
     subst (λ l. IsHeldInReach l (held_from (q + 1) held ns history)) (append_assoc before (commands.Option name ∷ []) history)
     (reached-from (before ++ commands.Option name ∷ []) (q + 1) held ns history (omega (arith, e, length-append before (commands.Option name ∷ []))) legal.2

@@ -4,11 +4,13 @@ use Rattle.std.specs.List.{fold}
 use Rattle.cov_base.specs.Addresses.{IsTable, AreInOrder}
 use Rattle.cov_base.specs.Rows.{Row, RowChange, Created, Renamed, Moved, Removed, with_name, with_parent, changed}
 use Rattle.cov_expr.specs.Formula.{Formula, value}
+use Rattle.cov_edit.specs.declared.edit.Edit.{Edit}
 use Rattle.cov_edit.specs.declared.command.Command.{Command}
 use Rattle.cov_edit.specs.declared.command.Command.TheVariants as commands
 use Rattle.cov_edit.specs.Numbering.{Numbers, NumberedEdit, OnRows, Inserted, Deleted, no_numbers, numbers_after, numbered}
 use Rattle.cov_edit.specs.Variant.{Variant, Line, line_address, is_line, lines_after, rows_after, edited}
-use Rattle.cov_edit.specs.Replay.{conditions, Change, applying, first_within, rest_within, changes_within, commit_changes, changes_from, applied, replay}
+use Rattle.cov_edit.specs.Replay.{Change, applying, first_within, rest_within, changes_within, commit_changes, changes_from, applied, replay}
+use Rattle.cov_edit.specs.Sides.{unsided, conditions}
 use Rattle.cov_edit.proofs.CallerLemmas.{fold-append}
 use Rattle.cov_history.specs.Kept.{Kept, kept_address, kept_after, is_row, rows_kept_after, entries_after, Holding, nothing_held, held_after, held_with, held_from, held_by, lines_seen, rows_seen, variant_seen, IsHolding}
 use Rattle.cov_history.proofs.Seen.{seen-later, append-seen, append-before, hide-seen, hide-before, replace-seen, replace-before, place-seen, place-before}
@@ -91,9 +93,9 @@ module _ (c : List Bool) where
   -- what comes after a position isn't seen at it
   pub history-before : (p q : ℕ) (held : Holding) (ns : Numbers) (history : List Command) → p ≤ q → variant_seen c p (held_from q held ns history) ≡ variant_seen c p held
   history-before p q held ns [] h = refl
-  history-before p q held ns (commands.Commit base choice ambition es ∷ history) h =
-      history-before p (q + 1) (fold (held_with (q + 1)) held (commit_changes ns ambition es)) (numbers_after ns es) history (omega (arith, h))
-      ∙ edits-before p (q + 1) held (commit_changes ns ambition es) (omega (arith, h))
+  history-before p q held ns (commands.Commit base choice ambition ss ∷ history) h =
+      history-before p (q + 1) (fold (held_with (q + 1)) held (commit_changes ns ambition ss)) (numbers_after ns (unsided ss)) history (omega (arith, h))
+      ∙ edits-before p (q + 1) held (commit_changes ns ambition ss) (omega (arith, h))
   history-before p q held ns (commands.Option name ∷ history) h = history-before p (q + 1) held ns history (omega (arith, h))
   history-before p q held ns (commands.Constraint expr ∷ history) h = history-before p (q + 1) held ns history (omega (arith, h))
   history-before p q held ns (commands.Prefer expr ∷ history) h = history-before p (q + 1) held ns history (omega (arith, h))
@@ -108,14 +110,17 @@ module _ (c : List Bool) where
   replay-from zero p q held ns history e table s =
       history-before p q held ns history (omega (arith, e)) ∙ variant-later ns.addresses (length ns.addresses) p q held (omega (arith, e)) s
   replay-from (suc m) p q held ns [] e table s = variant-later ns.addresses (length ns.addresses) p q held (omega (arith, e)) s
-  replay-from (suc m) p q held ns (commands.Commit base choice ambition es ∷ history) e table s =
-      replay-from m p (q + 1) (fold (held_with (q + 1)) held (commit_changes ns ambition es)) (numbers_after ns es) history (omega (arith, e))
-      (table-after ns es table) (stands-commit ns (conditions ambition es) es q held table s)
+  replay-from (suc m) p q held ns (commands.Commit base choice ambition ss ∷ history) e table s =
+      replay-from m p (q + 1) (fold (held_with (q + 1)) held (commit_changes ns ambition ss)) (numbers_after ns es) history (omega (arith, e))
+      (table-after ns es table) (stands-commit ns (conditions ambition ss) es q held table s)
       ∙ ap (λ v. fold (applied c) v later)
-      (edits-seen (numbers_after ns es).addresses (length ns.addresses) (q + 1) (conditions ambition es) held (numbered ns es) (table-after ns es table) (commit-next ns es) (stands-opened ns es q held s)
-      ∙ ap (λ v. fold (applied c) v (commit_changes ns ambition es)) (variant-later ns.addresses (length ns.addresses) (q + 1) q held (omega arith) s))
-      ∙ sym (fold-append (applied c) (variant_seen c q held) (commit_changes ns ambition es) later)
+      (edits-seen (numbers_after ns es).addresses (length ns.addresses) (q + 1) (conditions ambition ss) held (numbered ns es) (table-after ns es table) (commit-next ns es) (stands-opened ns es q held s)
+      ∙ ap (λ v. fold (applied c) v (commit_changes ns ambition ss)) (variant-later ns.addresses (length ns.addresses) (q + 1) q held (omega arith) s))
+      ∙ sym (fold-append (applied c) (variant_seen c q held) (commit_changes ns ambition ss) later)
     where
+      es : List Edit
+      es = unsided ss
+
       later : List Change
       later = changes_from (numbers_after ns es) (take m history)
   replay-from (suc m) p q held ns (commands.Option name ∷ history) e table s =

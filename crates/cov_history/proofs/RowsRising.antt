@@ -10,7 +10,8 @@ use Rattle.cov_edit.specs.declared.edit.Edit.TheVariants as edits
 use Rattle.cov_edit.specs.declared.command.Command.{Command}
 use Rattle.cov_edit.specs.declared.command.Command.TheVariants as commands
 use Rattle.cov_edit.specs.Numbering.{Numbers, NumberedEdit, no_numbers, node_number, node_count_after, line_count_after, nodes_made, numbers_after, numbers_from, numbers_of, numbered_edit, numbered_from}
-use Rattle.cov_edit.specs.Replay.{conditions, applying, first_within, rest_within, changes_within, commit_changes, changes_from, applied, replay}
+use Rattle.cov_edit.specs.Replay.{applying, first_within, rest_within, changes_within, commit_changes, changes_from, applied, replay}
+use Rattle.cov_edit.specs.Sides.{unsided, conditions}
 use Rattle.cov_edit.specs.Variant.{Variant, bare, edited}
 use Rattle.cov_edit.proofs.CallerLemmas.{fold-append, node_count_after-is}
 use Rattle.cov_history.proofs.ChangedRows.{renamed-field, moved-field}
@@ -80,11 +81,12 @@ edits-up c within ns t node line v (e ∷ es) h =
 
 changes-up : (c : List Bool) (ns : Numbers) (v : Variant) (history : List Command) → AreNodesUpTo ns.nodes v → AreNodesUpTo (numbers_from ns history).nodes (fold (applied c) v (changes_from ns history))
 changes-up c ns v [] h = h
-changes-up c ns v (commands.Commit base choice ambition es ∷ history) h =
+changes-up c ns v (commands.Commit base choice ambition ss ∷ history) h =
+    let es : List Edit = unsided ss in
     subst (AreNodesUpTo (numbers_from (numbers_after ns es) history).nodes)
-    (sym (fold-append (applied c) v (commit_changes ns ambition es) (changes_from (numbers_after ns es) history)))
-    (changes-up c (numbers_after ns es) (fold (applied c) v (commit_changes ns ambition es)) history
-    (edits-up c (conditions ambition es) ns (numbers_after ns es).addresses ns.nodes (length ns.addresses) v es h))
+    (sym (fold-append (applied c) v (commit_changes ns ambition ss) (changes_from (numbers_after ns es) history)))
+    (changes-up c (numbers_after ns es) (fold (applied c) v (commit_changes ns ambition ss)) history
+    (edits-up c (conditions ambition ss) ns (numbers_after ns es).addresses ns.nodes (length ns.addresses) v es h))
 changes-up c ns v (commands.Option name ∷ history) h = changes-up c ns v history h
 changes-up c ns v (commands.Constraint expr ∷ history) h = changes-up c ns v history h
 changes-up c ns v (commands.Prefer expr ∷ history) h = changes-up c ns v history h

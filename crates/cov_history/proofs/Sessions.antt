@@ -1,13 +1,13 @@
 -- Good sessions.
 use Rattle.std.proofs.Common.{◌≡◌, ℕ, suc, ◌+◌, ◌≤◌, Bool, true, false, cond, ◌||◌, ◌&&◌, not, nat_eq, nat_lt, List, [], ◌∷◌, ◌++◌, length, length-append, take, drop, Option, Some, None, option_map, refl, sym, ap, subst, ◌∙◌, arith}
-use Rattle.std.specs.List.{fold, list_all, list_any, position_or_len}
+use Rattle.std.specs.List.{fold, list_all, list_any, position_or_len, AllByRecursion}
 use Rattle.std.proofs.lemmas.List.{take-append-drop, take-append-le}
 use Rattle.std.proofs.lemmas.Bool.{and_parts}
 use Rattle.std.proofs.lemmas.Bool.Decides.{nat_tests}
 use Rattle.cov_base.proofs.CallerLemmas.{any-filter}
 use Rattle.cov_base.specs.Addresses.{line_of}
 use Rattle.cov_base.specs.declared.number.LineRef.{LineRef}
-use Rattle.cov_expr.specs.Formula.{Formula, value, reach}
+use Rattle.cov_expr.specs.Formula.{Formula, value}
 use Rattle.cov_expr.specs.Validity.{is_valid, first_false}
 use Rattle.cov_edit.specs.declared.edit.Edit.{Edit}
 use Rattle.cov_edit.specs.declared.command.Command.{Command}
@@ -16,6 +16,8 @@ use Rattle.cov_edit.specs.History.{option_count, constraints_of, is_valid_in}
 use Rattle.cov_edit.specs.Numbering.{Numbers, no_numbers, node_count_after, line_count_after, line_number, numbers_from, numbers_of, numbered_edit, numbered_from, numbered}
 use Rattle.cov_edit.specs.Variant.{Variant, edited}
 use Rattle.cov_edit.specs.Replay.{changes_from, applied, replay}
+use Rattle.cov_edit.specs.Sides.{conditions, reach_within}
+use Rattle.cov_edit.specs.declared.sided.Sided.{Sided}
 use Rattle.cov_edit.proofs.CallerLemmas.{numbers_from-append, replay-append, replay-commit, all-apply}
 use Rattle.cov_view.proofs.CallerLemmas.{first-not_when}
 use Rattle.cov_view.specs.References.{is_known_line}
@@ -25,10 +27,10 @@ use Rattle.cov_history.specs.declared.refusal.Refusal.{Refusal}
 use Rattle.cov_history.specs.declared.refusal.Refusal.TheVariants as refusals
 use Rattle.cov_history.specs.BadChoices.{unsound_refusal}
 use Rattle.cov_history.specs.Kept.{Holding, variant_seen, kept_number, file_kept}
-use Rattle.cov_history.specs.Verdict.{as_invalid, as_bad_record, as_overtaken, has_no_edits, size_refusals, when_full}
+use Rattle.cov_history.specs.Verdict.{as_invalid, as_bad_record, as_overtaken, as_outside, first_outside, has_no_edits, size_refusals, when_full}
 use Rattle.cov_history.specs.Laws.{GoodCommitsPass}
 use Rattle.cov_history.specs.Overtaking.{overtaken}
-use Rattle.cov_history.specs.Sessions.{Session, IsGood, seen, commit_of, has_commit}
+use Rattle.cov_history.specs.Sessions.{Session, edits_of, IsGood, seen, commit_of, has_commit}
 use Rattle.cov_history.proofs.Files.{any-seen}
 
 pub good-stays : (history later : List Command) (s : Session) → IsGood history s → IsGood (history ++ later) s
@@ -40,8 +42,9 @@ good-stays history later s good =
       of_all_options = subst (λ h. length s.choice ≡ option_count h) e good.of_all_options;
       valid = subst (λ h. is_valid_in h s.choice ≡ true) e good.valid;
       in_ambition = good.in_ambition;
-      in_reach = subst (λ h. reach s.ambition ≤ option_count h) e good.in_reach;
-      accepted = subst (λ h. first_refused (numbers_of h) (replay s.choice h) s.edits ≡ None) e good.accepted;
+      in_sides = good.in_sides;
+      in_reach = subst (λ h. reach_within s.ambition s.edits ≤ option_count h) e good.in_reach;
+      accepted = subst (λ h. first_refused (numbers_of h) (replay s.choice h) (edits_of s) ≡ None) e good.accepted;
     }
 
 -- refusals
@@ -72,31 +75,48 @@ none-false c es h =
     let e : nat_lt (position_or_len (λ f. not (value f c)) es) (length es) ≡ false = grind (arith, nat_tests, all) in
     ap (λ b. as_invalid (option_map (λ n. n + 1) (cond b (Some (position_or_len (λ f. not (value f c)) es)) None))) e
 
+-- where each side is true, none is the first that isn't
+all-inside : (c : List Bool) (ss : List Sided) → AllByRecursion (λ s. value s.side c ≡ true) ss → position_or_len (λ s. not (value s.side c)) ss ≡ length ss
+all-inside c [] h = refl
+all-inside c (s ∷ ss) h = ap (λ b. cond (not (not b)) (1 + position_or_len (λ t. not (value t.side c)) ss) 0) h.0 ∙ (let all = all-inside c ss h.1 in omega (arith, all))
+
+none-outside : (c : List Bool) (ss : List Sided) → AllByRecursion (λ s. value s.side c ≡ true) ss → first_outside c ss ≡ None
+none-outside c ss h =
+    let all = all-inside c ss h in
+    let e : nat_lt (position_or_len (λ s. not (value s.side c)) ss) (length ss) ≡ false = grind (arith, nat_tests, all) in
+    ap (λ b. cond b (Some (position_or_len (λ s. not (value s.side c)) ss)) None) e
+
+-- on the choice of a good session, all its edits apply
+pub sides-true : (c : List Bool) (ambition : Formula ℕ) (ss : List Sided) → value ambition c ≡ true → AllByRecursion (λ s. value s.side c ≡ true) ss → AllByRecursion (λ w. value w c ≡ true) (conditions ambition ss)
+sides-true c ambition [] own h = tt
+sides-true c ambition (s ∷ ss) own h = ((λ i. own i && h.0 i), sides-true c ambition ss own h.1)
+
 pub good-passes : GoodCommitsPass
 good-passes history s good =
     let within : s.base ≤ length history = good.within in
     let count : length s.choice ≡ option_count (take s.base history) = good.of_all_options in
-    let below : reach s.ambition ≤ option_count (take s.base history) = good.in_reach in
+    let below : reach_within s.ambition s.edits ≤ option_count (take s.base history) = good.in_reach in
     let at_base : nat_lt (length history) s.base ≡ false = grind (arith, nat_tests, within) in
     let counted : nat_eq (length s.choice) (option_count (take s.base history)) ≡ true = grind (arith, nat_tests, count) in
-    let reached : nat_lt (option_count (take s.base history)) (reach s.ambition) ≡ false = grind (arith, nat_tests, below) in
+    let reached : nat_lt (option_count (take s.base history)) (reach_within s.ambition s.edits) ≡ false = grind (arith, nat_tests, below) in
     first-cons (when_full history) (bad_base ∷ bad_option ∷ sizes ++ ends) (sizes ++ empty ∷ last)
     (first-not_when (nat_lt (length history) s.base) refusals.BadBase (bad_option ∷ sizes ++ ends) at_base
-    ∙ first-not_when (not (nat_eq (length s.choice) (option_count (take s.base history))) || nat_lt (option_count (take s.base history)) (reach s.ambition)) refusals.BadOption (sizes ++ ends)
-    (ap (λ b. not b || nat_lt (option_count (take s.base history)) (reach s.ambition)) counted ∙ reached)
+    ∙ first-not_when (not (nat_eq (length s.choice) (option_count (take s.base history))) || nat_lt (option_count (take s.base history)) (reach_within s.ambition s.edits)) refusals.BadOption (sizes ++ ends)
+    (ap (λ b. not b || nat_lt (option_count (take s.base history)) (reach_within s.ambition s.edits)) counted ∙ reached)
     ∙ first-behind sizes ends (empty ∷ last)
-    (first-skip invalid (outside ∷ empty ∷ bad_record ∷ last) (none-false s.choice (constraints_of (take s.base history)) good.valid)
-    ∙ first-not_when (not (value s.ambition s.choice)) refusals.OutsideAmbition (empty ∷ bad_record ∷ last) (ap not good.in_ambition)
+    (first-skip invalid (outside ∷ outside_side ∷ empty ∷ bad_record ∷ last) (none-false s.choice (constraints_of (take s.base history)) good.valid)
+    ∙ first-not_when (not (value s.ambition s.choice)) refusals.OutsideAmbition (outside_side ∷ empty ∷ bad_record ∷ last) (ap not good.in_ambition)
+    ∙ first-skip outside_side (empty ∷ bad_record ∷ last) (ap as_outside (none-outside s.choice s.edits good.in_sides))
     ∙ first-cons empty (bad_record ∷ last) last (first-skip bad_record last (ap as_bad_record good.accepted))))
   where
     sizes : List (Option Refusal)
-    sizes = size_refusals history s.edits
+    sizes = size_refusals history (edits_of s)
 
     bad_base : Option Refusal
     bad_base = when (nat_lt (length history) s.base) refusals.BadBase
 
     bad_option : Option Refusal
-    bad_option = when (not (nat_eq (length s.choice) (option_count (take s.base history))) || nat_lt (option_count (take s.base history)) (reach s.ambition)) refusals.BadOption
+    bad_option = when (not (nat_eq (length s.choice) (option_count (take s.base history))) || nat_lt (option_count (take s.base history)) (reach_within s.ambition s.edits)) refusals.BadOption
 
     invalid : Option Refusal
     invalid = as_invalid (first_false (constraints_of (take s.base history)) s.choice)
@@ -104,22 +124,25 @@ good-passes history s good =
     outside : Option Refusal
     outside = when (not (value s.ambition s.choice)) refusals.OutsideAmbition
 
+    outside_side : Option Refusal
+    outside_side = as_outside (first_outside s.choice s.edits)
+
     empty : Option Refusal
     empty = when (has_no_edits s.edits) refusals.Empty
 
     bad_record : Option Refusal
-    bad_record = as_bad_record (first_refused (numbers_of (take s.base history)) (replay s.choice (take s.base history)) s.edits)
+    bad_record = as_bad_record (first_refused (numbers_of (take s.base history)) (replay s.choice (take s.base history)) (edits_of s))
 
     last : List (Option Refusal)
     last = as_overtaken (overtaken history s.base s.ambition s.edits) ∷ unsound_refusal history s.ambition (commit_of s) ∷ []
 
     ends : List (Option Refusal)
-    ends = invalid ∷ outside ∷ empty ∷ bad_record ∷ last
+    ends = invalid ∷ outside ∷ outside_side ∷ empty ∷ bad_record ∷ last
 
 -- commands without commits draw no numbers and change nothing
 no-commit : (ns : Numbers) (history : List Command) → has_commit history ≡ false → (numbers_from ns history ≡ ns) × (changes_from ns history ≡ [])
 no-commit ns [] h = (refl, refl)
-no-commit ns (commands.Commit base choice ambition es ∷ history) h = absurd (cc)
+no-commit ns (commands.Commit base choice ambition ss ∷ history) h = absurd (cc)
 no-commit ns (commands.Option name ∷ history) h = no-commit ns history h
 no-commit ns (commands.Constraint expr ∷ history) h = no-commit ns history h
 no-commit ns (commands.Prefer expr ∷ history) h = no-commit ns history h
@@ -138,9 +161,9 @@ replay-since c base history h =
 pub commit-shows : (history : List Command) (s : Session) → IsGood history s → has_commit (drop s.base history) ≡ false → replay s.choice (history ++ commit_of s ∷ []) ≡ seen s history
 commit-shows history s good h =
     replay-commit s.choice history s.base s.choice s.ambition s.edits
-    ∙ all-apply s.choice (replay s.choice history) (numbers_of history) s.ambition s.edits good.in_ambition
-    ∙ ap (λ v. fold edited v (numbered (numbers_of history) s.edits)) (replay-since s.choice s.base history h)
-    ∙ ap (λ ns. fold edited (replay s.choice (take s.base history)) (numbered ns s.edits)) (numbers-since s.base history h)
+    ∙ all-apply s.choice (replay s.choice history) (numbers_of history) s.ambition s.edits (sides-true s.choice s.ambition s.edits good.in_ambition good.in_sides)
+    ∙ ap (λ v. fold edited v (numbered (numbers_of history) (edits_of s))) (replay-since s.choice s.base history h)
+    ∙ ap (λ ns. fold edited (replay s.choice (take s.base history)) (numbered ns (edits_of s))) (numbers-since s.base history h)
 
 -- an accepted edit is accepted on the variant with those before it
 pub edit-accepted : (k : ℕ) (o : Option EditFault) (later : Option (ℕ × EditFault)) → refused_at k o later ≡ None → o ≡ None

@@ -1,6 +1,6 @@
 -- Each valid variant of a legal history is sound.
-use Rattle.std.proofs.Common.{◌≡◌, ℕ, ◌≤◌, Bool, true, false, cond, ◌&&◌, nat_lt, List, [], ◌∷◌, ◌++◌, length, length-append, take, append_assoc, append-nil, None, is_some, refl, sym, ap, subst, ◌∙◌, arith}
-use Rattle.std.specs.List.{fold, list_any, AllByRecursion}
+use Rattle.std.proofs.Common.{◌≡◌, ℕ, ◌≤◌, Bool, true, false, ◌&&◌, nat_lt, List, [], ◌∷◌, ◌++◌, length, length-append, take, append_assoc, append-nil, None, is_some, refl, sym, ap, subst, ◌∙◌, arith}
+use Rattle.std.specs.List.{list_any, AllByRecursion}
 use Rattle.std.proofs.Math.Seq.{take-length}
 use Rattle.std.proofs.lemmas.Bool.{and_parts}
 use Rattle.std.proofs.lemmas.Bool.Decides.{nat_tests}
@@ -10,14 +10,13 @@ use Rattle.cov_base.specs.Faults.{fault_of}
 use Rattle.cov_base.proofs.CallerLemmas.{is_some-find, none-is}
 use Rattle.cov_expr.specs.Formula.{Formula, value, reach}
 use Rattle.cov_expr.specs.Validity.{is_valid}
-use Rattle.cov_edit.specs.declared.edit.Edit.{Edit}
+use Rattle.cov_edit.specs.declared.sided.Sided.{Sided}
 use Rattle.cov_edit.specs.declared.command.Command.{Command}
 use Rattle.cov_edit.specs.declared.command.Command.TheVariants as commands
 use Rattle.cov_edit.specs.History.{option_count, constraints_of, is_valid_in}
-use Rattle.cov_edit.specs.Numbering.{numbers_of, numbered}
 use Rattle.cov_edit.specs.Replay.{replay}
-use Rattle.cov_edit.specs.Variant.{edited}
-use Rattle.cov_edit.proofs.CallerLemmas.{replay-append}
+use Rattle.cov_edit.specs.Sides.{unsided, reach_within}
+use Rattle.cov_edit.proofs.CallerLemmas.{ambition-low, nothing_outside, outside-ambition, replay-append}
 use Rattle.cov_rules.proofs.CallerLemmas.{none_passes, value_by_first_options}
 use Rattle.cov_view.proofs.CallerLemmas.{none-first, none-when}
 use Rattle.cov_history.specs.BadChoices.{fault_after, is_bad, bad_choice}
@@ -28,7 +27,7 @@ use Rattle.cov_history.proofs.BadChoices.{no-bad, none-bad}
 use Rattle.cov_history.proofs.Naming.{sound-accepted}
 use Rattle.cov_history.proofs.Older.{legal-take}
 use Rattle.cov_history.proofs.Reaching.{options-later, accepted-reach}
-use Rattle.cov_history.proofs.RowChanges.{committed-where, rows-kept}
+use Rattle.cov_history.proofs.RowChanges.{rows-kept}
 use Rattle.cov_history.proofs.Unread.{commit-front}
 
 take-front : (before later : List Command) → take (length before) (before ++ later) ≡ before
@@ -51,7 +50,7 @@ valid-earlier c (commands.Constraint expr ∷ before) later h =
     λ i. parts.0 i && valid-earlier c before later parts.1 i
 valid-earlier c (commands.Prefer expr ∷ before) later h = valid-earlier c before later h
 valid-earlier c (commands.Default option on ∷ before) later h = valid-earlier c before later h
-valid-earlier c (commands.Commit base choice ambition es ∷ before) later h = valid-earlier c before later h
+valid-earlier c (commands.Commit base choice ambition ss ∷ before) later h = valid-earlier c before later h
 
 -- the options of an accepted constraint are declared
 rule-low : (history : List Command) (e : Formula ℕ) → verdict history (commands.Constraint e) ≡ None → reach e ≤ option_count history
@@ -77,8 +76,8 @@ rules-low before (commands.Constraint e ∷ later) legal =
     (omega (arith, low, more), low-next before (commands.Constraint e) later (rules-low (before ++ commands.Constraint e ∷ []) later legal.2))
 rules-low before (commands.Prefer e ∷ later) legal = low-next before (commands.Prefer e) later (rules-low (before ++ commands.Prefer e ∷ []) later legal.2)
 rules-low before (commands.Default option on ∷ later) legal = low-next before (commands.Default option on) later (rules-low (before ++ commands.Default option on ∷ []) later legal.2)
-rules-low before (commands.Commit base choice ambition es ∷ later) legal =
-    low-next before (commands.Commit base choice ambition es) later (rules-low (before ++ commands.Commit base choice ambition es ∷ []) later legal.2)
+rules-low before (commands.Commit base choice ambition ss ∷ later) legal =
+    low-next before (commands.Commit base choice ambition ss) later (rules-low (before ++ commands.Commit base choice ambition ss ∷ []) later legal.2)
 
 -- so only these options count in whether a choice is valid
 valid-front : (history : List Command) (c : List Bool) → IsLegal history → is_valid_in history c ≡ is_valid_in history (take (option_count history) c)
@@ -99,23 +98,23 @@ declared-sound history k same sound c long valid =
     ap (λ v. fault_of v.rows) (same c) ∙ sound c (omega (arith, more, long)) (valid-earlier c history (k ∷ []) valid)
 
 -- an accepted commit leaves them sound, as it has no bad choice
-commit-sound : (history : List Command) (base : ℕ) (choice : List Bool) (ambition : Formula ℕ) (es : List Edit) → IsLegal history → verdict history (commands.Commit base choice ambition es) ≡ None
-    → IsSoundOn history → IsSoundOn (history ++ commands.Commit base choice ambition es ∷ [])
-commit-sound history base choice ambition es legal accepted sound c long valid = at (value ambition c) refl
+commit-sound : (history : List Command) (base : ℕ) (choice : List Bool) (ambition : Formula ℕ) (ss : List Sided) → IsLegal history → verdict history (commands.Commit base choice ambition ss) ≡ None
+    → IsSoundOn history → IsSoundOn (history ++ commands.Commit base choice ambition ss ∷ [])
+commit-sound history base choice ambition ss legal accepted sound c long valid = at (value ambition c) refl
   where
     k : Command
-    k = commands.Commit base choice ambition es
+    k = commands.Commit base choice ambition ss
 
     n : ℕ
     n = option_count history
 
     none : bad_choice history ambition k ≡ None
-    none = no-bad history ambition k (sound-accepted history base choice ambition es accepted)
+    none = no-bad history ambition k (sound-accepted history base choice ambition ss accepted)
 
-    low : reach ambition ≤ n
+    low : reach_within ambition ss ≤ n
     low =
-        let reached = accepted-reach history base choice ambition es accepted in
-        let named : reach ambition ≤ option_count (take base history) = reached.1 in
+        let reached = accepted-reach history base choice ambition ss accepted in
+        let named : reach_within ambition ss ≤ option_count (take base history) = reached.1 in
         let more = options-later base (length history) history reached.0 in
         let whole = ap option_count (take-length history) in
         omega (arith, named, more, whole)
@@ -128,11 +127,11 @@ commit-sound history base choice ambition es legal accepted sound c long valid =
 
     at : (b : Bool) → value ambition c ≡ b → fault_of (replay c (history ++ k ∷ [])).rows ≡ None
     at true e =
-        ap (λ v. fault_of v.rows) (commit-front history base choice ambition es legal low c)
+        ap (λ v. fault_of v.rows) (commit-front history base choice ambition ss legal low c)
         ∙ none-bad history ambition k none (take n c) (let some = enough in let front = length-take n c in omega (arith, some, front))
-        (sym (valid-front history c legal) ∙ earlier) (value_by_first_options n ambition c low ∙ e)
+        (sym (valid-front history c legal) ∙ earlier) (value_by_first_options n ambition c (ambition-low n ambition ss low) ∙ e)
     at false e =
-        ap (λ v. fault_of v.rows) (committed-where c history base choice ambition es ∙ ap (λ b. cond b (fold edited (replay c history) (numbered (numbers_of history) es)) (replay c history)) e)
+        ap (λ v. fault_of v.rows) (nothing_outside c history base choice ambition ss (outside-ambition c ambition ss e))
         ∙ sound c enough earlier
 
 next-sound : (history : List Command) (k : Command) → IsLegal history → verdict history k ≡ None → IsSoundOn history → IsSoundOn (history ++ k ∷ [])
@@ -140,7 +139,7 @@ next-sound history (commands.Option name) legal accepted sound = declared-sound 
 next-sound history (commands.Constraint e) legal accepted sound = declared-sound history (commands.Constraint e) (λ c. replay-append c history (commands.Constraint e ∷ [])) sound
 next-sound history (commands.Prefer e) legal accepted sound = declared-sound history (commands.Prefer e) (λ c. replay-append c history (commands.Prefer e ∷ [])) sound
 next-sound history (commands.Default option on) legal accepted sound = declared-sound history (commands.Default option on) (λ c. replay-append c history (commands.Default option on ∷ [])) sound
-next-sound history (commands.Commit base choice ambition es) legal accepted sound = commit-sound history base choice ambition es legal accepted sound
+next-sound history (commands.Commit base choice ambition ss) legal accepted sound = commit-sound history base choice ambition ss legal accepted sound
 
 sound-along : (before later : List Command) → IsLegal (before ++ later) → IsLegalFrom before later → IsSoundOn before → IsSoundOn (before ++ later)
 sound-along before [] whole legal sound = subst IsSoundOn (sym (append-nil before)) sound
@@ -153,13 +152,13 @@ pub legal-sound : (history : List Command) (c : List Bool) → IsLegal history �
 legal-sound history c legal long valid = sound-along [] history legal legal (λ d h i. refl) c long valid
 
 -- so edits of lines alone have no bad choice
-pub lines-sound : (history : List Command) (base : ℕ) (choice : List Bool) (ambition : Formula ℕ) (es : List Edit) → IsLegal history → list_any changes_rows es ≡ false
-    → bad_choice history ambition (commands.Commit base choice ambition es) ≡ None
-lines-sound history base choice ambition es legal h =
+pub lines-sound : (history : List Command) (base : ℕ) (choice : List Bool) (ambition : Formula ℕ) (ss : List Sided) → IsLegal history → list_any changes_rows (unsided ss) ≡ false
+    → bad_choice history ambition (commands.Commit base choice ambition ss) ≡ None
+lines-sound history base choice ambition ss legal h =
     none-is (bad_choice history ambition k) (is_some-find (is_bad history ambition k) (all_choices (option_count history)) ∙ none_passes (option_count history) (is_bad history ambition k) each)
   where
     k : Command
-    k = commands.Commit base choice ambition es
+    k = commands.Commit base choice ambition ss
 
     last : (b : Bool) → (b && false) ≡ false
     last true = refl
@@ -170,5 +169,5 @@ lines-sound history base choice ambition es legal h =
       where
         at : (b : Bool) → is_valid_in history c ≡ b → (b && (value ambition c && is_some (fault_after history k c))) ≡ false
         at true e =
-            ap (λ o. value ambition c && is_some o) (ap fault_of (rows-kept c history base choice ambition es h) ∙ legal-sound history c legal (omega (arith, whole)) e) ∙ last (value ambition c)
+            ap (λ o. value ambition c && is_some o) (ap fault_of (rows-kept c history base choice ambition ss h) ∙ legal-sound history c legal (omega (arith, whole)) e) ∙ last (value ambition c)
         at false e = refl

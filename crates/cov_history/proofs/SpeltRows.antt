@@ -11,11 +11,12 @@ use Rattle.cov_edit.specs.declared.edit.Edit.TheVariants as edits
 use Rattle.cov_edit.specs.declared.command.Command.{Command}
 use Rattle.cov_edit.specs.declared.command.Command.TheVariants as commands
 use Rattle.cov_edit.specs.EditFits.{fits_edit}
-use Rattle.cov_edit.specs.Fits.{fits_expr}
+use Rattle.cov_edit.specs.Fits.{fits_expr, fits_with_side}
 use Rattle.cov_edit.specs.Numbering.{Numbers, NumberedEdit, no_numbers, node_number, node_count_after, line_count_after, numbers_after, numbered_edit, numbered_from}
-use Rattle.cov_edit.specs.Replay.{conditions, applying, first_within, rest_within, changes_within, commit_changes, changes_from, applied, replay}
+use Rattle.cov_edit.specs.Replay.{applying, first_within, rest_within, changes_within, commit_changes, changes_from, applied, replay}
+use Rattle.cov_edit.specs.Sides.{unsided, conditions}
 use Rattle.cov_edit.specs.Variant.{Variant, bare, edited}
-use Rattle.cov_edit.proofs.CallerLemmas.{fold-append}
+use Rattle.cov_edit.proofs.CallerLemmas.{fold-append, edits-fit}
 use Rattle.cov_history.specs.Verdict.{IsLegal, IsLegalFrom}
 use Rattle.cov_history.proofs.Naming.{either-way}
 
@@ -65,11 +66,12 @@ edits-spelt c within ns t node line v (e ∷ es) fits h =
 
 changes-spelt : (c : List Bool) (ns : Numbers) (v : Variant) (before later : List Command) → IsLegalFrom before later → AreSpelt v → AreSpelt (fold (applied c) v (changes_from ns later))
 changes-spelt c ns v before [] legal h = h
-changes-spelt c ns v before (commands.Commit base choice ambition es ∷ later) legal h =
-    let k : Command = commands.Commit base choice ambition es in
-    rw (fold-append (applied c) v (commit_changes ns ambition es) (changes_from (numbers_after ns es) later))
-    (changes-spelt c (numbers_after ns es) (fold (applied c) v (commit_changes ns ambition es)) (before ++ k ∷ []) later legal.2
-    (edits-spelt c (conditions ambition es) ns (numbers_after ns es).addresses ns.nodes (length ns.addresses) v es (and_parts (fits_expr ambition) (list_all fits_edit es) legal.0).1 h))
+changes-spelt c ns v before (commands.Commit base choice ambition ss ∷ later) legal h =
+    let es : List Edit = unsided ss in
+    let k : Command = commands.Commit base choice ambition ss in
+    rw (fold-append (applied c) v (commit_changes ns ambition ss) (changes_from (numbers_after ns es) later))
+    (changes-spelt c (numbers_after ns es) (fold (applied c) v (commit_changes ns ambition ss)) (before ++ k ∷ []) later legal.2
+    (edits-spelt c (conditions ambition ss) ns (numbers_after ns es).addresses ns.nodes (length ns.addresses) v es (edits-fit ss (and_parts (fits_expr ambition) (list_all fits_with_side ss) legal.0).1) h))
 changes-spelt c ns v before (commands.Option name ∷ later) legal h = changes-spelt c ns v (before ++ commands.Option name ∷ []) later legal.2 h
 changes-spelt c ns v before (commands.Constraint expr ∷ later) legal h = changes-spelt c ns v (before ++ commands.Constraint expr ∷ []) later legal.2 h
 changes-spelt c ns v before (commands.Prefer expr ∷ later) legal h = changes-spelt c ns v (before ++ commands.Prefer expr ∷ []) later legal.2 h

@@ -10,7 +10,8 @@ use Rattle.cov_edit.specs.declared.edit.Edit.TheVariants as edits
 use Rattle.cov_edit.specs.declared.command.Command.{Command}
 use Rattle.cov_edit.specs.declared.command.Command.TheVariants as commands
 use Rattle.cov_edit.specs.Numbering.{Numbers, NumberedEdit, OnRows, Inserted, Deleted, no_numbers, node_count_after, line_count_after, anchors_of, numbers_after, numbers_from, numbers_of, numbered_edit, numbered_from, numbered}
-use Rattle.cov_edit.specs.Replay.{conditions, first_within, rest_within, changes_within, commit_changes}
+use Rattle.cov_edit.specs.Replay.{first_within, rest_within, changes_within, commit_changes}
+use Rattle.cov_edit.specs.Sides.{unsided, conditions}
 use Rattle.cov_edit.specs.Variant.{Line, is_line}
 use Rattle.cov_edit.proofs.CallerLemmas.{line_count_after-is}
 use Rattle.cov_history.specs.Kept.{Kept, IsUpTo, new_item, hidden, taken_up, hidden_where, replaced_where, kept_address, new_line, is_row, rows_kept_after, Holding, nothing_held, held_after, held_with, held_from, held_by, IsHolding}
@@ -216,9 +217,9 @@ pub stands-from : (ns : Numbers) (p q : ℕ) (held : Holding) (history : List Co
     → IsTable (numbers_from ns history).addresses
     × IsHolding (numbers_from ns history).addresses (length (numbers_from ns history).addresses) p (held_from q held ns history)
 stands-from ns p q held [] e table s = (table, stands-later ns.addresses (length ns.addresses) q p held (omega (arith, e)) s)
-stands-from ns p q held (commands.Commit base choice ambition es ∷ history) e table s =
-    stands-from (numbers_after ns es) p (q + 1) (fold (held_with (q + 1)) held (commit_changes ns ambition es)) history (omega (arith, e))
-    (table-after ns es table) (stands-commit ns (conditions ambition es) es q held table s)
+stands-from ns p q held (commands.Commit base choice ambition ss ∷ history) e table s =
+    stands-from (numbers_after ns (unsided ss)) p (q + 1) (fold (held_with (q + 1)) held (commit_changes ns ambition ss)) history (omega (arith, e))
+    (table-after ns (unsided ss) table) (stands-commit ns (conditions ambition ss) (unsided ss) q held table s)
 stands-from ns p q held (commands.Option name ∷ history) e table s =
     stands-from ns p (q + 1) held history (omega (arith, e)) table (stands-later ns.addresses (length ns.addresses) q (q + 1) held (omega arith) s)
 stands-from ns p q held (commands.Constraint expr ∷ history) e table s =

@@ -15,7 +15,8 @@ use Rattle.cov_edit.specs.declared.edit.Edit.TheVariants as edits
 use Rattle.cov_edit.specs.declared.command.Command.{Command}
 use Rattle.cov_edit.specs.declared.command.Command.TheVariants as commands
 use Rattle.cov_edit.specs.Numbering.{Numbers, node_number, line_number, node_count_after, line_count_after, nodes_made, anchors_of, no_numbers, numbers_after, numbers_from, numbers_of, numbered_edit, numbered_from}
-use Rattle.cov_edit.specs.Replay.{conditions, first_within, rest_within, changes_within, commit_changes}
+use Rattle.cov_edit.specs.Replay.{first_within, rest_within, changes_within, commit_changes}
+use Rattle.cov_edit.specs.Sides.{unsided, conditions}
 use Rattle.cov_edit.specs.Variant.{Line, is_line}
 use Rattle.cov_edit.proofs.CallerLemmas.{node_count_after-is, line_count_after-is}
 use Rattle.cov_history.specs.Kept.{Kept, hidden, taken_up, hidden_where, replaced_where, kept_address, kept_number, new_item, new_line, kept_with, is_row, rows_kept_after, entries_after, entries_with, Holding, nothing_held, held_with, held_from, kept_of, file_kept, is_kept_anchor}
@@ -105,10 +106,11 @@ file_of_line-along q ns held (commands.Option name ∷ history) file_of_line tab
 file_of_line-along q ns held (commands.Constraint expr ∷ history) file_of_line table e h = file_of_line-along (q + 1) ns held history file_of_line table e h
 file_of_line-along q ns held (commands.Prefer expr ∷ history) file_of_line table e h = file_of_line-along (q + 1) ns held history file_of_line table e h
 file_of_line-along q ns held (commands.Default option on ∷ history) file_of_line table e h = file_of_line-along (q + 1) ns held history file_of_line table e h
-file_of_line-along q ns held (commands.Commit base choice ambition es ∷ history) file_of_line table e h =
+file_of_line-along q ns held (commands.Commit base choice ambition ss ∷ history) file_of_line table e h =
+    let es : List Edit = unsided ss in
     let m : ℕ = length ns.addresses in
     let t : List (List ℕ) = (numbers_after ns es).addresses in
-    let after : Holding = fold (held_with (q + 1)) held (commit_changes ns ambition es) in
+    let after : Holding = fold (held_with (q + 1)) held (commit_changes ns ambition ss) in
     let later : List ℕ = file_of_line_from (ns.nodes + nodes_made es) history in
     let grown : length t ≡ m + length (anchors_of m es) = length-with_lines ns.addresses (anchors_of m es) in
     let count : length (file_of_line ++ new_file_of_line ns.nodes es) ≡ length t =
@@ -116,8 +118,8 @@ file_of_line-along q ns held (commands.Commit base choice ambition es ∷ histor
     subst (λ xs. AreFilesOfLines (held_from (q + 1) after (numbers_after ns es) history).lines 0 xs × (length xs ≡ length (numbers_from (numbers_after ns es) history).addresses))
     (append_assoc file_of_line (new_file_of_line ns.nodes es) later)
     (file_of_line-along (q + 1) (numbers_after ns es) after history (file_of_line ++ new_file_of_line ns.nodes es) (table-after ns es table) count
-    (subst (λ ks. AreFilesOfLines ks 0 (file_of_line ++ new_file_of_line ns.nodes es)) (sym (lines-edits (q + 1) held (commit_changes ns ambition es)))
-    (file_of_line-edits (q + 1) (conditions ambition es) ns t ns.nodes m m es held.lines file_of_line (table-after ns es table) (omega (arith, grown)) e h)))
+    (subst (λ ks. AreFilesOfLines ks 0 (file_of_line ++ new_file_of_line ns.nodes es)) (sym (lines-edits (q + 1) held (commit_changes ns ambition ss)))
+    (file_of_line-edits (q + 1) (conditions ambition ss) ns t ns.nodes m m es held.lines file_of_line (table-after ns es table) (omega (arith, grown)) e h)))
 
 -- whether there is a row of a node
 abbrev has_row_of : ℕ → List (Kept Row) → Bool
@@ -204,10 +206,11 @@ rows-along q ns held (commands.Option name ∷ history) h = rows-along (q + 1) n
 rows-along q ns held (commands.Constraint expr ∷ history) h = rows-along (q + 1) ns held history h
 rows-along q ns held (commands.Prefer expr ∷ history) h = rows-along (q + 1) ns held history h
 rows-along q ns held (commands.Default option on ∷ history) h = rows-along (q + 1) ns held history h
-rows-along q ns held (commands.Commit base choice ambition es ∷ history) h =
-    rows-along (q + 1) (numbers_after ns es) (fold (held_with (q + 1)) held (commit_changes ns ambition es)) history
-    (subst (HasRows (ns.nodes + nodes_made es)) (sym (rows-edits (q + 1) held (commit_changes ns ambition es)))
-    (rows-more (q + 1) (conditions ambition es) ns (numbers_after ns es).addresses ns.nodes (length ns.addresses) es held.rows h))
+rows-along q ns held (commands.Commit base choice ambition ss ∷ history) h =
+    let es : List Edit = unsided ss in
+    rows-along (q + 1) (numbers_after ns es) (fold (held_with (q + 1)) held (commit_changes ns ambition ss)) history
+    (subst (HasRows (ns.nodes + nodes_made es)) (sym (rows-edits (q + 1) held (commit_changes ns ambition ss)))
+    (rows-more (q + 1) (conditions ambition ss) ns (numbers_after ns es).addresses ns.nodes (length ns.addresses) es held.rows h))
 
 none-made : HasRows 0 []
 none-made node above low = absurd (omega (arith, above, low))

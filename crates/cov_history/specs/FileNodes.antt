@@ -9,6 +9,7 @@ use Rattle.cov_edit.specs.declared.edit.Edit.TheVariants as edits
 use Rattle.cov_edit.specs.declared.command.Command.{Command}
 use Rattle.cov_edit.specs.declared.command.Command.TheVariants as commands
 use Rattle.cov_edit.specs.Numbering.{node_number, node_count_after, nodes_made}
+use Rattle.cov_edit.specs.Sides.{unsided}
 
 -- the number of a node, if its kind is that of files
 abbrev pub if_file : Kind → ℕ → Option ℕ
@@ -32,7 +33,7 @@ files_made n (e ∷ es) = cons_option (file_made n e) (files_made (node_count_af
 -- the numbers of the files that more of a history makes, n nodes having been made before
 abbrev pub files_from : ℕ → List Command → List ℕ
 files_from n [] = []
-files_from n (commands.Commit base choice ambition es ∷ history) = files_made n es ++ files_from (n + nodes_made es) history
+files_from n (commands.Commit base choice ambition ss ∷ history) = files_made n (unsided ss) ++ files_from (n + nodes_made (unsided ss)) history
 files_from n (_ ∷ history) = files_from n history
 
 -- the numbers of the files that a history makes, in order

@@ -7,6 +7,7 @@ use Rattle.cov_edit.specs.declared.edit.Edit.TheVariants as edits
 use Rattle.cov_edit.specs.declared.command.Command.{Command}
 use Rattle.cov_edit.specs.declared.command.Command.TheVariants as commands
 use Rattle.cov_edit.specs.Numbering.{node_number, nodes_made, numbers_of, line_count}
+use Rattle.cov_edit.specs.Sides.{unsided}
 use Rattle.cov_edit.specs.Variant.{Line}
 use Rattle.cov_history.specs.Kept.{Kept, kept_number, is_row, kept_of, entries_of, is_kept_anchor}
 use Rattle.cov_history.specs.Files.{file_order}
@@ -27,7 +28,7 @@ new_file_of_line n es = filter_map (new_file n) es
 -- the files of the lines that more of a history inserts, n nodes having been made before
 abbrev pub file_of_line_from : ℕ → List Command → List ℕ
 file_of_line_from n [] = []
-file_of_line_from n (commands.Commit base choice ambition es ∷ history) = new_file_of_line n es ++ file_of_line_from (n + nodes_made es) history
+file_of_line_from n (commands.Commit base choice ambition ss ∷ history) = new_file_of_line n (unsided ss) ++ file_of_line_from (n + nodes_made (unsided ss)) history
 file_of_line_from n (_ ∷ history) = file_of_line_from n history
 
 -- the file into which a history inserts its line 1, its line 2 and so on

@@ -5,6 +5,7 @@ use Rattle.cov_edit.specs.declared.edit.Edit.{Edit}
 use Rattle.cov_edit.specs.declared.edit.Edit.TheVariants as edits
 use Rattle.cov_edit.specs.declared.command.Command.{Command}
 use Rattle.cov_edit.specs.declared.command.Command.TheVariants as commands
+use Rattle.cov_edit.specs.Sides.{unsided}
 use Rattle.cov_edit.specs.Variant.{Line}
 use Rattle.cov_history.specs.Kept.{Kept, kept_number}
 
@@ -24,7 +25,7 @@ new_texts es = filter_map new_text es
 -- the text with which a history inserts its line 1, its line 2 and so on
 abbrev pub texts_in : List Command → List (List ℕ)
 texts_in [] = []
-texts_in (commands.Commit base choice ambition es ∷ history) = new_texts es ++ texts_in history
+texts_in (commands.Commit base choice ambition ss ∷ history) = new_texts (unsided ss) ++ texts_in history
 texts_in (_ ∷ history) = texts_in history
 
 -- a kept line has the text that stands at its number among these

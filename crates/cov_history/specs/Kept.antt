@@ -8,6 +8,7 @@ use Rattle.cov_edit.specs.declared.command.Command.{Command}
 use Rattle.cov_edit.specs.declared.command.Command.TheVariants as commands
 use Rattle.cov_edit.specs.Numbering.{Numbers, NumberedEdit, OnRows, Inserted, Deleted, no_numbers, numbers_after}
 use Rattle.cov_edit.specs.Replay.{Change, commit_changes}
+use Rattle.cov_edit.specs.Sides.{unsided}
 use Rattle.cov_edit.specs.Variant.{Variant, Line, is_line}
 
 -- a row or a line, and the expression on whose choices it is visible from each position of a change on, the newest first
@@ -125,8 +126,8 @@ entries_with q ks change = entries_after q change.within ks change.edit
 -- what is held after more of a history, of which q commands stand before
 abbrev pub held_from : ℕ → Holding → Numbers → List Command → Holding
 held_from q held ns [] = held
-held_from q held ns (commands.Commit base choice ambition es ∷ history) =
-    held_from (q + 1) (fold (held_with (q + 1)) held (commit_changes ns ambition es)) (numbers_after ns es) history
+held_from q held ns (commands.Commit base choice ambition ss ∷ history) =
+    held_from (q + 1) (fold (held_with (q + 1)) held (commit_changes ns ambition ss)) (numbers_after ns (unsided ss)) history
 held_from q held ns (_ ∷ history) = held_from (q + 1) held ns history
 
 -- what a history holds

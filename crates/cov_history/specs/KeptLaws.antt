@@ -6,9 +6,11 @@ use Rattle.cov_base.specs.Addresses.{IsTable, number_by, after_anchor, after_anc
 use Rattle.cov_order.specs.Orders.{has_line, AreLines}
 use Rattle.cov_expr.specs.Formula.{Formula}
 use Rattle.cov_edit.specs.declared.edit.Edit.{Edit}
+use Rattle.cov_edit.specs.declared.sided.Sided.{Sided}
 use Rattle.cov_edit.specs.declared.command.Command.{Command}
 use Rattle.cov_edit.specs.declared.command.Command.TheVariants as commands
 use Rattle.cov_edit.specs.Numbering.{numbers_of}
+use Rattle.cov_edit.specs.Sides.{unsided}
 use Rattle.cov_edit.specs.Variant.{line_address, lines_of}
 use Rattle.cov_edit.specs.Touched.{AreRising}
 use Rattle.cov_view.specs.References.{is_dir_kind}
@@ -17,7 +19,7 @@ use Rattle.cov_edit.specs.Replay.{first_within, within_behind, commit_changes, r
 use Rattle.cov_history.specs.Kept.{Holding, kept_number, kept_with, entries_with, held_from, held_by, kept_of, entries_of, lines_seen, rows_seen, variant_seen, file_kept, is_kept_anchor, IsHolding}
 use Rattle.cov_history.specs.Reach.{IsHeldInReach}
 use Rattle.cov_history.specs.Verdict.{IsLegal, verdict}
-use Rattle.cov_history.specs.Sessions.{Session, within_of, IsGood, has_commit}
+use Rattle.cov_history.specs.Sessions.{Session, edits_of, within_of, IsGood, has_commit}
 use Rattle.cov_history.specs.Files.{dated_number, file_dated, file_order, as_shown, dated_shown, Takes}
 use Rattle.cov_history.specs.Deletions.{Deletion, all_with, delete_file, delete_line, before_delete, behind_delete, hidden_by}
 use Rattle.cov_history.specs.Insertions.{Insertion, all_edits, lines_begun, file_of, anchor_of, line_with, held_before, held_behind}
@@ -56,13 +58,13 @@ HoldingGoesOn = (history later : List Command) → held_by (history ++ later) �
 
 -- a commit changes the lines edit by edit, from its own position on
 abbrev pub CommitKeepsLines : Type 0
-CommitKeepsLines = (history : List Command) (base : ℕ) (choice : List Bool) (ambition : Formula ℕ) (es : List Edit)
-    → kept_of (history ++ commands.Commit base choice ambition es ∷ []) ≡ fold (kept_with (length history + 1)) (kept_of history) (commit_changes (numbers_of history) ambition es)
+CommitKeepsLines = (history : List Command) (base : ℕ) (choice : List Bool) (ambition : Formula ℕ) (ss : List Sided)
+    → kept_of (history ++ commands.Commit base choice ambition ss ∷ []) ≡ fold (kept_with (length history + 1)) (kept_of history) (commit_changes (numbers_of history) ambition ss)
 
 -- a commit changes the rows edit by edit, from its own position on
 abbrev pub CommitKeepsRows : Type 0
-CommitKeepsRows = (history : List Command) (base : ℕ) (choice : List Bool) (ambition : Formula ℕ) (es : List Edit)
-    → entries_of (history ++ commands.Commit base choice ambition es ∷ []) ≡ fold (entries_with (length history + 1)) (entries_of history) (commit_changes (numbers_of history) ambition es)
+CommitKeepsRows = (history : List Command) (base : ℕ) (choice : List Bool) (ambition : Formula ℕ) (ss : List Sided)
+    → entries_of (history ++ commands.Commit base choice ambition ss ∷ []) ≡ fold (entries_with (length history + 1)) (entries_of history) (commit_changes (numbers_of history) ambition ss)
 
 -- at each position, the lines of a file in the replay are those seen of the file's kept lines
 abbrev pub FileFollowsReplay : Type 0
@@ -117,7 +119,7 @@ AnchorsStay = (history : List Command) (held : Holding) (on : Formula ℕ) (i : 
 
 -- each insert of a good session has its anchor kept when it is its turn, whatever stands after the base
 abbrev pub AcceptedIsAnchored : Type 0
-AcceptedIsAnchored = (history : List Command) (s : Session) (i : Insertion) → IsLegal history → IsGood history s → all_edits i ≡ s.edits
+AcceptedIsAnchored = (history : List Command) (s : Session) (i : Insertion) → IsLegal history → IsGood history s → all_edits i ≡ edits_of s
     → is_kept_anchor (file_of history i) (anchor_of history i) (held_before history (within_of s) i).lines ≡ true
 
 -- commands without a commit change nothing of what is held
@@ -167,7 +169,7 @@ DeleteInOneFile = (history : List Command) (held : Holding) (on : Formula ℕ) (
 
 -- each delete of a good session has its line in its file when it is its turn, whatever stands after the base
 abbrev pub AcceptedIsThere : Type 0
-AcceptedIsThere = (history : List Command) (s : Session) (d : Deletion) → IsLegal history → IsGood history s → all_with d ≡ s.edits
+AcceptedIsThere = (history : List Command) (s : Session) (d : Deletion) → IsLegal history → IsGood history s → all_with d ≡ edits_of s
     → has_line (delete_line history d) (file_order (delete_file history d) (before_delete history (within_of s) d).lines) ≡ true
 
 -- a delete leaves the order of each file, and what is an anchor in it
@@ -189,8 +191,8 @@ FilesRise = (history : List Command) → AreRising (files_of history) × AllByRe
 abbrev pub FilesGoOn : Type 0
 FilesGoOn = (history : List Command)
     → ((later : List Command) → files_of (history ++ later) ≡ files_of history ++ files_from (numbers_of history).nodes later)
-    × ((base : ℕ) (choice : List Bool) (ambition : Formula ℕ) (es : List Edit)
-    → files_of (history ++ commands.Commit base choice ambition es ∷ []) ≡ files_of history ++ files_made (numbers_of history).nodes es)
+    × ((base : ℕ) (choice : List Bool) (ambition : Formula ℕ) (ss : List Sided)
+    → files_of (history ++ commands.Commit base choice ambition ss ∷ []) ≡ files_of history ++ files_made (numbers_of history).nodes (unsided ss))
 
 -- in each replay, the rows of files are just those whose nodes are files of the history
 abbrev pub RowsTellFiles : Type 0
@@ -202,16 +204,16 @@ LinesAreInFiles = (history : List Command) → IsLegal history → AllByRecursio
 
 -- the inserts and deletes of a commit that is accepted name files of the history with the commit, whatever stands after its base
 abbrev pub AcceptedNamesFiles : Type 0
-AcceptedNamesFiles = (history : List Command) (base : ℕ) (choice : List Bool) (ambition : Formula ℕ) (es : List Edit)
-    → verdict history (commands.Commit base choice ambition es) ≡ None
-    → AllByRecursion (NamesFile (files_of (history ++ commands.Commit base choice ambition es ∷ [])) (numbers_of history).nodes) es
+AcceptedNamesFiles = (history : List Command) (base : ℕ) (choice : List Bool) (ambition : Formula ℕ) (ss : List Sided)
+    → verdict history (commands.Commit base choice ambition ss) ≡ None
+    → AllByRecursion (NamesFile (files_of (history ++ commands.Commit base choice ambition ss ∷ [])) (numbers_of history).nodes) (unsided ss)
 
 -- each insert or delete of a good session names a file of the history or one that the edits before it make, whatever stands after the base
 abbrev pub TurnNamesFile : Type 0
-TurnNamesFile = (history : List Command) (s : Session) (begun later : List Edit) (e : Edit) → IsGood history s → begun ++ e ∷ later ≡ s.edits
+TurnNamesFile = (history : List Command) (s : Session) (begun later : List Edit) (e : Edit) → IsGood history s → begun ++ e ∷ later ≡ edits_of s
     → NamesFile (files_of history ++ files_made (numbers_of history).nodes begun) (numbers_of history).nodes e
 
 -- when the first of a good session's edits are done, the file of each held line is one of the history, or one that these edits make
 abbrev pub AmidIsInFiles : Type 0
-AmidIsInFiles = (history : List Command) (s : Session) (begun later : List Edit) → IsLegal history → IsGood history s → begun ++ later ≡ s.edits
-    → AllByRecursion (λ k. has_node k.item.file (files_of history ++ files_made (numbers_of history).nodes begun) ≡ true) (held_amid history (within_of s) s.edits begun).lines
+AmidIsInFiles = (history : List Command) (s : Session) (begun later : List Edit) → IsLegal history → IsGood history s → begun ++ later ≡ edits_of s
+    → AllByRecursion (λ k. has_node k.item.file (files_of history ++ files_made (numbers_of history).nodes begun) ≡ true) (held_amid history (within_of s) (edits_of s) begun).lines

@@ -1,15 +1,16 @@
 -- Laws of histories: replay, sessions, verdicts and soundness.
-use Rattle.std.specs.Prelude.{◌≡◌, ℕ, ◌<◌, ◌≤◌, Bool, true, false, List, [], ◌∷◌, ◌++◌, take, drop, length, map, Some, None, is_some, if◌then◌else◌}
-use Rattle.std.specs.List.{fold, list_any, AllByRecursion}
+use Rattle.std.specs.Prelude.{◌≡◌, ℕ, ◌<◌, ◌≤◌, Bool, true, false, List, [], ◌∷◌, ◌++◌, take, drop, length, map, Some, None, is_some}
+use Rattle.std.specs.List.{fold, filter, list_any, AllByRecursion}
 use Rattle.cov_base.specs.Choices.{with_option}
 use Rattle.cov_base.specs.Faults.{in_node_order, fault_of}
 use Rattle.cov_base.specs.Rows.{changed, AreOnce}
 use Rattle.cov_base.specs.Addresses.{IsLineOf, AreInOrder}
-use Rattle.cov_expr.specs.Formula.{Formula, value, reach}
-use Rattle.cov_edit.specs.declared.edit.Edit.{Edit}
+use Rattle.cov_expr.specs.Formula.{Formula, value}
+use Rattle.cov_edit.specs.declared.sided.Sided.{Sided}
+use Rattle.cov_edit.specs.Sides.{unsided, reach_within}
 use Rattle.cov_edit.specs.declared.command.Command.{Command}
 use Rattle.cov_edit.specs.declared.command.Command.TheVariants as commands
-use Rattle.cov_edit.specs.Numbering.{numbers_of, numbered}
+use Rattle.cov_edit.specs.Numbering.{numbers_of}
 use Rattle.cov_edit.specs.History.{option_count, is_valid_in}
 use Rattle.cov_edit.specs.Variant.{Line, line_address, lines_of}
 use Rattle.cov_view.specs.Paths.{kind_of}
@@ -20,12 +21,12 @@ use Rattle.cov_history.specs.BadChoices.{fault_after, bad_choice, unsound_refusa
 use Rattle.cov_history.specs.Completing.{completed_in}
 use Rattle.cov_history.specs.RowChanges.{changes_rows, row_changes}
 use Rattle.cov_history.specs.Overtaking.{overtaken}
-use Rattle.cov_edit.specs.Replay.{replay}
+use Rattle.cov_edit.specs.Replay.{the_change, applies, commit_changes, replay}
 use Rattle.cov_view.specs.Refusals.{when, first_of}
 use Rattle.cov_history.specs.declared.refusal.Refusal.TheVariants as refusals
 use Rattle.cov_history.specs.Naming.{NamesOnlyMade}
 use Rattle.cov_history.specs.Verdict.{IsLegal, verdict, when_full, size_refusals, has_no_edits, as_overtaken}
-use Rattle.cov_history.specs.Sessions.{Session, IsGood, seen, commit_of, has_commit}
+use Rattle.cov_history.specs.Sessions.{Session, edits_of, IsGood, seen, commit_of, has_commit}
 
 -- a good session stays good when its history grows
 abbrev pub GoodSessionsStay : Type 0
@@ -36,7 +37,7 @@ abbrev pub GoodCommitsPass : Type 0
 GoodCommitsPass = (history : List Command) (s : Session) → IsGood history s
     → verdict history (commit_of s)
     ≡ first_of (when_full history
-    ∷ (size_refusals history s.edits
+    ∷ (size_refusals history (edits_of s)
     ++ when (has_no_edits s.edits) refusals.Empty
     ∷ as_overtaken (overtaken history s.base s.ambition s.edits)
     ∷ unsound_refusal history s.ambition (commit_of s)
@@ -67,7 +68,7 @@ abbrev pub CommitShowsFiles : Type 0
 CommitShowsFiles = (history : List Command) (s : Session) (c : List Bool) (file : ℕ) → IsLegal history → IsGood history s
     → verdict history (commit_of s) ≡ None
     → length c ≡ option_count history → is_valid_in history c ≡ true → take (length s.choice) c ≡ s.choice
-    → touch file s.edits ≡ true
+    → touch file (edits_of s) ≡ true
     → (kind_of (replay c (history ++ commit_of s ∷ [])).rows file ≡ kind_of (seen s history).rows file)
     × (map text_of (lines_of (replay c (history ++ commit_of s ∷ [])) file) ≡ map text_of (lines_of (seen s history) file))
 
@@ -87,28 +88,28 @@ RowsAreInOrder = (c : List Bool) (history : List Command) → in_node_order (rep
 abbrev pub RowsAreOnce : Type 0
 RowsAreOnce = (c : List Bool) (history : List Command) → AreOnce (replay c history).rows
 
--- a commit makes its changes of the rows, in order, where its ambition is true
+-- of a commit's changes of the rows, those are made, in order, whose ambition and side are true
 abbrev pub CommitChangesRows : Type 0
-CommitChangesRows = (c : List Bool) (history : List Command) (base : ℕ) (choice : List Bool) (ambition : Formula ℕ) (es : List Edit)
-    → (replay c (history ++ commands.Commit base choice ambition es ∷ [])).rows
-    ≡ (if value ambition c then fold changed (replay c history).rows (row_changes (numbered (numbers_of history) es)) else (replay c history).rows)
+CommitChangesRows = (c : List Bool) (history : List Command) (base : ℕ) (choice : List Bool) (ambition : Formula ℕ) (ss : List Sided)
+    → (replay c (history ++ commands.Commit base choice ambition ss ∷ [])).rows
+    ≡ fold changed (replay c history).rows (row_changes (map the_change (filter (applies c) (commit_changes (numbers_of history) ambition ss))))
 
 -- edits of lines alone leave the rows
 abbrev pub LinesKeepRows : Type 0
-LinesKeepRows = (c : List Bool) (history : List Command) (base : ℕ) (choice : List Bool) (ambition : Formula ℕ) (es : List Edit)
-    → list_any changes_rows es ≡ false → (replay c (history ++ commands.Commit base choice ambition es ∷ [])).rows ≡ (replay c history).rows
+LinesKeepRows = (c : List Bool) (history : List Command) (base : ℕ) (choice : List Bool) (ambition : Formula ℕ) (ss : List Sided)
+    → list_any changes_rows (unsided ss) ≡ false → (replay c (history ++ commands.Commit base choice ambition ss ∷ [])).rows ≡ (replay c history).rows
 
 -- the replay of a legal history reads no option that the history doesn't declare
 abbrev pub LegalIsUnread : Type 0
 LegalIsUnread = (history : List Command) → IsLegal history → (option : ℕ) → option_count history ≤ option → (c : List Bool)
     → replay (with_option c option true) history ≡ replay (with_option c option false) history
 
--- the replay with a commit more reads none either, if its ambition has only declared options
+-- the replay with a commit more reads none either, if its ambition and sides have only declared options
 abbrev pub CommitIsUnread : Type 0
-CommitIsUnread = (history : List Command) (base : ℕ) (choice : List Bool) (ambition : Formula ℕ) (es : List Edit) → IsLegal history → reach ambition ≤ option_count history
+CommitIsUnread = (history : List Command) (base : ℕ) (choice : List Bool) (ambition : Formula ℕ) (ss : List Sided) → IsLegal history → reach_within ambition ss ≤ option_count history
     → (option : ℕ) → option_count history ≤ option → (c : List Bool)
-    → replay (with_option c option true) (history ++ commands.Commit base choice ambition es ∷ [])
-    ≡ replay (with_option c option false) (history ++ commands.Commit base choice ambition es ∷ [])
+    → replay (with_option c option true) (history ++ commands.Commit base choice ambition ss ∷ [])
+    ≡ replay (with_option c option false) (history ++ commands.Commit base choice ambition ss ∷ [])
 
 -- where no choice is bad, a command leaves no fault on a valid choice within the ambition
 abbrev pub NoneBadIsSound : Type 0
@@ -126,8 +127,8 @@ LegalIsSound = (history : List Command) (c : List Bool) → IsLegal history → 
 
 -- a commit of edits of lines alone has no bad choice after a legal history
 abbrev pub LinesStaySound : Type 0
-LinesStaySound = (history : List Command) (base : ℕ) (choice : List Bool) (ambition : Formula ℕ) (es : List Edit) → IsLegal history
-    → list_any changes_rows es ≡ false → bad_choice history ambition (commands.Commit base choice ambition es) ≡ None
+LinesStaySound = (history : List Command) (base : ℕ) (choice : List Bool) (ambition : Formula ℕ) (ss : List Sided) → IsLegal history
+    → list_any changes_rows (unsided ss) ≡ false → bad_choice history ambition (commands.Commit base choice ambition ss) ≡ None
 
 -- a replay has no more rows than its history made nodes
 abbrev pub RowsAreFew : Type 0

@@ -1,11 +1,12 @@
 -- Which commands a history accepts.
 use Rattle.std.specs.Prelude.{◌≡◌, ℕ, ◌+◌, Bool, true, false, ◌&&◌, ◌||◌, not, nat_eq, nat_lt, nat_le, List, [], ◌∷◌, ◌++◌, length, take, Option, Some, None}
-use Rattle.std.specs.List.{list_any}
+use Rattle.std.specs.List.{list_any, position}
 use Rattle.cov_base.specs.Choices.{all_choices}
 use Rattle.cov_base.specs.declared.limits.Limits.{Limits}
 use Rattle.cov_expr.specs.Formula.{Formula, value, reach}
 use Rattle.cov_expr.specs.Options.{is_declared}
 use Rattle.cov_edit.specs.declared.edit.Edit.{Edit}
+use Rattle.cov_edit.specs.declared.sided.Sided.{Sided}
 use Rattle.cov_edit.specs.declared.command.Command.{Command}
 use Rattle.cov_edit.specs.declared.command.Command.TheVariants as commands
 use Rattle.cov_edit.specs.Fits.{fits_command}
@@ -13,6 +14,7 @@ use Rattle.cov_edit.specs.History.{options_of, option_count, constraints_of, pre
 use Rattle.cov_edit.specs.Limits.{limits_of}
 use Rattle.cov_edit.specs.Numbering.{numbers_of, nodes_made, anchors_of, line_count, node_count}
 use Rattle.cov_edit.specs.Replay.{replay}
+use Rattle.cov_edit.specs.Sides.{unsided, reach_within}
 use Rattle.cov_view.specs.Refusals.{when, first_of, first_refused}
 use Rattle.cov_view.specs.declared.fault.EditFault.{EditFault}
 use Rattle.cov_history.specs.BadChoices.{unsound_refusal}
@@ -35,8 +37,17 @@ abbrev pub as_overtaken : Option ℕ → Option Refusal
 as_overtaken None = None
 as_overtaken (Some p) = Some (refusals.Overtaken p)
 
+-- the place of the first edit whose side is false on a choice
+abbrev pub first_outside : List Bool → List Sided → Option ℕ
+first_outside c ss = position (λ s. not (value s.side c)) ss
+
+-- the refusal for the first edit whose side is false
+abbrev pub as_outside : Option ℕ → Option Refusal
+as_outside None = None
+as_outside (Some i) = Some (refusals.OutsideSide i)
+
 -- whether there are no edits
-abbrev pub has_no_edits : List Edit → Bool
+abbrev pub has_no_edits : {X : Type 0} → List X → Bool
 has_no_edits [] = true
 has_no_edits (e ∷ es) = false
 
@@ -80,16 +91,17 @@ refusals_of history (commands.Constraint expr) =
     rule_refusals history (reach expr) (length (constraints_of history)) ++ when (not (leaves_variant history expr)) refusals.NoVariantLeft ∷ []
 refusals_of history (commands.Prefer expr) = rule_refusals history (reach expr) (length (preferences_of history))
 refusals_of history (commands.Default option on) = rule_refusals history (option + 1) (length (defaults_of history))
-refusals_of history (commands.Commit base choice ambition es) =
+refusals_of history (commands.Commit base choice ambition ss) =
     when (nat_lt (length history) base) refusals.BadBase
-    ∷ when (not (nat_eq (length choice) (option_count (take base history))) || nat_lt (option_count (take base history)) (reach ambition)) refusals.BadOption
-    ∷ (size_refusals history es
+    ∷ when (not (nat_eq (length choice) (option_count (take base history))) || nat_lt (option_count (take base history)) (reach_within ambition ss)) refusals.BadOption
+    ∷ (size_refusals history (unsided ss)
     ++ as_invalid (first_false_in (take base history) choice)
     ∷ when (not (value ambition choice)) refusals.OutsideAmbition
-    ∷ when (has_no_edits es) refusals.Empty
-    ∷ as_bad_record (first_refused (numbers_of (take base history)) (replay choice (take base history)) es)
-    ∷ as_overtaken (overtaken history base ambition es)
-    ∷ unsound_refusal history ambition (commands.Commit base choice ambition es)
+    ∷ as_outside (first_outside choice ss)
+    ∷ when (has_no_edits ss) refusals.Empty
+    ∷ as_bad_record (first_refused (numbers_of (take base history)) (replay choice (take base history)) (unsided ss))
+    ∷ as_overtaken (overtaken history base ambition ss)
+    ∷ unsound_refusal history ambition (commands.Commit base choice ambition ss)
     ∷ [])
 
 -- the refusal of a history that has as many commands as it holds

@@ -54,7 +54,7 @@ pub fn rows_are_once()
     ensures { RowsAreOnce }
 {}
 
-/// A commit makes its changes of the rows, in order, where its ambition is true.
+/// Of a commit's changes of the rows, those are made, in order, whose ambition and side are true.
 pub fn commit_changes_rows()
     ensures { CommitChangesRows }
 {}
@@ -69,7 +69,7 @@ pub fn legal_is_unread()
     ensures { LegalIsUnread }
 {}
 
-/// The replay with a commit more reads none either, if its ambition has only declared options.
+/// The replay with a commit more reads none either, if its ambition and sides have only declared options.
 pub fn commit_is_unread()
     ensures { CommitIsUnread }
 {}

@@ -24,13 +24,18 @@ pub enum Refusal {
     },
     /// The ambition is false on the choice.
     OutsideAmbition,
+    /// The first edit, from 0, whose side is false on the choice.
+    OutsideSide {
+        edit: u32,
+    },
     /// There are no edits.
     Empty,
     /// The first edit, from 0, that the variant of the choice refuses.
     BadRecord {
         edit: u32,
     },
-    /// The position of the first later commit that touches a common node and shares a valid choice.
+    /// The position of the first later commit of which some edit touches a common node with some edit, where a valid choice
+    /// makes both ambitions and both sides true.
     Overtaken {
         position: Position,
     },
