@@ -1,8 +1,9 @@
 -- How long records are.
-use Rattle.std.proofs.Common.{◌≡◌, ℕ, ◌+◌, ◌*◌, ◌<◌, ◌≤◌, ◌^◌, true, ◌&&◌, not, nat_le, List, [], ◌∷◌, ◌++◌, length, map, refl, arith}
+use Rattle.std.proofs.Common.{◌≡◌, ℕ, ◌+◌, ◌*◌, ◌<◌, ◌≤◌, ◌^◌, Bool, true, false, ◌&&◌, not, nat_le, List, [], ◌∷◌, ◌++◌, length, map, Option, Some, None, refl, sym, ap, subst, ◌∙◌, arith}
 use Rattle.std.specs.List.{list_all, list_any, AllByRecursion}
 use Rattle.std.proofs.lemmas.Bool.{and_parts, leb-true}
 use Rattle.std.proofs.lemmas.List.{length-append, length-map}
+use Rattle.std.proofs.lemmas.List.Folds.{list_all-append}
 use Rattle.std.proofs.lemmas.List.Sums.{sum_by-cons}
 use Rattle.std.specs.Str.{bytes_eq, is_utf8}
 use Rattle.cov_base.specs.Spelling.{is_word, reserved_words, is_outside_names, dot_names, is_name, is_option_name}
@@ -13,16 +14,22 @@ use Rattle.cov_base.specs.declared.number.LineRef.{LineRef}
 use Rattle.cov_base.specs.declared.number.LineRef.TheVariants as lines
 use Rattle.cov_expr.specs.Formula.{Formula, False, True, On, Not, And, Or, part_count}
 use Rattle.cov_edit.specs.EditFits.{fits_edit}
-use Rattle.cov_edit.specs.Fits.{fits_expr}
+use Rattle.cov_edit.specs.Fits.{fits_expr, fits_with_side}
 use Rattle.cov_edit.specs.History.{edit_bytes, text_bytes, command_bytes}
 use Rattle.cov_edit.specs.declared.edit.Edit.{Edit}
 use Rattle.cov_edit.specs.declared.edit.Edit.TheVariants as edits
 use Rattle.cov_edit.specs.declared.command.Command.{Command}
 use Rattle.cov_edit.specs.declared.command.Command.TheVariants as commands
 use Rattle.cov_edit.specs.History.{edits_in}
+use Rattle.cov_edit.specs.Sides.{unsided}
+use Rattle.cov_edit.proofs.CallerLemmas.{bytes-append, edits-fit, unsided-length}
+use Rattle.cov_edit.specs.declared.sided.Sided.{Sided}
 use Rattle.cov_record.specs.FitsRecord.{FitsRecord}
-use Rattle.cov_record.specs.Payload.{bit, choice_spelling, expression_spelling, node_spelling, line_spelling, name_spelling, text_spelling, edit_spelling, all_edit_spelling, edits_spelling, payload}
+use Rattle.cov_record.specs.Payload.{bit, run_of, choice_spelling, expression_spelling, node_spelling, line_spelling, name_spelling, text_spelling, edit_spelling, all_edit_spelling, edits_spelling, run_spelling, sided_spelling, payload}
+use Rattle.cov_record.specs.SideRuns.{SideRun, under, laid_out, side_runs, has_sides, AreRuns}
 use Rattle.cov_record.proofs.Forests.{fits_both}
+use Rattle.cov_record.proofs.Grouping.{under-unsided, laid-length, laid_out-runs, runs-are}
+use Rattle.cov_record.proofs.Sides.{run-unsided, side-fits}
 
 part-length : (e : Formula ℕ) → length (expression_spelling e) ≤ 2 * part_count e
 part-length False = omega arith
@@ -69,22 +76,60 @@ edits-length (e ∷ es) h =
     let own = and_parts (fits_edit e) (list_all fits_edit es) h in
     omega (arith, length-append (edit_spelling e) (all_edit_spelling es), edit-length e own.0, edits-length es own.1, sum_by-cons edit_bytes e es)
 
--- a record has no more bytes than its text, 263 for each edit, and 656 besides
-pub payload-length : (c : Command) → FitsRecord c → length (payload c) ≤ 656 + 263 * length (edits_in c) + command_bytes c
+-- so has a run, with its side and its number, where it has an edit
+run-length : (run : SideRun) → 0 < length run.edits → list_all fits_with_side (under run.side run.edits) ≡ true → length (run_spelling run) ≤ 779 * length run.edits + text_bytes run.edits
+run-length run some h =
+    let spelt = subst (λ es. list_all fits_edit es ≡ true) (under-unsided run.side run.edits) (edits-fit (under run.side run.edits) h) in
+    omega (
+      arith,
+      some,
+      length-append (expression_spelling run.side) (edits_spelling run.edits),
+      expression-length run.side (side-fits run.side run.edits some h),
+      edits-length run.edits spelt,
+    )
+
+runs-length : (before : Option (Formula ℕ)) (runs : List SideRun) → AreRuns before runs → list_all fits_with_side (laid_out runs) ≡ true
+    → length (run_of run_spelling runs) ≤ 779 * length (laid_out runs) + text_bytes (unsided (laid_out runs))
+runs-length before [] are h = omega arith
+runs-length before (run ∷ runs) are h =
+    let own = under run.side run.edits in
+    let both = and_parts (list_all fits_with_side own) (list_all fits_with_side (laid_out runs)) (sym (list_all-append fits_with_side own (laid_out runs)) ∙ h) in
+    omega (
+      arith,
+      length-append (run_spelling run) (run_of run_spelling runs),
+      run-length run are.0 both.0,
+      runs-length (Some run.side) runs are.2 both.1,
+      laid-length run runs,
+      ap text_bytes (run-unsided run runs),
+      bytes-append run.edits (unsided (laid_out runs)),
+    )
+
+sided-length : (t : Bool) (ss : List Sided) → list_all fits_with_side ss ≡ true → length (sided_spelling t ss) ≤ 4 + 779 * length ss + text_bytes (unsided ss)
+sided-length true ss h =
+    let same = laid_out-runs ss in
+    omega (
+      arith,
+      subst (λ ts. length (run_of run_spelling (side_runs ss)) ≤ 779 * length ts + text_bytes (unsided ts)) same
+          (runs-length None (side_runs ss) (runs-are ss) (subst (λ ts. list_all fits_with_side ts ≡ true) (sym same) h)),
+    )
+sided-length false ss h = omega (arith, edits-length (unsided ss) (edits-fit ss h), unsided-length ss)
+
+-- a record has no more bytes than its text, 779 for each edit, and 656 besides
+pub payload-length : (c : Command) → FitsRecord c → length (payload c) ≤ 656 + 779 * length (edits_in c) + command_bytes c
 payload-length (commands.Option name) h = omega (arith, option-length name h.0)
 payload-length (commands.Constraint e) h = omega (arith, expression-length e h.0)
 payload-length (commands.Prefer e) h = omega (arith, expression-length e h.0)
 payload-length (commands.Default o on) h = omega arith
-payload-length (commands.Commit base choice ambition es) h =
-    let own = and_parts (fits_expr ambition) (list_all fits_edit es) h.0 in
+payload-length (commands.Commit base choice ambition ss) h =
+    let own = and_parts (fits_expr ambition) (list_all fits_with_side ss) h.0 in
     omega (
       arith,
       h.1.1,
-      length-append (choice_spelling choice) (expression_spelling ambition ++ edits_spelling es),
+      length-append (choice_spelling choice) (expression_spelling ambition ++ sided_spelling (has_sides ss) ss),
       length-map choice bit,
-      length-append (expression_spelling ambition) (edits_spelling es),
+      length-append (expression_spelling ambition) (sided_spelling (has_sides ss) ss),
       expression-length ambition own.0,
-      edits-length es own.1,
+      sided-length (has_sides ss) ss own.1,
     )
 
 -- a command has no more edits and bytes of text than a commit may have
@@ -92,10 +137,10 @@ pub record IsWithinLimits (c : Command) : Type 0 where
   pub edits : length (edits_in c) ≤ LIMITS.edits
   pub bytes : command_bytes c ≤ LIMITS.commit_bytes
 
-pub payload-short : (c : Command) → FitsRecord c → IsWithinLimits c → length (payload c) < 2 ^ 27
+pub payload-short : (c : Command) → FitsRecord c → IsWithinLimits c → length (payload c) < 2 ^ 25
 payload-short c h within = omega (arith, payload-length c h, within.edits, within.bytes)
 
 pub payloads-short : (history : List Command) → AllByRecursion FitsRecord history → AllByRecursion IsWithinLimits history
     → AllByRecursion (λ p. length p < 2 ^ 27) (map payload history)
 payloads-short [] h within = tt
-payloads-short (c ∷ history) h within = (payload-short c h.0 within.0, payloads-short history h.1 within.1)
+payloads-short (c ∷ history) h within = (omega (arith, payload-short c h.0 within.0), payloads-short history h.1 within.1)

@@ -3,9 +3,14 @@ pub mod CallerLemmas
 pub mod Examples
 pub mod Forests
 pub mod Fronts
+pub mod Grouping
+pub mod Kept
 pub mod Lengths
 pub mod Many
 pub mod Parts
+pub mod Putting
 pub mod Records
 pub mod Runs
+pub mod Sides
 pub mod Signs
+pub mod Written

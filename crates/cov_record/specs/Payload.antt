@@ -1,5 +1,5 @@
 -- The one spelling of each command.
-use Rattle.std.specs.Prelude.{ℕ, Bool, cond, List, [], ◌∷◌, ◌++◌, length, map}
+use Rattle.std.specs.Prelude.{ℕ, Bool, true, false, cond, List, [], ◌∷◌, ◌++◌, length, map}
 use Rattle.std.specs.Int.{w16, w32, to_be_bytes}
 use Rattle.cov_base.specs.declared.number.Kind.{Kind}
 use Rattle.cov_base.specs.declared.number.Kind.TheVariants.{File, Dir}
@@ -8,10 +8,13 @@ use Rattle.cov_base.specs.declared.number.NodeRef.TheVariants as nodes
 use Rattle.cov_base.specs.declared.number.LineRef.{LineRef}
 use Rattle.cov_base.specs.declared.number.LineRef.TheVariants as lines
 use Rattle.cov_expr.specs.Formula.{Formula, False, True, On, Not, And, Or}
+use Rattle.cov_edit.specs.Sides.{unsided}
 use Rattle.cov_edit.specs.declared.edit.Edit.{Edit}
 use Rattle.cov_edit.specs.declared.edit.Edit.TheVariants as edits
+use Rattle.cov_edit.specs.declared.sided.Sided.{Sided}
 use Rattle.cov_edit.specs.declared.command.Command.{Command}
 use Rattle.cov_edit.specs.declared.command.Command.TheVariants as commands
+use Rattle.cov_record.specs.SideRuns.{SideRun, side_runs, has_sides}
 
 -- forms, one behind another
 abbrev pub run_of : {X : Type 0} → (X → List ℕ) → List X → List ℕ
@@ -75,11 +78,32 @@ all_edit_spelling es = run_of edit_spelling es
 abbrev pub edits_spelling : List Edit → List ℕ
 edits_spelling es = to_be_bytes w32 (length es) ++ all_edit_spelling es
 
--- the payload of a command
+-- edits of one side: the side, and the edits behind their number
+abbrev pub run_spelling : SideRun → List ℕ
+run_spelling run = expression_spelling run.side ++ edits_spelling run.edits
+
+-- runs behind their number
+abbrev pub runs_spelling : List SideRun → List ℕ
+runs_spelling runs = to_be_bytes w32 (length runs) ++ run_of run_spelling runs
+
+-- the byte of a commit, by whether the sides of its edits are spelt
+abbrev pub commit_byte : Bool → ℕ
+commit_byte with_sides = cond with_sides 6 5
+
+-- the edits of a commit: by runs of one side where their sides are spelt
+abbrev pub sided_spelling : Bool → List Sided → List ℕ
+sided_spelling true ss = runs_spelling (side_runs ss)
+sided_spelling false ss = edits_spelling (unsided ss)
+
+-- a commit, with the sides of its edits or without
+abbrev pub commit_spelling : Bool → ℕ → List Bool → Formula ℕ → List Sided → List ℕ
+commit_spelling with_sides base choice ambition ss =
+    commit_byte with_sides ∷ (to_be_bytes w32 base ++ (choice_spelling choice ++ (expression_spelling ambition ++ sided_spelling with_sides ss)))
+
+-- the payload of a command; the sides of a commit's edits are spelt where one of them isn't True
 abbrev pub payload : Command → List ℕ
 payload (commands.Option name) = 1 ∷ name_spelling name
 payload (commands.Constraint expr) = 2 ∷ expression_spelling expr
 payload (commands.Prefer expr) = 3 ∷ expression_spelling expr
 payload (commands.Default option on) = 4 ∷ option ∷ bit on ∷ []
-payload (commands.Commit base choice ambition es) =
-    5 ∷ (to_be_bytes w32 base ++ (choice_spelling choice ++ (expression_spelling ambition ++ edits_spelling es)))
+payload (commands.Commit base choice ambition ss) = commit_spelling (has_sides ss) base choice ambition ss

@@ -1,5 +1,5 @@
 -- What stands at the front of bytes, form by form, and what follows it.
-use Rattle.std.specs.Prelude.{◌≡◌, ℕ, zero, suc, Bool, true, false, ◌&&◌, nat_lt, nat_le, List, [], ◌∷◌, ◌++◌, length, take, drop, Option, Some, None, Result, Ok, Err}
+use Rattle.std.specs.Prelude.{◌≡◌, ℕ, zero, suc, Bool, true, false, ◌&&◌, not, nat_lt, nat_le, List, [], ◌∷◌, ◌++◌, length, take, drop, Option, Some, None, Result, Ok, Err}
 use Rattle.std.specs.Int.{w16, w32, from_be_bytes}
 use Rattle.cov_base.specs.Spelling.{is_line_text, is_name, is_option_name}
 use Rattle.cov_base.specs.declared.limits.TheConstants.{CHOICE_WIDTH, MOST_PARTS}
@@ -12,12 +12,15 @@ use Rattle.cov_base.specs.declared.number.NodeRef.TheVariants as nodes
 use Rattle.cov_base.specs.declared.number.LineRef.{LineRef}
 use Rattle.cov_base.specs.declared.number.LineRef.TheVariants as lines
 use Rattle.cov_expr.specs.Formula.{Formula, False, True, On, Not, And, Or}
+use Rattle.cov_edit.specs.Sides.{sided, side_after}
 use Rattle.cov_edit.specs.declared.edit.Edit.{Edit}
 use Rattle.cov_edit.specs.declared.edit.Edit.TheVariants as edits
+use Rattle.cov_edit.specs.declared.sided.Sided.{Sided}
 use Rattle.cov_record.specs.declared.expression.Sign.{Sign}
 use Rattle.cov_record.specs.declared.expression.Sign.TheVariants.{Never, Always, Named, Negates, Joins, Chooses}
 use Rattle.cov_edit.specs.declared.command.Command.{Command}
 use Rattle.cov_edit.specs.declared.command.Command.TheVariants as commands
+use Rattle.cov_record.specs.SideRuns.{SideRun, side_run, under, laid_out, has_sides, goes_on}
 
 -- what stands at the front and what follows it; none where the bytes begin otherwise
 abbrev pub Front : Type 0 → Type 0
@@ -228,18 +231,65 @@ lone (e ∷ es) rest = Some (e, rest)
 abbrev pub front_expression : List ℕ → Front (Formula ℕ)
 front_expression bytes = behind (front_forest MOST_PARTS 1 bytes) lone
 
+-- edits of the side True, behind their number
+abbrev pub front_plain : List ℕ → Front (List Sided)
+front_plain bytes = behind (front_counted bytes) (λ es r. Some (under True es, r))
+
+-- so many edits, at least one
+abbrev pub edits_counted : ℕ → List ℕ → Front (List Edit)
+edits_counted zero bytes = None
+edits_counted (suc n) bytes = front_edits (suc n) bytes
+
+-- edits as a run of a side
+abbrev pub run_with : Formula ℕ → Front (List Edit) → Front SideRun
+run_with side front = behind front (λ es r. Some (side_run side es, r))
+
+-- edits of a side behind their number, of which there is one at least
+abbrev pub edits_under : Formula ℕ → List ℕ → Front SideRun
+edits_under side bytes = run_with side (behind (front_u32 bytes) edits_counted)
+
+-- the same, if the side isn't that of the edits before
+abbrev pub run_under : Option (Formula ℕ) → Formula ℕ → List ℕ → Front SideRun
+run_under before side bytes = behind (given (not (goes_on before side)) side bytes) edits_under
+
+-- edits of one side, which stands before them
+abbrev pub front_run : Option (Formula ℕ) → List ℕ → Front SideRun
+front_run before bytes = behind (front_expression bytes) (run_under before)
+
+-- so many runs, each of another side than that before it
+abbrev pub front_runs : Option (Formula ℕ) → ℕ → List ℕ → Front (List SideRun)
+front_runs before zero bytes = Some ([], bytes)
+front_runs before (suc n) bytes = behind (front_run before bytes) (λ run r. behind (front_runs (Some run.side) n r) (λ runs r. Some (run ∷ runs, r)))
+
+-- runs behind edits, as edits with their sides
+abbrev pub laid : List Sided → Front (List SideRun) → Front (List Sided)
+laid before front = behind front (λ runs r. Some (before ++ laid_out runs, r))
+
+-- edits, if one of them has a side
+abbrev pub if_sided : Front (List Sided) → Front (List Sided)
+if_sided front = behind front (λ ss. given (has_sides ss) ss)
+
+-- runs behind their number, as edits of which one has a side
+abbrev pub front_by_runs : List ℕ → Front (List Sided)
+front_by_runs bytes = behind (front_u32 bytes) (λ n r. if_sided (laid [] (front_runs None n r)))
+
+-- the edits of a commit, whose sides are spelt or not
+abbrev pub front_sided : Bool → List ℕ → Front (List Sided)
+front_sided true bytes = front_by_runs bytes
+front_sided false bytes = front_plain bytes
+
 -- what stands behind the byte of each command
 abbrev pub front_default : List ℕ → Front Command
 front_default bytes = behind (front_u8 bytes) (λ o r. behind (given (nat_lt o CHOICE_WIDTH) o r) (λ o r. behind (front_bit r) (λ on r. Some (commands.Default o on, r))))
 
-abbrev pub front_rest : ℕ → List Bool → Formula ℕ → List ℕ → Front Command
-front_rest base choice ambition bytes = behind (front_counted bytes) (λ es r. Some (commands.Commit base choice ambition es, r))
+abbrev pub front_rest : Bool → ℕ → List Bool → Formula ℕ → List ℕ → Front Command
+front_rest with_sides base choice ambition bytes = behind (front_sided with_sides bytes) (λ ss r. Some (commands.Commit base choice ambition ss, r))
 
-abbrev pub front_ambition : ℕ → List Bool → List ℕ → Front Command
-front_ambition base choice bytes = behind (front_expression bytes) (front_rest base choice)
+abbrev pub front_ambition : Bool → ℕ → List Bool → List ℕ → Front Command
+front_ambition with_sides base choice bytes = behind (front_expression bytes) (front_rest with_sides base choice)
 
-abbrev pub front_commit : List ℕ → Front Command
-front_commit bytes = behind (front_u32 bytes) (λ base r. behind (front_choice r) (front_ambition base))
+abbrev pub front_commit : Bool → List ℕ → Front Command
+front_commit with_sides bytes = behind (front_u32 bytes) (λ base r. behind (front_choice r) (front_ambition with_sides base))
 
 abbrev pub front_option : List ℕ → Front Command
 front_option bytes = behind (front_option_name bytes) (λ name r. Some (commands.Option name, r))
@@ -257,8 +307,9 @@ command_of (suc zero) bytes = front_option bytes
 command_of (suc (suc zero)) bytes = front_constraint bytes
 command_of (suc (suc (suc zero))) bytes = front_prefer bytes
 command_of (suc (suc (suc (suc zero)))) bytes = front_default bytes
-command_of (suc (suc (suc (suc (suc zero))))) bytes = front_commit bytes
-command_of (suc (suc (suc (suc (suc (suc n)))))) bytes = None
+command_of (suc (suc (suc (suc (suc zero))))) bytes = front_commit false bytes
+command_of (suc (suc (suc (suc (suc (suc zero)))))) bytes = front_commit true bytes
+command_of (suc (suc (suc (suc (suc (suc (suc n))))))) bytes = None
 
 abbrev pub front_command : List ℕ → Front Command
 front_command bytes = behind (front_u8 bytes) command_of
@@ -294,11 +345,23 @@ EndsReading front after None rest = front ≡ Some (after, rest)
 EndsReading front after (Some (Refused e)) rest = front ≡ None
 EndsReading front after (Some Memory) rest = Unit {0}
 
--- a call put what stands at the front behind others
-abbrev pub Puts : {X E : Type 0} → Front X → List X → List X → Option (MemoryOr E) → List ℕ → Type 0
-Puts {X = X} front before after None rest = (x : X) × (front ≡ Some (x, rest)) × (after ≡ before ++ x ∷ [])
-Puts front before after (Some (Refused e)) rest = front ≡ None
-Puts front before after (Some Memory) rest = Unit {0}
+-- edits behind others, with the side of the last of these
+abbrev pub alike : List Sided → Front (List Edit) → Front (List Sided)
+alike before front = behind front (λ es r. Some (before ++ under (side_after True before) es, r))
+
+-- edits with one more, of the side of the last of them
+abbrev pub with_edit : List Sided → Edit → List Sided
+with_edit before e = before ++ sided (side_after True before) e ∷ []
+
+-- edits with those of a run
+abbrev pub with_run : List Sided → SideRun → List Sided
+with_run before run = before ++ under run.side run.edits
+
+-- a call put what stands at the front to others
+abbrev pub Puts : {X Y E : Type 0} → (List Y → X → List Y) → Front X → List Y → List Y → Option (MemoryOr E) → List ℕ → Type 0
+Puts {X = X} put front before after None rest = (x : X) × (front ≡ Some (x, rest)) × (after ≡ put before x)
+Puts put front before after (Some (Refused e)) rest = front ≡ None
+Puts put front before after (Some Memory) rest = Unit {0}
 
 -- parts in front of expressions, from the last
 abbrev pub pushed : List Sign → List (Formula ℕ) → List (Formula ℕ)

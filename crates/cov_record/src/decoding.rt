@@ -1,11 +1,12 @@
 // Commands from bytes.
 ghost use Rattle.std.specs.Prelude.{◌≡◌, IfOk, IsErrOf};
 ghost use Rattle.cov_record.specs.Laws.{IsRecordOf, IsNoRecord};
-ghost use Rattle.cov_record.specs.Reading.{Gives, GivesAlone, OnlyIf, front_option, front_constraint, front_prefer, front_default, front_rest, front_ambition, front_commit, front_command, front_counted};
+ghost use Rattle.cov_record.specs.Reading.{Gives, GivesAlone, OnlyIf, front_option, front_constraint, front_prefer, front_default, front_rest, front_ambition, front_commit, front_command, front_sided};
 
 use crate::ahead::Ahead;
+use crate::by_runs::take_by_runs;
 use crate::choices::{take_bit, take_choice};
-use crate::edits::{take_edits, take_option_name};
+use crate::edits::{take_option_name, take_plain};
 use crate::expression::take_expression;
 use crate::fault::{Fault, NotARecord};
 use cov_base::{CHOICE_WIDTH, Choice, MemoryOr, OptionId, Position};
@@ -49,7 +50,8 @@ fn take_command(alloc: Global, ahead: &mut Ahead<'_>) -> Result<Command, Fault>
         Some(2) => take_constraint(alloc, ahead),
         Some(3) => take_prefer(alloc, ahead),
         Some(4) => take_default(ahead),
-        Some(5) => take_commit(alloc, ahead),
+        Some(5) => take_commit(alloc, ahead, false),
+        Some(6) => take_commit(alloc, ahead, true),
         _ => Err(MemoryOr::Refused(NotARecord)),
     }
 }
@@ -99,8 +101,9 @@ fn take_default(ahead: &mut Ahead<'_>) -> Result<Command, Fault>
     }
 }
 
-fn take_commit(alloc: Global, ahead: &mut Ahead<'_>) -> Result<Command, Fault>
-    ensures { Gives (front_commit ahead.old) result ahead.new }
+// A commit, whose edits have their sides spelt or not.
+fn take_commit(alloc: Global, ahead: &mut Ahead<'_>, with_sides: bool) -> Result<Command, Fault>
+    ensures { Gives (front_commit with_sides ahead.old) result ahead.new }
 {
     let Some(base) = ahead.take_u32() else {
         return Err(MemoryOr::Refused(NotARecord));
@@ -108,19 +111,20 @@ fn take_commit(alloc: Global, ahead: &mut Ahead<'_>) -> Result<Command, Fault>
     let Some(choice) = take_choice(ahead) else {
         return Err(MemoryOr::Refused(NotARecord));
     };
-    take_ambition(alloc, ahead, Position::new(base), choice)
+    take_ambition(alloc, ahead, with_sides, Position::new(base), choice)
 }
 
 fn take_ambition(
     alloc: Global,
     ahead: &mut Ahead<'_>,
+    with_sides: bool,
     base: Position,
     choice: Choice,
 ) -> Result<Command, Fault>
-    ensures { Gives (front_ambition base choice ahead.old) result ahead.new }
+    ensures { Gives (front_ambition with_sides base choice ahead.old) result ahead.new }
 {
     match take_expression(alloc, ahead) {
-        Ok(ambition) => take_rest(alloc, ahead, base, choice, ambition),
+        Ok(ambition) => take_rest(alloc, ahead, with_sides, base, choice, ambition),
         Err(fault) => Err(fault),
     }
 }
@@ -128,13 +132,14 @@ fn take_ambition(
 fn take_rest(
     alloc: Global,
     ahead: &mut Ahead<'_>,
+    with_sides: bool,
     base: Position,
     choice: Choice,
     ambition: Expr,
 ) -> Result<Command, Fault>
-    ensures { Gives (front_rest base choice ambition ahead.old) result ahead.new }
+    ensures { Gives (front_rest with_sides base choice ambition ahead.old) result ahead.new }
 {
-    match take_counted(alloc, ahead) {
+    match take_sided(alloc, ahead, with_sides) {
         Ok(edits) => Ok(Command::Commit {
             base,
             choice,
@@ -145,11 +150,11 @@ fn take_rest(
     }
 }
 
-fn take_counted(alloc: Global, ahead: &mut Ahead<'_>) -> Result<Edits, Fault>
-    ensures { Gives (front_counted ahead.old) result ahead.new }
+fn take_sided(alloc: Global, ahead: &mut Ahead<'_>, with_sides: bool) -> Result<Edits, Fault>
+    ensures { Gives (front_sided with_sides ahead.old) result ahead.new }
 {
-    match ahead.take_u32() {
-        None => Err(MemoryOr::Refused(NotARecord)),
-        Some(count) => take_edits(alloc, ahead, count),
+    match with_sides {
+        true => take_by_runs(alloc, ahead),
+        false => take_plain(alloc, ahead),
     }
 }

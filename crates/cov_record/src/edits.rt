@@ -1,8 +1,8 @@
 // Edits, references, names and texts at the front of bytes.
-ghost use Rattle.std.specs.Prelude.{◌≡◌, ◌≤◌, true, length, drop, IfOk};
+ghost use Rattle.std.specs.Prelude.{◌≡◌, ◌≤◌, [], true, length, drop, IfOk};
 ghost use Rattle.cov_base.specs.Spelling.{is_line_text};
 ghost use Rattle.cov_edit.specs.EditFits.{has_line_text};
-ghost use Rattle.cov_record.specs.Reading.{Takes, Gives, front_kind, front_node, front_line, front_name, front_option_name, front_text, front_new, front_insert, front_delete, front_rename, front_move, front_remove, front_edit, front_edits, EndsReading, Puts, joined};
+ghost use Rattle.cov_record.specs.Reading.{Takes, Gives, front_kind, front_node, front_line, front_name, front_option_name, front_text, front_new, front_insert, front_delete, front_rename, front_move, front_remove, front_edit, front_edits, front_plain, EndsReading, Puts, alike, with_edit};
 
 use crate::ahead::Ahead;
 use crate::fault::{Fault, NotARecord};
@@ -187,9 +187,19 @@ pub(crate) fn take_edit(alloc: Global, ahead: &mut Ahead<'_>) -> Result<Edit, Fa
     }
 }
 
+/// Edits of the side `True`, behind their number.
+pub(crate) fn take_plain(alloc: Global, ahead: &mut Ahead<'_>) -> Result<Edits, Fault>
+    ensures { Gives (front_plain ahead.old) result ahead.new }
+{
+    match ahead.take_u32() {
+        None => Err(MemoryOr::Refused(NotARecord)),
+        Some(count) => take_edits(alloc, ahead, count),
+    }
+}
+
 // The edits that a number counts. There is room for those that were read alone.
-pub(crate) fn take_edits(alloc: Global, ahead: &mut Ahead<'_>, count: u32) -> Result<Edits, Fault>
-    ensures { Gives (front_edits count ahead.old) result ahead.new }
+fn take_edits(alloc: Global, ahead: &mut Ahead<'_>, count: u32) -> Result<Edits, Fault>
+    ensures { Gives (alike [] (front_edits count ahead.old)) result ahead.new }
 {
     let mut edits = Edits::new(alloc);
     match fill(alloc, ahead, &mut edits, count) {
@@ -198,8 +208,14 @@ pub(crate) fn take_edits(alloc: Global, ahead: &mut Ahead<'_>, count: u32) -> Re
     }
 }
 
-fn fill(alloc: Global, ahead: &mut Ahead<'_>, edits: &mut Edits, count: u32) -> Option<Fault>
-    ensures { EndsReading (joined edits.old (front_edits count ahead.old)) edits.new
+/// Puts so many edits behind others, with the side of the last of these, which is `True` where there is none.
+pub(crate) fn fill(
+    alloc: Global,
+    ahead: &mut Ahead<'_>,
+    edits: &mut Edits,
+    count: u32,
+) -> Option<Fault>
+    ensures { EndsReading (alike edits.old (front_edits count ahead.old)) edits.new
         result ahead.new }
 {
     for read in 0..count {
@@ -211,11 +227,11 @@ fn fill(alloc: Global, ahead: &mut Ahead<'_>, edits: &mut Edits, count: u32) -> 
 }
 
 fn take_one(alloc: Global, ahead: &mut Ahead<'_>, edits: &mut Edits) -> Option<Fault>
-    ensures { Puts (front_edit ahead.old) edits.old edits.new result ahead.new }
+    ensures { Puts with_edit (front_edit ahead.old) edits.old edits.new result ahead.new }
 {
     match take_edit(alloc, ahead) {
         Err(fault) => Some(fault),
-        Ok(edit) => match edits.push(edit) {
+        Ok(edit) => match edits.push_alike(edit) {
             Ok(_) => None,
             Err(_) => Some(MemoryOr::Memory),
         },

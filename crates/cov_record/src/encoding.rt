@@ -1,5 +1,5 @@
 // The bytes of commands.
-ghost use Rattle.std.specs.Prelude.{◌≡◌, ◌<◌, ◌≤◌, ◌^◌, ◌++◌, ◌∷◌, [], map, true, length, IfOk, OnOk};
+ghost use Rattle.std.specs.Prelude.{◌≡◌, ◌<◌, ◌≤◌, ◌^◌, ◌+◌, ◌++◌, ◌∷◌, [], map, true, length, IfOk, OnOk};
 ghost use Rattle.std.specs.Int.{w16, w32, to_be_bytes};
 ghost use Rattle.std.specs.List.{list_all, AllByRecursion};
 ghost use Rattle.cov_base.specs.declared.limits.TheConstants.{CHOICE_WIDTH, MOST_NAME_BYTES, MOST_TEXT_BYTES};
@@ -8,12 +8,17 @@ ghost use Rattle.cov_expr.specs.Parts.{formula};
 ghost use Rattle.cov_edit.specs.EditFits.{fits_edit};
 ghost use Rattle.cov_edit.specs.Fits.{reach_of};
 ghost use Rattle.cov_edit.specs.History.{edits_in};
-ghost use Rattle.cov_record.specs.FitsRecord.{FitsNode, FitsLine, FitsReferences, FitsNumbers};
+ghost use Rattle.cov_edit.specs.Runs.{RunsRise};
+ghost use Rattle.cov_edit.specs.Sides.{unsided, reach_of_sides};
+ghost use Rattle.cov_record.specs.FitsRecord.{FitsNode, FitsLine, FitsReferences, FitsCounts, FitsNumbers, FitsWritten};
+ghost use Rattle.cov_record.specs.KeptRuns.{count_before, own_count, kept_runs, true_run, AreBehind, AreWithin};
 ghost use Rattle.cov_record.specs.Laws.{IsRecordOf};
-ghost use Rattle.cov_record.specs.Payload.{bit, choice_spelling, expression_spelling, kind_byte, node_spelling, line_spelling, name_spelling, text_spelling, edit_spelling, all_edit_spelling, edits_spelling, payload};
+ghost use Rattle.cov_record.specs.Payload.{bit, run_of, choice_spelling, expression_spelling, kind_byte, node_spelling, line_spelling, name_spelling, text_spelling, edit_spelling, all_edit_spelling, edits_spelling, run_spelling, runs_spelling, commit_byte, sided_spelling, payload};
+ghost use Rattle.cov_record.specs.SideRuns.{side_run, side_runs, has_sides};
 
+use crate::side_tests::has_sides;
 use cov_base::{Choice, Kind, LineRef, Memory, NodeRef, OptionId, Text};
-use cov_edit::{Command, Edit, Edits};
+use cov_edit::{Command, Edit, Edits, Run};
 use cov_expr::Part;
 use std::alloc::Global;
 
@@ -58,12 +63,23 @@ fn append_command(text: &mut Text, command: &Command) -> Result<(), Memory>
             ambition,
             edits,
         } => {
-            text.push(5)?;
+            let with_sides = has_sides(edits);
+            text.push(commit_byte(with_sides))?;
             append_u32(text, base.number())?;
             append_choice(text, *choice)?;
             append_part(text, ambition.part())?;
-            append_edits(text, edits)
+            append_sided(text, edits, with_sides)
         }
+    }
+}
+
+// The byte of a commit, by whether the sides of its edits are spelt.
+fn commit_byte(with_sides: bool) -> u8
+    ensures { result ≡ commit_byte with_sides }
+{
+    match with_sides {
+        true => 6,
+        false => 5,
     }
 }
 
@@ -191,13 +207,123 @@ fn append_line(text: &mut Text, line: LineRef) -> Result<(), Memory>
     }
 }
 
-fn append_edits(text: &mut Text, edits: &Edits) -> Result<(), Memory>
+// Appends the edits of a commit: by runs of one side, if one of them has a side other than `True`.
+fn append_sided(text: &mut Text, edits: &Edits, with_sides: bool) -> Result<(), Memory>
+    requires few { length edits.now < 2 ^ 32 }
+    requires sides { with_sides ≡ has_sides edits.now }
+    ensures bytes { OnOk result (text.new ≡ text.old ++ sided_spelling with_sides edits.now) }
+    ensures counts { FitsCounts with_sides edits.now }
+    ensures reach { OnOk result (reach_of_sides edits.now ≤ CHOICE_WIDTH) }
+    ensures references { OnOk result (AllByRecursion FitsReferences (unsided edits.now)) }
+{
+    match with_sides {
+        true => append_by_runs(text, edits),
+        false => append_edits(text, edits.as_slice()),
+    }
+}
+
+// Appends the edits by runs of one side. Those before all kept runs have the side `True`.
+fn append_by_runs(text: &mut Text, edits: &Edits) -> Result<(), Memory>
     requires { length edits.now < 2 ^ 32 }
+    ensures bytes { OnOk result (text.new ≡ text.old ++ runs_spelling (side_runs edits.now)) }
+    ensures fit { OnOk result (AllByRecursion FitsWritten (side_runs edits.now)) }
+{
+    let runs = edits.runs();
+    let items = edits.as_slice();
+    let (before, rest) = items.split_at(count_before(runs, items.len()));
+    append_u32(text, run_count(before, runs))?;
+    append_true_run(text, before)?;
+    append_kept_runs(text, runs, rest)
+}
+
+// How many edits stand before the kept runs, of so many.
+fn count_before(runs: &[Run], all: usize) -> usize
+    ensures { result ≡ count_before runs.now all }
+{
+    match runs {
+        [run, ..] => run.first,
+        [] => all,
+    }
+}
+
+// How many runs there are: those that are kept, and one if edits stand before these.
+fn run_count(before: &[Edit], runs: &[Run]) -> u32
+    requires { length (true_run before.now) + length runs.now < 2 ^ 32 }
+    ensures { result ≡ length (true_run before.now) + length runs.now }
+{
+    match before {
+        [_, ..] => 1 + runs.len() as u32,
+        [] => runs.len() as u32,
+    }
+}
+
+// Appends edits as a run of the side `True`, if there are any.
+fn append_true_run(text: &mut Text, edits: &[Edit]) -> Result<(), Memory>
+    requires few { length edits.now < 2 ^ 32 }
+    requires fits { list_all fits_edit edits.now ≡ true }
+    ensures bytes { OnOk result
+        (text.new ≡ text.old ++ run_of run_spelling (true_run edits.now)) }
+    ensures fit { OnOk result (AllByRecursion FitsWritten (true_run edits.now)) }
+{
+    if edits.is_empty() {
+        return Ok(());
+    }
+    text.push(1)?;
+    append_edits(text, edits)
+}
+
+// Appends the kept runs with their edits, which stand from the first of the first run on.
+fn append_kept_runs(text: &mut Text, runs: &[Run], edits: &[Edit]) -> Result<(), Memory>
+    requires few { length edits.now < 2 ^ 32 }
+    requires fits { list_all fits_edit edits.now ≡ true }
+    requires rise { RunsRise runs.now }
+    requires within { AreWithin runs.now (length edits.now) }
+    ensures bytes { OnOk result
+        (text.new ≡ text.old ++ run_of run_spelling (kept_runs runs.now edits.now)) }
+    ensures fit { OnOk result (AllByRecursion FitsWritten (kept_runs runs.now edits.now)) }
+{
+    let mut ahead = runs;
+    let mut left = edits;
+    'runs: while let [run, rest @ ..] = ahead {
+        let (own, behind) = left.split_at(own_count(run, rest, left.len()));
+        append_run(text, run.side.part(), own)?;
+        ahead = rest;
+        left = behind;
+    }
+    Ok(())
+}
+
+// How many edits a run has: up to the next run, or all that are left from its first on.
+fn own_count(run: &Run, rest: &[Run], left: usize) -> usize
+    requires { AreBehind run.now rest.now }
+    ensures { result ≡ own_count run.now rest.now left }
+{
+    match rest {
+        [next, ..] => next.first - run.first,
+        [] => left,
+    }
+}
+
+// Appends a side and its edits.
+fn append_run(text: &mut Text, side: &Part, edits: &[Edit]) -> Result<(), Memory>
+    requires few { length edits.now < 2 ^ 32 }
+    requires fits { list_all fits_edit edits.now ≡ true }
+    ensures bytes { OnOk result
+        (text.new ≡ text.old ++ run_spelling (side_run (formula side.now) edits.now)) }
+    ensures fit { OnOk result (FitsWritten (side_run (formula side.now) edits.now)) }
+{
+    append_part(text, side)?;
+    append_edits(text, edits)
+}
+
+fn append_edits(text: &mut Text, edits: &[Edit]) -> Result<(), Memory>
+    requires few { length edits.now < 2 ^ 32 }
+    requires fits { list_all fits_edit edits.now ≡ true }
     ensures bytes { OnOk result (text.new ≡ text.old ++ edits_spelling edits.now) }
     ensures references { OnOk result (AllByRecursion FitsReferences edits.now) }
 {
     append_u32(text, edits.len() as u32)?;
-    append_all(text, edits.as_slice())
+    append_all(text, edits)
 }
 
 fn append_all(text: &mut Text, edits: &[Edit]) -> Result<(), Memory>

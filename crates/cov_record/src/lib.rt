@@ -2,6 +2,7 @@
 #![tactic(auto)]
 
 mod ahead;
+mod by_runs;
 mod choices;
 mod decoding;
 mod edits;
@@ -9,6 +10,7 @@ mod encoding;
 mod expression;
 mod fault;
 pub mod laws;
+mod side_tests;
 
 pub use decoding::decode;
 pub use encoding::encode;
