@@ -1,0 +1,16 @@
+pub mod After
+pub mod CallerLemmas
+pub mod Crossing
+pub mod Deciding
+pub mod Everywhere
+pub mod Examples
+pub mod Filling
+pub mod First
+pub mod Gathering
+pub mod Halving
+pub mod Joining
+pub mod Marking
+pub mod Noting
+pub mod Renumbering
+pub mod Touching
+pub mod Walking

@@ -1,0 +1,4 @@
+pub mod EditConditions
+pub mod Marks
+pub mod Overtakers
+pub mod Touches
