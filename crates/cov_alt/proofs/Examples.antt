@@ -7,7 +7,8 @@ use Rattle.cov_expr.specs.Formula.{True, On, Not}
 use Rattle.cov_edit.specs.declared.edit.Edit.TheVariants as edits
 use Rattle.cov_edit.specs.declared.command.Command.{Command}
 use Rattle.cov_edit.specs.declared.command.Command.TheVariants as commands
-use Rattle.cov_edit.proofs.CallerLemmas.{absent_anchor as history}
+use Rattle.cov_edit.specs.Sides.{sided}
+use Rattle.cov_edit.proofs.CallerLemmas.{absent_anchor as history, commit}
 use Rattle.cov_alt.specs.Sides.{sides_at}
 use Rattle.cov_alt.specs.declared.fault.AltFault.TheVariants as faults
 use Rattle.cov_alt.specs.declared.line.AltLine.{AltLine}
@@ -30,17 +31,25 @@ from_the_other_side = refl
 
 -- B is taken out on both sides
 abbrev deleted : List Command
-deleted = history ++ commands.Commit 5 (true ∷ []) True (edits.Delete (nodes.Old 1) (lines.Old 2) ∷ []) ∷ []
+deleted = history ++ commit 5 (true ∷ []) True (edits.Delete (nodes.Old 1) (lines.Old 2) ∷ []) ∷ []
 
 b_on_no_side : sides_at deleted (true ∷ []) 0 at_m ≡ Ok (a_line Both 1 (codes "A") ∷ a_line Both 4 (codes "X") ∷ a_line Both 3 (codes "C") ∷ [])
 b_on_no_side = refl
 
 -- and X where d is on
 abbrev deleted_twice : List Command
-deleted_twice = deleted ++ commands.Commit 6 (true ∷ []) (On 0) (edits.Delete (nodes.Old 1) (lines.Old 4) ∷ []) ∷ []
+deleted_twice = deleted ++ commit 6 (true ∷ []) (On 0) (edits.Delete (nodes.Old 1) (lines.Old 4) ∷ []) ∷ []
 
 x_on_one_side : sides_at deleted_twice (true ∷ []) 0 at_m ≡ Ok (a_line Both 1 (codes "A") ∷ a_line OffOnly 4 (codes "X") ∷ a_line Both 3 (codes "C") ∷ [])
 x_on_one_side = refl
+
+-- Y is put in where d is on, by a commit for all choices
+abbrev inserted_on_one_side : List Command
+inserted_on_one_side = history ++ commands.Commit 5 (true ∷ []) True (sided (On 0) (edits.Insert (nodes.Old 1) (lines.Old 1) (codes "Y")) ∷ []) ∷ []
+
+y_on_one_side : sides_at inserted_on_one_side (true ∷ []) 0 at_m
+    ≡ Ok (a_line Both 1 (codes "A") ∷ a_line OnOnly 5 (codes "Y") ∷ a_line Both 4 (codes "X") ∷ a_line OnOnly 2 (codes "B") ∷ a_line Both 3 (codes "C") ∷ [])
+y_on_one_side = refl
 
 -- a side that a constraint forbids
 abbrev bound : List Command
@@ -66,8 +75,8 @@ root_is_no_file = refl
 abbrev file_on_one_side : List Command
 file_on_one_side =
     history
-    ++ commands.Commit 5 (false ∷ []) True (edits.Rename (nodes.Old 1) (codes "k") ∷ [])
-    ∷ commands.Commit 6 (true ∷ []) (On 0) (edits.Remove (nodes.Old 1) ∷ [])
+    ++ commit 5 (false ∷ []) True (edits.Rename (nodes.Old 1) (codes "k") ∷ [])
+    ∷ commit 6 (true ∷ []) (On 0) (edits.Remove (nodes.Old 1) ∷ [])
     ∷ []
 
 no_lines_on : sides_at file_on_one_side (false ∷ []) 0 (codes "k" ∷ []) ≡ Ok (a_line OffOnly 1 (codes "A") ∷ a_line OffOnly 4 (codes "X") ∷ a_line OffOnly 3 (codes "C") ∷ [])

@@ -9,9 +9,11 @@ use Rattle.cov_edit.specs.declared.edit.Edit.{Edit}
 use Rattle.cov_edit.specs.declared.edit.Edit.TheVariants as edits
 use Rattle.cov_edit.specs.declared.command.Command.{Command}
 use Rattle.cov_edit.specs.declared.command.Command.TheVariants as commands
+use Rattle.cov_edit.specs.declared.sided.Sided.{Sided}
 use Rattle.cov_history.specs.RowChanges.{changes_rows}
 use Rattle.cov_edit.specs.Numbering.{Numbers, node_count_after, line_count_after, numbered_edit, nodes_made, anchors_of, no_numbers, numbers_after, numbers_of, numbered_from}
 use Rattle.cov_edit.specs.Replay.{first_within, rest_within, changes_within}
+use Rattle.cov_edit.specs.Sides.{unsided}
 use Rattle.cov_edit.specs.Variant.{Line}
 use Rattle.cov_edit.proofs.CallerLemmas.{numbers_from-append}
 use Rattle.cov_history.specs.Kept.{Kept, kept_address, kept_number, kept_after, kept_with, kept_of, file_kept}
@@ -70,13 +72,13 @@ in-range history file =
 pub new-files-all : (P : Contents → Type 0) (made : ℕ) (es : List Edit) → ((node : ℕ) → made < node → P (new_contents node)) → AllByRecursion P (new_files made es)
 new-files-all P made es f = all-mapped (λ node. (made < node) × (node ≤ made + nodes_made es)) P new_contents (λ node h. f node h.0) (files_made made es) (made-within made es)
 
-pub line-files-after : (history : List Command) (base : ℕ) (choice : List Bool) (ambition : Formula ℕ) (es : List Edit) (file_of_line : List ℕ) (n : ℕ) → length file_of_line ≡ length (numbers_of history).addresses
-    → length (file_of_line ++ new_file_of_line n es) ≡ length (numbers_of (history ++ commands.Commit base choice ambition es ∷ [])).addresses
+pub line-files-after : (history : List Command) (base : ℕ) (choice : List Bool) (ambition : Formula ℕ) (es : List Sided) (file_of_line : List ℕ) (n : ℕ) → length file_of_line ≡ length (numbers_of history).addresses
+    → length (file_of_line ++ new_file_of_line n (unsided es)) ≡ length (numbers_of (history ++ commands.Commit base choice ambition es ∷ [])).addresses
 line-files-after history base choice ambition es file_of_line n h =
     let ns = numbers_of history in
-    let all = length-append file_of_line (new_file_of_line n es) in
-    let new = new-files_of_lines-count n (length ns.addresses) es in
-    let grown = length-with_lines ns.addresses (anchors_of (length ns.addresses) es) in
-    let more : length (numbers_of (history ++ commands.Commit base choice ambition es ∷ [])).addresses ≡ length (numbers_after ns es).addresses =
+    let all = length-append file_of_line (new_file_of_line n (unsided es)) in
+    let new = new-files_of_lines-count n (length ns.addresses) (unsided es) in
+    let grown = length-with_lines ns.addresses (anchors_of (length ns.addresses) (unsided es)) in
+    let more : length (numbers_of (history ++ commands.Commit base choice ambition es ∷ [])).addresses ≡ length (numbers_after ns (unsided es)).addresses =
     ap (λ (ms : Numbers). length ms.addresses) (numbers_from-append no_numbers history (commands.Commit base choice ambition es ∷ [])) in
     omega (arith, h, all, new, grown, more)

@@ -1,7 +1,6 @@
 -- Where the edits of a commit apply, as nodes of a table.
-use Rattle.std.proofs.Common.{◌≡◌, ℕ, ◌<◌, ◌≤◌, List, [], ◌∷◌, ◌++◌, length, replicate, refl, sym, ap, subst, ◌∙◌}
+use Rattle.std.proofs.Common.{◌≡◌, ℕ, ◌<◌, ◌≤◌, List, [], ◌∷◌, ◌++◌, length, refl}
 use Rattle.std.specs.List.{AllByRecursion}
-use Rattle.std.proofs.lemmas.List.{length-replicate}
 use Rattle.cov_dd.specs.declared.triple.Triple.{Triple}
 use Rattle.cov_dd.specs.Diagrams.{diagram_size, span, Extends, Stands}
 use Rattle.cov_dd.proofs.CallerLemmas.{stands_later}
@@ -11,7 +10,7 @@ use Rattle.cov_base.specs.declared.number.NodeRef.{NodeRef}
 use Rattle.cov_edit.specs.declared.edit.Edit.{Edit}
 use Rattle.cov_edit.specs.declared.edit.Edit.TheVariants as edits
 use Rattle.cov_edit.specs.Numbering.{anchors_of}
-use Rattle.cov_edit.specs.Replay.{conditions, first_within, rest_within, within_behind}
+use Rattle.cov_edit.specs.Replay.{first_within, rest_within, within_behind}
 use Rattle.cov_visible.specs.Nodes.{own_node}
 use Rattle.cov_visible.specs.Resolved.{first_node, rest_nodes, insert_nodes, AreOfTable}
 use Rattle.cov_visible.proofs.CallerLemmas.{AllOn, inserts-all, own-all}
@@ -59,17 +58,6 @@ module _ (ts : List Triple) (count : ℕ) where
   stand-later us (f ∷ within) [] x h = absurd h
   stand-later us (f ∷ within) (n ∷ ns) x h = (stands_later x h.0, stand-later us within ns x h.1)
 
-  -- the node of an ambition stands for where each edit applies
-  pub all-stand : (node : ℕ) (ambition : Formula ℕ) (es : List Edit) → Stands ts node 0 count (value ambition) → StandFor ts count (conditions ambition es) (replicate (length es) node)
-  all-stand node ambition [] h = tt
-  all-stand node ambition (e ∷ es) h = (h, all-stand node ambition es h)
-
-  -- so they do where as many of it are listed
-  pub listed-stand : (node : ℕ) (ambition : Formula ℕ) (es : List Edit) (many : ℕ) (ns list : List ℕ) → many ≡ length es → ns ≡ replicate many node → list ≡ ns → Stands ts node 0 count (value ambition)
-      → StandFor ts count (conditions ambition es) list
-  listed-stand node ambition es many ns list counted is same h =
-      subst (StandFor ts count (conditions ambition es)) (sym (same ∙ is ∙ ap (λ k. replicate k node) counted)) (all-stand node ambition es h)
-
   -- the node of each edit names only the first so many options
   pub all-low : (within : List (Formula ℕ)) (ns : List ℕ) (es : List Edit) → StandFor ts count within ns → AllOn (λ e node. span ts node ≤ count) ns es
   all-low within ns [] h = tt
@@ -91,10 +79,6 @@ module _ (ts : List Triple) (count : ℕ) where
       all [] (n ∷ ns) h = absurd h
       all (f ∷ within) [] h = absurd h
       all (f ∷ within) (n ∷ ns) h = ((h.0.within, h.0.below), all within ns h.1)
-
--- there are as many as edits, where so many of one node are listed
-pub listed-length : (node : ℕ) (es some : List Edit) (many : ℕ) (ns list : List ℕ) → many ≡ length es → ns ≡ replicate many node → list ≡ ns → some ≡ es → length list ≡ length some
-listed-length node es some many ns list counted is same e = ap length (same ∙ is) ∙ length-replicate many node ∙ counted ∙ sym (ap length e)
 
 -- what holds of each edit, and what holds anyway, whatever the nodes
 pub all-on : (R : Edit → Type 0) (ns : List ℕ) (es : List Edit) → AllByRecursion R es → AllOn (λ e node. R e) ns es

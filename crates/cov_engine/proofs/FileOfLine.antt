@@ -8,7 +8,7 @@ use Rattle.cov_edit.specs.declared.command.Command.{Command}
 use Rattle.cov_edit.specs.Numbering.{line_count}
 use Rattle.cov_edit.specs.Variant.{Line}
 use Rattle.cov_visible.specs.declared.file_part.FilePart.{FilePart}
-use Rattle.cov_engine.specs.declared.history_index.CommitMark.{CommitMark}
+use Rattle.cov_overtaking.specs.declared.mark.CommitMark.{CommitMark}
 use Rattle.cov_history.specs.FileNodes.{files_of}
 use Rattle.cov_history.specs.Kept.{Kept, kept_number, kept_of, file_kept, is_kept_anchor}
 use Rattle.cov_tree.specs.Dated.{Dated}

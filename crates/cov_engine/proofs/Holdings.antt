@@ -15,7 +15,7 @@ use Rattle.cov_edit.specs.Numbering.{Numbers, numbers_of}
 use Rattle.cov_edit.specs.Variant.{Variant}
 use Rattle.cov_edit.specs.Replay.{replay}
 use Rattle.cov_view.specs.Views.{row_by_number}
-use Rattle.cov_engine.specs.declared.history_index.CommitMark.{CommitMark}
+use Rattle.cov_overtaking.specs.declared.mark.CommitMark.{CommitMark}
 use Rattle.cov_visible.specs.declared.file_part.FilePart.{FilePart}
 use Rattle.cov_history.specs.Kept.{seen_at, Holding, held_by, kept_of}
 use Rattle.cov_history.specs.Files.{DatedLine, file_dated}
@@ -30,7 +30,7 @@ use Rattle.cov_tree.specs.Dated.{Dated, rows_at as entry_rows, nodes_in, kinds_i
 use Rattle.cov_tree.specs.Renumbered.{visibilities, AreNodes}
 use Rattle.cov_tree.proofs.CallerLemmas.{nodes_stay, rows_stay}
 use Rattle.cov_history.specs.Sessions.{has_commit}
-use Rattle.cov_engine.proofs.Marking.{marks-grown, marks-declared}
+use Rattle.cov_overtaking.proofs.CallerLemmas.{marks-grown, marks-declared}
 use Rattle.cov_engine.proofs.Nodes.{stands-on}
 use Rattle.cov_edit.proofs.CallerLemmas.{replay-append}
 use Rattle.cov_history.proofs.CallerLemmas.{files-append, holding-goes_on, options-grow}

@@ -5,15 +5,16 @@ use Rattle.std.specs.Option.{option_map_or}
 use Rattle.std.proofs.lemmas.List.{length_push}
 use Rattle.cov_base.proofs.CallerLemmas.{all-map, all-both, all-append}
 use Rattle.cov_base.specs.declared.limits.TheConstants.{LIMITS}
-use Rattle.cov_expr.specs.Formula.{Formula, reach}
+use Rattle.cov_expr.specs.Formula.{Formula}
 use Rattle.cov_edit.specs.declared.edit.Edit.{Edit}
 use Rattle.cov_edit.specs.declared.command.Command.{Command}
 use Rattle.cov_edit.specs.declared.command.Command.TheVariants as commands
+use Rattle.cov_edit.specs.declared.sided.Sided.{Sided}
 use Rattle.cov_edit.specs.History.{options_of, option_count}
 use Rattle.cov_edit.specs.Numbering.{Numbers, nodes_made, anchors_of, no_numbers, numbers_of, line_count, node_count}
-use Rattle.cov_engine.specs.declared.history_index.CommitMark.{CommitMark}
+use Rattle.cov_overtaking.specs.declared.mark.CommitMark.{CommitMark}
 use Rattle.cov_visible.specs.declared.file_part.FilePart.{FilePart}
-use Rattle.cov_engine.specs.Marks.{AreMarks}
+use Rattle.cov_overtaking.specs.Marks.{AreMarks}
 use Rattle.cov_history.specs.Kept.{held_by, kept_of}
 use Rattle.cov_history.specs.Files.{dated, file_dated}
 use Rattle.cov_tree.specs.declared.entry.Entry.{Entry}
@@ -25,7 +26,8 @@ use Rattle.cov_visible.specs.Parts.{part_node, files_among}
 use Rattle.cov_edit.specs.Touched.{AreRising}
 use Rattle.cov_history.specs.FileNodes.{files_made, files_of}
 use Rattle.cov_history.specs.Sessions.{IsGood, session_of}
-use Rattle.cov_edit.specs.Replay.{conditions, changes_within, replay}
+use Rattle.cov_edit.specs.Replay.{changes_within, replay}
+use Rattle.cov_edit.specs.Sides.{unsided, conditions}
 use Rattle.cov_view.specs.Refusals.{first_refused}
 use Rattle.cov_history.specs.Verdict.{IsLegal, verdict}
 use Rattle.cov_history.specs.FileOfLine.{new_file_of_line, AreFilesOfLines}
@@ -42,10 +44,9 @@ use Rattle.cov_visible.specs.declared.resolved_edit.ResolvedEdit.TheVariants as 
 use Rattle.cov_history.proofs.CallerLemmas.{commit-lines, files-commit, files-rise, lines-edits, all-mapped, base-nodes, new-files_of_lines-count}
 use Rattle.cov_engine.proofs.FileLines.{all-unmapped}
 use Rattle.cov_edit.proofs.CallerLemmas.{numbers_from-append}
-use Rattle.cov_engine.proofs.Refused.{declared-less}
 use Rattle.cov_engine.proofs.RowPlans.{entries-committed}
 use Rattle.cov_engine.proofs.States.{options-append}
-use Rattle.cov_engine.proofs.Marking.{marks-committed}
+use Rattle.cov_overtaking.proofs.CallerLemmas.{marks-committed}
 use Rattle.cov_engine.proofs.Named.{edits-named, named-near, legal-files}
 use Rattle.cov_engine.proofs.MidCommit.{IsHere, AreHere, carried, line-files-along, named-low}
 use Rattle.cov_engine.proofs.Started.{resolved-right}
@@ -59,12 +60,12 @@ edits-near history base choice es few accepted =
     named-near (numbers_of (take base history)).nodes (numbers_of history).nodes 0 es (base-nodes base history) (omega (arith, few)) (edits-named history base choice es accepted)
 
 -- and the lines that they name
-pub edits-low : (history : List Command) (base : ℕ) (choice : List Bool) (ambition : Formula ℕ) (es : List Edit) → line_count history + length (anchors_of 0 es) ≤ LIMITS.lines
-    → IsGood history (session_of base choice ambition es) → IsLegal history → AreLow (line_count history) es
+pub edits-low : (history : List Command) (base : ℕ) (choice : List Bool) (ambition : Formula ℕ) (es : List Sided) → line_count history + length (anchors_of 0 (unsided es)) ≤ LIMITS.lines
+    → IsGood history (session_of base choice ambition es) → IsLegal history → AreLow (line_count history) (unsided es)
 edits-low history base choice ambition es few good legal =
-    all-map (λ e. named_line (line_count history) e ≤ LIMITS.lines) (λ e. named_line (line_count history) e < 2 ^ 32) (λ e low. omega (arith, low)) es
-    (named-low history base choice ambition es good legal LIMITS.lines es [] refl
-    (let same = sym (new-files_of_lines-count 0 (line_count history) es) ∙ new-files_of_lines-count 0 0 es in omega (arith, few, same)))
+    all-map (λ e. named_line (line_count history) e ≤ LIMITS.lines) (λ e. named_line (line_count history) e < 2 ^ 32) (λ e low. omega (arith, low)) (unsided es)
+    (named-low history base choice ambition es good legal LIMITS.lines (unsided es) [] refl
+    (let same = sym (new-files_of_lines-count 0 (line_count history) (unsided es)) ∙ new-files_of_lines-count 0 0 (unsided es) in omega (arith, few, same)))
 
 -- stored files that are the same but for their room have the same files
 pub files-contents : (history : List Command) (ts : List Triple) (old now : List FilePart) → map contents now ≡ map contents old → AllByRecursion (IsFileOf history ts) old → AllByRecursion (IsFileOf history ts) now
@@ -122,7 +123,7 @@ any-position : (q : ℕ) (o : Option ℕ) → o ≡ None → option_map_or (λ p
 any-position q None h = refl
 any-position q (Some p) h = absurd (cc)
 
-module _ (history : List Command) (base : ℕ) (choice : List Bool) (ambition : Formula ℕ) (es : List Edit) (legal : IsLegal history)
+module _ (history : List Command) (base : ℕ) (choice : List Bool) (ambition : Formula ℕ) (es : List Sided) (legal : IsLegal history)
     (good : IsGood history (session_of base choice ambition es))
     (accepted : verdict history (commands.Commit base choice ambition es) ≡ None)
     (ts : List Triple) (commits : List CommitMark) (mark : CommitMark) (ss : List ResolvedEdit) (plan : List Entry) (file_of_line : List ℕ) (entries : Dated) (stored : List FilePart)
@@ -143,11 +144,11 @@ module _ (history : List Command) (base : ℕ) (choice : List Bool) (ambition : 
   within = conditions ambition es
 
   abbrev Taken : ℕ → ℕ → ℕ → ℕ → Type 0
-  Taken = IsTaken ts q staged.old_stored (line_count history) (insert_nodes staged.on es)
+  Taken = IsTaken ts q staged.old_stored (line_count history) (insert_nodes staged.on (unsided es))
 
   -- what is stored with the commit is of the files before it and of those that it makes
   pub staged-files : map part_node stored ≡ files_of (history ++ commit ∷ [])
-  staged-files = staged-nodes staged.old_stored stored (files_made n es) staged.files ∙ ap (λ files. files ++ files_made n es) staged.held.parts ∙ sym (files-commit history base choice ambition es)
+  staged-files = staged-nodes staged.old_stored stored (files_made n (unsided es)) staged.files ∙ ap (λ files. files ++ files_made n (unsided es)) staged.held.parts ∙ sym (files-commit history base choice ambition es)
 
   pub staged-rise : AreRising (map part_node stored)
   staged-rise = subst AreRising (sym staged-files) (files-rise (history ++ commit ∷ [])).0
@@ -158,9 +159,9 @@ module _ (history : List Command) (base : ℕ) (choice : List Bool) (ambition : 
   kept-files : AllByRecursion IsKeptFile (map contents stored)
   kept-files =
       subst (AllByRecursion IsKeptFile) (sym staged.files)
-      (all-append IsKeptFile (map contents staged.old_stored) (new_files n es)
+      (all-append IsKeptFile (map contents staged.old_stored) (new_files n (unsided es))
       (all-mapped (IsFileOf history ts) IsKeptFile contents (λ e h. (h.lines, let low = h.newest in omega (arith, low), h.nodes)) staged.old_stored staged.held.files)
-      (new-files-all IsKeptFile n es (λ node h.
+      (new-files-all IsKeptFile n (unsided es) (λ node h.
       (subst (λ ks. AreDated ts (option_count history) (map dated ks) []) (sym (file-empty n node (kept_of history) h (legal-files history legal))) tt, omega arith, tt))))
 
   above-zero : AllByRecursion (λ (e : FilePart). 0 < e.node) stored
@@ -187,28 +188,22 @@ module _ (history : List Command) (base : ℕ) (choice : List Bool) (ambition : 
       (all-both (λ e. 0 < e.node) (HasRoom ss) (λ e. (0 < e.node) × HasRoom ss e) (λ e a r. (a, r)) stored above-zero staged.room)
       (all-unmapped IsKeptFile contents stored kept-files)
 
-  all-carried : CanCarryOutAll q ss stored × ((after : List FilePart) → AreAllCarriedOut q ss stored after → AreHereNow es [] after)
+  all-carried : CanCarryOutAll q ss stored × ((after : List FilePart) → AreAllCarriedOut q ss stored after → AreHereNow (unsided es) [] after)
   all-carried =
-      carried history base choice ambition es good legal ts staged.on staged.applies es [] n (line_count history) stored ss refl (omega arith)
+      carried history base choice ambition es good legal ts staged.on staged.applies (unsided es) [] n (line_count history) stored ss refl (omega arith)
       (resolved-right history base choice ambition es good legal ts staged.on staged.applies staged.old_stored staged.held.parts staged.held.files ss staged.resolved)
       start
 
   pub staged-plans : CanCarryOutAll q ss stored
   staged-plans = all-carried.0
 
-  base-reach : reach ambition ≤ option_count history
-  base-reach =
-      let own = good.in_reach in
-      let all = declared-less base history in
-      omega (arith, own, all)
-
-  lines-now : (held_amid history within es es).lines ≡ kept_of (history ++ commit ∷ [])
-  lines-now = lines-edits (length history + 1) (held_by history) (changes_within within (numbered_amid history es es)) ∙ sym (commit-lines history base choice ambition es)
+  lines-now : (held_amid history within (unsided es) (unsided es)).lines ≡ kept_of (history ++ commit ∷ [])
+  lines-now = lines-edits (length history + 1) (held_by history) (changes_within within (numbered_amid history (unsided es) (unsided es))) ∙ sym (commit-lines history base choice ambition es)
 
   options-now : option_count (history ++ commit ∷ []) ≡ option_count history
   options-now = ap length (options-append history (commit ∷ []) ∙ append-nil (options_of history))
 
-  nodes-now : (numbers_of (history ++ commit ∷ [])).nodes ≡ n + nodes_made es
+  nodes-now : (numbers_of (history ++ commit ∷ [])).nodes ≡ n + nodes_made (unsided es)
   nodes-now = ap (λ (ms : Numbers). ms.nodes) (numbers_from-append no_numbers history (commit ∷ []))
 
   pub row-later : entries.from ≤ q
@@ -225,23 +220,22 @@ module _ (history : List Command) (base : ℕ) (choice : List Bool) (ambition : 
       record {
         of_entries = entries-committed history base choice ambition es ts staged.on staged.applies entries plan staged.held.of_entries staged.old_stored ss staged.resolved staged.changes later set;
         below = let now = nodes-now in
-            subst (AllByRecursion (λ node. node ≤ (numbers_of (history ++ commit ∷ [])).nodes)) (sym (set.nodes ∙ staged.nodes)) (resolved-most Taken n (line_count history) staged.on (numbers_of (history ++ commit ∷ [])).nodes n (line_count history) es ss (nodes_in entries) (omega (arith, now)) staged.held.below staged.resolved);
-        made = ap files_among (set.kinds ∙ staged.kinds) ∙ resolved-kinds Taken n (line_count history) staged.on n (line_count history) es ss (kinds_in entries) staged.resolved ∙ ap (λ files. files ++ files_made n es) staged.held.made ∙ sym (files-commit history base choice ambition es);
+            subst (AllByRecursion (λ node. node ≤ (numbers_of (history ++ commit ∷ [])).nodes)) (sym (set.nodes ∙ staged.nodes)) (resolved-most Taken n (line_count history) staged.on (numbers_of (history ++ commit ∷ [])).nodes n (line_count history) (unsided es) ss (nodes_in entries) (omega (arith, now)) staged.held.below staged.resolved);
+        made = ap files_among (set.kinds ∙ staged.kinds) ∙ resolved-kinds Taken n (line_count history) staged.on n (line_count history) (unsided es) ss (kinds_in entries) staged.resolved ∙ ap (λ files. files ++ files_made n (unsided es)) staged.held.made ∙ sym (files-commit history base choice ambition es);
         parts = same ∙ staged-files;
         files = files-contents (history ++ commit ∷ []) ts installed.0 after installed.2
-            (all-map (λ e. IsHere history base choice ambition es good legal ts staged.on staged.applies e.node es [] e.lines) (IsFileOf (history ++ commit ∷ []) ts)
+            (all-map (λ e. IsHere history base choice ambition es good legal ts staged.on staged.applies e.node (unsided es) [] e.lines) (IsFileOf (history ++ commit ∷ []) ts)
             (λ e h. record {
               lines = subst (λ ks. AreDated ts (option_count (history ++ commit ∷ [])) (file_dated e.node ks) e.lines.lines) lines-now
-                  (subst (λ c. AreDated ts c (file_dated e.node (held_amid history within es es).lines) e.lines.lines) (sym options-now) h.are_dated);
+                  (subst (λ c. AreDated ts c (file_dated e.node (held_amid history within (unsided es) (unsided es)).lines) e.lines.lines) (sym options-now) h.are_dated);
               newest = let low = h.newest in omega (arith, low, longer);
               nodes = h.nodes;
             }) installed.0 (all-carried.1 installed.0 installed.1));
         lines = ap length staged.file_of_line_is ∙ line-files-after history base choice ambition es staged.old_file_of_line n staged.held.lines;
         in_files = subst (AreFilesOfLines (kept_of (history ++ commit ∷ [])) 0) (sym staged.file_of_line_is)
-            (subst (λ ks. AreFilesOfLines ks 0 (staged.old_file_of_line ++ new_file_of_line n es)) lines-now
-            (line-files-along history base choice ambition es good legal es [] staged.old_file_of_line refl (let old = staged.held.lines in omega (arith, old)) staged.held.in_files));
+            (subst (λ ks. AreFilesOfLines ks 0 (staged.old_file_of_line ++ new_file_of_line n (unsided es))) lines-now
+            (line-files-along history base choice ambition es good legal (unsided es) [] staged.old_file_of_line refl (let old = staged.held.lines in omega (arith, old)) staged.held.in_files));
         few = let old = staged.held.few in omega (arith, old, longer, one);
         marks = subst (λ c. AreMarks ts c 0 (history ++ commit ∷ []) all_commits) (sym options-now)
-            (marks-committed ts (option_count history) (length history + 1) 0 base history choice ambition es mark commits (omega arith)
-            (record { position = staged.at; touches = staged.touches; stands = staged.stands; named = base-reach }) staged.held.marks);
+            (marks-committed ts (option_count history) (length history + 1) 0 base history choice ambition es mark commits (omega arith) staged.marked staged.held.marks);
       }

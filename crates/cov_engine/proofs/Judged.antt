@@ -11,6 +11,8 @@ use Rattle.cov_edit.specs.declared.edit.Edit.{Edit}
 use Rattle.cov_edit.specs.declared.edit.Edit.TheVariants as edits
 use Rattle.cov_edit.specs.declared.command.Command.{Command}
 use Rattle.cov_edit.specs.declared.command.Command.TheVariants as commands
+use Rattle.cov_edit.specs.Sides.{sided}
+use Rattle.cov_edit.proofs.CallerLemmas.{commit}
 use Rattle.cov_rules.specs.Completion.{Complete, Invalid, Incomplete}
 use Rattle.cov_history.specs.declared.refusal.Refusal.TheVariants as refusals
 use Rattle.cov_history.specs.Completing.{completed_in}
@@ -20,7 +22,7 @@ use Rattle.cov_history.specs.Verdict.{verdict, IsLegal}
 abbrev history : List Command
 history =
     commands.Option (codes "d")
-    ∷ commands.Commit 1 (true ∷ []) True (edits.New kinds.File (nodes.Old 0) (codes "m") ∷ edits.Insert (nodes.New 0) (lines.Old 0) (codes "A") ∷ [])
+    ∷ commit 1 (true ∷ []) True (edits.New kinds.File (nodes.Old 0) (codes "m") ∷ edits.Insert (nodes.New 0) (lines.Old 0) (codes "A") ∷ [])
     ∷ commands.Option (codes "e")
     ∷ commands.Constraint (On 0)
     ∷ []
@@ -71,31 +73,51 @@ left_open = refl
 abbrev insert_B : Edit
 insert_B = edits.Insert (nodes.Old 1) (lines.Old 1) (codes "B")
 
-accepted : verdict history (commands.Commit 4 (true ∷ false ∷ []) (On 0) (insert_B ∷ [])) ≡ None
+abbrev no_line : Edit
+no_line = edits.Insert (nodes.Old 1) (lines.Old 2) (codes "C")
+
+accepted : verdict history (commit 4 (true ∷ false ∷ []) (On 0) (insert_B ∷ [])) ≡ None
 accepted = refl
 
 -- before the constraint the choice was valid
-at_an_older_base : verdict history (commands.Commit 3 (false ∷ false ∷ []) True (insert_B ∷ [])) ≡ None
+at_an_older_base : verdict history (commit 3 (false ∷ false ∷ []) True (insert_B ∷ [])) ≡ None
 at_an_older_base = refl
 
-invalid : verdict history (commands.Commit 4 (false ∷ false ∷ []) False []) ≡ Some (refusals.Invalid 1)
+invalid : verdict history (commit 4 (false ∷ false ∷ []) False []) ≡ Some (refusals.Invalid 1)
 invalid = refl
 
-outside_ambition : verdict history (commands.Commit 4 (true ∷ false ∷ []) (On 1) []) ≡ Some refusals.OutsideAmbition
+outside_ambition : verdict history (commit 4 (true ∷ false ∷ []) (On 1) []) ≡ Some refusals.OutsideAmbition
 outside_ambition = refl
 
-empty : verdict history (commands.Commit 4 (true ∷ false ∷ []) True []) ≡ Some refusals.Empty
+-- of the sides, that of the second edit is false on the choice
+outside_side : verdict history (commands.Commit 4 (true ∷ false ∷ []) True (sided (On 0) insert_B ∷ sided (On 1) insert_B ∷ sided False insert_B ∷ [])) ≡ Some (refusals.OutsideSide 1)
+outside_side = refl
+
+-- the ambition is looked at before the sides, and these before the edits
+outside_both : verdict history (commands.Commit 4 (true ∷ false ∷ []) (On 1) (sided (On 1) insert_B ∷ [])) ≡ Some refusals.OutsideAmbition
+outside_both = refl
+
+outside_before_bad : verdict history (commands.Commit 4 (true ∷ false ∷ []) True (sided (On 1) no_line ∷ [])) ≡ Some (refusals.OutsideSide 0)
+outside_before_bad = refl
+
+inside_each_side : verdict history (commands.Commit 4 (true ∷ false ∷ []) True (sided (On 0) insert_B ∷ sided (Not (On 1)) insert_B ∷ [])) ≡ None
+inside_each_side = refl
+
+empty : verdict history (commit 4 (true ∷ false ∷ []) True []) ≡ Some refusals.Empty
 empty = refl
 
-beyond_history : verdict history (commands.Commit 5 [] True []) ≡ Some refusals.BadBase
+beyond_history : verdict history (commit 5 [] True []) ≡ Some refusals.BadBase
 beyond_history = refl
 
-choice_too_short : verdict history (commands.Commit 4 (true ∷ []) True []) ≡ Some refusals.BadOption
+choice_too_short : verdict history (commit 4 (true ∷ []) True []) ≡ Some refusals.BadOption
 choice_too_short = refl
 
-ambition_beyond : verdict history (commands.Commit 2 (true ∷ []) (Not (On 1)) []) ≡ Some refusals.BadOption
+ambition_beyond : verdict history (commit 2 (true ∷ []) (Not (On 1)) []) ≡ Some refusals.BadOption
 ambition_beyond = refl
 
+side_beyond : verdict history (commands.Commit 2 (true ∷ []) True (sided (Not (On 1)) insert_B ∷ [])) ≡ Some refusals.BadOption
+side_beyond = refl
+
 -- the second edit puts its line after one that isn't there
-no_such_line : verdict history (commands.Commit 4 (true ∷ false ∷ []) True (insert_B ∷ edits.Insert (nodes.Old 1) (lines.Old 2) (codes "C") ∷ [])) ≡ Some (refusals.BadRecord 1)
+no_such_line : verdict history (commit 4 (true ∷ false ∷ []) True (insert_B ∷ no_line ∷ [])) ≡ Some (refusals.BadRecord 1)
 no_such_line = refl

@@ -6,13 +6,15 @@ use Rattle.cov_base.specs.Faults.{Fault, Clash, Orphan, Loop}
 use Rattle.cov_base.specs.Rows.{AreOnce}
 use Rattle.cov_dd.specs.declared.triple.Triple.{Triple}
 use Rattle.cov_dd.specs.Diagrams.{value_in, Stands}
-use Rattle.cov_expr.specs.Formula.{Formula, reach, value}
+use Rattle.cov_expr.specs.Formula.{Formula, value}
 use Rattle.cov_edit.specs.declared.edit.Edit.{Edit}
 use Rattle.cov_edit.specs.declared.command.Command.{Command}
 use Rattle.cov_edit.specs.declared.command.Command.TheVariants as commands
+use Rattle.cov_edit.specs.declared.sided.Sided.{Sided}
 use Rattle.cov_edit.specs.History.{option_count, is_valid_in}
 use Rattle.cov_edit.specs.Numbering.{numbers_of, line_count}
-use Rattle.cov_edit.specs.Replay.{conditions, replay}
+use Rattle.cov_edit.specs.Replay.{replay}
+use Rattle.cov_edit.specs.Sides.{unsided, conditions, reach_within}
 use Rattle.cov_tree.specs.declared.entry.Entry.{Entry}
 use Rattle.cov_tree.specs.Carried.{AreOnceWith, AreUnreadWith}
 use Rattle.cov_tree.specs.Changes.{Makes}
@@ -40,9 +42,9 @@ refusal-told c (Some (Clash low high)) = refl
 refusal-told c (Some (Orphan node)) = refl
 refusal-told c (Some (Loop node)) = refl
 
-module _ (history : List Command) (ts : List Triple) (entries : Dated) (ambition : Formula ℕ) (node : ℕ) (es : List Edit) (plan : List Entry) (of_entries : AreEntriesOf history ts entries)
+module _ (history : List Command) (ts : List Triple) (entries : Dated) (ambition : Formula ℕ) (node : ℕ) (es : List Sided) (plan : List Entry) (of_entries : AreEntriesOf history ts entries)
     (stands : Stands ts node 0 (option_count history) (value ambition)) (on : List ℕ) (applies : StandFor ts (option_count history) (conditions ambition es) on)
-    (stored : List FilePart) (ss : List ResolvedEdit) (resolved : AreResolved (length history + 1) stored (numbers_of history).nodes (line_count history) on ts es ss)
+    (stored : List FilePart) (ss : List ResolvedEdit) (resolved : AreResolved (length history + 1) stored (numbers_of history).nodes (line_count history) on ts (unsided es) ss)
     (changes : Makes ts entries plan (row_changes ss)) where
   rows : (base : ℕ) (choice : List Bool) (c : List Bool) → rows_with ts c plan entries ≡ (replay c (history ++ commands.Commit base choice ambition es ∷ [])).rows
   rows base choice = planned-rows history base choice ambition es ts on applies entries plan of_entries stored ss resolved changes
@@ -52,7 +54,7 @@ module _ (history : List Command) (ts : List Triple) (entries : Dated) (ambition
   once-with = λ c. subst AreOnce (sym (rows 0 [] c)) (replay-once c (history ++ commands.Commit 0 [] ambition es ∷ []))
 
   -- and depend on no option that isn't declared
-  pub unread-with : IsLegal history → reach ambition ≤ option_count history → AreUnreadWith ts plan entries (option_count history)
+  pub unread-with : IsLegal history → reach_within ambition es ≤ option_count history → AreUnreadWith ts plan entries (option_count history)
   unread-with legal named = λ o most c whole.
       rows 0 [] (with_option c o true)
       ∙ ap (λ (v : Variant). v.rows) (commit-unread history 0 [] ambition es legal named o most c)
@@ -60,21 +62,21 @@ module _ (history : List Command) (ts : List Triple) (entries : Dated) (ambition
 
   -- the refusal that is told is that of the commit, whatever its base and choice
   pub refusal-judged : (base : ℕ) (choice : List Bool) (valid : ℕ) → IsLegal history → ((c : List Bool) → value_in ts valid c ≡ is_valid_in history c)
-      → cond (list_any changes_rows es) (refusal_by_rows (λ c. rows_with ts c plan entries) (λ c. value_in ts valid c && value_in ts node c) (option_count history)) None
+      → cond (list_any changes_rows (unsided es)) (refusal_by_rows (λ c. rows_with ts c plan entries) (λ c. value_in ts valid c && value_in ts node c) (option_count history)) None
       ≡ unsound_refusal history ambition (commands.Commit base choice ambition es)
-  refusal-judged base choice valid legal are = by (list_any changes_rows es) refl
+  refusal-judged base choice valid legal are = by (list_any changes_rows (unsided es)) refl
     where
       k : Command
       k = commands.Commit base choice ambition es
 
-      by : (b : Bool) → list_any changes_rows es ≡ b
+      by : (b : Bool) → list_any changes_rows (unsided es) ≡ b
           → cond b (refusal_by_rows (λ c. rows_with ts c plan entries) (λ c. value_in ts valid c && value_in ts node c) (option_count history)) None ≡ unsound_refusal history ambition k
       by true is =
           refusal-by_rows history ambition k (λ c. rows_with ts c plan entries) (λ c. value_in ts valid c && value_in ts node c) (rows base choice) (λ c i. are c i && stands.value c i)
       by false is = sym (ap (as_unsound (fault_after history k)) (lines-sound history base choice ambition es legal is))
 
   -- so is one that is told for as many options and the same edits
-  pub told-refusal : (base : ℕ) (choice : List Bool) (valid : ℕ) → IsLegal history → ((c : List Bool) → value_in ts valid c ≡ is_valid_in history c) → (count : ℕ) (some : List Edit) (told found : Option Refusal) → count ≡ option_count history → some ≡ es
+  pub told-refusal : (base : ℕ) (choice : List Bool) (valid : ℕ) → IsLegal history → ((c : List Bool) → value_in ts valid c ≡ is_valid_in history c) → (count : ℕ) (some : List Edit) (told found : Option Refusal) → count ≡ option_count history → some ≡ unsided es
       → told ≡ cond (list_any changes_rows some) (refusal_by_rows (λ c. rows_with ts c plan entries) (λ c. value_in ts valid c && value_in ts node c) count) None → told ≡ found
       → unsound_refusal history ambition (commands.Commit base choice ambition es) ≡ found
   told-refusal base choice valid legal are count some told found few same is goes =

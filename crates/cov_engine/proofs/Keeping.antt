@@ -4,9 +4,9 @@ use Rattle.cov_dd.specs.declared.triple.Triple.{Triple}
 use Rattle.cov_dd.specs.Diagrams.{Extends}
 use Rattle.cov_expr.specs.Formula.{Formula}
 use Rattle.cov_expr.specs.Options.{Declared}
-use Rattle.cov_edit.specs.declared.edit.Edit.{Edit}
 use Rattle.cov_edit.specs.declared.command.Command.{Command}
 use Rattle.cov_edit.specs.declared.command.Command.TheVariants as commands
+use Rattle.cov_edit.specs.declared.sided.Sided.{Sided}
 use Rattle.cov_history.specs.declared.refusal.Refusal.{Refusal}
 use Rattle.cov_engine.specs.Ready.{IsReady, IsReadyFor, IsStagedFor}
 use Rattle.cov_engine.specs.Refusing.{early_refusal}
@@ -69,7 +69,7 @@ option-readied s k name is kept (Ok own) room named = (
 option-readied s k name is kept (Err e) room named = tt
 
 -- a commit is ready once it is staged
-pub commit-readied : (s : EngineState) (k : Command) (base : ℕ) (choice : List Bool) (ambition : Formula ℕ) (es : List Edit)
+pub commit-readied : (s : EngineState) (k : Command) (base : ℕ) (choice : List Bool) (ambition : Formula ℕ) (es : List Sided)
     → k ≡ commands.Commit base choice ambition es → early_refusal (history_of s) k ≡ None → (r : Result Addition Refusal)
     → IfOk r (IsStagedFor s ambition es) → IfOk r (IsReadyFor s k)
 commit-readied s k base choice ambition es is passes (Ok own) staged = (

@@ -10,7 +10,7 @@ use Rattle.cov_history.specs.Kept.{Kept, kept_of}
 use Rattle.cov_history.specs.Verdict.{IsLegal}
 use Rattle.cov_tree.specs.Dated.{Dated}
 use Rattle.cov_visible.specs.declared.file_part.FilePart.{FilePart}
-use Rattle.cov_engine.specs.declared.history_index.CommitMark.{CommitMark}
+use Rattle.cov_overtaking.specs.declared.mark.CommitMark.{CommitMark}
 use Rattle.cov_engine.specs.Holdings.{AreRowsAndLinesOf}
 use Rattle.cov_visible.specs.Nodes.{AreDated}
 use Rattle.cov_visible.specs.Parts.{part_of}

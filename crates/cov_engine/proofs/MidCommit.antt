@@ -15,9 +15,11 @@ use Rattle.cov_expr.specs.Formula.{Formula, Not, And, value}
 use Rattle.cov_edit.specs.declared.edit.Edit.{Edit}
 use Rattle.cov_edit.specs.declared.edit.Edit.TheVariants as edits
 use Rattle.cov_edit.specs.declared.command.Command.{Command}
+use Rattle.cov_edit.specs.declared.sided.Sided.{Sided}
 use Rattle.cov_edit.specs.History.{option_count}
 use Rattle.cov_edit.specs.Numbering.{node_number, line_number, anchors_of, numbers_of}
-use Rattle.cov_edit.specs.Replay.{conditions, first_within, within_behind, changes_within}
+use Rattle.cov_edit.specs.Replay.{first_within, within_behind, changes_within}
+use Rattle.cov_edit.specs.Sides.{unsided, conditions}
 use Rattle.cov_edit.specs.Variant.{Line}
 use Rattle.cov_file.specs.Dated.{DatedLine as FileLine, line_numbers_of as file_numbers, new_line, with_line, with_change, AreAlike}
 use Rattle.cov_file.specs.Rooms.{DatedFile, is_room_at, IsLeft}
@@ -96,8 +98,11 @@ line-below history within begun later file line h =
     (stands-amid history begun later within)
     (or_right (nat_eq line 0) (list_any (λ k. nat_eq (kept_number k) line) (file_kept file held.lines)) (sym (any-mapped kept_number line (file_kept file held.lines)) ∙ h))
 
-module _ (history : List Command) (base : ℕ) (choice : List Bool) (ambition : Formula ℕ) (es : List Edit)
-    (good : IsGood history (session_of base choice ambition es)) (legal : IsLegal history) where
+module _ (history : List Command) (base : ℕ) (choice : List Bool) (ambition : Formula ℕ) (sided_edits : List Sided)
+    (good : IsGood history (session_of base choice ambition sided_edits)) (legal : IsLegal history) where
+  abbrev es : List Edit
+  es = unsided sided_edits
+
   abbrev n : ℕ
   n = (numbers_of history).nodes
 
@@ -109,7 +114,7 @@ module _ (history : List Command) (base : ℕ) (choice : List Bool) (ambition : 
 
   -- where each edit applies
   abbrev each_within : List (Formula ℕ)
-  each_within = conditions ambition es
+  each_within = conditions ambition sided_edits
 
   -- where the edit behind some applies
   abbrev within_at : List Edit → Formula ℕ
@@ -161,7 +166,7 @@ module _ (history : List Command) (base : ℕ) (choice : List Bool) (ambition : 
     anchored : is_kept_anchor (node_number n file) (line_number m after) (lines_at begun) ≡ true
     anchored =
         subst (λ some. is_kept_anchor (node_number n file) (line_number m after) (held_amid history each_within some begun).lines ≡ true) all
-        (accepted-anchored history (session_of base choice ambition es) legal good i all)
+        (accepted-anchored history (session_of base choice ambition sided_edits) legal good i all)
 
     insert-here : file_dated (node_number n file) (lines_at (begun ++ edits.Insert file after text ∷ []))
         ≡ after_anchor_by dated_number (line_number m after) (new_dated (within_at begun) (lines_amid history begun + 1) text) (file_dated (node_number n file) (lines_at begun))
@@ -192,7 +197,7 @@ module _ (history : List Command) (base : ℕ) (choice : List Bool) (ambition : 
     pub delete-there : has_line (line_number m line) (file_order (node_number n file) (lines_at begun)) ≡ true
     delete-there =
         ap (λ ks. has_line (line_number m line) (file_order (node_number n file) ks)) (sym delete-before)
-        ∙ accepted-there history (session_of base choice ambition es) legal good gone_line all
+        ∙ accepted-there history (session_of base choice ambition sided_edits) legal good gone_line all
 
     delete-here : file_dated (node_number n file) (lines_at (begun ++ edits.Delete file line ∷ []))
         ≡ map (hidden_by (line_number m line) q (within_at begun)) (file_dated (node_number n file) (lines_at begun))
@@ -206,7 +211,7 @@ module _ (history : List Command) (base : ℕ) (choice : List Bool) (ambition : 
     delete-stays : (other some : ℕ) → is_kept_anchor other some (lines_at begun) ≡ true → is_kept_anchor other some (lines_at (begun ++ edits.Delete file line ∷ [])) ≡ true
     delete-stays other some h = ap (is_kept_anchor other some) delete-behind ∙ (delete-order history (held_at begun) (within_at begun) gone_line other).1 some ∙ h
 
-  module _ (ts : List Triple) (on : List ℕ) (applies : StandFor ts (option_count history) (conditions ambition es) on) where
+  module _ (ts : List Triple) (on : List ℕ) (applies : StandFor ts (option_count history) (conditions ambition sided_edits) on) where
     abbrev count : ℕ
     count = option_count history
 
@@ -569,7 +574,7 @@ module _ (history : List Command) (base : ℕ) (choice : List Bool) (ambition : 
         (resolved-by (IsRight (lines_at begun)) (IsRight (lines_at (begun ++ e ∷ []))) (λ d node. IsOther n m file line d) n m
         (λ node other which vis apart h. delete-right begun later file line all node other which vis apart h)
         (rest_nodes (nodes_at begun)) nodes lines later ss
-        (all-on (IsOther n m file line) (rest_nodes (nodes_at begun)) later (deleted-once history (session_of base choice ambition es) begun file line later good all)) right.1)) next))
+        (all-on (IsOther n m file line) (rest_nodes (nodes_at begun)) later (deleted-once history (session_of base choice ambition sided_edits) begun file line later good all)) right.1)) next))
 
   -- the lines that edits name are made before them
   pub named-low : (most : ℕ) (later begun : List Edit) → begun ++ later ≡ es → lines_amid history es ≤ most → AllByRecursion (λ e. named_line m e ≤ most) later

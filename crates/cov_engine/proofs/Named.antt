@@ -9,7 +9,8 @@ use Rattle.cov_edit.specs.declared.edit.Edit.TheVariants as edits
 use Rattle.cov_edit.specs.declared.command.Command.{Command}
 use Rattle.cov_edit.specs.declared.command.Command.TheVariants as commands
 use Rattle.cov_edit.specs.Numbering.{Numbers, node_count_after, line_count_after, numbered_edit, node_number, line_number, nodes_made, no_numbers, numbers_after, numbers_of, numbered_from}
-use Rattle.cov_edit.specs.Replay.{conditions, first_within, rest_within, changes_within, replay}
+use Rattle.cov_edit.specs.Replay.{first_within, rest_within, changes_within, replay}
+use Rattle.cov_edit.specs.Sides.{unsided, conditions}
 use Rattle.cov_edit.proofs.CallerLemmas.{node_count_after-is, numbers_from-append}
 use Rattle.cov_base.specs.declared.number.NodeRef.{NodeRef}
 use Rattle.cov_view.specs.References.{is_made_node}
@@ -103,12 +104,12 @@ files-one : (history : List Command) (k : Command) → verdict history k ≡ Non
     → AreInFiles (numbers_of (history ++ k ∷ [])).nodes (kept_of (history ++ k ∷ []))
 files-one history (commands.Commit base choice ambition es) accepted h =
     let ns : Numbers = numbers_of history in
-    let more : (numbers_of (history ++ commands.Commit base choice ambition es ∷ [])).nodes ≡ ns.nodes + nodes_made es =
+    let more : (numbers_of (history ++ commands.Commit base choice ambition es ∷ [])).nodes ≡ ns.nodes + nodes_made (unsided es) =
     ap (λ (ms : Numbers). ms.nodes) (numbers_from-append no_numbers history (commands.Commit base choice ambition es ∷ [])) in
     subst (AreInFiles (numbers_of (history ++ commands.Commit base choice ambition es ∷ [])).nodes) (sym (commit-lines history base choice ambition es))
-    (files-edits (length history + 1) (conditions ambition es) (numbers_of (take base history)).nodes ns (numbers_after ns es).addresses ns.nodes 0 (length ns.addresses)
-    (numbers_of (history ++ commands.Commit base choice ambition es ∷ [])).nodes (kept_of history) es (base-nodes base history) (omega (arith, more))
-    (edits-named history base choice es (edits-accepted history base choice ambition es accepted))
+    (files-edits (length history + 1) (conditions ambition es) (numbers_of (take base history)).nodes ns (numbers_after ns (unsided es)).addresses ns.nodes 0 (length ns.addresses)
+    (numbers_of (history ++ commands.Commit base choice ambition es ∷ [])).nodes (kept_of history) (unsided es) (base-nodes base history) (omega (arith, more))
+    (edits-named history base choice (unsided es) (edits-accepted history base choice ambition es accepted))
     (more-files ns.nodes (numbers_of (history ++ commands.Commit base choice ambition es ∷ [])).nodes (kept_of history) (omega (arith, more)) h))
 files-one history k accepted h = as-before history k refl h
 

@@ -25,7 +25,7 @@ use Rattle.cov_view.specs.Refusals.{first_refused, refused_from}
 use Rattle.cov_view.specs.Seen.{Seen}
 use Rattle.cov_view.specs.Views.{by_number, line_by_number, row_by_number, IsMade, Shows, ShowsLines}
 use Rattle.cov_visible.specs.declared.file_part.FilePart.{FilePart}
-use Rattle.cov_engine.specs.declared.history_index.CommitMark.{CommitMark}
+use Rattle.cov_overtaking.specs.declared.mark.CommitMark.{CommitMark}
 use Rattle.cov_visible.specs.declared.visible.Visible.{Visible}
 use Rattle.cov_engine.specs.Holdings.{AreRowsAndLinesOf}
 use Rattle.cov_visible.specs.Parts.{part_of}

@@ -5,14 +5,16 @@ use Rattle.std.proofs.lemmas.List.{length_push, take-map, length-map, take-appen
 use Rattle.cov_base.proofs.CallerLemmas.{length-with_lines, all-map}
 use Rattle.cov_dd.specs.declared.triple.Triple.{Triple}
 use Rattle.cov_base.specs.declared.limits.TheConstants.{LIMITS}
-use Rattle.cov_expr.specs.Formula.{Formula, False, reach}
+use Rattle.cov_expr.specs.Formula.{Formula, False}
 use Rattle.cov_expr.specs.Validity.{is_valid}
 use Rattle.cov_edit.specs.declared.edit.Edit.{Edit}
 use Rattle.cov_edit.specs.declared.command.Command.{Command}
 use Rattle.cov_edit.specs.declared.command.Command.TheVariants as commands
+use Rattle.cov_edit.specs.declared.sided.Sided.{Sided}
 use Rattle.cov_edit.specs.Fits.{fits_command}
 use Rattle.cov_edit.specs.History.{options_of, option_count, text_bytes, command_bytes}
 use Rattle.cov_edit.specs.Numbering.{Numbers, nodes_made, anchors_of, no_numbers, numbers_after, numbers_of, line_count}
+use Rattle.cov_edit.specs.Sides.{unsided, reach_within}
 use Rattle.cov_edit.proofs.CallerLemmas.{numbers_from-append}
 use Rattle.cov_rules.specs.Installing.{RulesValue, Standing, expressions, reach_of}
 use Rattle.cov_view.specs.Refusals.{first_of}
@@ -21,7 +23,7 @@ use Rattle.cov_engine.specs.Summaries.{summary_of, IsSummaryOf}
 use Rattle.cov_engine.specs.declared.summary.EditSummary.{EditSummary}
 use Rattle.cov_engine.specs.declared.counts.Counts.{Counts}
 use Rattle.cov_visible.specs.declared.file_part.FilePart.{FilePart}
-use Rattle.cov_engine.specs.declared.history_index.CommitMark.{CommitMark}
+use Rattle.cov_overtaking.specs.declared.mark.CommitMark.{CommitMark}
 use Rattle.cov_visible.specs.declared.resolved_edit.ResolvedEdit.{ResolvedEdit}
 use Rattle.cov_engine.specs.declared.sizes.Sizes.{Sizes}
 use Rattle.cov_history.specs.declared.refusal.Refusal.{Refusal}
@@ -40,7 +42,7 @@ use Rattle.cov_edit.specs.Touched.{AreRising}
 use Rattle.cov_history.specs.FileNodes.{files_made, files_of}
 use Rattle.cov_history.specs.Sessions.{IsGood, session_of}
 use Rattle.cov_engine.specs.States.{AreCountsOf, AreDeclarationsOf}
-use Rattle.cov_engine.specs.Overtakers.{IsOvertaker}
+use Rattle.cov_overtaking.specs.Overtakers.{IsOvertaker}
 use Rattle.cov_history.specs.Overtaking.{overtaken}
 use Rattle.cov_history.specs.Verdict.{IsLegal, as_overtaken, verdict, refusals_of, size_refusals}
 use Rattle.cov_history.specs.FileOfLine.{new_file_of_line}
@@ -70,7 +72,7 @@ use Rattle.cov_engine.proofs.Installed.{edits-near, edits-low, staged-rise, stag
 
 -- what is found among the commits is what overtakes in the history
 overtaken-found : (history : List Command) (names : List (List ℕ)) (ts : List Triple) (standing : Standing) (counts : Counts) (commits : List CommitMark) (file_of_line : List ℕ) (entries : Dated) (stored : List FilePart) (valid base : ℕ)
-    (ambition : Formula ℕ) (es : List Edit) (found : Option ℕ) → AreDeclarationsOf history names ts standing counts → AreRowsAndLinesOf history ts commits file_of_line entries stored → reach ambition ≤ option_count history
+    (ambition : Formula ℕ) (es : List Sided) (found : Option ℕ) → AreDeclarationsOf history names ts standing counts → AreRowsAndLinesOf history ts commits file_of_line entries stored → reach_within ambition es ≤ option_count history
     → valid ≡ standing.conjunction → IsOvertaker ts valid commits base ambition es found → found ≡ overtaken history base ambition es
 overtaken-found history names ts standing counts commits file_of_line entries stored valid base ambition es found state held low is first =
     first history state.rules.below.few (subst (λ fs. reach_of fs ≤ option_count history) state.rules.constraints state.rules.below.constraints) low
@@ -78,33 +80,33 @@ overtaken-found history names ts standing counts commits file_of_line entries st
     (λ c. ap (λ a. value_in ts a c) is ∙ state.rules.holds.conjunction.value c ∙ ap (λ fs. is_valid fs c) state.rules.constraints)
 
 -- a command that isn't refused early, and that is a commit
-module _ (history : List Command) (k : Command) (base : ℕ) (choice : List Bool) (ambition : Formula ℕ) (es : List Edit) (is : k ≡ commands.Commit base choice ambition es) (passes : early_refusal history k ≡ None) where
+module _ (history : List Command) (k : Command) (base : ℕ) (choice : List Bool) (ambition : Formula ℕ) (es : List Sided) (is : k ≡ commands.Commit base choice ambition es) (passes : early_refusal history k ≡ None) where
   commit-passes : first_of (commit_refusals history base choice ambition es) ≡ None
   commit-passes = ap (early_refusal history) (sym is) ∙ passes
 
   good : IsGood history (session_of base choice ambition es)
   good = commit-good history base choice ambition es commit-passes
 
-  pub reach-declared : reach ambition ≤ option_count history
+  pub reach-declared : reach_within ambition es ≤ option_count history
   reach-declared = let own = good.in_reach in let all = declared-less base history in omega (arith, own, all)
 
   -- it is within the limits
-  pub in-bounds : IsLegal history → IsInBounds history es
+  pub in-bounds : IsLegal history → IsInBounds history (unsided es)
   in-bounds legal =
-      let others : List (Option Refusal) = choice_refusals (take base history) choice ambition ++ edit_refusals (take base history) choice es in
-      let sized : first_of (size_refusals history es ++ others) ≡ None = commit-sizes history base choice ambition es commit-passes in
+      let others : List (Option Refusal) = choice_refusals (take base history) choice ambition es ++ edit_refusals (take base history) choice es in
+      let sized : first_of (size_refusals history (unsided es) ++ others) ≡ None = commit-sizes history base choice ambition es commit-passes in
       record {
-        near = edits-near history base choice es (nodes-few history es others sized) good.accepted;
-        low = edits-low history base choice ambition es (lines-few history es others sized) good legal;
-        edits = edits-few history es others sized;
-        lines = lines-few history es others sized;
-        nodes = nodes-few history es others sized;
-        bytes = bytes-few history es others sized;
+        near = edits-near history base choice (unsided es) (nodes-few history (unsided es) others sized) good.accepted;
+        low = edits-low history base choice ambition es (lines-few history (unsided es) others sized) good legal;
+        edits = edits-few history (unsided es) others sized;
+        lines = lines-few history (unsided es) others sized;
+        nodes = nodes-few history (unsided es) others sized;
+        bytes = bytes-few history (unsided es) others sized;
       }
 
   -- what is counted of its edits is theirs
-  pub commit-summary : IsLegal history → (summary : EditSummary) → IsSummaryOf (edits_in k) summary → summary ≡ summary_of es
-  commit-summary legal summary own = subst (λ j. IsSummaryOf (edits_in j) summary) is own (in-bounds legal).edits
+  pub commit-summary : IsLegal history → (summary : EditSummary) → IsSummaryOf (unsided (edits_in k)) summary → summary ≡ summary_of (unsided es)
+  commit-summary legal summary own = subst (λ j. IsSummaryOf (unsided (edits_in j)) summary) is own (in-bounds legal).edits
 
   -- the verdict on it is that of what is found to overtake it, or else of a variant left unsound
   pub late-verdict : (names : List (List ℕ)) (ts : List Triple) (standing : Standing) (counts : Counts) (commits : List CommitMark) (file_of_line : List ℕ) (entries : Dated) (stored : List FilePart) (valid : ℕ) (found : Option ℕ)
@@ -144,7 +146,7 @@ take-front : {X : Type 0} (n : ℕ) (xs ys : List X) → n ≡ length xs → tak
 take-front n xs ys e = take-append-le n xs ys (omega (arith, e)) ∙ take_all n xs (omega (arith, e))
 
 -- what is staged is cut off again
-pub given-up : (history : List Command) (ts : List Triple) (ambition : Formula ℕ) (es : List Edit) (counts : Counts) (commits : List CommitMark) (mark : CommitMark) (ss : List ResolvedEdit) (plan : List Entry) (file_of_line : List ℕ) (entries : Dated) (stored : List FilePart)
+pub given-up : (history : List Command) (ts : List Triple) (ambition : Formula ℕ) (es : List Sided) (counts : Counts) (commits : List CommitMark) (mark : CommitMark) (ss : List ResolvedEdit) (plan : List Entry) (file_of_line : List ℕ) (entries : Dated) (stored : List FilePart)
     (commits' : List CommitMark) (file_of_line' : List ℕ) (entries' : Dated) (stored' : List FilePart) → AreCountsOf history counts → IsStaged history ts ambition es commits mark ss plan file_of_line entries stored
     → commits' ≡ commits → file_of_line' ≡ take counts.lines file_of_line → entries' ≡ entries → map contents stored' ≡ map contents (take (count_below counts.nodes (map part_node stored)) stored) → AreRowsAndLinesOf history ts commits' file_of_line' entries' stored'
 given-up history ts ambition es counts commits mark ss plan file_of_line entries stored commits' file_of_line' entries' stored' are staged ce he xe ee =
@@ -152,10 +154,10 @@ given-up history ts ambition es counts commits mark ss plan file_of_line entries
     let held_lines = staged.held.lines in
     subst (λ cs. AreRowsAndLinesOf history ts cs file_of_line' entries' stored') (sym ce)
     (subst (λ xs. AreRowsAndLinesOf history ts commits xs entries' stored')
-    (sym (he ∙ ap (take counts.lines) staged.file_of_line_is ∙ take-front counts.lines staged.old_file_of_line (new_file_of_line (numbers_of history).nodes es) (omega (arith, lines, held_lines))))
+    (sym (he ∙ ap (take counts.lines) staged.file_of_line_is ∙ take-front counts.lines staged.old_file_of_line (new_file_of_line (numbers_of history).nodes (unsided es)) (omega (arith, lines, held_lines))))
     (held-contents history ts commits staged.old_file_of_line entries entries' staged.old_stored stored' (ap without_room xe)
     (ee ∙ sym (take-map contents (count_below counts.nodes (map part_node stored)) stored) ∙ ap (take (count_below counts.nodes (map part_node stored))) staged.files
-    ∙ take-front (count_below counts.nodes (map part_node stored)) (map contents staged.old_stored) (new_files (numbers_of history).nodes es) few)
+    ∙ take-front (count_below counts.nodes (map part_node stored)) (map contents staged.old_stored) (new_files (numbers_of history).nodes (unsided es)) few)
     staged.held))
   where
     n : ℕ
@@ -167,32 +169,32 @@ given-up history ts ambition es counts commits mark ss plan file_of_line entries
         subst (AllByRecursion (λ node. node < counts.nodes)) (sym staged.held.parts)
         (all-map (λ file. (0 < file) × (file ≤ n)) (λ node. node < counts.nodes) (λ file h. let most = h.1 in omega (arith, most, nodes)) (files_of history) (files-rise history).1)
 
-    high : AllByRecursion (λ node. counts.nodes ≤ node) (files_made n es)
+    high : AllByRecursion (λ node. counts.nodes ≤ node) (files_made n (unsided es))
     high =
         let nodes = are.nodes in
-        all-map (λ file. (n < file) × (file ≤ n + nodes_made es)) (λ node. counts.nodes ≤ node) (λ file h. let above = h.0 in omega (arith, above, nodes)) (files_made n es) (made-within n es)
+        all-map (λ file. (n < file) × (file ≤ n + nodes_made (unsided es))) (λ node. counts.nodes ≤ node) (λ file h. let above = h.0 in omega (arith, above, nodes)) (files_made n (unsided es)) (made-within n (unsided es))
 
     few : count_below counts.nodes (map part_node stored) ≡ length (map contents staged.old_stored)
     few =
-        ap (count_below counts.nodes) (staged-nodes staged.old_stored stored (files_made n es) staged.files)
-        ∙ count-front counts.nodes (map part_node staged.old_stored) (files_made n es) low high
+        ap (count_below counts.nodes) (staged-nodes staged.old_stored stored (files_made n (unsided es)) staged.files)
+        ∙ count-front counts.nodes (map part_node staged.old_stored) (files_made n (unsided es)) low high
         ∙ length-map staged.old_stored part_node ∙ sym (length-map staged.old_stored contents)
 
-module _ (history : List Command) (base : ℕ) (choice : List Bool) (ambition : Formula ℕ) (es : List Edit) where
+module _ (history : List Command) (base : ℕ) (choice : List Bool) (ambition : Formula ℕ) (es : List Sided) where
   abbrev commit : Command
   commit = commands.Commit base choice ambition es
 
-  numbers-with : numbers_of (history ++ commit ∷ []) ≡ numbers_after (numbers_of history) es
+  numbers-with : numbers_of (history ++ commit ∷ []) ≡ numbers_after (numbers_of history) (unsided es)
   numbers-with = numbers_from-append no_numbers history (commit ∷ [])
 
   -- the counts with a commit
-  pub counts-with : (counts : Counts) → AreCountsWith history es counts → AreCountsOf (history ++ commit ∷ []) counts
+  pub counts-with : (counts : Counts) → AreCountsWith history (unsided es) counts → AreCountsOf (history ++ commit ∷ []) counts
   counts-with counts with =
       let ns = numbers_of history in
-      let grown = length-with_lines ns.addresses (anchors_of (length ns.addresses) es) in
+      let grown = length-with_lines ns.addresses (anchors_of (length ns.addresses) (unsided es)) in
       let more = ap (λ (ms : Numbers). length ms.addresses) numbers-with in
       let mark = ap (λ (ms : Numbers). ms.nodes) numbers-with in
-      let same = sym (new-files_of_lines-count 0 (length ns.addresses) es) ∙ new-files_of_lines-count 0 0 es in
+      let same = sym (new-files_of_lines-count 0 (length ns.addresses) (unsided es)) ∙ new-files_of_lines-count 0 0 (unsided es) in
       let sum = sum-one command_bytes history commit in
       let lines = with.lines in
       let nodes = with.nodes in
@@ -207,7 +209,7 @@ module _ (history : List Command) (base : ℕ) (choice : List Bool) (ambition : 
   options-same = options-append history (commit ∷ []) ∙ append-nil (options_of history)
 
   -- the state with a commit
-  pub state-with : (names : List (List ℕ)) (ts : List Triple) (standing : Standing) (counts new : Counts) → fits_command commit ≡ true → verdict history commit ≡ None → AreCountsWith history es new
+  pub state-with : (names : List (List ℕ)) (ts : List Triple) (standing : Standing) (counts new : Counts) → fits_command commit ≡ true → verdict history commit ≡ None → AreCountsWith history (unsided es) new
       → AreDeclarationsOf history names ts standing counts → AreDeclarationsOf (history ++ commit ∷ []) names ts standing new
   state-with names ts standing counts new fits accepted with old = record {
     legal = legal-one [] history commit old.legal fits accepted;
@@ -246,7 +248,7 @@ module _ (history : List Command) (names : List (List ℕ)) (ts : List Triple) (
   ready-plans (commands.Prefer expr) spare next r = absurd r
   ready-plans (commands.Default option on) spare next r = absurd r
   ready-plans (commands.Commit base choice ambition es) spare next r =
-      subst (λ q. CanCarryOutAll q ss stored) (sym r.1.at)
+      subst (λ q. CanCarryOutAll q ss stored) (sym r.1.marked.position)
       (staged-plans history base choice ambition es state.legal r.0 next.accepted ts commits mark ss plan file_of_line entries stored r.1)
 
   pub ready-state : (command : Command) (spare : ℕ) → IsNext history command spare → IsThat command → AreDeclarationsOf (history ++ command ∷ []) names ts standing new
@@ -270,7 +272,7 @@ module _ (history : List Command) (names : List (List ℕ)) (ts : List Triple) (
   ready-rows (commands.Prefer expr) spare next r = absurd r
   ready-rows (commands.Default option on) spare next r = absurd r
   ready-rows (commands.Commit base choice ambition es) spare next r = (
-    subst (λ q. entries.from ≤ q) (sym r.1.at) (row-later history base choice ambition es state.legal r.0 next.accepted ts commits mark ss plan file_of_line entries stored r.1),
+    subst (λ q. entries.from ≤ q) (sym r.1.marked.position) (row-later history base choice ambition es state.legal r.0 next.accepted ts commits mark ss plan file_of_line entries stored r.1),
     r.1.row_room,
   )
 
@@ -285,7 +287,7 @@ module _ (history : List Command) (names : List (List ℕ)) (ts : List Triple) (
       subst (λ cs. AreRowsAndLinesOf (history ++ commands.Commit base choice ambition es ∷ []) ts cs file_of_line' entries' stored') (sym ce)
       (subst (λ xs. AreRowsAndLinesOf (history ++ commands.Commit base choice ambition es ∷ []) ts (commits ++ mark ∷ []) xs entries' stored') (sym he)
       (held-committed history base choice ambition es state.legal r.0 next.accepted ts commits mark ss plan file_of_line entries stored r.1 entries' stored'
-      (subst (λ q. IsSet q plan entries entries') r.1.at set) (subst (λ q. AreInstalled q ss stored stored') r.1.at installed)))
+      (subst (λ q. IsSet q plan entries entries') r.1.marked.position set) (subst (λ q. AreInstalled q ss stored stored') r.1.marked.position installed)))
 
   -- given up, it leaves what is held
   pub ready-given-up : (command : Command) (commits' : List CommitMark) (file_of_line' : List ℕ) (entries' : Dated) (stored' : List FilePart) → IsThat command
@@ -310,17 +312,17 @@ conjunction-later new state grown c =
     grown.value _ state.rules.holds.conjunction.within c ∙ state.rules.holds.conjunction.value c ∙ ap (λ fs. is_valid fs c) state.rules.constraints
 
 -- a history with edits that are within its limits, which have their numbers
-module _ (history : List Command) (es : List Edit) (counts : Counts) (ts : List Triple) (commits : List CommitMark) (file_of_line : List ℕ) (entries : Dated) (stored : List FilePart)
-    (are : AreCountsOf history counts) (held : AreRowsAndLinesOf history ts commits file_of_line entries stored) (within : IsInBounds history es)
+module _ (history : List Command) (es : List Sided) (counts : Counts) (ts : List Triple) (commits : List CommitMark) (file_of_line : List ℕ) (entries : Dated) (stored : List FilePart)
+    (are : AreCountsOf history counts) (held : AreRowsAndLinesOf history ts commits file_of_line entries stored) (within : IsInBounds history (unsided es))
     (ambition : Formula ℕ) (mark : CommitMark) (ss some : List ResolvedEdit) (plan : List Entry) (planned : IsCommitPlan history ts entries stored ambition es mark ss plan) (e : some ≡ ss) where
   abbrev n : ℕ
   n = (numbers_of history).nodes
 
   abbrev Taken : ℕ → ℕ → ℕ → ℕ → Type 0
-  Taken = IsTaken ts (length history + 1) stored (line_count history) (insert_nodes planned.on es)
+  Taken = IsTaken ts (length history + 1) stored (line_count history) (insert_nodes planned.on (unsided es))
 
-  files-are : made_files some ≡ files_made n es
-  files-are = ap made_files e ∙ resolved-files Taken n (line_count history) planned.on n (line_count history) es ss planned.resolved
+  files-are : made_files some ≡ files_made n (unsided es)
+  files-are = ap made_files e ∙ resolved-files Taken n (line_count history) planned.on n (line_count history) (unsided es) ss planned.resolved
 
   pub held-rising : AreRising (map part_node stored ++ made_files some)
   held-rising =
@@ -331,7 +333,7 @@ module _ (history : List Command) (es : List Edit) (counts : Counts) (ts : List 
   pub held-few : length some ≤ LIMITS.edits
   held-few =
       let few = within.edits in
-      let same = ap length e ∙ resolved-length Taken n (line_count history) planned.on n (line_count history) es ss planned.resolved in
+      let same = ap length e ∙ resolved-length Taken n (line_count history) planned.on n (line_count history) (unsided es) ss planned.resolved in
       omega (arith, few, same)
 
   pub held-lines : counts.lines ≡ length file_of_line
@@ -339,20 +341,19 @@ module _ (history : List Command) (es : List Edit) (counts : Counts) (ts : List 
 
   -- what is staged of them is ready
   pub is-ready : (spare : ℕ) (new : Counts) (commits' : List CommitMark) (file_of_line' : List ℕ) (entries' : Dated) (stored' : List FilePart)
-      → new ≡ record { lines = counts.lines + length (anchors_of 0 es); nodes = counts.nodes + nodes_made es; bytes = counts.bytes + text_bytes es }
+      → new ≡ record { lines = counts.lines + length (anchors_of 0 (unsided es)); nodes = counts.nodes + nodes_made (unsided es); bytes = counts.bytes + text_bytes (unsided es) }
       → commits' ≡ commits → without_room entries' ≡ without_room entries → file_of_line' ≡ file_of_line ++ files_of_lines some
       → map contents stored' ≡ map contents stored ++ map new_contents (made_files some) → AllByRecursion (HasRoom some) stored' → HasRowRoom plan entries' → 0 < spare
-      → IsStaged history ts ambition es commits' mark ss plan file_of_line' entries' stored' × AreCountsWith history es new × (0 < spare)
+      → IsStaged history ts ambition es commits' mark ss plan file_of_line' entries' stored' × AreCountsWith history (unsided es) new × (0 < spare)
   is-ready spare new commits' file_of_line' entries' stored' ne ce xe he ee room row_room free = (
     record {
       old_file_of_line = file_of_line;
       old_stored = stored;
       held = subst (λ cs. AreRowsAndLinesOf history ts cs file_of_line entries' stored) (sym ce) (held-contents history ts commits file_of_line entries entries' stored stored xe refl held);
-      at = planned.at;
-      touches = planned.touches;
+      marked = planned.marked;
       file_of_line_is = he
           ∙ ap (λ x. file_of_line ++ files_of_lines x) e
-          ∙ ap (λ files. file_of_line ++ files) (resolved-files_of_lines Taken n (line_count history) planned.on n (line_count history) es ss planned.resolved);
+          ∙ ap (λ files. file_of_line ++ files) (resolved-files_of_lines Taken n (line_count history) planned.on n (line_count history) (unsided es) ss planned.resolved);
       files = ee ∙ ap (λ files. map contents stored ++ map new_contents files) files-are;
       room = subst (λ x. AllByRecursion (HasRoom x) stored') e room;
       changes = makes-room ts entries entries' plan _ xe planned.changes;
@@ -365,15 +366,14 @@ module _ (history : List Command) (es : List Edit) (counts : Counts) (ts : List 
           ∙ planned.kinds
           ∙ ap (λ xs. kinds_after_all (row_changes ss) (kinds_of xs)) (sym (newest_but_room entries entries' xe));
       row_room = row_room;
-      stands = planned.stands;
       on = planned.on;
       applies = planned.applies;
       resolved = planned.resolved;
     },
     record {
-      lines = ap (λ (k : Counts). k.lines) ne ∙ ap (λ n. n + length (anchors_of 0 es)) are.lines;
-      nodes = ap (λ (k : Counts). k.nodes) ne ∙ ap (λ n. n + nodes_made es) are.nodes;
-      bytes = ap (λ (k : Counts). k.bytes) ne ∙ ap (λ n. n + text_bytes es) are.bytes;
+      lines = ap (λ (k : Counts). k.lines) ne ∙ ap (λ n. n + length (anchors_of 0 (unsided es))) are.lines;
+      nodes = ap (λ (k : Counts). k.nodes) ne ∙ ap (λ n. n + nodes_made (unsided es)) are.nodes;
+      bytes = ap (λ (k : Counts). k.bytes) ne ∙ ap (λ n. n + text_bytes (unsided es)) are.bytes;
     },
     free,
   )

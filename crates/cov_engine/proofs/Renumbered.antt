@@ -3,7 +3,6 @@ use Rattle.std.proofs.Common.{◌≡◌, ℕ, ◌+◌, ◌<◌, ◌≤◌, Bool,
 use Rattle.std.specs.List.{AllByRecursion}
 use Rattle.std.proofs.lemmas.List.{drop-drop, length-map, map-append}
 use Rattle.cov_base.specs.Older.{value_at}
-use Rattle.cov_base.specs.Replacing.{having}
 use Rattle.cov_base.proofs.CallerLemmas.{all-append, parted}
 use Rattle.cov_dd.specs.declared.triple.Triple.{Triple}
 use Rattle.cov_dd.specs.Diagrams.{diagram_size, Stands}
@@ -13,7 +12,6 @@ use Rattle.cov_edit.specs.Recorded.{Recorded}
 use Rattle.cov_edit.specs.History.{option_count}
 use Rattle.cov_edit.specs.Numbering.{numbers_of}
 use Rattle.cov_edit.specs.declared.command.Command.{Command}
-use Rattle.cov_edit.specs.declared.command.Command.TheVariants as commands
 use Rattle.cov_expr.specs.Formula.{value}
 use Rattle.cov_expr.specs.Options.{Declared}
 use Rattle.cov_file.specs.Dated.{DatedLine as FileLine}
@@ -34,22 +32,15 @@ use Rattle.cov_visible.specs.Parts.{files_among, part_node}
 use Rattle.cov_visible.specs.Renumbered.{kept_nodes, line_nodes, ArePartsRenumbered, IsRenumberedPart}
 use Rattle.cov_visible.specs.declared.file_part.FilePart.{FilePart}
 use Rattle.cov_engine.specs.Holdings.{AreEntriesOf, AreRowsAndLinesOf, IsFileOf}
-use Rattle.cov_engine.specs.Marks.{having_node, mark_node, AreMarks}
-use Rattle.cov_engine.specs.Overtakers.{AreNoted}
+use Rattle.cov_overtaking.specs.Marks.{AreMarks, all_mark_nodes, without_nodes as without_mark_nodes}
 use Rattle.cov_engine.specs.Ruling.{AreRulesOf}
 use Rattle.cov_engine.specs.States.{history_of, nodes_of, table_of, AreDeclarationsOf, Declares, IsKept, Keeps}
 use Rattle.cov_engine.specs.Sweeping.{IsRenumberedState}
 use Rattle.cov_engine.specs.declared.counts.Counts.{Counts}
-use Rattle.cov_engine.specs.declared.history_index.CommitMark.{CommitMark}
 use Rattle.cov_engine.specs.declared.state.EngineState.{EngineState}
 use Rattle.cov_engine.proofs.Dating.{false-stands}
+use Rattle.cov_overtaking.proofs.CallerLemmas.{marks-renumbered, marks-within}
 use Rattle.cov_engine.proofs.Keeping.{with_table}
-
--- what is noted of commits stays where they get other nodes
-pub noted-having : (newest : ℕ → ℕ) (ms : List CommitMark) (ns : List ℕ) → AreNoted newest ms → AreNoted newest (having having_node ms ns)
-noted-having newest [] ns h = tt
-noted-having newest (m ∷ ms) [] h = h
-noted-having newest (m ∷ ms) (n ∷ ns) h = (h.0, noted-having newest ms ns h.1)
 
 module _ (ts us : List Triple) where
   -- nodes that are renumbered, in two parts of as many
@@ -108,36 +99,6 @@ module _ (ts us : List Triple) where
         let parts = renumbered-parts (kept_nodes e) (line_nodes es) (kept_nodes f) (line_nodes fs) z.0.count r in
         (file-renumbered e f z.0 parts.0 h.0, files-renumbered es fs z.1 parts.1 h.1)
 
-  -- the commits
-  module _ (count : ℕ) (by : ℕ → ℕ) where
-    abbrev renumbered : CommitMark → CommitMark
-    renumbered m = having_node (by (mark_node m)) m
-
-    marks-renumbered : (p : ℕ) (history : List Command) (ms : List CommitMark) → AllByRecursion (λ a. IsRenumbered ts us a (by a)) (map mark_node ms)
-        → AreMarks ts count p history ms → AreMarks us count p history (map renumbered ms)
-    marks-renumbered p [] ms each h = ap (map renumbered) h
-    marks-renumbered p (commands.Option name ∷ later) ms each h = marks-renumbered (p + 1) later ms each h
-    marks-renumbered p (commands.Constraint expr ∷ later) ms each h = marks-renumbered (p + 1) later ms each h
-    marks-renumbered p (commands.Prefer expr ∷ later) ms each h = marks-renumbered (p + 1) later ms each h
-    marks-renumbered p (commands.Default option on ∷ later) ms each h = marks-renumbered (p + 1) later ms each h
-    marks-renumbered p (commands.Commit base choice ambition es ∷ later) [] each h = absurd h
-    marks-renumbered p (commands.Commit base choice ambition es ∷ later) (m ∷ ms) each h = (
-      record { position = h.0.position; touches = h.0.touches; stands = stands_renumbered each.0 h.0.stands; named = h.0.named },
-      marks-renumbered (p + 1) later ms each.1 h.1,
-    )
-
--- marks that differ in their nodes alone are those with the nodes of the others
-marks-by : (by : ℕ → ℕ) (ms ks : List CommitMark) → map (having_node 0) ks ≡ map (having_node 0) ms → map mark_node ks ≡ map by (map mark_node ms) → ks ≡ map (λ m. having_node (by (mark_node m)) m) ms
-marks-by by [] [] same is = refl
-marks-by by [] (k ∷ ks) same is = absurd (cc)
-marks-by by (m ∷ ms) [] same is = absurd (cc)
-marks-by by (m ∷ ms) (k ∷ ks) same is =
-    let first : having_node 0 k ≡ having_node 0 m = cc in
-    let number : k.node ≡ by m.node = cc in
-    let rest : map (having_node 0) ks ≡ map (having_node 0) ms = cc in
-    let others : map mark_node ks ≡ map by (map mark_node ms) = cc in
-    λ j. record { position = (ap (λ (x : CommitMark). x.position) first) j; node = number j; touched = (ap (λ (x : CommitMark). x.touched) first) j } ∷ marks-by by ms ks rest others j
-
 parts-nodes : (es fs : List FilePart) → ArePartsRenumbered es fs → map part_node fs ≡ map part_node es
 parts-nodes [] [] z = refl
 parts-nodes [] (f ∷ fs) z = absurd z
@@ -161,20 +122,20 @@ module _ (s t : EngineState) (us : List Triple) (same : IsRenumberedState (with_
   ts = table_of s
 
   of_rules : AreRenumbered ts us (rule_nodes s.rules.standing) (rule_nodes t.rules.standing)
-      × AreRenumbered ts us (visibilities s.visible.entries ++ (line_nodes s.visible.files ++ map mark_node s.index.commits.items)) (visibilities t.visible.entries ++ (line_nodes t.visible.files ++ map mark_node t.index.commits.items))
+      × AreRenumbered ts us (visibilities s.visible.entries ++ (line_nodes s.visible.files ++ all_mark_nodes s.index.commits.items)) (visibilities t.visible.entries ++ (line_nodes t.visible.files ++ all_mark_nodes t.index.commits.items))
   of_rules =
-      renumbered-parts ts us (rule_nodes s.rules.standing) (visibilities s.visible.entries ++ (line_nodes s.visible.files ++ map mark_node s.index.commits.items))
-      (rule_nodes t.rules.standing) (visibilities t.visible.entries ++ (line_nodes t.visible.files ++ map mark_node t.index.commits.items)) same.rule_count r
+      renumbered-parts ts us (rule_nodes s.rules.standing) (visibilities s.visible.entries ++ (line_nodes s.visible.files ++ all_mark_nodes s.index.commits.items))
+      (rule_nodes t.rules.standing) (visibilities t.visible.entries ++ (line_nodes t.visible.files ++ all_mark_nodes t.index.commits.items)) same.rule_count r
 
   of_entries : AreRenumbered ts us (visibilities s.visible.entries) (visibilities t.visible.entries)
-      × AreRenumbered ts us (line_nodes s.visible.files ++ map mark_node s.index.commits.items) (line_nodes t.visible.files ++ map mark_node t.index.commits.items)
+      × AreRenumbered ts us (line_nodes s.visible.files ++ all_mark_nodes s.index.commits.items) (line_nodes t.visible.files ++ all_mark_nodes t.index.commits.items)
   of_entries =
-      renumbered-parts ts us (visibilities s.visible.entries) (line_nodes s.visible.files ++ map mark_node s.index.commits.items)
-      (visibilities t.visible.entries) (line_nodes t.visible.files ++ map mark_node t.index.commits.items) same.entry_count of_rules.1
+      renumbered-parts ts us (visibilities s.visible.entries) (line_nodes s.visible.files ++ all_mark_nodes s.index.commits.items)
+      (visibilities t.visible.entries) (line_nodes t.visible.files ++ all_mark_nodes t.index.commits.items) same.entry_count of_rules.1
 
-  of_files : AreRenumbered ts us (line_nodes s.visible.files) (line_nodes t.visible.files) × AreRenumbered ts us (map mark_node s.index.commits.items) (map mark_node t.index.commits.items)
+  of_files : AreRenumbered ts us (line_nodes s.visible.files) (line_nodes t.visible.files) × AreRenumbered ts us (all_mark_nodes s.index.commits.items) (all_mark_nodes t.index.commits.items)
   of_files =
-      renumbered-parts ts us (line_nodes s.visible.files) (map mark_node s.index.commits.items) (line_nodes t.visible.files) (map mark_node t.index.commits.items)
+      renumbered-parts ts us (line_nodes s.visible.files) (all_mark_nodes s.index.commits.items) (line_nodes t.visible.files) (all_mark_nodes t.index.commits.items)
       (parts-count s.visible.files t.visible.files same.files) of_entries.1
 
   rows_are : HasRowsOf ts us s.visible.entries t.visible.entries
@@ -198,13 +159,11 @@ module _ (s t : EngineState) (us : List Triple) (same : IsRenumberedState (with_
     from = let is : t.visible.entries.from ≡ s.visible.entries.from = ap (λ (d : Dated). d.from) same.entries in let low = h.from in omega (arith, is, low);
   }
 
-  marks-kept : (history : List Command) → AreMarks ts (option_count history) 0 history s.index.commits.items → AreMarks us (option_count history) 0 history t.index.commits.items
-  marks-kept history h =
-      subst (AreMarks us (option_count history) 0 history) (sym (marks-by of_files.1.by s.index.commits.items t.index.commits.items same.commits of_files.1.is))
-      (marks-renumbered ts us (option_count history) of_files.1.by 0 history s.index.commits.items of_files.1.each h)
+  commits-kept : (history : List Command) → AreMarks ts (option_count history) 0 history s.index.commits.items → AreMarks us (option_count history) 0 history t.index.commits.items
+  commits-kept history h = marks-renumbered ts us (option_count history) 0 history s.index.commits.items t.index.commits.items same.commits of_files.1 h
 
   marks-count : length t.index.commits.items ≡ length s.index.commits.items
-  marks-count = sym (length-map t.index.commits.items (having_node 0)) ∙ ap length same.commits ∙ length-map s.index.commits.items (having_node 0)
+  marks-count = sym (length-map t.index.commits.items without_mark_nodes) ∙ ap length same.commits ∙ length-map s.index.commits.items without_mark_nodes
 
   contents-kept : (history : List Command) → AreRowsAndLinesOf history ts s.index.commits.items s.index.file_of_line.items s.visible.entries s.visible.files
       → AreRowsAndLinesOf history us t.index.commits.items t.index.file_of_line.items t.visible.entries t.visible.files
@@ -217,7 +176,7 @@ module _ (s t : EngineState) (us : List Triple) (same : IsRenumberedState (with_
     lines = ap length same.file_of_line ∙ h.lines;
     in_files = subst (AreFilesOfLines (kept_of history) 0) (sym same.file_of_line) h.in_files;
     few = let is = marks-count in let low = h.few in omega (arith, is, low);
-    marks = marks-kept history h.marks;
+    marks = commits-kept history h.marks;
   }
 
   declared-kept : (history : List Command) → Declares history s → Declares history t
@@ -247,25 +206,16 @@ module _ (ts : List Triple) where
   files-within history [] h = tt
   files-within history (e ∷ es) h = joined (kept_nodes e) (line_nodes es) h.0.nodes (files-within history es h.1)
 
-  marks-within : (count p : ℕ) (history : List Command) (ms : List CommitMark) → AreMarks ts count p history ms → AreNodes ts (map mark_node ms)
-  marks-within count p [] ms h = subst (λ ks. AreNodes ts (map mark_node ks)) (sym h) tt
-  marks-within count p (commands.Option name ∷ later) ms h = marks-within count (p + 1) later ms h
-  marks-within count p (commands.Constraint expr ∷ later) ms h = marks-within count (p + 1) later ms h
-  marks-within count p (commands.Prefer expr ∷ later) ms h = marks-within count (p + 1) later ms h
-  marks-within count p (commands.Default option on ∷ later) ms h = marks-within count (p + 1) later ms h
-  marks-within count p (commands.Commit base choice ambition es ∷ later) [] h = absurd h
-  marks-within count p (commands.Commit base choice ambition es ∷ later) (m ∷ ms) h = (h.0.stands.within, marks-within count (p + 1) later ms h.1)
-
 pub nodes-within : (s : EngineState) → IsKept s → AreNodes (table_of s) (nodes_of s)
 nodes-within s h =
     let ts = table_of s in
     let history = history_of s in
     let rules = h.0.0.rules.holds in
-    joined ts (rule_nodes s.rules.standing) (visibilities s.visible.entries ++ (line_nodes s.visible.files ++ map mark_node s.index.commits.items))
+    joined ts (rule_nodes s.rules.standing) (visibilities s.visible.entries ++ (line_nodes s.visible.files ++ all_mark_nodes s.index.commits.items))
     (joined ts (map node_of s.rules.standing.constraints) (map node_of s.rules.standing.preferences ++ s.rules.standing.conjunction ∷ []) (rules-within ts s.rules.standing.constraints rules.constraints)
     (joined ts (map node_of s.rules.standing.preferences) (s.rules.standing.conjunction ∷ []) (rules-within ts s.rules.standing.preferences rules.preferences) (rules.conjunction.within, tt)))
-    (joined ts (visibilities s.visible.entries) (line_nodes s.visible.files ++ map mark_node s.index.commits.items) h.1.of_entries.kept
-    (joined ts (line_nodes s.visible.files) (map mark_node s.index.commits.items) (files-within ts history s.visible.files h.1.files) (marks-within ts (option_count history) 0 history s.index.commits.items h.1.marks)))
+    (joined ts (visibilities s.visible.entries) (line_nodes s.visible.files ++ all_mark_nodes s.index.commits.items) h.1.of_entries.kept
+    (joined ts (line_nodes s.visible.files) (all_mark_nodes s.index.commits.items) (files-within ts history s.visible.files h.1.files) (marks-within ts (option_count history) 0 history s.index.commits.items h.1.marks)))
 
 -- four lists of numbers, each behind the one before
 pub taken-four : (xs : List ℕ) (a b c d : ℕ) → take a xs ++ (take b (drop a xs) ++ (take c (drop (a + b) xs) ++ take d (drop (a + b + c) xs))) ≡ take (a + (b + (c + d))) xs
@@ -277,11 +227,10 @@ taken-four xs a b c d =
 
 -- how many nodes a state keeps
 pub nodes-count : (s : EngineState) → length (nodes_of s)
-    ≡ length (rule_nodes s.rules.standing) + (length (visibilities s.visible.entries) + (length (line_nodes s.visible.files) + length s.index.commits.items))
+    ≡ length (rule_nodes s.rules.standing) + (length (visibilities s.visible.entries) + (length (line_nodes s.visible.files) + length (all_mark_nodes s.index.commits.items)))
 nodes-count s =
-    length-append (rule_nodes s.rules.standing) (visibilities s.visible.entries ++ (line_nodes s.visible.files ++ map mark_node s.index.commits.items))
+    length-append (rule_nodes s.rules.standing) (visibilities s.visible.entries ++ (line_nodes s.visible.files ++ all_mark_nodes s.index.commits.items))
     ∙ ap (λ n. length (rule_nodes s.rules.standing) + n)
-    (length-append (visibilities s.visible.entries) (line_nodes s.visible.files ++ map mark_node s.index.commits.items)
+    (length-append (visibilities s.visible.entries) (line_nodes s.visible.files ++ all_mark_nodes s.index.commits.items)
     ∙ ap (λ n. length (visibilities s.visible.entries) + n)
-    (length-append (line_nodes s.visible.files) (map mark_node s.index.commits.items)
-    ∙ ap (λ n. length (line_nodes s.visible.files) + n) (length-map s.index.commits.items mark_node)))
+    (length-append (line_nodes s.visible.files) (all_mark_nodes s.index.commits.items)))

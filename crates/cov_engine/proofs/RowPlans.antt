@@ -12,10 +12,12 @@ use Rattle.cov_edit.specs.declared.edit.Edit.{Edit}
 use Rattle.cov_edit.specs.declared.edit.Edit.TheVariants as edits
 use Rattle.cov_edit.specs.declared.command.Command.{Command}
 use Rattle.cov_edit.specs.declared.command.Command.TheVariants as commands
+use Rattle.cov_edit.specs.declared.sided.Sided.{Sided}
 use Rattle.cov_edit.specs.Numbering.{Numbers, NumberedEdit, OnRows, node_number, node_count_after, line_count_after, line_count, numbers_after, numbers_of, numbered_edit, numbered_from}
 use Rattle.cov_edit.specs.Variant.{Variant, edited}
 use Rattle.cov_edit.specs.History.{option_count}
-use Rattle.cov_edit.specs.Replay.{applying, applied, conditions, first_within, rest_within, changes_within, replay}
+use Rattle.cov_edit.specs.Replay.{applying, applied, first_within, rest_within, changes_within, replay}
+use Rattle.cov_edit.specs.Sides.{unsided, conditions}
 use Rattle.cov_edit.proofs.CallerLemmas.{replay-commit}
 use Rattle.cov_history.proofs.CallerLemmas.{replay-once}
 use Rattle.cov_tree.specs.declared.entry.Entry.{Entry}
@@ -26,7 +28,7 @@ use Rattle.cov_tree.specs.Entries.{rows_in, AllAreWithin}
 use Rattle.cov_tree.specs.Renumbered.{AreNodes}
 use Rattle.cov_tree.proofs.CallerLemmas.{newest_but_room, nodes_but_room, visibilities_but_room}
 use Rattle.cov_engine.specs.declared.counts.Counts.{Counts}
-use Rattle.cov_engine.specs.declared.history_index.CommitMark.{CommitMark}
+use Rattle.cov_overtaking.specs.declared.mark.CommitMark.{CommitMark}
 use Rattle.cov_visible.specs.declared.file_part.FilePart.{FilePart}
 use Rattle.cov_engine.specs.States.{AreCountsOf}
 use Rattle.cov_engine.specs.Holdings.{AreEntriesOf, AreRowsAndLinesOf}
@@ -87,9 +89,9 @@ module _ (ts : List Triple) (count : ℕ) (c : List Bool) (ns : Numbers) (t : Li
         ∙ rows-edited (rest_nodes on) (rest_within within) (stands-rest ts count within on stand) (node_count_after made e) (line_count_after line e)
         (applied c v (applying (first_within within) (numbered_edit ns t made line e))) es ss h.1
 
-module _ (history : List Command) (base : ℕ) (choice : List Bool) (ambition : Formula ℕ) (es : List Edit) (ts : List Triple) (on : List ℕ) (stand : StandFor ts (option_count history) (conditions ambition es) on)
+module _ (history : List Command) (base : ℕ) (choice : List Bool) (ambition : Formula ℕ) (es : List Sided) (ts : List Triple) (on : List ℕ) (stand : StandFor ts (option_count history) (conditions ambition es) on)
     (entries : Dated) (plan : List Entry) (of_entries : AreEntriesOf history ts entries)
-    (stored : List FilePart) (ss : List ResolvedEdit) (resolved_edits : AreResolved (length history + 1) stored (numbers_of history).nodes (line_count history) on ts es ss)
+    (stored : List FilePart) (ss : List ResolvedEdit) (resolved_edits : AreResolved (length history + 1) stored (numbers_of history).nodes (line_count history) on ts (unsided es) ss)
     (makes : Makes ts entries plan (row_changes ss)) where
   abbrev commit : Command
   commit = commands.Commit base choice ambition es
@@ -100,8 +102,8 @@ module _ (history : List Command) (base : ℕ) (choice : List Bool) (ambition : 
       let ns = numbers_of history in
       makes.rows c (length history) of_entries.from
       ∙ ap (all_changed ts c (row_changes ss)) (of_entries.rows c (length history) ∙ ap (λ h. (replay c h).rows) (take_all (length history) history (omega arith)))
-      ∙ rows-edited ts (option_count history) c ns (numbers_after ns es).addresses (IsTaken ts (length history + 1) stored (line_count history) (insert_nodes on es)) (line_count history)
-      on (conditions ambition es) stand ns.nodes (length ns.addresses) (replay c history) es ss resolved_edits
+      ∙ rows-edited ts (option_count history) c ns (numbers_after ns (unsided es)).addresses (IsTaken ts (length history + 1) stored (line_count history) (insert_nodes on (unsided es))) (line_count history)
+      on (conditions ambition es) stand ns.nodes (length ns.addresses) (replay c history) (unsided es) ss resolved_edits
       ∙ sym (ap (λ (v : Variant). v.rows) (replay-commit c history base choice ambition es))
 
   -- once the plan is installed, the entries are those of the history with the commit

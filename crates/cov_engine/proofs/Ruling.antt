@@ -6,7 +6,7 @@ use Rattle.cov_base.specs.declared.limits.TheConstants.{CHOICE_WIDTH, LIMITS}
 use Rattle.cov_dd.specs.declared.triple.Triple.{Triple}
 use Rattle.cov_dd.specs.Diagrams.{Extends}
 use Rattle.cov_expr.specs.Formula.{Formula, reach}
-use Rattle.cov_edit.specs.declared.edit.Edit.{Edit}
+use Rattle.cov_edit.specs.declared.sided.Sided.{Sided}
 use Rattle.cov_edit.specs.declared.command.Command.{Command}
 use Rattle.cov_edit.specs.declared.command.Command.TheVariants as commands
 use Rattle.cov_edit.specs.History.{option_count, constraints_of, preferences_of, defaults_of}
@@ -22,7 +22,7 @@ use Rattle.cov_rules.specs.declared.rules.RuleFault.TheVariants as faults
 use Rattle.cov_rules.proofs.CallerLemmas.{holds_later, stay_below}
 use Rattle.cov_view.specs.Refusals.{when, first_of}
 use Rattle.cov_visible.specs.declared.file_part.FilePart.{FilePart}
-use Rattle.cov_engine.specs.declared.history_index.CommitMark.{CommitMark}
+use Rattle.cov_overtaking.specs.declared.mark.CommitMark.{CommitMark}
 use Rattle.cov_engine.specs.declared.addition.Addition.{Addition}
 use Rattle.cov_engine.specs.declared.addition.Addition.TheVariants as additions
 use Rattle.cov_history.specs.declared.refusal.Refusal.{Refusal}
@@ -241,7 +241,7 @@ pub record RuleOf (k : Command) : Type 0 where
   pub is : rule_in k ≡ Some rule
 
 pub rule-of : (k : Command) → ((name : List ℕ) → k ≡ commands.Option name → ⊥)
-    → ((base : ℕ) (choice : List Bool) (ambition : Formula ℕ) (es : List Edit) → k ≡ commands.Commit base choice ambition es → ⊥) → RuleOf k
+    → ((base : ℕ) (choice : List Bool) (ambition : Formula ℕ) (es : List Sided) → k ≡ commands.Commit base choice ambition es → ⊥) → RuleOf k
 rule-of (commands.Option name) not_option not_commit = absurd (not_option name refl)
 rule-of (commands.Constraint expr) not_option not_commit = record { rule = rules.Constraint expr; is = refl }
 rule-of (commands.Prefer expr) not_option not_commit = record { rule = rules.Prefer expr; is = refl }

@@ -8,11 +8,11 @@ use Rattle.cov_dd.specs.Diagrams.{diagram_size, span, value_in}
 use Rattle.cov_dd.specs.Combinations.{joint_span}
 use Rattle.cov_dd.proofs.CallerLemmas.{stands_weaker}
 use Rattle.cov_expr.specs.Formula.{Formula, value}
-use Rattle.cov_edit.specs.declared.edit.Edit.{Edit}
+use Rattle.cov_edit.specs.declared.sided.Sided.{Sided}
 use Rattle.cov_edit.specs.declared.command.Command.{Command}
 use Rattle.cov_edit.specs.History.{option_count}
 use Rattle.cov_edit.specs.Numbering.{node_number, line_number, numbers_of, line_count}
-use Rattle.cov_edit.specs.Replay.{conditions}
+use Rattle.cov_edit.specs.Sides.{unsided, conditions}
 use Rattle.cov_edit.specs.Variant.{Line}
 use Rattle.cov_file.specs.Dated.{vis_of}
 use Rattle.cov_order.specs.Orders.{has_line, AreLines}
@@ -82,7 +82,7 @@ unmade-kept history file line above =
     all-map (λ d. (1 ≤ dated_number d) × (dated_number d ≤ length (numbers_of history).addresses)) (λ d. nat_eq d.line line ≡ false)
     (λ d r. let high = r.1 in grind (arith, nat_tests, high, above)) (file_dated file (kept_of history)) (in-range history file)
 
-module _ (history : List Command) (base : ℕ) (choice : List Bool) (ambition : Formula ℕ) (es : List Edit)
+module _ (history : List Command) (base : ℕ) (choice : List Bool) (ambition : Formula ℕ) (es : List Sided)
     (good : IsGood history (session_of base choice ambition es)) (legal : IsLegal history)
     (ts : List Triple) (on : List ℕ) (applies : StandFor ts (option_count history) (conditions ambition es) on) (stored : List FilePart)
     (parts : map part_node stored ≡ files_of history) (files : AllByRecursion (IsFileOf history ts) stored) where
@@ -122,18 +122,18 @@ module _ (history : List Command) (base : ℕ) (choice : List Bool) (ambition : 
           subst (λ ks. AllByRecursion (IsLeftBy ts (option_count history) node q line vis) (map dated ks))
           (sym (none-kept (λ f. has_node f (files_of history) ≡ true) file (kept_of history) (legal-in_files history legal) (missing none))) tt
 
-  taken-right : (node file line vis : ℕ) → span ts node ≤ option_count history → IsTaken ts q stored m (insert_nodes on es) node file line vis
+  taken-right : (node file line vis : ℕ) → span ts node ≤ option_count history → IsTaken ts q stored m (insert_nodes on (unsided es)) node file line vis
       → IsRight history base choice ambition es good legal ts on applies (kept_of history) node file line vis
   taken-right node file line vis low h = by (nat_lt m line) refl h
     where
       made : ℕ
-      made = own_node (insert_nodes on es) (line - m - 1)
+      made = own_node (insert_nodes on (unsided es)) (line - m - 1)
 
       by : (b : Bool) → nat_lt m line ≡ b → IsWithout ts (cond b made (old_node q stored file line)) node vis → IsRight history base choice ambition es good legal ts on applies (kept_of history) node file line vis
       by true is k =
           let above : m < line = grind (arith, nat_tests, is) in
           let below : joint_span ts made node ≤ option_count history =
-          let o = (own-low ts (option_count history) (conditions ambition es) on es (line - m - 1) applies).1 in omega (arith, o, low) in
+          let o = (own-low ts (option_count history) (conditions ambition es) on (unsided es) (line - m - 1) applies).1 in omega (arith, o, low) in
           record {
             taken = λ some. all-map (λ d. nat_eq d.line line ≡ false) (IsLeftBy ts (option_count history) node q line vis) (λ d differs same. absurd (cc)) (file_dated file (kept_of history)) (unmade-kept history file line above);
             own = λ some. stands_weaker 0 (option_count history) (λ c. value_in ts made c && not (value_in ts node c)) (omega arith) below (λ c. refl) k;
@@ -148,8 +148,8 @@ module _ (history : List Command) (base : ℕ) (choice : List Bool) (ambition : 
           }
 
   -- what edits by numbers take out is right
-  pub resolved-right : (ss : List ResolvedEdit) → AreResolved q stored n m on ts es ss → AreRight history base choice ambition es good legal ts on applies (kept_of history) on n m es ss
+  pub resolved-right : (ss : List ResolvedEdit) → AreResolved q stored n m on ts (unsided es) ss → AreRight history base choice ambition es good legal ts on applies (kept_of history) on n m (unsided es) ss
   resolved-right ss h =
-      resolved-by (IsTaken ts q stored m (insert_nodes on es)) (IsRight history base choice ambition es good legal ts on applies (kept_of history)) (λ e node. span ts node ≤ option_count history) n m
-      (λ node file line vis low k. taken-right node (node_number n file) (line_number m line) vis low k) on n m es ss
-      (all-low ts (option_count history) (conditions ambition es) on es applies) h
+      resolved-by (IsTaken ts q stored m (insert_nodes on (unsided es))) (IsRight history base choice ambition es good legal ts on applies (kept_of history)) (λ e node. span ts node ≤ option_count history) n m
+      (λ node file line vis low k. taken-right node (node_number n file) (line_number m line) vis low k) on n m (unsided es) ss
+      (all-low ts (option_count history) (conditions ambition es) on (unsided es) applies) h

@@ -18,7 +18,7 @@ use Rattle.cov_view.specs.References.{is_dir_kind, is_made_node}
 use Rattle.cov_view.specs.Seen.{Seen}
 use Rattle.cov_view.specs.Views.{row_by_number, ShowsLines, IsMade, Shows}
 use Rattle.cov_view.specs.declared.row.ViewRow.{ViewRow}
-use Rattle.cov_engine.specs.declared.history_index.CommitMark.{CommitMark}
+use Rattle.cov_overtaking.specs.declared.mark.CommitMark.{CommitMark}
 use Rattle.cov_visible.specs.declared.file_part.FilePart.{FilePart}
 use Rattle.cov_tree.specs.Dated.{Dated, rows_at as entry_rows}
 use Rattle.cov_visible.specs.declared.visible.Visible.{Visible}

@@ -17,7 +17,7 @@ use Rattle.cov_edit.specs.Replay.{replay}
 use Rattle.cov_edit.specs.Variant.{Variant, Line}
 use Rattle.cov_file.specs.Dated.{DatedLine as FileLine, vis_at, vis_of, all_rows}
 use Rattle.cov_visible.specs.declared.file_part.FilePart.{FilePart}
-use Rattle.cov_engine.specs.declared.history_index.CommitMark.{CommitMark}
+use Rattle.cov_overtaking.specs.declared.mark.CommitMark.{CommitMark}
 use Rattle.cov_history.specs.Files.{DatedLine, dated, file_dated}
 use Rattle.cov_engine.specs.Holdings.{IsFileOf, AreRowsAndLinesOf}
 use Rattle.cov_history.specs.Kept.{Kept, seen_at, is_seen, kept_address, kept_number, kept_of, lines_seen, file_kept}

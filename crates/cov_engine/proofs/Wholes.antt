@@ -15,7 +15,7 @@ use Rattle.cov_history.specs.Kept.{Kept, kept_number, kept_of, file_kept}
 use Rattle.cov_order.specs.Orders.{has_line, AreLines}
 use Rattle.cov_tree.specs.Dated.{Dated}
 use Rattle.cov_visible.specs.declared.file_part.FilePart.{FilePart}
-use Rattle.cov_engine.specs.declared.history_index.CommitMark.{CommitMark}
+use Rattle.cov_overtaking.specs.declared.mark.CommitMark.{CommitMark}
 use Rattle.cov_visible.specs.declared.visible.Visible.{Visible}
 use Rattle.cov_engine.specs.Holdings.{IsFileOf, AreRowsAndLinesOf}
 use Rattle.cov_visible.specs.Parts.{part_node}

@@ -11,12 +11,12 @@ use Rattle.cov_edit.specs.Numbering.{numbers_of, line_count}
 use Rattle.cov_edit.specs.Replay.{replay}
 use Rattle.cov_history.specs.Kept.{kept_of}
 use Rattle.cov_history.specs.Files.{file_dated}
-use Rattle.cov_engine.specs.Marks.{AreMarks}
+use Rattle.cov_overtaking.specs.Marks.{AreMarks}
 use Rattle.cov_history.specs.FileOfLine.{AreFilesOfLines}
 use Rattle.cov_visible.specs.Nodes.{AreDated}
 use Rattle.cov_history.specs.FileNodes.{files_of}
 use Rattle.cov_visible.specs.Parts.{part_node, files_in}
-use Rattle.cov_engine.specs.declared.history_index.CommitMark.{CommitMark}
+use Rattle.cov_overtaking.specs.declared.mark.CommitMark.{CommitMark}
 use Rattle.cov_visible.specs.declared.file_part.FilePart.{FilePart}
 
 -- a stored file has its node's lines in order, with no change beyond the history, and keeps no node that isn't of the table

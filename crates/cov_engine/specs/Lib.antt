@@ -1,7 +1,5 @@
 pub mod Evidence
 pub mod Holdings
-pub mod Marks
-pub mod Overtakers
 pub mod Ready
 pub mod Refusing
 pub mod Ruling

@@ -5,10 +5,12 @@ use Rattle.cov_expr.specs.Formula.{Formula}
 use Rattle.cov_edit.specs.declared.edit.Edit.{Edit}
 use Rattle.cov_edit.specs.declared.command.Command.{Command}
 use Rattle.cov_edit.specs.declared.command.Command.TheVariants as commands
+use Rattle.cov_edit.specs.declared.sided.Sided.{Sided}
 use Rattle.cov_edit.specs.Fits.{fits_command}
 use Rattle.cov_edit.specs.History.{text_bytes, byte_count}
 use Rattle.cov_edit.specs.Limits.{limits_of}
 use Rattle.cov_edit.specs.Numbering.{nodes_made, anchors_of, numbers_of, line_count, node_count}
+use Rattle.cov_edit.specs.Sides.{unsided}
 use Rattle.cov_tree.specs.declared.entry.Entry.{Entry}
 use Rattle.cov_tree.specs.Dated.{Dated}
 use Rattle.cov_rules.specs.Installing.{RulesValue, IsPlan}
@@ -21,7 +23,7 @@ use Rattle.cov_history.specs.Sessions.{MayCome}
 use Rattle.cov_history.specs.Verdict.{verdict}
 use Rattle.cov_engine.specs.declared.counts.Counts.{Counts}
 use Rattle.cov_visible.specs.declared.file_part.FilePart.{FilePart}
-use Rattle.cov_engine.specs.declared.history_index.CommitMark.{CommitMark}
+use Rattle.cov_overtaking.specs.declared.mark.CommitMark.{CommitMark}
 use Rattle.cov_visible.specs.declared.resolved_edit.ResolvedEdit.{ResolvedEdit}
 use Rattle.cov_engine.specs.declared.state.EngineState.{EngineState}
 use Rattle.cov_engine.specs.declared.addition.Addition.{Addition}
@@ -49,16 +51,16 @@ pub record AreCountsWith (history : List Command) (es : List Edit) (counts : Cou
   pub bytes : counts.bytes ≡ byte_count history + text_bytes es
 
 -- what is staged for edits and an ambition is ready, and there is room for their commit
-abbrev pub IsStagedReady : List Command → List Triple → Formula ℕ → List Edit → ℕ → List CommitMark → List ℕ → Dated → List FilePart → Addition → Type 0
+abbrev pub IsStagedReady : List Command → List Triple → Formula ℕ → List Sided → ℕ → List CommitMark → List ℕ → Dated → List FilePart → Addition → Type 0
 IsStagedReady history ts ambition es spare commits file_of_line entries stored (additions.Option name) = ⊥
 IsStagedReady history ts ambition es spare commits file_of_line entries stored (additions.Rule rule plan) = ⊥
 IsStagedReady history ts ambition es spare commits file_of_line entries stored (additions.Commit mark counts ss rows) =
-    IsStaged history ts ambition es commits mark ss.items rows file_of_line entries stored × AreCountsWith history es counts × (0 < spare)
+    IsStaged history ts ambition es commits mark ss.items rows file_of_line entries stored × AreCountsWith history (unsided es) counts × (0 < spare)
 
 -- a commit is staged, and there is room for it
 abbrev pub IsCommitReady : List Command → List Triple → Command → ℕ → List CommitMark → List ℕ → Dated → List FilePart → CommitMark → Counts → List ResolvedEdit → List Entry → Type 0
 IsCommitReady history ts (commands.Commit base choice ambition es) spare commits file_of_line entries stored mark counts ss rows =
-    MayCome history (commands.Commit base choice ambition es) × IsStaged history ts ambition es commits mark ss rows file_of_line entries stored × AreCountsWith history es counts × (0 < spare)
+    MayCome history (commands.Commit base choice ambition es) × IsStaged history ts ambition es commits mark ss rows file_of_line entries stored × AreCountsWith history (unsided es) counts × (0 < spare)
 IsCommitReady history ts command spare commits file_of_line entries stored mark counts ss rows = ⊥
 
 -- what a command wants is ready: a name and room for it, a rule with its plan, or what a commit stages
@@ -71,12 +73,12 @@ IsReady history command options_spare ts rules commits_spare commits file_of_lin
     IsCommitReady history ts command commits_spare commits file_of_line entries stored mark counts ss.items rows
 
 -- a commit is planned in a state
-abbrev pub IsPlannedFor : EngineState → Formula ℕ → List Edit → CommitMark → List ResolvedEdit → List Entry → Type 0
+abbrev pub IsPlannedFor : EngineState → Formula ℕ → List Sided → CommitMark → List ResolvedEdit → List Entry → Type 0
 IsPlannedFor s ambition es mark ss plan =
-    IsInBounds (history_of s) es × IsCommitPlan (history_of s) (table_of s) s.visible.entries s.visible.files ambition es mark ss plan
+    IsInBounds (history_of s) (unsided es) × IsCommitPlan (history_of s) (table_of s) s.visible.entries s.visible.files ambition es mark ss plan
 
 -- a state has what its history declares, and a commit is staged in it
-abbrev pub IsStagedFor : EngineState → Formula ℕ → List Edit → Addition → Type 0
+abbrev pub IsStagedFor : EngineState → Formula ℕ → List Sided → Addition → Type 0
 IsStagedFor s ambition es r =
     Declares (history_of s) s
     × IsStagedReady (history_of s) (table_of s) ambition es s.index.commits.spare

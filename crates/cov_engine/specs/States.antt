@@ -1,5 +1,5 @@
 -- What an engine keeps of its history.
-use Rattle.std.specs.Prelude.{◌≡◌, ℕ, suc, ◌+◌, ◌≤◌, List, [], ◌∷◌, ◌++◌, length, map, Option}
+use Rattle.std.specs.Prelude.{◌≡◌, ℕ, suc, ◌+◌, ◌≤◌, List, [], ◌∷◌, ◌++◌, length, Option}
 use Rattle.cov_base.specs.declared.limits.TheConstants.{LIMITS}
 use Rattle.cov_dd.specs.Sweeps.{AreReached}
 use Rattle.cov_dd.specs.declared.triple.Triple.{Triple}
@@ -14,7 +14,7 @@ use Rattle.cov_tree.specs.Renumbered.{visibilities}
 use Rattle.cov_view.specs.Refusals.{first_of}
 use Rattle.cov_visible.specs.Renumbered.{line_nodes}
 use Rattle.cov_engine.specs.Holdings.{AreRowsAndLinesOf}
-use Rattle.cov_engine.specs.Marks.{mark_node}
+use Rattle.cov_overtaking.specs.Marks.{all_mark_nodes}
 use Rattle.cov_engine.specs.Ruling.{AreRulesOf}
 use Rattle.cov_history.specs.Verdict.{IsLegal, name_refusals}
 use Rattle.cov_engine.specs.declared.counts.Counts.{Counts}
@@ -54,11 +54,11 @@ history_of s = s.commands.commands
 abbrev pub table_of : EngineState → List Triple
 table_of s = s.visible.table
 
--- every node that it keeps: those of its rules, those on which rows and lines are visible and were, and those of ambitions
+-- every node that it keeps: those of its rules, those on which rows and lines are visible and were, and those of its commits
 abbrev pub nodes_of : EngineState → List ℕ
 nodes_of s =
     rule_nodes s.rules.standing
-    ++ (visibilities s.visible.entries ++ (line_nodes s.visible.files ++ map mark_node s.index.commits.items))
+    ++ (visibilities s.visible.entries ++ (line_nodes s.visible.files ++ all_mark_nodes s.index.commits.items))
 
 -- each entry of a table is reached from a node that is kept
 abbrev pub IsSwept : EngineValue → Type 0

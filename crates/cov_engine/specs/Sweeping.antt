@@ -3,7 +3,7 @@ use Rattle.std.specs.Prelude.{◌≡◌, length, map}
 use Rattle.cov_rules.specs.Renumbered.{nodes_of as rule_nodes, without_nodes, HoldRenumbered}
 use Rattle.cov_tree.specs.Renumbered.{visibilities, without_visibilities, KeepsRows}
 use Rattle.cov_visible.specs.Renumbered.{ArePartsRenumbered}
-use Rattle.cov_engine.specs.Marks.{having_node}
+use Rattle.cov_overtaking.specs.Marks.{without_nodes as without_mark_nodes}
 use Rattle.cov_engine.specs.States.{table_of}
 use Rattle.cov_engine.specs.declared.state.EngineState.{EngineState}
 
@@ -23,4 +23,4 @@ pub record IsRenumberedState (old new : EngineState) : Type 0 where
   pub rows : KeepsRows old.visible.entries new.visible.entries
   pub files : ArePartsRenumbered old.visible.files new.visible.files
   pub file_of_line : new.index.file_of_line.items ≡ old.index.file_of_line.items
-  pub commits : map (having_node 0) new.index.commits.items ≡ map (having_node 0) old.index.commits.items
+  pub commits : map without_mark_nodes new.index.commits.items ≡ map without_mark_nodes old.index.commits.items

@@ -7,10 +7,11 @@ ghost use Rattle.cov_tree.specs.Dated.{HasRoom as HasRowRoom, without_room};
 ghost use Rattle.cov_visible.specs.Parts.{part_node};
 ghost use Rattle.cov_visible.specs.Staging.{contents, new_contents, made_files, files_of_lines, HasRoom};
 
-use crate::history_index::{CommitMark, HistoryIndex};
+use crate::history_index::HistoryIndex;
 use crate::staging::{stage, unstage};
 use crate::{Counts, Visible};
 use cov_base::{Memory, NodeNo, OptionName};
+use cov_overtaking::CommitMark;
 use cov_rules::{Rule, RulePlan};
 use cov_tree::EntryPlan;
 use cov_visible::ResolvedEdit;
@@ -27,8 +28,7 @@ pub(crate) enum Addition {
         rule: Rule,
         plan: RulePlan,
     },
-    /// The position and ambition of the commit, the counts with it, its edits by numbers, and the plan of its rows. What it makes is
-    /// staged.
+    /// What is to be kept of the commit, the counts with it, its edits by numbers, and the plan of its rows. What it makes is staged.
     Commit {
         mark: CommitMark,
         counts: Counts,

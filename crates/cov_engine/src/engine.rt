@@ -20,7 +20,6 @@ ghost use Rattle.cov_history.specs.Verdict.{IsLegal, verdict, RefusedBy};
 ghost use Rattle.cov_engine.specs.Visibility.{IsVisibilityOf, as_row, has_line_number, is_no_line, is_refusal, presence_of};
 ghost use Rattle.cov_visible.specs.Visible.{IsWhole, shown};
 
-use crate::commits::Commits;
 use crate::history_index::{HistoryIndex, file_of};
 use crate::installing::add;
 use crate::option_positions::OptionPositions;
@@ -33,6 +32,7 @@ use cov_base::{Choice, FileRows, LineNo, Memory, MemoryOr, Name, NodeNo, Positio
 use cov_dd::{Node, Nodes, Table};
 use cov_edit::{Command, Commands};
 use cov_expr::{Options, Partial};
+use cov_overtaking::Commits;
 use cov_rules::{CompleteFault, Invalid, Rules};
 use cov_tree::Entries;
 use cov_view::View;
@@ -134,7 +134,7 @@ impl Engine {
         self.state.counts
     }
 
-    /// The diagrams of the rules, of the ambitions of commits, and of the visibilities of lines, files and directories.
+    /// The diagrams of the rules, of where commits touch what they touch, and of the visibilities of lines, files and directories.
     pub fn table(&self) -> &Table
         ensures { result.now ≡ self.now.table }
     {
@@ -342,7 +342,7 @@ impl Engine {
     }
 
     /// Appends every node that is kept: those of the rules, those on which lines, files and directories are visible or were, and
-    /// those of the ambitions of commits. At an `Err` the list is as before.
+    /// those that say where commits touch what they touch. At an `Err` the list is as before.
     pub fn nodes(&self, into: &mut Nodes) -> Result<(), Memory>
         ensures ok { OnOk result (into.new ≡ into.old ++ self.now.nodes) }
         ensures err { OnErr result (into.new ≡ into.old) }

@@ -1,40 +1,14 @@
 // Which file each line is in, and the commits.
-ghost use Rattle.std.specs.Prelude.{◌≡◌, map, refl};
+ghost use Rattle.std.specs.Prelude.{◌≡◌, map};
 ghost use Rattle.std.specs.Option.{option_copied};
 ghost use Rattle.cov_edit.specs.Touched.{AreRising};
 ghost use Rattle.cov_visible.specs.Parts.{part_node};
-ghost use Rattle.cov_engine.specs.Marks.{having_node, mark_node};
 ghost use Rattle.cov_engine.specs.Visibility.{item_of, stored_file_of};
 
-use crate::commits::Commits;
 use crate::{FilePart, Visible};
-use cov_base::{LineNo, NodeNo, NodeNos, Position};
-use cov_dd::{HasNode, Node};
+use cov_base::{LineNo, NodeNo};
+use cov_overtaking::Commits;
 use cov_visible::part_of;
-
-/// What is kept of a commit: the position after it, the node of its ambition, and the old nodes that it touches, rising.
-#[derive(Drop)]
-pub(crate) struct CommitMark {
-    pub(crate) position: Position,
-    pub(crate) node: Node,
-    pub(crate) touched: NodeNos,
-}
-
-impl HasNode for CommitMark {
-    ghost node_of = { mark_node };
-
-    ghost having_node = { having_node };
-
-    fn node(&self) -> Node {
-        self.node
-    }
-
-    fn set_node(&mut self, node: Node) {
-        self.node = node;
-    }
-
-    ghost has_that_node = { λ n x. refl };
-}
 
 /// The commits, and the file of each line by number.
 #[derive(Drop)]

@@ -8,12 +8,13 @@ ghost use Rattle.cov_engine.specs.States.{history_of, table_of, receipt_number, 
 ghost use Rattle.cov_engine.specs.declared.addition.Addition.TheVariants as additions;
 
 use crate::addition::Addition;
-use crate::history_index::{CommitMark, HistoryIndex};
+use crate::history_index::HistoryIndex;
 use crate::staging::{install, unstage};
 use crate::state::EngineState;
 use crate::{Counts, Visible};
 use cov_base::{NodeNo, OptionName, Position};
 use cov_edit::Command;
+use cov_overtaking::CommitMark;
 use cov_rules::{Rule, RulePlan};
 use cov_tree::EntryPlan;
 use cov_visible::{ResolvedEdit, count_below};

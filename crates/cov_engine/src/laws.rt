@@ -2,7 +2,7 @@
 ghost use Rattle.cov_edit.specs.Laws.{NothingOutsideAmbition};
 ghost use Rattle.cov_history.specs.Laws.{LegalIsSound};
 
-/// Outside its ambition a commit changes nothing.
+/// Where for each of its edits the ambition or the edit's side is false, a commit changes nothing.
 pub fn nothing_outside_ambition()
     ensures { NothingOutsideAmbition }
 {

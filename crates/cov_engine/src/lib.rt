@@ -2,7 +2,6 @@
 #![tactic(auto)]
 
 mod addition;
-mod commits;
 mod counts;
 mod engine;
 mod evidence;
@@ -11,7 +10,6 @@ mod holders;
 mod installing;
 pub mod laws;
 mod option_positions;
-mod overtaking;
 mod prepared;
 mod refusing;
 mod rule;

@@ -12,7 +12,7 @@ ghost use Rattle.cov_history.specs.Verdict.{amount_refusals};
 
 use crate::{Counts, Refusal};
 use cov_base::LIMITS;
-use cov_edit::{Edit, Edits};
+use cov_edit::Edit;
 
 /// How many lines and nodes edits make, and how many bytes of text they insert.
 #[derive(Clone, Copy)]
@@ -66,7 +66,7 @@ fn with_edit(sizes: Sizes, edit: &Edit) -> Sizes
 }
 
 /// The refusal of edits that are too many or make too much, where so much is there already.
-pub(crate) fn refusal(counts: Counts, edits: &Edits, sizes: Sizes) -> Option<Refusal>
+pub(crate) fn refusal(counts: Counts, edits: &[Edit], sizes: Sizes) -> Option<Refusal>
     requires { length edits.now ≤ LIMITS.edits → sizes ≡ sizes_of edits.now }
     ensures { result ≡ sizes_refusal counts edits.now }
 {

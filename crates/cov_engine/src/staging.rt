@@ -11,8 +11,9 @@ ghost use Rattle.cov_visible.specs.RowPlans.{IsSet};
 ghost use Rattle.cov_visible.specs.Carrying.{CanCarryOutAll, AreInstalled};
 
 use crate::Visible;
-use crate::history_index::{CommitMark, HistoryIndex};
+use crate::history_index::HistoryIndex;
 use cov_base::{Memory, NodeNo, Position};
+use cov_overtaking::CommitMark;
 use cov_tree::{Entries, EntryPlan};
 use cov_visible::ResolvedEdit;
 use std::collections::VecDeque;

@@ -1,8 +1,8 @@
 // What an engine keeps.
-ghost use Rattle.std.specs.Prelude.{◌≡◌, ◌<◌, ◌≤◌, ◌-◌, length, replicate, None, IfOk, IfErr, OnOk, OnErr};
+ghost use Rattle.std.specs.Prelude.{◌≡◌, ◌<◌, ◌≤◌, ◌-◌, length, None, IfOk, IfErr, OnOk, OnErr};
 ghost use Rattle.cov_dd.specs.Diagrams.{Extends};
-ghost use Rattle.cov_expr.specs.Formula.{reach};
 ghost use Rattle.cov_edit.specs.History.{edits_in, option_count};
+ghost use Rattle.cov_edit.specs.Sides.{unsided, reach_within};
 ghost use Rattle.cov_engine.specs.Refusing.{early_refusal};
 ghost use Rattle.cov_engine.specs.Summaries.{summary_of, IsSummaryOf};
 ghost use Rattle.cov_engine.specs.States.{history_of, table_of, name_refusal, IsKept};
@@ -13,23 +13,21 @@ ghost use Rattle.cov_engine.specs.declared.addition.Addition.TheVariants as addi
 
 use crate::addition::{Addition, stage_commit};
 use crate::evidence::refusal_left;
-use crate::history_index::{CommitMark, HistoryIndex};
+use crate::history_index::HistoryIndex;
 use crate::option_positions::OptionPositions;
-use crate::overtaking::overtaken;
 use crate::refusing::early_refusal;
 use crate::rule::rule_ready;
 use crate::sizes::with_sizes;
 use crate::summary::{EditSummary, summarize};
 use crate::{Counts, Refusal, Visible};
 use cov_base::{LIMITS, Memory, NodeNo, OptionName, Position};
-use cov_dd::Node;
 use cov_edit::{Command, Commands, Edits};
 use cov_expr::{Expr, Options};
+use cov_overtaking::{CommitMark, conditions_of, mark_of, overtaken};
 use cov_rules::Rules;
 use cov_tree::EntryPlan;
 use cov_vis::compile;
 use cov_visible::{CommitContext, ResolvedEdit, plan_rows, resolve};
-use std::alloc::Global;
 
 /// The history with what it declares and shows. The table has the nodes of the rules too.
 #[derive(Drop)]
@@ -76,7 +74,7 @@ fn with_room(
     summary: EditSummary,
 ) -> Result<Addition, Refusal>
     requires kept { IsKept state.old }
-    requires summary { IsSummaryOf (edits_in command.now) summary }
+    requires summary { IsSummaryOf (unsided (edits_in command.now)) summary }
     requires passes { early_refusal (history_of state.old) command.now ≡ None }
     requires few { length (history_of state.old) < LIMITS.commands }
     ensures history { history_of state.new ≡ history_of state.old }
@@ -101,7 +99,7 @@ fn ready_for(
     summary: EditSummary,
 ) -> Result<Addition, Refusal>
     requires kept { IsKept state.old }
-    requires summary { IsSummaryOf (edits_in command.now) summary }
+    requires summary { IsSummaryOf (unsided (edits_in command.now)) summary }
     requires passes { early_refusal (history_of state.old) command.now ≡ None }
     requires few { length (history_of state.old) < LIMITS.commands }
     ensures commands { state.new.commands ≡ state.old.commands }
@@ -121,11 +119,13 @@ fn ready_for(
             edits,
             ..
         } => match overtaken(
+            alloc,
             &mut state.visible.table,
             state.rules.conjunction(),
             &state.index.commits,
             *base,
             ambition,
+            edits,
             summary.touched.as_slice(),
         ) {
             Ok(Some(position)) => Err(Refusal::Overtaken { position }),
@@ -184,9 +184,9 @@ fn commit_ready(
     summary: EditSummary,
 ) -> Result<Addition, Refusal>
     requires kept { IsKept state.old }
-    requires summary { summary ≡ summary_of edits.now }
-    requires reach { reach ambition.now ≤ option_count (history_of state.old) }
-    requires fits { IsInBounds (history_of state.old) edits.now }
+    requires summary { summary ≡ summary_of (unsided edits.now) }
+    requires reach { reach_within ambition.now edits.now ≤ option_count (history_of state.old) }
+    requires fits { IsInBounds (history_of state.old) (unsided edits.now) }
     ensures commands { state.new.commands ≡ state.old.commands }
     ensures extends { Extends (table_of state.old) (table_of state.new) }
     ensures ready { IfOk result (IsStagedFor state.new ambition.now edits.now) }
@@ -222,9 +222,9 @@ fn commit_planned(
     summary: EditSummary,
 ) -> Result<(CommitMark, Vec<ResolvedEdit>, EntryPlan), Refusal>
     requires kept { IsKept state.old }
-    requires summary { summary ≡ summary_of edits.now }
-    requires reach { reach ambition.now ≤ option_count (history_of state.old) }
-    requires fits { IsInBounds (history_of state.old) edits.now }
+    requires summary { summary ≡ summary_of (unsided edits.now) }
+    requires reach { reach_within ambition.now edits.now ≤ option_count (history_of state.old) }
+    requires fits { IsInBounds (history_of state.old) (unsided edits.now) }
     ensures commands { state.new.commands ≡ state.old.commands }
     ensures extends { Extends (table_of state.old) (table_of state.new) }
     ensures kept { IsKept state.new }
@@ -234,13 +234,19 @@ fn commit_planned(
     ensures refused { IfErr result (LeavesUnsound (history_of state.old) ambition.now edits.now) }
 {
     let alloc = state.index.commits.allocator();
-    let mark = CommitMark {
-        position: Position::new(state.commands.len() as u32 + 1),
-        node: compile(&mut state.visible.table, ambition)?,
-        touched: summary.touched,
-    };
-    let context = context_of(state.counts, mark.position);
-    let conditions = conditions_of(alloc, mark.node, edits.len())?;
+    let position = Position::new(state.commands.len() as u32 + 1);
+    let context = context_of(state.counts, position);
+    let node = compile(&mut state.visible.table, ambition)?;
+    let conditions = conditions_of(alloc, &mut state.visible.table, node, edits)?;
+    let mark = mark_of(
+        alloc,
+        &mut state.visible.table,
+        position,
+        node,
+        conditions.as_slice(),
+        edits,
+        summary.touched,
+    )?;
     let resolved = resolve(
         alloc,
         &mut state.visible.table,
@@ -262,22 +268,13 @@ fn commit_planned(
         &state.visible.entries,
         &rows,
         state.rules.conjunction(),
-        mark.node,
+        node,
         state.options.count(),
         summary.changes_rows,
     )? {
         Some(refusal) => Err(refusal),
         None => Ok((mark, resolved, rows)),
     }
-}
-
-// The node where each of so many edits of a commit applies, which is that of its ambition.
-fn conditions_of(alloc: Global, ambition: Node, count: usize) -> Result<Vec<Node>, Memory>
-    ensures { IfOk result (λ nodes. nodes.items ≡ replicate count ambition) }
-{
-    let mut nodes = Vec::new(alloc);
-    nodes.resize(count, ambition)?;
-    Ok(nodes)
 }
 
 // Where a commit's edits are resolved.

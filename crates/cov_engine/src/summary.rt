@@ -1,6 +1,7 @@
 // What is counted of a commit's edits, once.
 ghost use Rattle.std.specs.Prelude.{◌≡◌, [], IfOk};
 ghost use Rattle.cov_edit.specs.History.{edits_in};
+ghost use Rattle.cov_edit.specs.Sides.{unsided};
 ghost use Rattle.cov_engine.specs.Summaries.{summary_of, IsSummaryOf};
 
 use crate::evidence::change_rows;
@@ -19,7 +20,7 @@ pub(crate) struct EditSummary {
 
 /// Counts a command's edits. Where these are more than a commit may have, nothing is told of them.
 pub(crate) fn summarize(alloc: Global, command: &Command) -> Result<EditSummary, Memory>
-    ensures { IfOk result (IsSummaryOf (edits_in command.now)) }
+    ensures { IfOk result (IsSummaryOf (unsided (edits_in command.now))) }
 {
     match command {
         Command::Commit { edits, .. } => summary_of(alloc, edits),
@@ -31,16 +32,17 @@ pub(crate) fn summarize(alloc: Global, command: &Command) -> Result<EditSummary,
 }
 
 fn summary_of(alloc: Global, edits: &Edits) -> Result<EditSummary, Memory>
-    ensures { IfOk result (IsSummaryOf edits.now) }
+    ensures { IfOk result (IsSummaryOf (unsided edits.now)) }
 {
-    if edits.len() > LIMITS.edits {
+    let items = edits.as_slice();
+    if items.len() > LIMITS.edits {
         return Ok(no_edits(alloc));
     }
     let touched = touched(edits)?;
     Ok(EditSummary {
-        sizes: measure(edits.as_slice()),
+        sizes: measure(items),
         touched,
-        changes_rows: change_rows(edits.as_slice()),
+        changes_rows: change_rows(items),
     })
 }
 

@@ -9,7 +9,8 @@ use Rattle.cov_edit.specs.declared.edit.Edit.{Edit}
 use Rattle.cov_edit.specs.declared.edit.Edit.TheVariants as edits
 use Rattle.cov_edit.specs.declared.command.Command.{Command}
 use Rattle.cov_edit.specs.declared.command.Command.TheVariants as commands
-use Rattle.cov_engine_tests.specs.Trees.{commit_in}
+use Rattle.cov_edit.specs.declared.sided.Sided.{Sided}
+use Rattle.cov_engine_tests.specs.Trees.{commit_in, everywhere}
 
 -- the option d
 abbrev pub of_d : Command
@@ -24,16 +25,16 @@ abbrev pub line_in : NodeRef → ℕ → List ℕ → Edit
 line_in file after text = edits.Insert file (lines.Old after) text
 
 -- the file m with a line
-abbrev pub file_with : List ℕ → List Edit
-file_with text = file_m ∷ line_in (nodes.New 0) 0 text ∷ []
+abbrev pub file_with : List ℕ → List Sided
+file_with text = everywhere (file_m ∷ line_in (nodes.New 0) 0 text ∷ [])
 
 -- a line more of that file
-abbrev pub line_after : ℕ → List ℕ → List Edit
-line_after after text = line_in (nodes.Old 1) after text ∷ []
+abbrev pub line_after : ℕ → List ℕ → List Sided
+line_after after text = everywhere (line_in (nodes.Old 1) after text ∷ [])
 
 -- a line less
-abbrev pub without : ℕ → List Edit
-without line = edits.Delete (nodes.Old 1) (lines.Old line) ∷ []
+abbrev pub without : ℕ → List Sided
+without line = everywhere (edits.Delete (nodes.Old 1) (lines.Old line) ∷ [])
 
 -- the file m with A, for all variants
 abbrev pub with_A : List Command
@@ -57,7 +58,7 @@ file_n = edits.New kinds.File (nodes.Old 0) (codes "n")
 
 -- the file n, and Y after A, both on the base before them
 abbrev pub with_Y : List Command
-with_Y = with_X ++ commit_in 5 (false ∷ []) None (file_n ∷ []) ∷ commit_in 5 (false ∷ []) None (line_after 1 (codes "Y")) ∷ []
+with_Y = with_X ++ commit_in 5 (false ∷ []) None (everywhere (file_n ∷ [])) ∷ commit_in 5 (false ∷ []) None (line_after 1 (codes "Y")) ∷ []
 
 -- B is taken out of all
 abbrev pub without_B : List Command

@@ -4,6 +4,7 @@ mod lines;
 mod overtaking;
 mod positions;
 mod refusing;
+mod sided;
 mod sides;
 mod steps;
 mod sweeping;

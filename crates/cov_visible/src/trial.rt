@@ -3,6 +3,7 @@ ghost use Rattle.std.specs.Prelude.{◌≡◌, ◌≤◌, ◌<◌, ◌-◌, ◌^
 ghost use Rattle.cov_base.specs.Rows.{AreOnce};
 ghost use Rattle.cov_base.specs.declared.limits.TheConstants.{LIMITS};
 ghost use Rattle.std.specs.List.{list_any};
+ghost use Rattle.cov_edit.specs.Sides.{unsided};
 ghost use Rattle.cov_edit.specs.Touched.{touched, AreRising};
 ghost use Rattle.cov_history.specs.RowChanges.{changes_rows};
 ghost use Rattle.cov_tree.specs.Dated.{rows_at};
@@ -23,8 +24,8 @@ use std::alloc::Global;
 use std::marker::Model;
 
 /// The first edit, from 0, that is refused on a choice at a position; the edits touch these old nodes, and are told to change rows or
-/// not. It takes time in the edits and what they touch, and in the rows
-/// that are kept if an edit changes rows. Each line that an edit names is looked up by itself, whatever else is in its file.
+/// not. It takes time in the edits and what they touch, and in the rows that are kept if an edit changes rows. Each line that an edit
+/// names is looked up by itself, whatever else is in its file.
 pub fn first_refused(
     alloc: Global,
     visible: &Visible,
@@ -34,13 +35,14 @@ pub fn first_refused(
     nodes: &NodeNos,
     changing: bool,
 ) -> Result<Option<u32>, Memory>
-    requires nodes { nodes.now ≡ touched edits.now }
-    requires changing { changing ≡ list_any changes_rows edits.now }
+    requires nodes { nodes.now ≡ touched (unsided edits.now) }
+    requires changing { changing ≡ list_any changes_rows (unsided edits.now) }
     requires rising { AreRising (map part_node visible.now.files) }
     requires once { AreOnce (rows_at visible.now.table choice at visible.now.entries) }
-    requires few { length edits.now ≤ LIMITS.edits }
+    requires few { length (unsided edits.now) ≤ LIMITS.edits }
     ensures { IfOk result (λ found. found ≡
-        place_refused 0 (seen_tried visible.now choice at edits.now) edits.now) }
+        place_refused 0 (seen_tried visible.now choice at (unsided edits.now))
+        (unsided edits.now)) }
 {
     let rows = rows_tried(visible, choice, at, nodes, changing)?;
     let mut trial = Trial {

@@ -1,12 +1,13 @@
 //! Edits that are drawn for a variant, and what variants show.
-ghost use Rattle.std.specs.Prelude.{◌≡◌, ◌<◌, true, IfOk};
+ghost use Rattle.std.specs.Prelude.{◌≡◌, ◌<◌, true, length, IfOk};
 ghost use Rattle.cov_base.specs.Spelling.{is_line_text};
 ghost use Rattle.cov_edit.specs.EditFits.{has_line_text};
 
 use crate::tests::trees::old;
-use cov_base::{Choice, Kind, LineNo, LineRef, Name, NodeRef, Position, Text};
-use cov_edit::{Edit, Edits};
+use cov_base::{Choice, Kind, LineNo, LineRef, Name, NodeRef, OptionId, Position, Text};
+use cov_edit::{Edit, Edits, Sided};
 use cov_engine::{Counts, Engine};
+use cov_expr::{Expr, Part};
 use cov_view::{View, digest};
 use std::alloc::Global;
 use std::test::Fail;
@@ -122,25 +123,63 @@ fn takes(view: &mut View, edit: &Edit) -> bool {
     view.apply(edit).is_ok()
 }
 
-fn push_edit(edits: &mut Edits, edit: Edit) -> Result<(), Fail>
-    requires { has_line_text edit ≡ true }
+/// An option, or not it, as a choice has it.
+pub(crate) fn literal(alloc: Global, choice: Choice, option: u8) -> Result<Part, Fail>
+    requires { option < length choice }
 {
-    Ok(edits.push(edit)?)
+    let option = OptionId::new(option);
+    if choice.get(option) {
+        return Ok(Part::Option(option));
+    }
+    let part = Box::new(alloc, Part::Option(option))?;
+    Ok(Part::Not(part))
+}
+
+// `True`, or in one case of four an option or not it, as a choice has it.
+fn drawn_side(alloc: Global, choice: Choice, draws: &mut Draws) -> Result<Part, Fail>
+    requires { 0 < length choice }
+{
+    match draws.below(4) {
+        0 => {
+            let option = draws.below(u32::from(choice.count()));
+            literal(alloc, choice, option as u8)
+        }
+        _ => Ok(Part::True),
+    }
+}
+
+// Adds an edit with a side that is true on a choice.
+fn push_edit(
+    alloc: Global,
+    choice: Choice,
+    draws: &mut Draws,
+    edits: &mut Edits,
+    edit: Edit,
+) -> Result<(), Fail>
+    requires text { has_line_text edit ≡ true }
+    requires some { 0 < length choice }
+{
+    let side = Expr::new(drawn_side(alloc, choice, draws)?)?;
+    edits.push(Sided { side, edit })?;
+    Ok(())
 }
 
 fn drop_edit(_: Edit) {}
 
-// Adds an edit, if the view takes it.
+// Adds an edit, if the view of a choice takes it.
 fn add_edit(
     alloc: Global,
     view: &mut View,
+    choice: Choice,
     counts: Counts,
     draws: &mut Draws,
     edits: &mut Edits,
-) -> Result<(), Fail> {
+) -> Result<(), Fail>
+    requires { 0 < length choice }
+{
     let edit = drawn_edit(alloc, counts, draws)?;
     if takes(view, &edit) {
-        return push_edit(edits, edit);
+        return push_edit(alloc, choice, draws, edits, edit);
     }
     drop_edit(edit);
     Ok(())
@@ -149,12 +188,15 @@ fn add_edit(
 fn add_edits(
     alloc: Global,
     view: &mut View,
+    choice: Choice,
     counts: Counts,
     draws: &mut Draws,
     edits: &mut Edits,
-) -> Result<(), Fail> {
+) -> Result<(), Fail>
+    requires { 0 < length choice }
+{
     'edits: for _ in 0..12 {
-        add_edit(alloc, view, counts, draws, edits)?;
+        add_edit(alloc, view, choice, counts, draws, edits)?;
     }
     Ok(())
 }
@@ -169,9 +211,11 @@ pub(crate) fn drawn_edits(
     at: Position,
     draws: &mut Draws,
     edits: &mut Edits,
-) -> Result<(), Fail> {
+) -> Result<(), Fail>
+    requires { 0 < length choice }
+{
     let mut view = Engine::view(engine.visible(), choice, at)?;
-    let added = add_edits(alloc, &mut view, engine.counts(), draws, edits);
+    let added = add_edits(alloc, &mut view, choice, engine.counts(), draws, edits);
     close_view(view);
     added
 }

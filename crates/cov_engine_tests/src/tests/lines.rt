@@ -1,12 +1,11 @@
 //! A file with lines for all variants, lines for some, and lines that are taken out.
 ghost use Rattle.std.specs.Prelude.{◌≡◌, ◌++◌, [], ◌∷◌, true, codes, IfOk, OnOk};
 ghost use Rattle.cov_base.specs.Spelling.{is_line_text};
-ghost use Rattle.cov_edit.specs.EditFits.{has_line_text};
 ghost use Rattle.cov_engine_tests.specs.Lines.{file_m, line_in, file_with, line_after, without, with_X, without_X};
-ghost use Rattle.cov_engine_tests.specs.Trees.{commit_in};
+ghost use Rattle.cov_engine_tests.specs.Trees.{commit_in, everywhere};
 
 use crate::tests::steps::{close, commit, declare_d};
-use crate::tests::trees::making;
+use crate::tests::trees::{also, making, one};
 use cov_base::{
     Choice, FileRows, Kind, LineNo, LineRef, Memory, MemoryOr, NodeNo, NodeRef, OptionId, Position,
     Text,
@@ -19,18 +18,6 @@ use cov_vis::{Child, ListingEntry};
 use std::alloc::Global;
 use std::process::Abort;
 use std::test::Fail;
-
-/// One edit.
-pub(crate) fn one(alloc: Global, edit: Edit) -> Result<Edits, Memory>
-    requires { has_line_text edit ≡ true }
-    ensures { IfOk result (λ edits. edits ≡ edit ∷ []) }
-{
-    let mut edits = Edits::new(alloc);
-    match edits.push(edit) {
-        Ok(()) => Ok(edits),
-        Err(Memory) => Err(Memory),
-    }
-}
 
 /// A line after another, in a file.
 pub(crate) fn insertion(
@@ -51,10 +38,10 @@ pub(crate) fn insertion(
 
 // The file m.
 fn new_file(alloc: Global) -> Result<Edits, Fail>
-    ensures { IfOk result (λ edits. edits ≡ file_m ∷ []) }
+    ensures { IfOk result (λ edits. edits ≡ everywhere (file_m ∷ [])) }
 {
     let edit = making(alloc, Kind::File, 0, b"m")?;
-    Ok(one(alloc, edit)?)
+    one(alloc, edit)
 }
 
 // The file m with the line A.
@@ -62,14 +49,7 @@ fn file_with_line(alloc: Global) -> Result<Edits, Fail>
     ensures { IfOk result (λ edits. edits ≡ file_with (codes "A")) }
 {
     let line = insertion(alloc, NodeRef::New(0), 0, b"A")?;
-    let mut edits = match new_file(alloc) {
-        Ok(edits) => edits,
-        Err(fail) => return Err(fail),
-    };
-    match edits.push(line) {
-        Ok(()) => Ok(edits),
-        Err(_) => Err(Fail::from("no memory")),
-    }
+    also(new_file(alloc)?, line)
 }
 
 /// Puts a line into the file 1, from the variant of a choice.
@@ -191,8 +171,13 @@ fn deleted_lines_are_hidden_where_it_was_meant(rt: HostRuntime) -> Result<(), Fa
     checked
 }
 
-// Whether the presence of a line is a root with no entry, or with one of option 0.
-fn is_present_as(engine: &Engine, line: u32, root: Child, entry: Option<&ListingEntry>) -> bool {
+/// Whether the presence of a line is a root with no entry, or with one of option 0.
+pub(crate) fn is_present_as(
+    engine: &Engine,
+    line: u32,
+    root: Child,
+    entry: Option<&ListingEntry>,
+) -> bool {
     match engine.presence(LineNo::new(line)) {
         Ok(listing) => listing.root() == root && listing.entries().as_slice().get(0) == entry,
         Err(_) => false,

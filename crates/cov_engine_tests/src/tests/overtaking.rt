@@ -1,10 +1,11 @@
 //! Lines that are put into a file on older bases, beside commits of another file.
 ghost use Rattle.std.specs.Prelude.{◌≡◌, [], ◌∷◌, false, codes, IfOk, OnOk};
 ghost use Rattle.cov_engine_tests.specs.Lines.{file_n, with_X, with_Y};
+ghost use Rattle.cov_engine_tests.specs.Trees.{everywhere};
 
-use crate::tests::lines::{insert, insert_lines, insertion, one};
+use crate::tests::lines::{insert, insert_lines, insertion};
 use crate::tests::steps::{close, command, commit};
-use crate::tests::trees::making;
+use crate::tests::trees::{making, one};
 use cov_base::{Choice, Kind, NodeNo, NodeRef};
 use cov_edit::Edits;
 use cov_engine::{Engine, Refusal};
@@ -14,10 +15,10 @@ use std::test::Fail;
 
 // The file n.
 fn other_file(alloc: Global) -> Result<Edits, Fail>
-    ensures { IfOk result (λ edits. edits ≡ file_n ∷ []) }
+    ensures { IfOk result (λ edits. edits ≡ everywhere (file_n ∷ [])) }
 {
     let edit = making(alloc, Kind::File, 0, b"n")?;
-    Ok(one(alloc, edit)?)
+    one(alloc, edit)
 }
 
 // Makes the file n, and puts a line into the file m on the base before it.
@@ -41,7 +42,8 @@ fn overtaker(alloc: Global, engine: &mut Engine, base: u32) -> Result<Option<u32
     }
 }
 
-fn position_of(refusal: Refusal) -> Result<u32, Fail> {
+/// The position of what overtakes.
+pub(crate) fn position_of(refusal: Refusal) -> Result<u32, Fail> {
     match refusal {
         Refusal::Overtaken { position } => Ok(position.number()),
         _ => Err(Fail::from("refused")),

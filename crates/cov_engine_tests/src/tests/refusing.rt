@@ -3,10 +3,10 @@ ghost use Rattle.std.specs.Prelude.{◌≡◌, ◌<◌, [], true};
 ghost use Rattle.cov_base.specs.declared.limits.TheConstants.{CHOICE_WIDTH};
 ghost use Rattle.cov_edit.specs.EditFits.{has_line_text};
 
-use crate::tests::lines::{insert_lines, insertion, one};
+use crate::tests::lines::{insert_lines, insertion};
 use crate::tests::steps::{append, close, command};
-use crate::tests::trees::also;
-use cov_base::{Choice, LineNo, LineRef, Memory, NodeNo, NodeRef, OptionId};
+use crate::tests::trees::{also, one};
+use cov_base::{Choice, LineNo, LineRef, NodeNo, NodeRef, OptionId};
 use cov_edit::{Command, Edit, Edits};
 use cov_engine::{Engine, Refusal};
 use cov_expr::{Expr, Part};
@@ -14,7 +14,8 @@ use std::alloc::Global;
 use std::process::Abort;
 use std::test::Fail;
 
-fn refused(engine: &mut Engine, command: Command) -> Result<Refusal, Fail> {
+/// Why a command is refused.
+pub(crate) fn refused(engine: &mut Engine, command: Command) -> Result<Refusal, Fail> {
     match engine.append(command) {
         Ok(_) => Err(Fail::from("accepted")),
         Err(refusal) => Ok(refusal),
@@ -33,15 +34,15 @@ fn refusal_of(
     refused(engine, command)
 }
 
-// The option of a number.
-fn option(number: u8) -> Result<Expr, Fail>
+/// The option of a number.
+pub(crate) fn option(number: u8) -> Result<Expr, Fail>
     requires { number < CHOICE_WIDTH }
 {
     Ok(Expr::new(Part::Option(OptionId::new(number)))?)
 }
 
 // A line after another, in a file.
-fn line(alloc: Global, file: u32, after: u32) -> Result<Edits, Memory> {
+fn line(alloc: Global, file: u32, after: u32) -> Result<Edits, Fail> {
     let edit = insertion(alloc, NodeRef::Old(NodeNo::new(file)), after, b"Z")?;
     one(alloc, edit)
 }

@@ -1,10 +1,10 @@
 //! What sweeps leave of the nodes that an engine keeps, and that all it tells stays.
 ghost use Rattle.std.specs.Prelude.{◌≡◌, ◌<◌, [], length};
 
-use crate::tests::drawing::{Draws, digest_at, drawn_edits};
-use crate::tests::lines::{insert, insertion, one, shown};
+use crate::tests::drawing::{Draws, digest_at, drawn_edits, literal};
+use crate::tests::lines::{insert, insertion, shown};
 use crate::tests::steps::{append, close, commit, declare_d};
-use crate::tests::trees::{also, declare, making};
+use crate::tests::trees::{also, declare, making, one};
 use cov_base::{Choice, Kind, LineNo, Memory, NodeNo, NodeRef, OptionId, Position};
 use cov_dd::{FALSE, Node, Nodes, TRUE, Table};
 use cov_edit::{Command, Edits};
@@ -130,18 +130,6 @@ fn a_sweep_leaves_nothing_of_what_was_refused(rt: HostRuntime) -> Result<(), Fai
     let checked = check_refused(&rt, rt.alloc(), &mut engine);
     close(engine);
     checked
-}
-
-// An option, or not it, as a choice has it.
-fn literal(alloc: Global, choice: Choice, option: u8) -> Result<Part, Fail>
-    requires { option < length choice }
-{
-    let option = OptionId::new(option);
-    if choice.get(option) {
-        return Ok(Part::Option(option));
-    }
-    let part = Box::new(alloc, Part::Option(option))?;
-    Ok(Part::Not(part))
 }
 
 // Two literals that a choice of five options has.

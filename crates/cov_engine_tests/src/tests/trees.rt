@@ -3,8 +3,10 @@ ghost use Rattle.std.specs.Prelude.{◌≡◌, ◌++◌, [], ◌∷◌, true, fa
 ghost use Rattle.cov_base.specs.Spelling.{is_line_text};
 ghost use Rattle.cov_base.specs.declared.number.NodeRef.TheVariants as nodes;
 ghost use Rattle.cov_edit.specs.EditFits.{has_line_text};
+ghost use Rattle.cov_edit.specs.Sides.{sided};
 ghost use Rattle.cov_edit.specs.declared.edit.Edit.TheVariants as edits;
-ghost use Rattle.cov_engine_tests.specs.Trees.{commit_in, of_option, file_in_root, dir_in_root, line_of, renaming, moving, removing, begun, renamed, grown, file_for_d, directories};
+ghost use Rattle.cov_expr.specs.Formula.{True};
+ghost use Rattle.cov_engine_tests.specs.Trees.{commit_in, everywhere, of_option, file_in_root, dir_in_root, line_of, renaming, moving, removing, begun, renamed, grown, file_for_d, directories};
 
 use crate::tests::steps::{append, close, command, commit};
 use cov_base::{
@@ -12,8 +14,9 @@ use cov_base::{
     Position, Text,
 };
 use cov_dd::TRUE;
-use cov_edit::{Command, Edit, Edits};
+use cov_edit::{Command, Edit, Edits, Sided};
 use cov_engine::{Counts, Engine, FileFault, Refusal};
+use cov_expr::{Expr, Part};
 use std::alloc::Global;
 use std::process::Abort;
 use std::test::Fail;
@@ -27,21 +30,32 @@ pub(crate) fn declare(alloc: Global, engine: &mut Engine, name: &[u8]) -> Result
     Ok(())
 }
 
+/// Adds an edit with the side `True`.
+pub(crate) fn add(edits: &mut Edits, edit: Edit) -> Result<(), Fail>
+    requires { has_line_text edit ≡ true }
+    ensures { OnOk result (edits.new ≡ edits.old ++ sided True edit ∷ []) }
+{
+    let side = Expr::new(Part::True)?;
+    edits.push(Sided { side, edit })?;
+    Ok(())
+}
+
 /// Edits with one more.
 pub(crate) fn also(edits: Edits, edit: Edit) -> Result<Edits, Fail>
     requires { has_line_text edit ≡ true }
-    ensures { IfOk result (λ all. all ≡ edits ++ edit ∷ []) }
+    ensures { IfOk result (λ all. all ≡ edits ++ sided True edit ∷ []) }
 {
     let mut edits = edits;
-    match edits.push(edit) {
+    match add(&mut edits, edit) {
         Ok(()) => Ok(edits),
-        Err(_) => Err(Fail::from("no memory")),
+        Err(fail) => Err(fail),
     }
 }
 
-fn one(alloc: Global, edit: Edit) -> Result<Edits, Fail>
+/// One edit.
+pub(crate) fn one(alloc: Global, edit: Edit) -> Result<Edits, Fail>
     requires { has_line_text edit ≡ true }
-    ensures { IfOk result (λ all. all ≡ edit ∷ []) }
+    ensures { IfOk result (λ all. all ≡ everywhere (edit ∷ [])) }
 {
     also(Edits::new(alloc), edit)
 }
@@ -65,7 +79,7 @@ pub(crate) fn making(alloc: Global, kind: Kind, parent: u32, name: &[u8]) -> Res
 }
 
 fn renaming(alloc: Global, node: u32, name: &[u8]) -> Result<Edits, Fail>
-    ensures { IfOk result (λ all. all ≡ renaming node name.now ∷ []) }
+    ensures { IfOk result (λ all. all ≡ everywhere (renaming node name.now ∷ [])) }
 {
     let name = Name::read(alloc, name)?;
     one(
@@ -94,7 +108,7 @@ fn removing(node: u32) -> Edit
 
 fn inserting(alloc: Global, file: u32, after: u32, text: &[u8]) -> Result<Edits, Fail>
     requires { is_line_text text.now ≡ true }
-    ensures { IfOk result (λ all. all ≡ line_of file after text.now ∷ []) }
+    ensures { IfOk result (λ all. all ≡ everywhere (line_of file after text.now ∷ [])) }
 {
     let text = Text::from_slice(alloc, text)?;
     one(
@@ -109,7 +123,8 @@ fn inserting(alloc: Global, file: u32, after: u32, text: &[u8]) -> Result<Edits,
 
 // The file x and the directory a.
 fn file_and_directory(alloc: Global) -> Result<Edits, Fail>
-    ensures { IfOk result (λ all. all ≡ file_in_root (codes "x") ∷ dir_in_root (codes "a") ∷ []) }
+    ensures { IfOk result (λ all. all ≡
+        everywhere (file_in_root (codes "x") ∷ dir_in_root (codes "a") ∷ [])) }
 {
     let x = making(alloc, Kind::File, 0, b"x")?;
     let a = making(alloc, Kind::Dir, 0, b"a")?;
@@ -282,7 +297,7 @@ fn make_for_d(alloc: Global, engine: &mut Engine) -> Result<(), Fail>
 // The file x once more, for all variants, from the variant that doesn't have it.
 fn second_file(alloc: Global) -> Result<Command, Fail>
     ensures { IfOk result (λ command. command ≡
-        commit_in 2 (false ∷ []) None (file_in_root (codes "x") ∷ [])) }
+        commit_in 2 (false ∷ []) None (everywhere (file_in_root (codes "x") ∷ []))) }
 {
     let file = making(alloc, Kind::File, 0, b"x")?;
     let edits = one(alloc, file)?;
@@ -363,7 +378,7 @@ fn a_clash_on_another_choice_is_refused(rt: HostRuntime) -> Result<(), Fail> {
 
 // Edits with a directory more in the root.
 fn with_directory(alloc: Global, edits: Edits, name: &[u8]) -> Result<Edits, Fail>
-    ensures { IfOk result (λ all. all ≡ edits ++ dir_in_root name.now ∷ []) }
+    ensures { IfOk result (λ all. all ≡ edits ++ sided True (dir_in_root name.now) ∷ []) }
 {
     match making(alloc, Kind::Dir, 0, name) {
         Ok(dir) => also(edits, dir),
@@ -374,7 +389,8 @@ fn with_directory(alloc: Global, edits: Edits, name: &[u8]) -> Result<Edits, Fai
 // The directories a, b and c.
 fn three_directories(alloc: Global) -> Result<Edits, Fail>
     ensures { IfOk result (λ all. all ≡
-        dir_in_root (codes "a") ∷ dir_in_root (codes "b") ∷ dir_in_root (codes "c") ∷ []) }
+        everywhere (dir_in_root (codes "a") ∷ dir_in_root (codes "b") ∷ dir_in_root (codes "c") ∷
+        [])) }
 {
     let a = with_directory(alloc, Edits::new(alloc), b"a")?;
     let a_and_b = with_directory(alloc, a, b"b")?;

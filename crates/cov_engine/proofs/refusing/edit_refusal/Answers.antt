@@ -1,7 +1,8 @@
 use Rattle.std.proofs.Common.{◌≡◌, ℕ, Bool, List, Option, false, nat_eq, length, take, option_map, sym, ap, subst, ◌∙◌, arith}
 use Rattle.std.proofs.lemmas.Bool.Decides.{nat_tests}
 use Rattle.cov_base.specs.Rows.{AreOnce}
-use Rattle.cov_edit.specs.declared.edit.Edit.{Edit}
+use Rattle.cov_edit.specs.declared.sided.Sided.{Sided}
+use Rattle.cov_edit.specs.Sides.{unsided}
 use Rattle.cov_history.specs.declared.refusal.Refusal.TheVariants as refusals
 use Rattle.cov_history.proofs.CallerLemmas.{replay-once}
 use Rattle.cov_view.specs.Refusals.{first_of}
@@ -30,15 +31,15 @@ pub first_refused-requires-clause-once : goal.first_refused-requires-clause-once
 first_refused-requires-clause-once c =
     subst AreOnce (sym (c.requires.kept.1.of_entries.rows c.args.choice c.args.base)) (replay-once c.args.choice (take c.args.base c.args.state.now.commands.commands))
 
-module _ (state : EngineState) (base : ℕ) (choice : List Bool) (es : List Edit)
+module _ (state : EngineState) (base : ℕ) (choice : List Bool) (es : List Sided)
     (told : AreDeclarationsOf state.commands.commands state.options.names state.visible.table state.rules.standing state.counts)
     (held : AreRowsAndLinesOf state.commands.commands state.visible.table state.index.commits.items state.index.file_of_line.items state.visible.entries state.visible.files)
-    (tests : Bool) (none : tests ≡ nat_eq (length es) 0) (some : tests ≡ false) (found : Option ℕ) (first : found ≡ place_refused 0 (seen_tried state.visible choice base es) es) where
+    (tests : Bool) (none : tests ≡ nat_eq (length es) 0) (some : tests ≡ false) (found : Option ℕ) (first : found ≡ place_refused 0 (seen_tried state.visible choice base (unsided es)) (unsided es)) where
   told-found : option_map refusals.BadRecord found ≡ first_of (edit_refusals (take base state.commands.commands) choice es)
   told-found =
       let is : nat_eq (length es) 0 ≡ false = sym none ∙ some in
       edits-found (take base state.commands.commands) choice es (grind (arith, nat_tests, is)) found
-      (tried-first state.commands.commands state.index.commits.items state.index.file_of_line.items state.visible choice base es found told.legal held first)
+      (tried-first state.commands.commands state.index.commits.items state.index.file_of_line.items state.visible choice base (unsided es) found told.legal held first)
 
 pub returns-in-Some : goal.returns-in-Some
 returns-in-Some c =

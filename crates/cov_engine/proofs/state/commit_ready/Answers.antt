@@ -1,5 +1,6 @@
 use Rattle.std.proofs.Common.{refl, sym, ap, subst}
 use Rattle.cov_dd.proofs.CallerLemmas.{extends_none}
+use Rattle.cov_edit.specs.Sides.{unsided}
 use Rattle.cov_engine.specs.Holdings.{AreRowsAndLinesOf}
 use Rattle.cov_engine.specs.Staged.{IsStaged}
 use Rattle.cov_engine.proofs.Keeping.{declared-again}
@@ -31,7 +32,7 @@ returns-clause-ready c =
     is-ready c.commit_planned.new.state.commands.commands c.args.edits.now c.commit_planned.new.state.counts c.commit_planned.new.state.visible.table c.commit_planned.new.state.index.commits.items c.commit_planned.new.state.index.file_of_line.items c.commit_planned.new.state.visible.entries c.commit_planned.new.state.visible.files c.commit_planned.ensures.kept.0.0.counted c.commit_planned.ensures.kept.1 c.in_ok-mark.ensures.planned.0 c.args.ambition.now c.in_ok-mark.mark c.in_ok-mark.edits.items c.as_slice-2.result.now c.in_ok-mark.rows c.in_ok-mark.ensures.planned.1 c.as_slice-2.ensures.value
     _ c.with_sizes-counts.result
     c.stage_commit.new.index.commits.items c.stage_commit.new.index.file_of_line.items c.stage_commit.new.visible.entries c.stage_commit.new.visible.files
-    (counted c.commit_planned.new.state.counts c.args.summary.sizes c.args.edits.now c.args.edits.now c.with_sizes-counts.result c.with_sizes-counts.ensures (ap (λ s. s.sizes) c.requires.summary) refl)
+    (counted c.commit_planned.new.state.counts c.args.summary.sizes (unsided c.args.edits.now) (unsided c.args.edits.now) c.with_sizes-counts.result c.with_sizes-counts.ensures (ap (λ s. s.sizes) c.requires.summary) refl)
     c.stage_commit.ensures.commits c.stage_commit.ensures.entries c.in_ok-stage_commit.ensures.file_of_line c.in_ok-stage_commit.ensures.files c.in_ok-stage_commit.ensures.room c.in_ok-stage_commit.ensures.row_room c.in_ok-stage_commit.ensures.commit_room in (
       declared-again c.commit_planned.new.state c.commit_planned.new.state.visible.table c.stage_commit.new.visible.table c.commit_planned.ensures.kept (extends_none c.commit_planned.new.state.visible.table) c.stage_commit.ensures.table,
       (

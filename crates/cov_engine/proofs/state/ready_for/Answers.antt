@@ -5,34 +5,29 @@ use Rattle.std.proofs.Common.{◌≡◌, [], ◌∷◌, refl, sym, ap, subst, �
 use Rattle.std.proofs.lemmas.Result.{IfErr-weaker, IfOk-weaker, on_ok_weaker}
 use Rattle.cov_dd.proofs.CallerLemmas.{extends_trans}
 use Rattle.cov_edit.specs.History.{option_count}
+use Rattle.cov_edit.specs.Sides.{unsided}
 use Rattle.cov_edit.specs.declared.command.Command.TheVariants as commands
 use Rattle.cov_view.specs.Refusals.{first_of}
 use Rattle.cov_view.proofs.CallerLemmas.{first-one}
 use Rattle.cov_history.specs.BadChoices.{unsound_refusal}
 use Rattle.cov_history.specs.Verdict.{verdict, as_overtaken, RefusedBy}
-use Rattle.cov_engine.proofs.Deciding.{touched-own}
 use Rattle.cov_engine.proofs.Holdings.{held-grown}
 use Rattle.cov_engine.proofs.Keeping.{kept-grown, kept-roomier, with_options, option-readied, commit-readied}
-use Rattle.cov_engine.proofs.Marking.{marks-within, marks-rising}
+use Rattle.cov_overtaking.proofs.CallerLemmas.{marks-kept, touched-own}
 use Rattle.cov_engine.proofs.Readied.{on-any, commit-summary, reach-declared, in-bounds, late-verdict}
 use Rattle.cov_engine.proofs.Refused.{early-may}
 use Rattle.cov_engine.proofs.Ruling.{RuleOf, rule-of, as-ready, rule-accepted, rule-refused}
 use Rattle.cov_engine.proofs.States.{state-grown}
 use Rattle.cov_engine.proofs.state.ready_for.Goals as goal
 
-pub overtaken-requires-clause-nodes : goal.overtaken-requires-clause-nodes
-overtaken-requires-clause-nodes c =
+pub overtaken-requires-clause-kept : goal.overtaken-requires-clause-kept
+overtaken-requires-clause-kept c =
     let history = c.args.state.now.commands.commands in
-    marks-within c.args.state.now.visible.table (option_count history) 0 history c.args.state.now.index.commits.items c.requires.kept.1.marks
-
-pub overtaken-requires-clause-rising : goal.overtaken-requires-clause-rising
-overtaken-requires-clause-rising c =
-    let history = c.args.state.now.commands.commands in
-    marks-rising c.args.state.now.visible.table (option_count history) 0 history c.args.state.now.index.commits.items c.requires.kept.1.marks
+    marks-kept c.args.state.now.visible.table (option_count history) 0 history c.args.state.now.index.commits.items c.requires.kept.1.marks
 
 pub overtaken-requires-clause-own : goal.overtaken-requires-clause-own
 overtaken-requires-clause-own c =
-    touched-own c.in-Commit.edits c.args.summary.touched c.as_slice.result.now c.as_slice.ensures
+    touched-own (unsided c.in-Commit.edits) c.args.summary.touched c.as_slice.result.now c.as_slice.ensures
     (ap (λ s. s.touched) (commit-summary c.args.state.now.commands.commands c.args.command.now c.in-Commit.base c.in-Commit.choice c.in-Commit.ambition c.in-Commit.edits c.in-Commit.is c.requires.passes c.requires.kept.0.0.legal c.args.summary c.requires.summary))
 
 pub commit_ready-requires-clause-summary : goal.commit_ready-requires-clause-summary
@@ -54,7 +49,7 @@ returns-in-Ok-Some-clause-refused c =
     late-verdict c.args.state.now.commands.commands c.args.command.now c.in-Commit.base c.in-Commit.choice c.in-Commit.ambition c.in-Commit.edits c.in-Commit.is c.requires.passes
     c.args.state.now.options.names c.args.state.now.visible.table c.args.state.now.rules.standing c.args.state.now.counts c.args.state.now.index.commits.items
     c.args.state.now.index.file_of_line.items c.args.state.now.visible.entries c.args.state.now.visible.files c.conjunction.result c.in-Ok-Some.field-0 c.requires.few c.requires.kept.0.0 c.requires.kept.1 c.conjunction.ensures
-    (c.in-Ok-Some.ensures.first c.in-Commit.edits
+    (c.in-Ok-Some.ensures.first
     (c.as_slice.ensures ∙ ap (λ s. s.touched) (commit-summary c.args.state.now.commands.commands c.args.command.now c.in-Commit.base c.in-Commit.choice c.in-Commit.ambition c.in-Commit.edits c.in-Commit.is c.requires.passes c.requires.kept.0.0.legal c.args.summary c.requires.summary)))
     ∙ ap (λ found. first_of (as_overtaken found ∷ unsound_refusal c.args.state.now.commands.commands c.in-Commit.ambition (commands.Commit c.in-Commit.base c.in-Commit.choice c.in-Commit.ambition c.in-Commit.edits) ∷ [])) c.in-Ok-Some.field-0-is
 
@@ -67,7 +62,7 @@ judged c =
     late-verdict c.args.state.now.commands.commands c.args.command.now c.in-Commit.base c.in-Commit.choice c.in-Commit.ambition c.in-Commit.edits c.in-Commit.is c.requires.passes
     c.args.state.now.options.names c.args.state.now.visible.table c.args.state.now.rules.standing c.args.state.now.counts c.args.state.now.index.commits.items
     c.args.state.now.index.file_of_line.items c.args.state.now.visible.entries c.args.state.now.visible.files c.conjunction.result c.in-Ok-None.field-0 c.requires.few c.requires.kept.0.0 c.requires.kept.1 c.conjunction.ensures
-    (c.in-Ok-None.ensures.first c.in-Commit.edits
+    (c.in-Ok-None.ensures.first
     (c.as_slice.ensures ∙ ap (λ s. s.touched) (commit-summary c.args.state.now.commands.commands c.args.command.now c.in-Commit.base c.in-Commit.choice c.in-Commit.ambition c.in-Commit.edits c.in-Commit.is c.requires.passes c.requires.kept.0.0.legal c.args.summary c.requires.summary)))
     ∙ ap (λ found. first_of (as_overtaken found ∷ unsound_refusal c.args.state.now.commands.commands c.in-Commit.ambition (commands.Commit c.in-Commit.base c.in-Commit.choice c.in-Commit.ambition c.in-Commit.edits) ∷ [])) c.in-Ok-None.field-0-is
     ∙ first-one _

@@ -1,10 +1,10 @@
-use Rattle.std.proofs.Common.{◌≡◌, ◌+◌, ◌++◌, ◌∙◌, ap, sym, refl, length, length-take-le, map, take, drop, arith}
+use Rattle.std.proofs.Common.{◌≡◌, ◌≤◌, ◌+◌, ◌++◌, ◌∙◌, ap, sym, refl, length, length-take-le, map, take, drop, arith}
 use Rattle.std.proofs.lemmas.List.{length-drop}
-use Rattle.cov_base.proofs.CallerLemmas.{having-numbers, having-rest}
 use Rattle.cov_rules.specs.Renumbered.{nodes_of as rule_nodes}
 use Rattle.cov_tree.specs.Renumbered.{visibilities}
 use Rattle.cov_visible.specs.Renumbered.{line_nodes}
-use Rattle.cov_engine.specs.Marks.{having_node, mark_node}
+use Rattle.cov_overtaking.specs.Marks.{all_mark_nodes, without_nodes as without_mark_nodes}
+use Rattle.cov_overtaking.proofs.CallerLemmas.{marks-numbers, marks-shape}
 use Rattle.cov_engine.proofs.Renumbered.{nodes-count, taken-four}
 use Rattle.cov_engine.proofs.sweeping.renumber.Goals as goal
 use Rattle.cov_engine.proofs.sweeping.renumber.Goals.{After-renumber}
@@ -18,6 +18,10 @@ third_is c = omega (arith, c.renumber-third.ensures.next, second_is c)
 fourth_is : (c : After-renumber) → c.renumber-fourth.result
     ≡ length (rule_nodes c.args.state.now.rules.standing) + length (visibilities c.args.state.now.visible.entries) + length (line_nodes c.args.state.now.visible.files)
 fourth_is c = omega (arith, c.renumber-fourth.ensures.next, third_is c)
+
+-- there are enough nodes behind the others for those of the commits
+enough : (c : After-renumber) → length (all_mark_nodes c.args.state.now.index.commits.items) ≤ length (drop c.renumber-fourth.result c.args.from.now)
+enough c = omega (arith, c.requires, nodes-count c.args.state.now, fourth_is c, length-drop c.renumber-fourth.result c.args.from.now)
 
 pub returns-clause-state : goal.returns-clause-state
 returns-clause-state c =
@@ -39,7 +43,7 @@ returns-clause-state c =
       rows = c.renumber-third.ensures.rows;
       files = c.renumber-fourth.ensures.parts;
       file_of_line = refl;
-      commits = ap (map (having_node 0)) c.renumber.ensures.items ∙ having-rest having_node (having_node 0) (λ n m. refl) c.args.state.now.index.commits.items (drop c.renumber-fourth.result from);
+      commits = ap (map without_mark_nodes) c.renumber.ensures.items ∙ marks-shape c.args.state.now.index.commits.items (drop c.renumber-fourth.result from) (enough c);
     }
 
 pub returns-clause-nodes : goal.returns-clause-nodes
@@ -49,11 +53,10 @@ returns-clause-nodes c =
     let r = length (rule_nodes s.rules.standing) in
     let e = length (visibilities s.visible.entries) in
     let f = length (line_nodes s.visible.files) in
-    let m = length s.index.commits.items in
+    let m = length (all_mark_nodes s.index.commits.items) in
     let fourth = c.renumber-fourth.result in
-    let marks : map mark_node c.renumber.new.self.items ≡ take m (drop fourth from) =
-    ap (map mark_node) c.renumber.ensures.items
-    ∙ having-numbers having_node mark_node (λ n x. refl) s.index.commits.items (drop fourth from) (omega (arith, c.requires, nodes-count s, fourth_is c, length-drop fourth from)) in
+    let marks : all_mark_nodes c.renumber.new.self.items ≡ take m (drop fourth from) =
+    ap all_mark_nodes c.renumber.ensures.items ∙ marks-numbers s.index.commits.items (drop fourth from) (enough c) in
     (λ j. c.renumber-second.ensures.nodes j ++ (c.renumber-third.ensures.nodes j ++ (c.renumber-fourth.ensures.nodes j ++ marks j)))
     ∙ (λ j. take r from ++ (take e (drop (second_is c j) from) ++ (take f (drop (third_is c j) from) ++ take m (drop (fourth_is c j) from))))
     ∙ taken-four from r e f m ∙ ap (λ n. take n from) (sym (nodes-count s))

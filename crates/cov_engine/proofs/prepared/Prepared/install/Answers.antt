@@ -1,8 +1,15 @@
-use Rattle.std.proofs.Common.{sym, ap, subst, ◌∙◌}
+use Rattle.std.proofs.Common.{◌≤◌, arith, sym, ap, subst, ◌∙◌}
 use Rattle.cov_dd.specs.Diagrams.{Extends}
 use Rattle.cov_dd.proofs.CallerLemmas.{extends_none}
-use Rattle.cov_engine.specs.States.{EngineValue, Pending, receipt_number}
+use Rattle.cov_engine.specs.States.{history_of, EngineValue, Pending, receipt_number}
+use Rattle.cov_engine.proofs.Refused.{accepted-low}
 use Rattle.cov_engine.proofs.prepared.Prepared.install.Goals as goal
+
+pub push-requires : goal.push-requires
+push-requires c =
+    let low = accepted-low (history_of c.self.inside.state) c.self.inside.command c.self.invariant.0.accepted in
+    let few = c.self.invariant.1.0.0.rules.below.few in
+    omega (arith, low, few)
 
 pub returns-clause-extends : goal.returns-clause-extends
 returns-clause-extends c =
