@@ -10,12 +10,12 @@ use Rattle.cov_edit.specs.declared.edit.Edit.{Edit}
 use Rattle.cov_edit.specs.declared.edit.Edit.TheVariants as edits
 use Rattle.cov_edit.specs.declared.command.Command.{Command}
 use Rattle.cov_edit.specs.declared.command.Command.TheVariants as commands
-use Rattle.cov_edit.specs.History.{text_bytes}
+use Rattle.cov_edit.specs.History.{option_count, text_bytes}
 use Rattle.cov_edit.specs.Numbering.{Numbers, NumberedEdit, Inserted, Deleted, node_count_after, line_count_after, anchor_of, numbered_edit, no_numbers, node_number, line_number, nodes_made, anchors_of, numbers_after, numbered_from, numbered}
 use Rattle.cov_edit.specs.Variant.{Variant, edited}
 use Rattle.cov_edit.specs.Replay.{replay}
 use Rattle.cov_edit.proofs.CallerLemmas.{line_count_after-is, anchors-append, nodes-append, with_lines-append, numbered-append, bytes-append, fold-append, numbers_from-append}
-use Rattle.cov_expr.specs.Formula.{False}
+use Rattle.cov_expr.specs.Formula.{Formula, False, reach, value}
 use Rattle.cov_view.specs.Refusals.{refusal, refused_at, refused_from, first_refused}
 use Rattle.cov_view.specs.Seen.{Seen}
 use Rattle.cov_view.specs.Views.{Shows, table_after, next_by_number, FaultBy}
@@ -23,9 +23,9 @@ use Rattle.cov_view.specs.declared.fault.EditFault.{EditFault}
 use Rattle.cov_view.specs.declared.fault.EditFault.TheVariants as edit_faults
 use Rattle.cov_history.specs.KeptLaws.{HoldingStands}
 use Rattle.cov_history.specs.Laws.{ReplayStands}
-use Rattle.cov_history.specs.Sessions.{Session, seen}
+use Rattle.cov_history.specs.Sessions.{Session, edits_of, seen}
 use Rattle.cov_history.proofs.CallerLemmas.{edit-accepted, rest-accepted}
-use Rattle.cov_session.specs.Adding.{with_edits, as_fault, addition_fault, IsAdditionFault}
+use Rattle.cov_session.specs.Adding.{on_side, with_edits, as_fault, addition_fault, IsAdditionFault}
 use Rattle.cov_session.specs.Faults.{by_edit}
 use Rattle.cov_session.specs.Open.{SessionValue, IsOpen, numbers_at_base, table_of}
 use Rattle.cov_session.specs.declared.fault.SessionFault.{SessionFault}
@@ -33,6 +33,7 @@ use Rattle.cov_session.specs.declared.fault.SessionFault.TheVariants as faults
 use Rattle.cov_engine.proofs.CallerLemmas.{Accepts, Applies}
 use Rattle.cov_view.proofs.CallerLemmas.{first-not_when, first-when, first-one, fault-by}
 use Rattle.cov_session.proofs.DeletesWithin.{DeleteWithin, DeletesWithin, deletes-within, replay-within}
+use Rattle.cov_session.proofs.Sided.{edits-grown, reach-grown, true-grown}
 
 -- an edit is the same by another table in which its lines have the same addresses
 edit-same : (ns : Numbers) (t u : List (List ℕ)) (node line m most : ℕ) (e : Edit) (ms : List ℕ) → ((x : ℕ) → x ≤ most → address_in u x ≡ address_in t x) → line + length (cons_option (anchor_of m e) ms) ≤ most
@@ -121,11 +122,11 @@ is-table history s stands =
 
 -- the lines that a session deletes are made
 pub session-deletes : (history : List Command) (s : SessionValue) → HoldingStands → ReplayStands → IsOpen history s
-    → DeletesWithin (length (numbers_at_base history s.session).addresses) (length (table_of history s.session)) s.session.edits
+    → DeletesWithin (length (numbers_at_base history s.session).addresses) (length (table_of history s.session)) (edits_of s.session)
 session-deletes history s stands replays here =
     let ns : Numbers = numbers_at_base history s.session in
-    let made = length-with_lines ns.addresses (anchors_of (length ns.addresses) s.session.edits) in
-    deletes-within ns (table_of history s.session) ns.nodes (length ns.addresses) 0 (length ns.addresses) (replay s.session.choice (take s.session.base history)) s.session.edits
+    let made = length-with_lines ns.addresses (anchors_of (length ns.addresses) (edits_of s.session)) in
+    deletes-within ns (table_of history s.session) ns.nodes (length ns.addresses) 0 (length ns.addresses) (replay s.session.choice (take s.session.base history)) (edits_of s.session)
     (is-table history s.session stands) (omega (arith, made))
     (replay-within s.session.choice (take s.session.base history) (length (table_of history s.session)) stands replays (omega (arith, made))) here.good.accepted
 
@@ -133,17 +134,17 @@ session-deletes history s stands replays here =
 abbrev pub numbered_more : List Command → SessionValue → List Edit → List NumberedEdit
 numbered_more history s es =
     let ns = numbers_at_base history s.session in
-    numbered_from ns (numbers_after ns (s.session.edits ++ es)).addresses (ns.nodes + s.view.nodes_made) (length (table_of history s.session)) es
+    numbered_from ns (numbers_after ns (edits_of s.session ++ es)).addresses (ns.nodes + s.view.nodes_made) (length (table_of history s.session)) es
 
 -- the first refused edit of a session with more is the first of these that what it sees refuses
 pub first-refused : (history : List Command) (s : SessionValue) (es : List Edit) → HoldingStands → ReplayStands → IsOpen history s
-    → first_refused (numbers_at_base history s.session) (replay s.session.choice (take s.session.base history)) (s.session.edits ++ es)
-    ≡ refused_from (numbers_at_base history s.session) (seen s.session history) (length s.session.edits) es (numbered_more history s es)
+    → first_refused (numbers_at_base history s.session) (replay s.session.choice (take s.session.base history)) (edits_of s.session ++ es)
+    ≡ refused_from (numbers_at_base history s.session) (seen s.session history) (length (edits_of s.session)) es (numbered_more history s es)
 first-refused history s es stands replays here =
     let ns : Numbers = numbers_at_base history s.session in
     let v : Variant = replay s.session.choice (take s.session.base history) in
-    ap (refused_from ns v 0 (s.session.edits ++ es)) (numbered-behind ns s.session.edits es s.view.nodes_made here.nodes (session-deletes history s stands replays here))
-    ∙ refused-behind ns v 0 (length s.session.edits) (table_of history s.session) ns.nodes (length ns.addresses) s.session.edits es (numbered_more history s es) (omega arith) here.good.accepted
+    ap (refused_from ns v 0 (edits_of s.session ++ es)) (numbered-behind ns (edits_of s.session) es s.view.nodes_made here.nodes (session-deletes history s stands replays here))
+    ∙ refused-behind ns v 0 (length (edits_of s.session)) (table_of history s.session) ns.nodes (length ns.addresses) (edits_of s.session) es (numbered_more history s es) (omega arith) here.good.accepted
 
 pub fault-at : (i : ℕ) (o : Option EditFault) (f : EditFault) → o ≡ Some f → as_fault (refused_at i o None) ≡ Some (faults.Edit f)
 fault-at i None f h = absurd (cc)
@@ -161,91 +162,96 @@ pub by-edit : (f : EditFault) (wanted : Option SessionFault) → wanted ≡ Some
 by-edit f wanted h = by-fault f (Some f) wanted (λ e. h) (fault-by f (Some f) refl)
 
 -- too many edits
-pub refused-many : (history : List Command) (s : Session) (es : List Edit) (k : ℕ) → length es ≡ k → LIMITS.edits < length s.edits + k → addition_fault history s es ≡ Some faults.TooManyEdits
+pub refused-many : (history : List Command) (s : Session) (es : List Edit) (k : ℕ) → length es ≡ k → LIMITS.edits < length (edits_of s) + k → addition_fault history s es ≡ Some faults.TooManyEdits
 refused-many history s es k is h =
-    let l = length-append s.edits es in
-    let more : nat_lt LIMITS.edits (length (s.edits ++ es)) ≡ true = grind (arith, nat_tests, l, is, h) in
-    first-when (nat_lt LIMITS.edits (length (s.edits ++ es))) faults.TooManyEdits _ more
+    let l = length-append (edits_of s) es in
+    let more : nat_lt LIMITS.edits (length (edits_of s ++ es)) ≡ true = grind (arith, nat_tests, l, is, h) in
+    first-when (nat_lt LIMITS.edits (length (edits_of s ++ es))) faults.TooManyEdits _ more
 
 -- too much text
-pub refused-heavy : (history : List Command) (s : Session) (es : List Edit) (k b : ℕ) → length es ≡ k → text_bytes es ≡ b → length s.edits + k ≤ LIMITS.edits → LIMITS.commit_bytes < text_bytes s.edits + b
+pub refused-heavy : (history : List Command) (s : Session) (es : List Edit) (k b : ℕ) → length es ≡ k → text_bytes es ≡ b → length (edits_of s) + k ≤ LIMITS.edits → LIMITS.commit_bytes < text_bytes (edits_of s) + b
     → addition_fault history s es ≡ Some faults.TooManyBytes
 refused-heavy history s es k b is said h heavy =
-    let l = length-append s.edits es in
-    let sum = bytes-append s.edits es in
-    let few : nat_lt LIMITS.edits (length (s.edits ++ es)) ≡ false = grind (arith, nat_tests, l, is, h) in
-    let more : nat_lt LIMITS.commit_bytes (text_bytes (s.edits ++ es)) ≡ true = grind (arith, nat_tests, sum, said, heavy) in
-    first-not_when (nat_lt LIMITS.edits (length (s.edits ++ es))) faults.TooManyEdits _ few
-    ∙ first-when (nat_lt LIMITS.commit_bytes (text_bytes (s.edits ++ es))) faults.TooManyBytes _ more
+    let l = length-append (edits_of s) es in
+    let sum = bytes-append (edits_of s) es in
+    let few : nat_lt LIMITS.edits (length (edits_of s ++ es)) ≡ false = grind (arith, nat_tests, l, is, h) in
+    let more : nat_lt LIMITS.commit_bytes (text_bytes (edits_of s ++ es)) ≡ true = grind (arith, nat_tests, sum, said, heavy) in
+    first-not_when (nat_lt LIMITS.edits (length (edits_of s ++ es))) faults.TooManyEdits _ few
+    ∙ first-when (nat_lt LIMITS.commit_bytes (text_bytes (edits_of s ++ es))) faults.TooManyBytes _ more
 
 -- within the limits, the first refused edit decides
-pub by-first : (history : List Command) (s : Session) (es : List Edit) → length (s.edits ++ es) ≤ LIMITS.edits → text_bytes (s.edits ++ es) ≤ LIMITS.commit_bytes
-    → addition_fault history s es ≡ as_fault (first_refused (numbers_at_base history s) (replay s.choice (take s.base history)) (s.edits ++ es))
+pub by-first : (history : List Command) (s : Session) (es : List Edit) → length (edits_of s ++ es) ≤ LIMITS.edits → text_bytes (edits_of s ++ es) ≤ LIMITS.commit_bytes
+    → addition_fault history s es ≡ as_fault (first_refused (numbers_at_base history s) (replay s.choice (take s.base history)) (edits_of s ++ es))
 by-first history s es room light =
-    let few : nat_lt LIMITS.edits (length (s.edits ++ es)) ≡ false = grind (arith, nat_tests, room) in
-    let less : nat_lt LIMITS.commit_bytes (text_bytes (s.edits ++ es)) ≡ false = grind (arith, nat_tests, light) in
-    first-not_when (nat_lt LIMITS.edits (length (s.edits ++ es))) faults.TooManyEdits _ few
-    ∙ first-not_when (nat_lt LIMITS.commit_bytes (text_bytes (s.edits ++ es))) faults.TooManyBytes _ less
-    ∙ first-one (as_fault (first_refused (numbers_at_base history s) (replay s.choice (take s.base history)) (s.edits ++ es)))
+    let few : nat_lt LIMITS.edits (length (edits_of s ++ es)) ≡ false = grind (arith, nat_tests, room) in
+    let less : nat_lt LIMITS.commit_bytes (text_bytes (edits_of s ++ es)) ≡ false = grind (arith, nat_tests, light) in
+    first-not_when (nat_lt LIMITS.edits (length (edits_of s ++ es))) faults.TooManyEdits _ few
+    ∙ first-not_when (nat_lt LIMITS.commit_bytes (text_bytes (edits_of s ++ es))) faults.TooManyBytes _ less
+    ∙ first-one (as_fault (first_refused (numbers_at_base history s) (replay s.choice (take s.base history)) (edits_of s ++ es)))
 
 module _ (history : List Command) (s : SessionValue) (e : Edit) (stands : HoldingStands) (replays : ReplayStands) (here : IsOpen history s) where
-  -- a session with one edit more sees its variant after this edit
-  pub seen-after : seen (with_edits s.session (e ∷ [])) history
-      ≡ fold edited (seen s.session history) (next_by_number (numbers_at_base history s.session) (table_of history s.session) s.view e)
-  seen-after =
-      let ns : Numbers = numbers_at_base history s.session in
-      ap (fold edited (replay s.session.choice (take s.session.base history))) (numbered-next ns s.session.edits e s.view here.nodes (session-deletes history s stands replays here))
-      ∙ fold-append edited (replay s.session.choice (take s.session.base history)) (numbered ns s.session.edits) (next_by_number ns (table_of history s.session) s.view e)
+  abbrev ns : Numbers
+  ns = numbers_at_base history s.session
 
-  -- a session that took an edit is open
-  pub open-after : (view : Seen) → Accepts s.view e → Applies s.view e view
+  abbrev base : Variant
+  base = replay s.session.choice (take s.session.base history)
+
+  -- with one edit more, what is seen is the variant after this edit
+  pub seen-after : fold edited base (numbered ns (edits_of s.session ++ e ∷ [])) ≡ fold edited (seen s.session history) (next_by_number ns (table_of history s.session) s.view e)
+  seen-after =
+      ap (fold edited base) (numbered-next ns (edits_of s.session) e s.view here.nodes (session-deletes history s stands replays here))
+      ∙ fold-append edited base (numbered ns (edits_of s.session)) (next_by_number ns (table_of history s.session) s.view e)
+
+  -- a session that took an edit is open, if its side names no option beyond the base and is true on the choice
+  pub open-after : (side : Formula ℕ) (view : Seen) → reach side ≤ option_count (take s.session.base history) → value side s.session.choice ≡ true → Accepts s.view e → Applies s.view e view
       → view.nodes_made ≡ s.view.nodes_made + nodes_made (e ∷ []) → view.lines_made ≡ s.view.lines_made + length (anchors_of 0 (e ∷ []))
-      → IsOpen history (record { name = s.name; session = with_edits s.session (e ∷ []); view = view })
-  open-after view accepts applies nodes lines = record {
+      → IsOpen history (record { name = s.name; side = s.side; session = with_edits s.session (on_side side (e ∷ [])); view = view })
+  open-after side view low own accepts applies nodes lines = record {
     good = record {
       within = here.good.within;
       of_all_options = here.good.of_all_options;
       valid = here.good.valid;
       in_ambition = here.good.in_ambition;
-      in_reach = here.good.in_reach;
-      accepted = passes;
+      in_sides = true-grown s.session.choice s.session.edits side (e ∷ []) here.good.in_sides own;
+      in_reach = reach-grown (option_count (take s.session.base history)) s.session.ambition s.session.edits side (e ∷ []) here.good.in_reach low;
+      accepted = ap (first_refused ns base) longer ∙ passes;
     };
-    shows = shown;
-    nodes = nodes ∙ ap (λ k. k + nodes_made (e ∷ [])) here.nodes ∙ sym (nodes-append s.session.edits (e ∷ []));
+    side_in_reach = here.side_in_reach;
+    in_side = here.in_side;
+    shows = subst (λ es. Shows ns (numbers_after ns es).addresses view (fold edited base (numbered ns es))) (sym longer) shown;
+    nodes = nodes ∙ ap (λ k. k + nodes_made (e ∷ [])) here.nodes ∙ sym (nodes-append (edits_of s.session) (e ∷ [])) ∙ ap nodes_made (sym longer);
     lines = lines ∙ ap (λ k. k + length (anchors_of 0 (e ∷ []))) here.lines
-        ∙ sym (ap length (anchors-append 0 s.session.edits (e ∷ [])) ∙ length-append (anchors_of 0 s.session.edits) (anchors_of 0 (e ∷ [])));
+        ∙ sym (ap length (anchors-append 0 (edits_of s.session) (e ∷ [])) ∙ length-append (anchors_of 0 (edits_of s.session)) (anchors_of 0 (e ∷ [])))
+        ∙ ap (λ es. length (anchors_of 0 es)) (sym longer);
   }
     where
-      longer : Session
-      longer = with_edits s.session (e ∷ [])
-
-      ns : Numbers
-      ns = numbers_at_base history s.session
+      longer : edits_of (with_edits s.session (on_side side (e ∷ []))) ≡ edits_of s.session ++ e ∷ []
+      longer = edits-grown s.session side (e ∷ [])
 
       none : refusal ns (seen s.session history) e ≡ None
       none = accepts ns (table_of history s.session) (seen s.session history) here.shows
 
-      passes : first_refused ns (replay s.session.choice (take s.session.base history)) (s.session.edits ++ e ∷ []) ≡ None
-      passes = first-refused history s (e ∷ []) stands replays here ∙ ap (λ o. refused_at (length s.session.edits) o None) none
+      passes : first_refused ns base (edits_of s.session ++ e ∷ []) ≡ None
+      passes = first-refused history s (e ∷ []) stands replays here ∙ ap (λ o. refused_at (length (edits_of s.session)) o None) none
 
-      shown : Shows ns (table_of history longer) view (seen longer history)
+      shown : Shows ns (numbers_after ns (edits_of s.session ++ e ∷ [])).addresses view (fold edited base (numbered ns (edits_of s.session ++ e ∷ [])))
       shown =
-          subst (λ t. Shows ns t view (seen longer history)) (sym (longer-is ns s.session.edits e))
+          subst (λ t. Shows ns t view (fold edited base (numbered ns (edits_of s.session ++ e ∷ [])))) (sym (longer-is ns (edits_of s.session) e))
           (subst (Shows ns (table_after ns (table_of history s.session) e) view) (sym seen-after)
           (applies ns (table_of history s.session) (seen s.session history) (is-table history s.session stands) here.shows))
 
-  module _ (room : length s.session.edits < LIMITS.edits) (light : text_bytes (s.session.edits ++ e ∷ []) ≤ LIMITS.commit_bytes) where
+  module _ (room : length (edits_of s.session) < LIMITS.edits) (light : text_bytes (edits_of s.session ++ e ∷ []) ≤ LIMITS.commit_bytes) where
     -- within the limits, what the session sees decides
-    by-view : addition_fault history s.session (e ∷ []) ≡ as_fault (refused_at (length s.session.edits) (refusal (numbers_at_base history s.session) (seen s.session history) e) None)
+    by-view : addition_fault history s.session (e ∷ []) ≡ as_fault (refused_at (length (edits_of s.session)) (refusal (numbers_at_base history s.session) (seen s.session history) e) None)
     by-view =
-        by-first history s.session (e ∷ []) (let l = length_push s.session.edits e in omega (arith, l, room)) light
+        by-first history s.session (e ∷ []) (let l = length_push (edits_of s.session) e in omega (arith, l, room)) light
         ∙ ap as_fault (first-refused history s (e ∷ []) stands replays here)
 
     pub accepted-by : refusal (numbers_at_base history s.session) (seen s.session history) e ≡ None → addition_fault history s.session (e ∷ []) ≡ None
-    accepted-by h = by-view ∙ no-fault-at (length s.session.edits) (refusal (numbers_at_base history s.session) (seen s.session history) e) h
+    accepted-by h = by-view ∙ no-fault-at (length (edits_of s.session)) (refusal (numbers_at_base history s.session) (seen s.session history) e) h
 
     pub refused-as : (f : EditFault) → refusal (numbers_at_base history s.session) (seen s.session history) e ≡ Some f → addition_fault history s.session (e ∷ []) ≡ Some (faults.Edit f)
-    refused-as f h = by-view ∙ fault-at (length s.session.edits) (refusal (numbers_at_base history s.session) (seen s.session history) e) f h
+    refused-as f h = by-view ∙ fault-at (length (edits_of s.session)) (refusal (numbers_at_base history s.session) (seen s.session history) e) f h
 
     pub refused-by : (f : EditFault) → FaultBy f (refusal (numbers_at_base history s.session) (seen s.session history) e)
         → IsAdditionFault (by_edit f) (addition_fault history s.session (e ∷ []))

@@ -8,7 +8,7 @@ use Rattle.std.proofs.lemmas.List.{length-map}
 use Rattle.indexmap.specs.IndexMap.{IndexMap, insert_entry}
 use Rattle.indexmap.proofs.CallerLemmas.{insert_entry-new}
 use Rattle.slab.specs.Slab.{Slab, get, slab_len, Updates}
-use Rattle.cov_expr.specs.Formula.{Formula}
+use Rattle.cov_expr.specs.Formula.{Formula, True}
 use Rattle.cov_edit.specs.declared.command.Command.{Command}
 use Rattle.cov_session.specs.Calls.{AreOpen, IsSessionFaultOf, Makes, opened_among}
 use Rattle.cov_session.specs.Kept.{Keys, AreKept, same_name, kept}
@@ -72,13 +72,13 @@ module _ (keys : Keys) (slab : Slab SessionValue) (name : List ℕ) (here : AreK
           subst (λ es. AreOpen history (kept es new)) (sym added)
           (added-open keys ready new own key s ready-kept fresh updates history (subst (AreOpen history) (sym (kept-slots keys slab ready slots ∙ is)) are) one)
 
-      pub begins : (answer : Opened) → s.name ≡ name → opened history partial ambition ≡ Ok s.session → answer.base ≡ s.session.base → answer.choice ≡ s.session.choice
-          → Makes (opened_among history (map as_named ss) name partial ambition) (λ u. map as_named ss ++ record { name = name; session = u } ∷ []) answer (map as_named (kept entries new))
-      begins answer called done base choice = record {
+      pub begins : (answer : Opened) → s.name ≡ name → s.side ≡ True → opened history partial ambition ≡ Ok s.session → answer.base ≡ s.session.base → answer.choice ≡ s.session.choice
+          → Makes (opened_among history (map as_named ss) name partial ambition) (λ u. map as_named ss ++ record { name = name; side = True; session = u } ∷ []) answer (map as_named (kept entries new))
+      begins answer called everywhere done base choice = record {
         session = s.session;
         made = alone ∙ done;
         left = ap (λ es. map as_named (kept es new)) added ∙ added-named keys ready new own key s ready-kept fresh updates
-            ∙ (λ i. map as_named ((kept-slots keys slab ready slots ∙ is) i) ++ record { name = called i; session = s.session } ∷ []);
+            ∙ (λ i. map as_named ((kept-slots keys slab ready slots ∙ is) i) ++ record { name = called i; side = everywhere i; session = s.session } ∷ []);
         base = base;
         choice = choice;
       }

@@ -9,6 +9,8 @@ use Rattle.cov_base.specs.declared.number.Kind.TheVariants as kinds
 use Rattle.cov_base.specs.declared.number.LineRef.{LineRef}
 use Rattle.cov_base.specs.declared.number.LineRef.TheVariants as lines
 use Rattle.cov_base.specs.declared.number.NodeRef.{NodeRef}
+use Rattle.cov_edit.specs.Sides.{unsided}
+use Rattle.cov_edit.specs.declared.sided.Sided.{Sided}
 use Rattle.cov_edit.specs.declared.edit.Edit.{Edit}
 use Rattle.cov_edit.specs.declared.edit.Edit.TheVariants as edits
 use Rattle.cov_base.specs.declared.limits.TheConstants.{LIMITS}
@@ -19,8 +21,12 @@ use Rattle.cov_view.specs.Seen.{Seen, row_at, line_fault, seen_fault, seen_after
 use Rattle.cov_view.specs.declared.fault.EditFault.{EditFault}
 use Rattle.cov_view.specs.declared.line.ViewLine.{ViewLine}
 use Rattle.cov_view.specs.declared.row.ViewRow.{ViewRow}
+use Rattle.cov_expr.specs.Formula.{Formula}
+use Rattle.cov_edit.proofs.CallerLemmas.{unsided-length}
+use Rattle.cov_session.specs.Adding.{on_side}
 use Rattle.cov_session.specs.Counting.{IsCounted}
 use Rattle.cov_session.proofs.Counting.{nodes-fit, lines-few, last-is}
+use Rattle.cov_session.proofs.Sided.{grown-by}
 
 -- what is there stays there with a line more
 any-after : (t p : ViewLine → Bool) (new : ViewLine) (ls : List ViewLine) → list_any t ls ≡ true → list_any t (after_first p new ls) ≡ true
@@ -87,18 +93,19 @@ last-but-one all es e f n is count =
     let at : n - 2 ≡ length es = omega (arith, k) in
     ap (slice_get all) at ∙ ap (λ fs. slice_get fs (length es)) is ∙ get-at es e (f ∷ [])
 
--- an edit that is found there is the insertion
-pub inserted : (found e f : Edit) (all es : List Edit) (n : ℕ) → Some found ≡ slice_get all (n - 2) → all ≡ es ++ e ∷ f ∷ [] → n ≡ length all → found ≡ e
-inserted found e f all es n there is count = last-is found e (there ∙ last-but-one all es e f n is count)
+-- an edit that is found there, the two having been appended with a side, is the insertion
+pub inserted : (side : Formula ℕ) (found e f : Edit) (all ss : List Sided) (n : ℕ) → Some found ≡ slice_get (unsided all) (n - 2) → all ≡ ss ++ on_side side (e ∷ f ∷ []) → n ≡ length all → found ≡ e
+inserted side found e f all ss n there pushed count =
+    last-is found e (there ∙ last-but-one (unsided all) (unsided ss) e f n (grown-by all ss side (e ∷ f ∷ []) pushed) (count ∙ sym (unsided-length all)))
 
 -- after it a view has room for the deletion
-pub delete-fits : (old new : Seen) (all es : List Edit) (bytes n : ℕ) (found f : Edit) (file : NodeRef) (line : LineRef) (text : List ℕ) → IsCounted old es bytes → length es + 2 ≤ LIMITS.edits
-    → Some found ≡ slice_get all (n - 2) → all ≡ es ++ edits.Insert file line text ∷ f ∷ [] → n ≡ length all
+pub delete-fits : (side : Formula ℕ) (old new : Seen) (all ss : List Sided) (bytes n : ℕ) (found f : Edit) (file : NodeRef) (line : LineRef) (text : List ℕ) → IsCounted old (unsided ss) bytes → length (unsided ss) + 2 ≤ LIMITS.edits
+    → Some found ≡ slice_get (unsided all) (n - 2) → all ≡ ss ++ on_side side (edits.Insert file line text ∷ f ∷ []) → n ≡ length all
     → new.nodes_made ≡ old.nodes_made + nodes_made (found ∷ []) → new.lines_made ≡ old.lines_made + length (anchors_of 0 (found ∷ [])) → (new.nodes_made < 4294967295) × (new.lines_made < 4294967295)
-delete-fits old new all es bytes n found f file line text counted room there pushed count nodes lines_then =
-    let is = inserted found (edits.Insert file line text) f all es n there pushed count in
-    let nodes_before = nodes-fit old es bytes counted (omega (arith, room)) in
-    let lines_before = lines-few old es bytes counted in
+delete-fits side old new all ss bytes n found f file line text counted room there pushed count nodes lines_then =
+    let is = inserted side found (edits.Insert file line text) f all ss n there pushed count in
+    let nodes_before = nodes-fit old (unsided ss) bytes counted (omega (arith, room)) in
+    let lines_before = lines-few old (unsided ss) bytes counted in
     let same : new.nodes_made ≡ old.nodes_made + nodes_made (edits.Insert file line text ∷ []) = nodes ∙ ap (λ e. old.nodes_made + nodes_made (e ∷ [])) is in
     let more : new.lines_made ≡ old.lines_made + length (anchors_of 0 (edits.Insert file line text ∷ [])) = lines_then ∙ ap (λ e. old.lines_made + length (anchors_of 0 (e ∷ []))) is in
     (omega (arith, nodes_before, same), omega (arith, lines_before, more, room))

@@ -1,21 +1,23 @@
 -- Why a call on open sessions is refused.
-use Rattle.std.proofs.Common.{◌≡◌, ◌∙◌, sym, ap, subst, ℕ, Bool, true, false, List, length, nat_le, Option, Some, None, is_some, Result, Ok, Err, IfErr, if◌then◌else◌}
+use Rattle.std.proofs.Common.{◌≡◌, ◌∙◌, sym, ap, subst, ℕ, Bool, true, false, not, List, [], ◌∷◌, length, nat_le, Option, Some, None, is_some, Result, Ok, Err, IfErr, OnOk, if◌then◌else◌}
 use Rattle.std.specs.Result.{IsErrAnd}
 use Rattle.cov_expr.specs.Formula.{Formula, value}
 use Rattle.cov_rules.specs.Completion.{Completion, Complete, Invalid, Incomplete}
 use Rattle.cov_edit.specs.declared.command.Command.{Command}
 use Rattle.cov_edit.specs.declared.edit.Edit.{Edit}
+use Rattle.cov_view.specs.Refusals.{when, first_of}
 use Rattle.cov_view.specs.declared.fault.EditFault.{EditFault}
 use Rattle.cov_view.specs.declared.fault.EditFault.TheVariants as edit_faults
 use Rattle.cov_history.specs.Completing.{completed_in}
 use Rattle.cov_history.specs.Sessions.{Session}
-use Rattle.cov_session.specs.Adding.{addition_fault, with_edits, IsAdditionFault}
-use Rattle.cov_session.specs.Calls.{opened_among, taken, taken_by, refreshed_among, refreshed_by, IsSessionFaultOf}
+use Rattle.cov_session.specs.Adding.{addition_fault, grown, IsAdditionFault}
+use Rattle.cov_session.specs.Calls.{opened_among, side_set, side_set_by, taken, taken_by, refreshed_among, refreshed_by, IsSessionFaultOf}
 use Rattle.cov_session.specs.Faults.{unless}
 use Rattle.cov_session.specs.Named.{named, with_session}
 use Rattle.cov_session.specs.Open.{NamedSession}
 use Rattle.cov_session.specs.Opening.{new_session, opened, opened_on, IsOpeningFault}
 use Rattle.cov_session.specs.Refreshing.{refreshed}
+use Rattle.cov_session.specs.Siding.{first_late, as_late, side_fault, with_side}
 use Rattle.cov_session.specs.declared.fault.SessionFault.{SessionFault}
 use Rattle.cov_session.specs.declared.fault.SessionFault.TheVariants as faults
 use Rattle.cov_session.specs.declared.sessions.TheConstants.{MOST_SESSIONS}
@@ -25,13 +27,18 @@ pub passed-on : {X : Type 0} (P : SessionFault → Type 0) (fault : SessionFault
 passed-on P fault (Ok x) is h = tt
 passed-on P fault (Err e) is h = subst P (sym is) h
 
+-- what follows from two things that hold unless there is a fault
+pub both-done : {X E P Q R : Type 0} (result : Result X E) → (P → Q → R) → OnOk result P → OnOk result Q → OnOk result R
+both-done (Ok x) f p q = f p q
+both-done (Err e) f p q = tt
+
 -- edits that are refused in the session of a name are refused among all
 pub fault-taken : (history : List Command) (ss : List NamedSession) (name : List ℕ) (es : List Edit) (s : NamedSession) (fault : SessionFault)
     → named ss name ≡ Some s → IsAdditionFault fault (addition_fault history s.session es) → IsSessionFaultOf (taken history ss name es) fault
 fault-taken history ss name es s fault is h = subst (λ o. IsSessionFaultOf (taken_by history ss es o) fault) (sym is) (at fault (addition_fault history s.session es) h)
   where
     after : List NamedSession
-    after = with_session ss (record { name = s.name; session = with_edits s.session es })
+    after = with_session ss (grown s es)
 
     at : (f : SessionFault) (o : Option SessionFault) → IsAdditionFault f o → IsSessionFaultOf (unless o after) f
     at faults.Memory o k = tt
@@ -40,13 +47,40 @@ fault-taken history ss name es s fault is h = subst (λ o. IsSessionFaultOf (tak
 
 -- edits that are taken in the session of a name are taken among all
 pub taken-is : (history : List Command) (ss : List NamedSession) (name : List ℕ) (es : List Edit) (s : NamedSession)
-    → named ss name ≡ Some s → addition_fault history s.session es ≡ None → taken history ss name es ≡ Ok (with_session ss (record { name = s.name; session = with_edits s.session es }))
+    → named ss name ≡ Some s → addition_fault history s.session es ≡ None → taken history ss name es ≡ Ok (with_session ss (grown s es))
 taken-is history ss name es s is h =
-    ap (taken_by history ss es) is ∙ ap (λ o. unless o (with_session ss (record { name = s.name; session = with_edits s.session es }))) h
+    ap (taken_by history ss es) is ∙ ap (λ o. unless o (with_session ss (grown s es))) h
 
 -- no session of the name takes edits
 pub none-taken : (history : List Command) (ss : List NamedSession) (name : List ℕ) (es : List Edit) → named ss name ≡ None → taken history ss name es ≡ Err faults.NoSession
 none-taken history ss name es is = ap (taken_by history ss es) is
+
+-- a side that the session of a name takes, or refuses, is taken or refused among all
+module _ (ss : List NamedSession) (name : List ℕ) (side : Formula ℕ) where
+  pub set-is : (s : NamedSession) → named ss name ≡ Some s → side_fault s.session side ≡ None → side_set ss name side ≡ Ok (with_session ss (with_side s side))
+  set-is s is h = ap (side_set_by ss side) is ∙ ap (λ o. unless o (with_session ss (with_side s side))) h
+
+  pub set-refused : (s : NamedSession) (fault : SessionFault) → named ss name ≡ Some s → side_fault s.session side ≡ Some fault → side_set ss name side ≡ Err fault
+  set-refused s fault is h = ap (side_set_by ss side) is ∙ ap (λ o. unless o (with_session ss (with_side s side))) h
+
+  pub none-set : named ss name ≡ None → side_set ss name side ≡ Err faults.NoSession
+  none-set is = ap (side_set_by ss side) is
+
+  -- no side is refused for an edit's fault
+  never-edit : (f : EditFault) (o : Option NamedSession) → side_set_by ss side o ≡ Err (faults.Edit f) → ⊥
+  never-edit f None h = absurd (cc)
+  never-edit f (Some s) h = at (first_late (length s.session.choice) side) (not (value side s.session.choice)) h
+    where
+      at : (late : Option ℕ) (outside : Bool) → unless (first_of (as_late late ∷ when outside faults.OutsideSide ∷ [])) (with_session ss (with_side s side)) ≡ Err (faults.Edit f) → ⊥
+      at (Some option) outside k = absurd (cc)
+      at None true k = absurd (cc)
+      at None false k = absurd (cc)
+
+  -- why a side isn't taken, as the fault of a call
+  pub set-fault : (fault : SessionFault) → side_set ss name side ≡ Err fault → IsSessionFaultOf (side_set ss name side) fault
+  set-fault faults.Memory h = tt
+  set-fault (faults.Edit edit_faults.Memory) h = never-edit edit_faults.Memory (named ss name) h
+  set-fault fault h = h
 
 module _ (history : List Command) (ss : List NamedSession) (name : List ℕ) (partial : List (ℕ × Bool)) (ambition : Formula ℕ) where
   pub among-exists : is_some (named ss name) ≡ true → opened_among history ss name partial ambition ≡ Err faults.SessionExists

@@ -13,5 +13,7 @@ pub mod Naming
 pub mod Opening
 pub mod Refreshing
 pub mod Replacing
+pub mod Sided
 pub mod Staying
 pub mod Taking
+pub mod TakingSides

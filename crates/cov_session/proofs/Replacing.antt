@@ -22,8 +22,8 @@ use Rattle.cov_view.specs.declared.fault.EditFault.{EditFault}
 use Rattle.cov_view.specs.declared.fault.EditFault.TheVariants as edit_faults
 use Rattle.cov_history.specs.KeptLaws.{HoldingStands}
 use Rattle.cov_history.specs.Laws.{ReplayStands}
-use Rattle.cov_history.specs.Sessions.{seen}
-use Rattle.cov_session.specs.Adding.{with_edits, as_fault, addition_fault, IsAdditionFault}
+use Rattle.cov_history.specs.Sessions.{edits_of, seen}
+use Rattle.cov_session.specs.Adding.{on_side, with_edits, as_fault, addition_fault, IsAdditionFault}
 use Rattle.cov_session.specs.Faults.{by_edit}
 use Rattle.cov_session.specs.Open.{SessionValue, IsOpen, numbers_at_base, table_of}
 use Rattle.cov_session.specs.declared.fault.SessionFault.TheVariants as faults
@@ -42,8 +42,8 @@ refused-stays ns v k (e ∷ es) fs (d ∷ ds) gs r h = at (refusal ns v e) (λ m
     at None rest m = rest m
     at (Some f) rest m = m
 
-module _ (history : List Command) (s : SessionValue) (file : NodeRef) (line : LineRef) (text : List ℕ) (room : length s.session.edits + 2 ≤ LIMITS.edits)
-    (light : text_bytes (s.session.edits ++ edits.Insert file line text ∷ []) ≤ LIMITS.commit_bytes) (stands : HoldingStands) (replays : ReplayStands) (here : IsOpen history s) where
+module _ (history : List Command) (s : SessionValue) (file : NodeRef) (line : LineRef) (text : List ℕ) (room : length (edits_of s.session) + 2 ≤ LIMITS.edits)
+    (light : text_bytes (edits_of s.session ++ edits.Insert file line text ∷ []) ≤ LIMITS.commit_bytes) (stands : HoldingStands) (replays : ReplayStands) (here : IsOpen history s) where
   abbrev insert : Edit
   insert = edits.Insert file line text
 
@@ -60,7 +60,7 @@ module _ (history : List Command) (s : SessionValue) (file : NodeRef) (line : Li
   v = seen s.session history
 
   abbrev one : List Edit
-  one = s.session.edits ++ insert ∷ []
+  one = edits_of s.session ++ insert ∷ []
 
   abbrev table : List (List ℕ)
   table = (numbers_after ns one).addresses
@@ -68,8 +68,8 @@ module _ (history : List Command) (s : SessionValue) (file : NodeRef) (line : Li
   abbrev more : List NumberedEdit
   more = numbered_from ns table (ns.nodes + nodes_made one) (length ns.addresses + length (anchors_of (length ns.addresses) one)) (delete ∷ [])
 
-  both-is : s.session.edits ++ insert ∷ delete ∷ [] ≡ one ++ delete ∷ []
-  both-is = sym (append_assoc s.session.edits (insert ∷ []) (delete ∷ []))
+  both-is : edits_of s.session ++ insert ∷ delete ∷ [] ≡ one ++ delete ∷ []
+  both-is = sym (append_assoc (edits_of s.session) (insert ∷ []) (delete ∷ []))
 
   -- a deletion has no line of its own
   numbered-both : numbered ns (one ++ delete ∷ []) ≡ numbered ns one ++ more
@@ -79,14 +79,14 @@ module _ (history : List Command) (s : SessionValue) (file : NodeRef) (line : Li
       ∙ numbered-append ns table ns.nodes (length ns.addresses) _ _ (length ns.addresses) one (delete ∷ []) refl refl
 
   one-fits : length one ≤ LIMITS.edits
-  one-fits = let l = length-append s.session.edits (insert ∷ []) in omega (arith, l, room)
+  one-fits = let l = length-append (edits_of s.session) (insert ∷ []) in omega (arith, l, room)
 
-  one-room : length s.session.edits < LIMITS.edits
+  one-room : length (edits_of s.session) < LIMITS.edits
   one-room = omega (arith, room)
 
   by-both : addition_fault history s.session (insert ∷ delete ∷ []) ≡ as_fault (first_refused ns base (one ++ delete ∷ []))
   by-both =
-      let l = length-append s.session.edits (insert ∷ delete ∷ []) in
+      let l = length-append (edits_of s.session) (insert ∷ delete ∷ []) in
       let sum = ap text_bytes both-is ∙ bytes-append one (delete ∷ []) in
       by-first history s.session (insert ∷ delete ∷ []) (omega (arith, l, room)) (omega (arith, sum, light)) ∙ ap (λ es. as_fault (first_refused ns base es)) both-is
 
@@ -110,7 +110,7 @@ module _ (history : List Command) (s : SessionValue) (file : NodeRef) (line : Li
   -- where it isn't, the deletion decides
   after-first : refusal ns v insert ≡ None → addition_fault history s.session (insert ∷ delete ∷ []) ≡ as_fault (refused_at (length one) (refusal ns inserted delete) None)
   after-first h =
-      let first : first_refused ns base one ≡ None = first-refused history s (insert ∷ []) stands replays here ∙ ap (λ o. refused_at (length s.session.edits) o None) h in
+      let first : first_refused ns base one ≡ None = first-refused history s (insert ∷ []) stands replays here ∙ ap (λ o. refused_at (length (edits_of s.session)) o None) h in
       by-both
       ∙ ap as_fault (ap (refused_from ns base 0 (one ++ delete ∷ [])) numbered-both ∙ refused-behind ns base 0 (length one) table ns.nodes (length ns.addresses) one (delete ∷ []) more (omega arith) first)
       ∙ ap (λ w. as_fault (refused_at (length one) (refusal ns w delete) None)) (seen-after history s insert stands replays here)
@@ -125,11 +125,13 @@ module _ (history : List Command) (s : SessionValue) (file : NodeRef) (line : Li
   pub both-open : (view last : Seen) → Accepts s.view insert → Applies s.view insert view
       → view.nodes_made ≡ s.view.nodes_made + nodes_made (insert ∷ []) → view.lines_made ≡ s.view.lines_made + length (anchors_of 0 (insert ∷ []))
       → Accepts view delete → Applies view delete last → last.nodes_made ≡ view.nodes_made → last.lines_made ≡ view.lines_made
-      → IsOpen history (record { name = s.name; session = with_edits s.session (insert ∷ delete ∷ []); view = last })
+      → IsOpen history (record { name = s.name; side = s.side; session = with_edits s.session (on_side s.side (insert ∷ delete ∷ [])); view = last })
   both-open view last accepts applies nodes lines_same second deletes nodes_then lines_then =
-      subst (λ es. IsOpen history (record { name = s.name; session = record { base = s.session.base; choice = s.session.choice; ambition = s.session.ambition; edits = es }; view = last })) (sym both-is)
-      (open-after history (record { name = s.name; session = with_edits s.session (insert ∷ []); view = view }) delete stands replays
-      (open-after history s insert stands replays here view accepts applies nodes lines_same) last second deletes (omega (arith, nodes_then)) (omega (arith, lines_then)))
+      subst (λ ss. IsOpen history (record { name = s.name; side = s.side; session = record { base = s.session.base; choice = s.session.choice; ambition = s.session.ambition; edits = ss }; view = last }))
+      (append_assoc s.session.edits (on_side s.side (insert ∷ [])) (on_side s.side (delete ∷ [])))
+      (open-after history (record { name = s.name; side = s.side; session = with_edits s.session (on_side s.side (insert ∷ [])); view = view }) delete stands replays
+      (open-after history s insert stands replays here s.side view here.side_in_reach here.in_side accepts applies nodes lines_same)
+      s.side last here.side_in_reach here.in_side second deletes (omega (arith, nodes_then)) (omega (arith, lines_then)))
 
   abbrev n : ℕ
   n = node_number ns.nodes file

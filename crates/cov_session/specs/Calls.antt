@@ -7,12 +7,13 @@ use Rattle.cov_edit.specs.declared.edit.Edit.{Edit}
 use Rattle.cov_edit.specs.declared.command.Command.{Command}
 use Rattle.cov_view.specs.declared.fault.EditFault.TheVariants as edit_faults
 use Rattle.cov_history.specs.Sessions.{Session}
-use Rattle.cov_session.specs.Adding.{addition_fault, with_edits}
+use Rattle.cov_session.specs.Adding.{addition_fault, grown}
 use Rattle.cov_session.specs.Faults.{unless}
 use Rattle.cov_session.specs.Named.{named, left_by, with_session}
 use Rattle.cov_session.specs.Open.{NamedSession, SessionValue, IsOpen, as_named}
 use Rattle.cov_session.specs.Opening.{opened}
 use Rattle.cov_session.specs.Refreshing.{refreshed}
+use Rattle.cov_session.specs.Siding.{side_fault, with_side}
 use Rattle.cov_session.specs.declared.fault.SessionFault.{SessionFault}
 use Rattle.cov_session.specs.declared.fault.SessionFault.TheVariants as faults
 use Rattle.cov_session.specs.declared.opened.Opened.{Opened}
@@ -33,14 +34,23 @@ opened_among history ss name partial ambition =
     else if nat_le MOST_SESSIONS (length ss) then Err faults.TooManySessions
     else opened history partial ambition
 
--- the sessions with edits more in one that is open
+-- the sessions with edits more in one that is open, each of which has its current side
 abbrev pub taken_by : List Command → List NamedSession → List Edit → Option NamedSession → Result (List NamedSession) SessionFault
 taken_by history ss es None = Err faults.NoSession
-taken_by history ss es (Some s) = unless (addition_fault history s.session es) (with_session ss (record { name = s.name; session = with_edits s.session es }))
+taken_by history ss es (Some s) = unless (addition_fault history s.session es) (with_session ss (grown s es))
 
 -- the sessions with edits more in that of a name, all or none of them, or why it doesn't take them
 abbrev pub taken : List Command → List NamedSession → List ℕ → List Edit → Result (List NamedSession) SessionFault
 taken history ss name es = taken_by history ss es (named ss name)
+
+-- the sessions with another current side in one that is open
+abbrev pub side_set_by : List NamedSession → Formula ℕ → Option NamedSession → Result (List NamedSession) SessionFault
+side_set_by ss side None = Err faults.NoSession
+side_set_by ss side (Some s) = unless (side_fault s.session side) (with_session ss (with_side s side))
+
+-- the sessions with another current side in that of a name, or why it doesn't take it
+abbrev pub side_set : List NamedSession → List ℕ → Formula ℕ → Result (List NamedSession) SessionFault
+side_set ss name side = side_set_by ss side (named ss name)
 
 -- one that is open, refreshed
 abbrev pub refreshed_by : List Command → Option NamedSession → Result Session SessionFault

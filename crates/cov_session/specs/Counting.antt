@@ -6,11 +6,11 @@ use Rattle.cov_edit.specs.declared.edit.Edit.TheVariants as edits
 use Rattle.cov_edit.specs.History.{text_bytes}
 use Rattle.cov_edit.specs.Numbering.{nodes_made, anchors_of}
 use Rattle.cov_view.specs.Seen.{Seen}
-use Rattle.cov_history.specs.Sessions.{Session}
+use Rattle.cov_history.specs.Sessions.{Session, edits_of}
 
 -- how many lines a session has inserted
 abbrev pub own_lines : Session → ℕ
-own_lines s = length (anchors_of 0 s.edits)
+own_lines s = length (anchors_of 0 (edits_of s))
 
 -- the number of the line that an edit inserts, among those of its session
 abbrev pub line_made : Session → Edit → Option ℕ

@@ -8,3 +8,4 @@ pub mod Named
 pub mod Open
 pub mod Opening
 pub mod Refreshing
+pub mod Siding

@@ -30,4 +30,5 @@ IsOpeningFault fault wanted = wanted ≡ Err fault
 -- the option that a fault names, if it names one, is one of so many
 abbrev pub NamesDeclared : ℕ → SessionFault → Type 0
 NamesDeclared count (faults.Incomplete option) = option < count
+NamesDeclared count (faults.LateOption option) = option < count
 NamesDeclared count _ = Unit {0}

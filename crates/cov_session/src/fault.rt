@@ -6,7 +6,7 @@ use cov_base::{Memory, OptionId};
 use cov_rules::CompleteFault;
 use cov_view::EditFault;
 
-/// Why a session isn't opened or doesn't take edits, or want of memory.
+/// Why a session isn't opened or doesn't take a side or edits, or want of memory.
 #[derive(Clone, Copy, Debug, PartialEq, Eq)]
 pub enum SessionFault {
     /// No open session has the name.
@@ -21,6 +21,10 @@ pub enum SessionFault {
     Incomplete { option: OptionId },
     /// The ambition is false on the completed choice.
     OutsideAmbition,
+    /// The first option of a side, from the left, that isn't one of the session's choice.
+    LateOption { option: OptionId },
+    /// The side is false on the session's choice.
+    OutsideSide,
     /// The commit would have more than `LIMITS.edits` edits.
     TooManyEdits,
     /// The commit would have more than `LIMITS.commit_bytes` bytes of text.

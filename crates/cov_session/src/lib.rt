@@ -6,6 +6,7 @@ pub mod laws;
 mod opened;
 mod session;
 mod sessions;
+mod siding;
 mod viewing;
 
 pub use fault::{NoSession, SessionFault};

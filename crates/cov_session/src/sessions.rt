@@ -1,5 +1,5 @@
 // The sessions that are open, each called by its name.
-ghost use Rattle.std.specs.Prelude.{◌≡◌, ◌<◌, ◌≤◌, List, [], ◌∷◌, ◌++◌, true, nat_lt, map, Ok, None, Some, is_some, IfOk, IfErr, OnOk, OnErr, IsErrOf};
+ghost use Rattle.std.specs.Prelude.{◌≡◌, ◌<◌, ◌≤◌, List, ℕ, [], ◌∷◌, ◌++◌, true, nat_lt, map, Ok, None, Some, is_some, IfOk, IfErr, OnOk, OnErr, IsErrOf};
 ghost use Rattle.std.specs.List.{find, list_all};
 ghost use Rattle.std.specs.Map.{lookup};
 ghost use Rattle.std.specs.Option.{option_copied, option_map};
@@ -9,15 +9,15 @@ ghost use Rattle.slab.specs.Slab.{HasRoomFor};
 ghost use Rattle.cov_base.specs.Spelling.{is_line_text};
 ghost use Rattle.cov_base.specs.declared.error.MemoryOr.TheVariants as failing;
 ghost use Rattle.cov_dd.specs.Diagrams.{Extends};
-ghost use Rattle.cov_expr.specs.Formula.{reach};
+ghost use Rattle.cov_expr.specs.Formula.{True, reach};
 ghost use Rattle.cov_edit.specs.EditFits.{has_line_text};
 ghost use Rattle.cov_edit.specs.History.{option_count};
 ghost use Rattle.cov_edit.specs.declared.command.Command.{Command as AnyCommand};
 ghost use Rattle.cov_edit.specs.declared.edit.Edit.TheVariants as edits;
 ghost use Rattle.cov_history.specs.Sessions.{commit_of};
-ghost use Rattle.cov_session.specs.Calls.{AreOpen, IsOfName, IsSessionFaultOf, Makes, opened_among, taken, refreshed_among};
+ghost use Rattle.cov_session.specs.Calls.{AreOpen, IsOfName, IsSessionFaultOf, Makes, opened_among, side_set, taken, refreshed_among};
 ghost use Rattle.cov_session.specs.Counting.{own_lines, line_made};
-ghost use Rattle.cov_session.specs.Named.{named, with_session, without};
+ghost use Rattle.cov_session.specs.Named.{named, side_of, with_session, without};
 ghost use Rattle.cov_session.specs.Open.{SessionValue, as_named};
 ghost use Rattle.cov_session.specs.Opening.{NamesDeclared};
 
@@ -72,9 +72,9 @@ impl Sessions {
         }
     }
 
-    /// Opens a session now, within an ambition, on the choice to which the rules complete a partial one. `SessionExists`,
-    /// `TooManySessions`, `Invalid`, `Incomplete` and `OutsideAmbition` come in this order; at any `Err` no session changes.
-    /// It takes time in the rows and lines that the engine keeps.
+    /// Opens a session now, within an ambition and with the side `True`, on the choice to which the rules complete a partial one.
+    /// `SessionExists`, `TooManySessions`, `Invalid`, `Incomplete` and `OutsideAmbition` come in this order; at any `Err` no
+    /// session changes. It takes time in the rows and lines that the engine keeps.
     pub fn open(
         &mut self,
         engine: &mut Engine,
@@ -90,8 +90,8 @@ impl Sessions {
         ensures opened { IfOk result (λ opened.
             Makes
             (opened_among engine.old.history (map as_named self.old) name partial.now ambition)
-            (λ s. map as_named self.old ++ record { name = name; session = s } ∷ []) opened
-            (map as_named self.new)) }
+            (λ s. map as_named self.old ++ record { name = name; side = True; session = s } ∷ [])
+            opened (map as_named self.new)) }
         ensures open { AreOpen engine.old.history self.old → AreOpen engine.old.history self.new }
         ensures refused { IfErr result (IsSessionFaultOf
             (opened_among engine.old.history (map as_named self.old) name partial.now ambition)) }
@@ -115,9 +115,31 @@ impl Sessions {
         }
     }
 
-    /// Edits in the session of a name, which answers the number of the line that it inserts, from 0 among those of the session.
-    /// `NoSession`, `TooManyEdits`, `TooManyBytes` and what the session sees refuse in this order; at any `Err` no session
-    /// changes. It takes the time of `View::apply`.
+    /// Makes a side the current one of the session of a name: each edit that follows has it. `NoSession`, `LateOption` and
+    /// `OutsideSide` come in this order; at any `Err` no session changes. It takes no memory, and time in the parts of the side.
+    pub fn side(&mut self, name: &Name, side: Expr) -> Result<(), SessionFault>
+        ensures set { OnOk result
+            (side_set (map as_named self.old) name.now side ≡ Ok (map as_named self.new)) }
+        ensures open { (history : List AnyCommand) → AreOpen history self.old →
+            AreOpen history self.new }
+        ensures refused { IfErr result (λ fault.
+            side_set (map as_named self.old) name.now side ≡ Err fault) }
+        ensures declared { IfErr result (λ fault. (count : ℕ) → reach side ≤ count →
+            NamesDeclared count fault) }
+        ensures same { OnErr result (self.new ≡ self.old) }
+    {
+        let Some(key) = key_of(&self.keys, name) else {
+            return Err(SessionFault::NoSession);
+        };
+        let Some(session) = self.sessions.get_mut(key) else {
+            unreachable!()
+        };
+        session.set_side(side)
+    }
+
+    /// Edits in the session of a name with its current side, which answers the number of the line that it inserts, from 0 among
+    /// those of the session. `NoSession`, `TooManyEdits`, `TooManyBytes` and what the session sees refuse in this order; at any
+    /// `Err` no session changes. It takes the time of `View::apply`.
     pub fn edit(&mut self, name: &Name, edit: Edit) -> Result<Option<u32>, SessionFault>
         requires text { has_line_text edit ≡ true }
         ensures taken { OnOk result ((history : List AnyCommand) → AreOpen history self.old →
@@ -133,6 +155,7 @@ impl Sessions {
             IsSessionFaultOf (taken history (map as_named self.old) name.now (edit ∷ [])) fault) }
         ensures same { OnErr result (self.new ≡ self.old) }
     {
+        let alloc = *self.keys.allocator();
         let Some(key) = key_of(&self.keys, name) else {
             return Err(SessionFault::NoSession);
         };
@@ -140,13 +163,13 @@ impl Sessions {
             unreachable!()
         };
         let number = session.line_made(&edit);
-        session.edit(edit)?;
+        session.edit(alloc, edit)?;
         Ok(number)
     }
 
-    /// Replaces a line in the session of a name: inserts another directly after it, and deletes it, both or neither. It answers
-    /// the number of the new line, from 0 among those of the session. What refuses it comes in the order of `edit`; at any
-    /// `Err` no session changes.
+    /// Replaces a line in the session of a name with its current side: inserts another directly after it, and deletes it, both or
+    /// neither. It answers the number of the new line, from 0 among those of the session. What refuses it comes in the order of
+    /// `edit`; at any `Err` no session changes.
     pub fn replace(
         &mut self,
         name: &Name,
@@ -171,6 +194,7 @@ impl Sessions {
             (edits.Insert file line text ∷ edits.Delete file line ∷ [])) fault) }
         ensures same { OnErr result (self.new ≡ self.old) }
     {
+        let alloc = *self.keys.allocator();
         let Some(key) = key_of(&self.keys, name) else {
             return Err(SessionFault::NoSession);
         };
@@ -178,7 +202,7 @@ impl Sessions {
             unreachable!()
         };
         let number = session.own_lines();
-        session.replace(file, line, text)?;
+        session.replace(alloc, file, line, text)?;
         Ok(number)
     }
 
@@ -195,8 +219,9 @@ impl Sessions {
     }
 
     /// Refreshes the session of a name: its base is now, on the choice to which the rules complete its own, with its edits applied
-    /// again. `NoSession`, `Invalid`, `Incomplete` and `EditLost` come in this order; at any `Err` no session changes. It takes
-    /// time in the rows and lines that the engine keeps and, for each edit, that of `View::apply`.
+    /// again; these keep their sides, and the current side stays. `NoSession`, `Invalid`, `Incomplete` and `EditLost` come in
+    /// this order; at any `Err` no session changes. It takes time in the rows and lines that the engine keeps and, for each edit,
+    /// that of `View::apply`.
     pub fn refresh(&mut self, engine: &mut Engine, name: &Name) -> Result<Opened, SessionFault>
         requires open { AreOpen engine.old.history self.old }
         ensures history { engine.new.history ≡ engine.old.history }
@@ -204,8 +229,11 @@ impl Sessions {
         ensures refreshed { IfOk result (λ opened.
             Makes
             (refreshed_among engine.old.history (map as_named self.old) name.now)
-            (λ s. with_session (map as_named self.old) (record { name = name.now; session = s }))
-            opened (map as_named self.new)) }
+            (λ s. with_session (map as_named self.old) (record {
+              name = name.now;
+              side = side_of (map as_named self.old) name.now;
+              session = s;
+            })) opened (map as_named self.new)) }
         ensures open { AreOpen engine.old.history self.new }
         ensures refused { IfErr result (IsSessionFaultOf
             (refreshed_among engine.old.history (map as_named self.old) name.now)) }

@@ -3,17 +3,17 @@ ghost use Rattle.std.specs.Prelude.{◌≡◌, ◌≤◌, List, [], true, length
 ghost use Rattle.std.specs.List.{enumerate_from};
 ghost use Rattle.cov_base.specs.declared.limits.TheConstants.{LIMITS};
 ghost use Rattle.cov_dd.specs.Diagrams.{Extends};
-ghost use Rattle.cov_expr.specs.Formula.{reach, value};
 ghost use Rattle.cov_rules.specs.Completion.{Complete};
 ghost use Rattle.cov_edit.specs.History.{option_count, first_false_in};
 ghost use Rattle.cov_edit.specs.declared.command.Command.{Command as AnyCommand};
 ghost use Rattle.cov_history.specs.Completing.{completed_in};
+ghost use Rattle.cov_history.specs.Sessions.{edits_of};
 ghost use Rattle.cov_session.specs.Adding.{IsAdditionFault};
 ghost use Rattle.cov_session.specs.Calls.{IsSessionFaultOf};
 ghost use Rattle.cov_session.specs.Faults.{by_loss};
 ghost use Rattle.cov_session.specs.Open.{SessionValue, IsOpen};
 ghost use Rattle.cov_session.specs.Opening.{NamesDeclared};
-ghost use Rattle.cov_session.specs.Refreshing.{first_lost, rebased, refreshed, with_work};
+ghost use Rattle.cov_session.specs.Refreshing.{IsInReach, IsInside, first_lost, rebased, refreshed, with_work};
 
 use super::OpenSession;
 use crate::SessionFault;
@@ -28,15 +28,16 @@ use cov_view::{EditFault, View};
 use std::alloc::Global;
 
 impl OpenSession {
-    /// Moves the base to now, on the choice to which the rules complete its own, and applies the edits again. `Invalid`,
-    /// `Incomplete` and `EditLost` come in this order, exactly where the completion and the edits say so; at any `Err` it stays
-    /// as it is. It takes time in the rows and lines that the engine keeps and in the edits, and copies none of their text
-    /// but into the view.
+    /// Moves the base to now, on the choice to which the rules complete its own, and applies the edits again; all sides stay.
+    /// `Invalid`, `Incomplete` and `EditLost` come in this order, exactly where the completion and the edits say so; at any `Err`
+    /// it stays as it is. It takes time in the rows and lines that the engine keeps and in the edits, and copies none of their
+    /// text but into the view.
     pub fn refresh(&mut self, alloc: Global, engine: &mut Engine) -> Result<(), SessionFault>
         requires open { IsOpen engine.old.history self.old }
         ensures history { engine.new.history ≡ engine.old.history }
         ensures extends { Extends engine.old.table engine.new.table }
         ensures name { self.new.name ≡ self.old.name }
+        ensures side { self.new.side ≡ self.old.side }
         ensures refreshed { OnOk result
             (refreshed engine.old.history self.old.session ≡ Ok self.new.session) }
         ensures open { OnOk result (IsOpen engine.old.history self.new) }
@@ -64,7 +65,7 @@ impl OpenSession {
             ≡ Complete choice) }
         ensures count { IfOk result (λ choice. length choice ≡ option_count engine.old.history) }
         ensures valid { IfOk result (λ choice. first_false_in engine.old.history choice ≡ None) }
-        ensures inside { IfOk result (λ choice. value self.now.session.ambition choice ≡ true) }
+        ensures inside { IfOk result (λ choice. IsInside self.now choice) }
         ensures refused { IfErr result
             (IsSessionFaultOf (refreshed engine.old.history self.now.session)) }
         ensures declared { IfErr result (NamesDeclared (option_count engine.old.history)) }
@@ -74,21 +75,22 @@ impl OpenSession {
         Ok(engine.complete(&own)?)
     }
 
-    // What it would see now on a choice within its ambition that meets the constraints.
+    // What it would see now on a choice within its ambition and its sides that meets the constraints.
     fn view_on(&self, engine: &Engine, choice: Choice) -> Result<View, SessionFault>
         requires count { length choice ≡ option_count engine.now.history }
-        requires ambition { reach self.now.session.ambition ≤ option_count engine.now.history }
+        requires reach { IsInReach (option_count engine.now.history) self.now }
         requires valid { first_false_in engine.now.history choice ≡ None }
-        requires inside { value self.now.session.ambition choice ≡ true }
+        requires inside { IsInside self.now choice }
         ensures open { IfOk result (λ view. IsOpen engine.now.history (record {
           name = self.now.name;
+          side = self.now.side;
           session = rebased self.now.session (length engine.now.history) choice;
           view = view;
         })) }
         ensures refused { IfErr result (λ fault. IsAdditionFault fault
             (first_lost engine.now.history
             (rebased self.now.session (length engine.now.history) choice)
-            self.now.session.edits)) }
+            (edits_of self.now.session))) }
     {
         let mut view = view_now(engine, choice)?;
         apply_all(&mut view, self.edits.as_slice())?;

@@ -15,5 +15,5 @@ returns-in_err-complete-clause-declared c =
 
 pub returns-clause-inside : goal.returns-clause-inside
 returns-clause-inside c =
-    still-good c.args.engine.now.history c.args.self.now.session _ _ c.self.inside.choice _ c.in_ok-complete.field-0 c.requires.open.good (ap (λ (s : SessionValue). s.session.choice) c.self.view_is)
+    still-good c.args.engine.now.history c.args.self.now _ _ c.self.inside.choice _ c.in_ok-complete.field-0 c.requires.open (ap (λ (s : SessionValue). s.session.choice) c.self.view_is)
     c.in_ok-own.ensures.bindings c.in_ok-complete.ensures.answer

@@ -1,20 +1,19 @@
-use Rattle.std.proofs.Common.{◌∙◌, sym, ap, subst, length, ◌≤◌, Ok}
+use Rattle.std.proofs.Common.{◌∙◌, sym, ap, subst, length, Ok}
 use Rattle.std.proofs.lemmas.Result.{err_from_is_err_and}
-use Rattle.cov_expr.specs.Formula.{reach}
 use Rattle.cov_edit.specs.History.{option_count}
 use Rattle.cov_engine.specs.States.{EngineValue}
 use Rattle.cov_session.specs.Adding.{IsAdditionFault}
 use Rattle.cov_session.specs.Open.{SessionValue}
-use Rattle.cov_session.specs.Refreshing.{rebased, first_lost}
+use Rattle.cov_session.specs.Refreshing.{IsInReach, rebased, first_lost}
 use Rattle.cov_session.specs.contracts.session.OpenSession.{the_view}
-use Rattle.cov_history.specs.Sessions.{IsGood}
+use Rattle.cov_history.specs.Sessions.{edits_of, IsGood}
 use Rattle.cov_session.proofs.Refreshing.{reach-within, loss-refused, refreshed-is, open-at}
 use Rattle.cov_session.proofs.session.OpenSession.refresh.Goals as goal
 
-pub view_on-requires-clause-ambition : goal.view_on-requires-clause-ambition
-view_on-requires-clause-ambition c =
-    subst (λ h. reach c.args.self.now.session.ambition ≤ option_count h) (sym (ap (λ (e : EngineValue). e.history) c.bring_forward.ensures ∙ c.completed_now.ensures.history))
-    (reach-within c.args.engine.now.history c.args.self.now.session c.requires.open.good)
+pub view_on-requires-clause-reach : goal.view_on-requires-clause-reach
+view_on-requires-clause-reach c =
+    subst (λ h. IsInReach (option_count h) c.args.self.now) (sym (ap (λ (e : EngineValue). e.history) c.bring_forward.ensures ∙ c.completed_now.ensures.history))
+    (reach-within c.args.engine.now.history c.args.self.now c.requires.open)
 
 pub returns-in_err-view-clause-refused : goal.returns-in_err-view-clause-refused
 returns-in_err-view-clause-refused c =
@@ -22,7 +21,7 @@ returns-in_err-view-clause-refused c =
     let p = err_from_is_err_and c.from_residual-in_err-view.result c.from_residual-in_err-view.ensures.1 in
     rw (p.1, p.2)
     (loss-refused c.args.engine.now.history s c.in_ok-choice.choice c.in_err-view.field-0.0 c.in_ok-choice.ensures.completed
-    (subst (λ h. IsAdditionFault c.in_err-view.field-0.0 (first_lost h (rebased s (length h) c.in_ok-choice.choice) s.edits)) (ap (λ (e : EngineValue). e.history) c.bring_forward.ensures ∙ c.completed_now.ensures.history) c.in_err-view.ensures.refused))
+    (subst (λ h. IsAdditionFault c.in_err-view.field-0.0 (first_lost h (rebased s (length h) c.in_ok-choice.choice) (edits_of s))) (ap (λ (e : EngineValue). e.history) c.bring_forward.ensures ∙ c.completed_now.ensures.history) c.in_err-view.ensures.refused))
 
 pub returns-clause-refreshed : goal.returns-clause-refreshed
 returns-clause-refreshed c =

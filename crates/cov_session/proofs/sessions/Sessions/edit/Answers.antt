@@ -37,7 +37,7 @@ invariant_of-self-2 c =
 pub returns-clause-taken : goal.returns-clause-taken
 returns-clause-taken c =
     takes c.self.inside.keys.entries c.self.inside.sessions c.args.name.now c.self.invariant c.args.self.now c.self.view_is c.in-Some.key (sym c.in-Some.ensures) c.in-Some-get_mut.session.now (sym c.in-Some-get_mut.ensures.value)
-    c.edit.new.self c.edit.ensures.name (c.args.edit ∷ []) c.in_ok-edit.ensures.accepted c.in_ok-edit.ensures.grown
+    c.edit.new.self c.edit.ensures.name (c.args.edit ∷ []) c.edit.ensures.side c.in_ok-edit.ensures.accepted c.in_ok-edit.ensures.grown
 
 pub returns-clause-open : goal.returns-clause-open
 returns-clause-open c = λ history are.

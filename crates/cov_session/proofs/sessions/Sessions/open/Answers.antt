@@ -59,7 +59,7 @@ returns-clause-opened c =
     let added = key-added keys c.make_room.new.keys c.args.name c.in_ok-own.own c.insert_reserved-key.result c.insert.new.self.entries free c.in_ok-own.ensures.name c.in_ok-own.ensures.keys c.in-Ok.ensures.entries in
     begins c.self.inside.keys.entries c.self.inside.sessions c.args.name c.self.invariant c.args.self.now c.self.view_is c.args.engine.now.history c.args.partial.now c.args.ambition free few
     c.make_room.new.sessions c.insert_reserved-key.new.self c.in_ok-own.ensures.sessions c.in_ok-own.own c.insert_reserved-key.result c.insert.new.self.entries added c.in_ok-session.session
-    c.insert_reserved-key.ensures.was_vacant c.insert_reserved-key.ensures.updates c.standing-opened.result c.in_ok-session.ensures.name c.in_ok-session.ensures.opened c.standing-opened.ensures.base c.standing-opened.ensures.choice
+    c.insert_reserved-key.ensures.was_vacant c.insert_reserved-key.ensures.updates c.standing-opened.result c.in_ok-session.ensures.name c.in_ok-session.ensures.side c.in_ok-session.ensures.opened c.standing-opened.ensures.base c.standing-opened.ensures.choice
 
 pub returns-clause-open : goal.returns-clause-open
 returns-clause-open c = λ are.

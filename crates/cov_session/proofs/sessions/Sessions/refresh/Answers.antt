@@ -34,7 +34,7 @@ invariant_of-self-2 c =
 pub returns-clause-refreshed : goal.returns-clause-refreshed
 returns-clause-refreshed c =
     refreshes c.self.inside.keys.entries c.self.inside.sessions c.args.name.now c.self.invariant c.args.self.now c.self.view_is c.in-Some.key (sym c.in-Some.ensures) c.in-Some-get_mut.session.now (sym c.in-Some-get_mut.ensures.value)
-    c.refresh.new.self c.refresh.ensures.name c.args.engine.now.history c.standing.result c.in_ok-refresh.ensures.refreshed c.standing.ensures.base c.standing.ensures.choice
+    c.refresh.new.self c.refresh.ensures.name c.args.engine.now.history c.standing.result c.refresh.ensures.side c.in_ok-refresh.ensures.refreshed c.standing.ensures.base c.standing.ensures.choice
 
 pub returns-clause-open : goal.returns-clause-open
 returns-clause-open c =

@@ -38,7 +38,7 @@ invariant_of-self-2 c =
 pub returns-clause-taken : goal.returns-clause-taken
 returns-clause-taken c =
     takes c.self.inside.keys.entries c.self.inside.sessions c.args.name.now c.self.invariant c.args.self.now c.self.view_is c.in-Some.key (sym c.in-Some.ensures) c.in-Some-get_mut.session.now (sym c.in-Some-get_mut.ensures.value)
-    c.replace.new.self c.replace.ensures.name (edits.Insert c.args.file c.args.line c.args.text ∷ edits.Delete c.args.file c.args.line ∷ []) c.in_ok-replace.ensures.accepted c.in_ok-replace.ensures.grown
+    c.replace.new.self c.replace.ensures.name (edits.Insert c.args.file c.args.line c.args.text ∷ edits.Delete c.args.file c.args.line ∷ []) c.replace.ensures.side c.in_ok-replace.ensures.accepted c.in_ok-replace.ensures.grown
 
 pub returns-clause-open : goal.returns-clause-open
 returns-clause-open c = λ history are.
