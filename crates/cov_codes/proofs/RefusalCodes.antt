@@ -10,7 +10,7 @@ use Rattle.cov_view.specs.Refusals.{when, first_of}
 use Rattle.cov_view.specs.declared.fault.EditFault.{EditFault}
 use Rattle.cov_history.proofs.CallerLemmas.{bad-is}
 use Rattle.cov_history.specs.BadChoices.{as_unsound, bad_choice, fault_after, fault_refusal, unsound_refusal}
-use Rattle.cov_history.specs.Verdict.{as_bad_record, as_invalid, as_overtaken, refusals_of, verdict, when_full}
+use Rattle.cov_history.specs.Verdict.{as_bad_record, as_invalid, as_outside, as_overtaken, refusals_of, verdict, when_full}
 use Rattle.cov_history.specs.declared.refusal.Refusal.{Refusal}
 use Rattle.cov_history.specs.declared.refusal.Refusal.TheVariants as refusals
 use Rattle.cov_script.specs.Replies.{IsCodeOf}
@@ -39,6 +39,10 @@ module _ (n : ℕ) where
   told-bad_record None = tt
   told-bad_record (Some refused) = tt
 
+  told-outside : (o : Option ℕ) → Told (as_outside o)
+  told-outside None = tt
+  told-outside (Some edit) = tt
+
   told-overtaken : (o : Option ℕ) → Told (as_overtaken o)
   told-overtaken None = tt
   told-overtaken (Some position) = tt
@@ -62,7 +66,7 @@ told-all history (commands.Option name) = let n : ℕ = option_count history in 
 told-all history (commands.Constraint expr) = let n : ℕ = option_count history in (told-when n _ refusals.BadOption tt, (told-when n _ refusals.Full tt, (told-when n _ refusals.NoVariantLeft tt, tt)))
 told-all history (commands.Prefer expr) = let n : ℕ = option_count history in (told-when n _ refusals.BadOption tt, (told-when n _ refusals.Full tt, tt))
 told-all history (commands.Default option on) = let n : ℕ = option_count history in (told-when n _ refusals.BadOption tt, (told-when n _ refusals.Full tt, tt))
-told-all history (commands.Commit base choice ambition es) = let n : ℕ = option_count history in (told-when n _ refusals.BadBase tt, (told-when n _ refusals.BadOption tt, (told-when n _ refusals.TooManyEdits tt, (told-when n _ refusals.TooManyLines tt, (told-when n _ refusals.TooManyNodes tt, (told-when n _ refusals.TooManyBytes tt, (told-invalid n _, (told-when n _ refusals.OutsideAmbition tt, (told-when n _ refusals.Empty tt, (told-bad_record n _, (told-overtaken n _, (told-unsound history ambition (commands.Commit base choice ambition es), tt))))))))))))
+told-all history (commands.Commit base choice ambition ss) = let n : ℕ = option_count history in (told-when n _ refusals.BadBase tt, (told-when n _ refusals.BadOption tt, (told-when n _ refusals.TooManyEdits tt, (told-when n _ refusals.TooManyLines tt, (told-when n _ refusals.TooManyNodes tt, (told-when n _ refusals.TooManyBytes tt, (told-invalid n _, (told-when n _ refusals.OutsideAmbition tt, (told-outside n _, (told-when n _ refusals.Empty tt, (told-bad_record n _, (told-overtaken n _, (told-unsound history ambition (commands.Commit base choice ambition ss), tt)))))))))))))
 
 -- a command's refusal can be told
 refusal-told : (history : List Command) (k : Command) → Told (option_count history) (verdict history k)

@@ -5,7 +5,7 @@ use Rattle.cov_base.specs.Spelling.{path_of}
 use Rattle.cov_expr.specs.ChoiceText.{bindings_of, switch_of}
 use Rattle.cov_script.specs.Fields.{Rest, ahead, place, behind, go_on, field, taken, at_end, expression, text, token_of, name_of, new_path_of, word_of, number_of, line_field_of, first_field}
 use Rattle.cov_script.specs.Kinds.{Kind, Expression, Text, is_of, ends_at_space, kinds_behind}
-use Rattle.cov_script.specs.Lines.{line_behind, two_fields, alone, pair, triple, made, line_and_text, named_text, ambition, opening}
+use Rattle.cov_script.specs.Lines.{line_behind, two_fields, alone, pair, triple, made, line_and_text, named_text, ambition, opening, named_expression}
 use Rattle.cov_script.specs.declared.keyword.Keyword.{Keyword}
 use Rattle.cov_script.specs.declared.keyword.Keyword.TheVariants as keywords
 use Rattle.cov_script.specs.declared.line.Line.{Line}
@@ -120,6 +120,11 @@ open-told rest =
     (λ n c r. value-told (ambition r) (λ e. (n, c, e)) ∙ ambition-told r)
     rest
 
+side-told : (rest : Rest) → told (line_behind keywords.Side rest) ≡ go_on (field (tested name_of) rest) (λ a. told (expression a.1))
+side-told rest =
+    value-told (named_expression rest) (λ a. lines.Side a.0 a.1)
+    ∙ field-told name_of (λ a. go_on (expression a.1) (λ e. Ok (a.0, e))) (λ r. told (expression r)) (λ n r. value-told (expression r) (λ e. (n, e))) rest
+
 -- a keyword's form is read by the kinds of its fields
 pub behind-told : (k : Keyword) (rest : Rest) → told (line_behind k rest) ≡ checked (kinds_behind k) rest
 behind-told keywords.Option rest = one-told token_of (λ t. lines.Option t) rest
@@ -128,6 +133,7 @@ behind-told keywords.Prefer rest = value-told (expression rest) (λ e. lines.Pre
 behind-told keywords.Default rest = two-told token_of switch_of (λ t on. lines.Default t on) rest
 behind-told keywords.Complete rest = one-told bindings_of (λ c. lines.Complete c) rest
 behind-told keywords.Open rest = open-told rest
+behind-told keywords.Side rest = side-told rest
 behind-told keywords.MakeDir rest = two-told name_of new_path_of (λ n p. lines.MakeDir n p) rest
 behind-told keywords.MakeFile rest = two-told name_of new_path_of (λ n p. lines.MakeFile n p) rest
 behind-told keywords.Rename rest = three-told name_of path_of name_of (λ n p to. lines.Rename n p to) rest

@@ -3,7 +3,7 @@ use Rattle.std.proofs.Common.{◌≡◌, ℕ, true, false, [], ◌∷◌, ◌++�
 use Rattle.std.specs.Prelude.{codes}
 use Rattle.std.specs.Str.{is_utf8, chars}
 use lib.Utf8.{encode}
-use Rattle.cov_expr.specs.Formula.{On, And, Or, Not}
+use Rattle.cov_expr.specs.Formula.{True, On, And, Or, Not}
 use Rattle.cov_script.specs.Fields.{long_number_of}
 use Rattle.cov_script.specs.Lines.{form_of}
 use Rattle.cov_script.specs.declared.line.Line.{Line}
@@ -25,13 +25,13 @@ rules : map form_of ([] ∷ codes "# option" ∷ codes "option 9x" ∷ codes "co
     ∷ Ok (lines.Default (codes "a") false) ∷ Ok (lines.Complete ((codes "a", true) ∷ (codes "b", false) ∷ [])) ∷ Ok (lines.Presence 4294967295) ∷ []
 rules = refl
 
-places_of_sessions : map form_of (codes "open s - fro a" ∷ codes "open s - for a)" ∷ codes "mkdir s /" ∷ codes "mkfile s m" ∷ codes "rename s /m /n" ∷ codes "insert s /m 4294967296 one" ∷ codes "insert s /m 01 one" ∷ codes "insert s /m  1" ∷ codes "delete s /m 12 " ∷ codes "show s  /m" ∷ codes "refresh s s" ∷ codes "drop .." ∷ codes "alt - a" ∷ [])
-    ≡ map at (9 ∷ 14 ∷ 8 ∷ 9 ∷ 12 ∷ 12 ∷ 12 ∷ 12 ∷ 14 ∷ 7 ∷ 9 ∷ 5 ∷ 7 ∷ [])
+places_of_sessions : map form_of (codes "open s - fro a" ∷ codes "open s - for a)" ∷ codes "side" ∷ codes "side / a" ∷ codes "side s" ∷ codes "side s " ∷ codes "side s a &" ∷ codes "side s a $" ∷ codes "side s a b" ∷ codes "mkdir s /" ∷ codes "mkfile s m" ∷ codes "rename s /m /n" ∷ codes "insert s /m 4294967296 one" ∷ codes "insert s /m 01 one" ∷ codes "insert s /m  1" ∷ codes "delete s /m 12 " ∷ codes "show s  /m" ∷ codes "refresh s s" ∷ codes "drop .." ∷ codes "alt - a" ∷ [])
+    ≡ map at (9 ∷ 14 ∷ 4 ∷ 5 ∷ 6 ∷ 7 ∷ 10 ∷ 9 ∷ 9 ∷ 8 ∷ 9 ∷ 12 ∷ 12 ∷ 12 ∷ 12 ∷ 14 ∷ 7 ∷ 9 ∷ 5 ∷ 7 ∷ [])
 unfolding is_utf8 chars encode
 places_of_sessions = refl
 
-sessions : map form_of (codes "open s a=on for a & b" ∷ codes "insert s /m +0" ∷ codes "insert s /m +0 " ∷ codes "insert s /m 7  one two" ∷ codes "delete s / 0" ∷ codes "cat - /d/m" ∷ codes "alt - 9x /m" ∷ [])
-    ≡ Ok (lines.OpenSession (codes "s") ((codes "a", true) ∷ []) (And (On (codes "a")) (On (codes "b")))) ∷ Ok (lines.Insert (codes "s") (codes "m" ∷ []) (Own 0) []) ∷ Ok (lines.Insert (codes "s") (codes "m" ∷ []) (Own 0) [])
+sessions : map form_of (codes "open s a=on for a & b" ∷ codes "side s a | !b" ∷ codes "side s  true " ∷ codes "insert s /m +0" ∷ codes "insert s /m +0 " ∷ codes "insert s /m 7  one two" ∷ codes "delete s / 0" ∷ codes "cat - /d/m" ∷ codes "alt - 9x /m" ∷ [])
+    ≡ Ok (lines.OpenSession (codes "s") ((codes "a", true) ∷ []) (And (On (codes "a")) (On (codes "b")))) ∷ Ok (lines.Side (codes "s") (Or (On (codes "a")) (Not (On (codes "b"))))) ∷ Ok (lines.Side (codes "s") True) ∷ Ok (lines.Insert (codes "s") (codes "m" ∷ []) (Own 0) []) ∷ Ok (lines.Insert (codes "s") (codes "m" ∷ []) (Own 0) [])
     ∷ Ok (lines.Insert (codes "s") (codes "m" ∷ []) (Number 7) (codes " one two")) ∷ Ok (lines.Delete (codes "s") [] (Number 0)) ∷ Ok (lines.Cat [] (codes "d" ∷ codes "m" ∷ [])) ∷ Ok (lines.Alt [] (codes "9x") (codes "m" ∷ [])) ∷ []
 unfolding is_utf8 chars encode
 sessions = refl
@@ -53,8 +53,9 @@ unfolding is_utf8 chars encode
 texts = refl
 
 -- an expression has at most 256 tokens, and a byte that is none comes first
-too_long : map form_of ((codes "constraint " ++ replicate 256 33 ++ codes "a") ∷ (codes "constraint " ++ replicate 256 33 ++ codes "$") ∷ [])
-    ≡ Err TooLong ∷ at 267 ∷ []
+too_long : map form_of ((codes "constraint " ++ replicate 256 33 ++ codes "a") ∷ (codes "constraint " ++ replicate 256 33 ++ codes "$") ∷ (codes "side s " ++ replicate 256 33 ++ codes "a") ∷ (codes "side s " ++ replicate 255 33) ∷ [])
+    ≡ Err TooLong ∷ at 267 ∷ Err TooLong ∷ at 262 ∷ []
+unfolding is_utf8 chars encode
 too_long = refl
 
 -- numbers of 64 bits, the greatest among them; no number at all, one with a leading zero, with a sign, and one of more bits

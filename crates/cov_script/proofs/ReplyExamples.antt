@@ -60,11 +60,11 @@ refused_with_choices : map (refused_reply names) (refusals.Clash 1 12 (true ∷ 
 unfolding digits
 refused_with_choices = refl
 
-refused_with_more : map (refused_reply names) (refusals.Syntax 17 ∷ refusals.UnknownOption (codes "on") ∷ refusals.Repeated 1 ∷ refusals.Invalid 2 ∷ refusals.Incomplete 0 ∷ refusals.EditLost 0 ∷ refusals.BadRecord 16383 ∷ refusals.SideInvalid true 256 ∷ refusals.SideInvalid false 1 ∷ [])
-    ≡ codes "refused syntax 17\n" ∷ codes "refused unknown-option on\n" ∷ codes "refused repeated safe\n" ∷ codes "refused invalid 2\n" ∷ codes "refused incomplete fast\n" ∷ codes "refused edit-lost 0\n" ∷ codes "refused bad-record 16383\n" ∷ codes "refused side-invalid on 256\n" ∷ codes "refused side-invalid off 1\n" ∷ []
+refused_with_more : map (refused_reply names) (refusals.Syntax 17 ∷ refusals.UnknownOption (codes "on") ∷ refusals.Repeated 1 ∷ refusals.Invalid 2 ∷ refusals.Incomplete 0 ∷ refusals.EditLost 0 ∷ refusals.BadRecord 16383 ∷ refusals.SideInvalid true 256 ∷ refusals.SideInvalid false 1 ∷ refusals.LateOption 1 ∷ refusals.OutsideSideAt 16383 ∷ [])
+    ≡ codes "refused syntax 17\n" ∷ codes "refused unknown-option on\n" ∷ codes "refused repeated safe\n" ∷ codes "refused invalid 2\n" ∷ codes "refused incomplete fast\n" ∷ codes "refused edit-lost 0\n" ∷ codes "refused bad-record 16383\n" ∷ codes "refused side-invalid on 256\n" ∷ codes "refused side-invalid off 1\n" ∷ codes "refused late-option safe\n" ∷ codes "refused outside-side 16383\n" ∷ []
 unfolding digits
 refused_with_more = refl
 
-refused_alone : map (refused_reply names) (refusals.TooLong ∷ refusals.Long ∷ refusals.BadName ∷ refusals.NoVariantLeft ∷ refusals.SessionExists ∷ refusals.NoSession ∷ refusals.TooManySessions ∷ refusals.OutsideAmbition ∷ refusals.NotEmpty ∷ refusals.IntoItself ∷ refusals.IsRoot ∷ refusals.BadBase ∷ refusals.BadOption ∷ refusals.TreeTaken ∷ [])
-    ≡ codes "refused too-long\n" ∷ codes "refused long\n" ∷ codes "refused bad-name\n" ∷ codes "refused no-variant-left\n" ∷ codes "refused session-exists\n" ∷ codes "refused no-session\n" ∷ codes "refused too-many-sessions\n" ∷ codes "refused outside-ambition\n" ∷ codes "refused not-empty\n" ∷ codes "refused into-itself\n" ∷ codes "refused is-root\n" ∷ codes "refused bad-base\n" ∷ codes "refused bad-option\n" ∷ codes "refused tree-taken\n" ∷ []
+refused_alone : map (refused_reply names) (refusals.TooLong ∷ refusals.Long ∷ refusals.BadName ∷ refusals.NoVariantLeft ∷ refusals.SessionExists ∷ refusals.NoSession ∷ refusals.TooManySessions ∷ refusals.OutsideAmbition ∷ refusals.OutsideSide ∷ refusals.NotEmpty ∷ refusals.IntoItself ∷ refusals.IsRoot ∷ refusals.BadBase ∷ refusals.BadOption ∷ refusals.TreeTaken ∷ [])
+    ≡ codes "refused too-long\n" ∷ codes "refused long\n" ∷ codes "refused bad-name\n" ∷ codes "refused no-variant-left\n" ∷ codes "refused session-exists\n" ∷ codes "refused no-session\n" ∷ codes "refused too-many-sessions\n" ∷ codes "refused outside-ambition\n" ∷ codes "refused outside-side\n" ∷ codes "refused not-empty\n" ∷ codes "refused into-itself\n" ∷ codes "refused is-root\n" ∷ codes "refused bad-base\n" ∷ codes "refused bad-option\n" ∷ codes "refused tree-taken\n" ∷ []
 refused_alone = refl

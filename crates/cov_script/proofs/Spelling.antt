@@ -10,7 +10,7 @@ use Rattle.cov_expr.specs.Formula.{Formula}
 use Rattle.cov_expr.specs.Reading.{parsed}
 use Rattle.cov_script.specs.Fields.{go_on, field, taken, place, behind, at_end, expression, expression_at, text, token_of, name_of, new_path_of, number_of, line_field_of, first_field, behind_field}
 use Rattle.cov_script.specs.Forms.{IsField, LineAndText, Ambition, HasForm}
-use Rattle.cov_script.specs.Lines.{form_of, two_fields, alone, pair, triple, made, line_and_text, named_text, ambition, opening}
+use Rattle.cov_script.specs.Lines.{form_of, two_fields, alone, pair, triple, made, line_and_text, named_text, ambition, opening, named_expression}
 use Rattle.cov_script.specs.declared.line.Line.{Line}
 use Rattle.cov_script.specs.declared.line.Line.TheVariants as lines
 use Rattle.cov_script.specs.declared.line.LineField.{LineField}
@@ -102,6 +102,11 @@ open_read n c e a b d size h k m =
     ap (λ g. made {X = List ℕ × List (List ℕ × Bool) × Formula (List ℕ)} (go_on g (λ r. go_on (ambition r.1) (λ e. Ok (r.0.0, r.0.1, e)))) (λ r. lines.OpenSession r.0 r.1 r.2)) (two_fields_read name_of bindings_of n c a b (32 ∷ d) size h k refl)
     ∙ ap (λ g. made {X = List ℕ × List (List ℕ × Bool) × Formula (List ℕ)} (go_on g (λ e. Ok (n, c, e))) (λ r. lines.OpenSession r.0 r.1 r.2)) (ambition_read e d size m)
 
+side_read : (n : List ℕ) (e : Formula (List ℕ)) (a b : List ℕ) (size : ℕ) → IsField name_of n a → parsed b ≡ Ok e → made (named_expression (size, 32 ∷ (a ++ 32 ∷ b))) (λ r. lines.Side r.0 r.1) ≡ Ok (lines.Side n e)
+side_read n e a b size h k =
+    ap (λ g. made {X = List ℕ × Formula (List ℕ)} (go_on g (λ r. go_on (expression r.1) (λ e. Ok (r.0, e)))) (λ r. lines.Side r.0 r.1)) (field_read name_of n a (32 ∷ b) size h refl)
+    ∙ ap (λ g. made {X = List ℕ × Formula (List ℕ)} (go_on (expression_at (place (size, 32 ∷ b)) g) (λ e. Ok (n, e))) (λ r. lines.Side r.0 r.1)) k
+
 silent_read : (line : List ℕ) → (line ≡ []) ⊎ ((bs : List ℕ) × (line ≡ 35 ∷ bs)) → form_of line ≡ Ok lines.Nothing
 silent_read line (inl e) = ap form_of e
 silent_read line (inr h) = ap form_of h.1
@@ -132,3 +137,4 @@ reads_as_spelt line (lines.Alt x y z) h = ap form_of h.all ∙ three_read bindin
 reads_as_spelt line (lines.Insert n p l t) h = ap form_of h.all ∙ with_text_read (λ n p l t. lines.Insert n p l t) n p l t h.a h.b h.last _ h.first h.second h.third
 reads_as_spelt line (lines.Replace n p l t) h = ap form_of h.all ∙ with_text_read (λ n p l t. lines.Replace n p l t) n p l t h.a h.b h.last _ h.first h.second h.third
 reads_as_spelt line (lines.OpenSession n c e) h = ap form_of h.all ∙ open_read n c e h.a h.b h.last _ h.first h.second h.third
+reads_as_spelt line (lines.Side n e) h = ap form_of h.all ∙ side_read n e h.a h.b _ h.first h.spells

@@ -13,9 +13,9 @@ use Rattle.cov_expr.specs.Reading.{parsed}
 use Rattle.cov_expr.specs.declared.spelling.ExprFault.{ExprFault}
 use Rattle.cov_expr.specs.declared.spelling.ExprFault.TheVariants as faults
 use Rattle.cov_script.specs.Fields.{Rest, Got, go_on, field, taken, place, behind, at_end, expression, expression_at, text, token_of, name_of, new_path_of, word_of, number_of, line_field_of, first_field, behind_field}
-use Rattle.cov_script.specs.Forms.{IsField, One, Two, Behind, Only, LineAndText, Ambition, HasForm}
+use Rattle.cov_script.specs.Forms.{IsField, One, Two, Behind, Only, Named, LineAndText, Ambition, HasForm}
 use Rattle.cov_script.specs.Kinds.{word_for}
-use Rattle.cov_script.specs.Lines.{form_of, spoken, if_keyword, line_behind, keyword_of, every_keyword, looked_up, two_fields, alone, pair, triple, made, line_and_text, named_text, ambition, opening}
+use Rattle.cov_script.specs.Lines.{form_of, spoken, if_keyword, line_behind, keyword_of, every_keyword, looked_up, two_fields, alone, pair, triple, made, line_and_text, named_text, ambition, opening, named_expression}
 use Rattle.cov_script.specs.declared.keyword.Keyword.{Keyword}
 use Rattle.cov_script.specs.declared.keyword.Keyword.TheVariants as keywords
 use Rattle.cov_script.specs.declared.line.Line.{Line}
@@ -274,6 +274,23 @@ was_open word size bs r starts e =
     let b = was_behind word name_of bindings_of ambition (λ n c e. (n, c, e)) Ambition refl refl size (was_ambition size) bs r starts e in
     subst (λ v. Behind word name_of bindings_of v.0 v.1 (Ambition v.2) (word ++ bs)) b.4 b.3
 
+was_named : (word : List ℕ) (size : ℕ) (bs : List ℕ) (r : List ℕ × Formula (List ℕ)) → Starts bs → named_expression (size, bs) ≡ Ok r → Named word r.0 r.1 (word ++ bs)
+was_named word size bs r starts h =
+    let k : List ℕ × Rest → Result (List ℕ × Formula (List ℕ)) LineSyntax = λ a. go_on (expression a.1) (λ e. Ok (a.0, e)) in
+    let read = went_on (field name_of (size, bs)) k r h in
+    let part = was_field name_of refl size bs read.0 starts read.1 in
+    let read' = went_on (expression (size, part.tail)) (λ e. Ok (part.value, e)) r (ap k (sym part.got) ∙ read.2) in
+    let last = spelt_expression size part.tail read'.0 part.starts read'.1 in
+    let same : (part.value, read'.0) ≡ r = let all = read'.2 in cc in
+    subst (λ v. Named word v.0 v.1 (word ++ bs)) same
+    (record {
+      a = part.bytes;
+      b = last.0;
+      first = part.is;
+      spells = last.1;
+      all = ap (λ v. word ++ v) (part.all ∙ ap (λ t. 32 ∷ (part.bytes ++ t)) last.2);
+    })
+
 was_looked_up : (ks : List Keyword) (bytes : List ℕ) (k : Keyword) → looked_up (map (λ k. (word_for k, k)) ks) bytes ≡ Some k → bytes ≡ word_for k
 was_looked_up [] bytes k h = cc
 was_looked_up (j ∷ ks) bytes k h = cases (bytes_eq bytes (word_for j)) refl (λ e. was_looked_up ks bytes k e) where
@@ -305,6 +322,7 @@ behind_keyword keywords.Prefer f size bs starts e = was_made _ _ _ f (λ x. was_
 behind_keyword keywords.Default f size bs starts e = was_made _ _ _ f (λ x. was_two _ token_of switch_of refl refl size bs x starts) e
 behind_keyword keywords.Complete f size bs starts e = was_made _ _ _ f (λ x. was_one _ bindings_of refl size bs x starts) e
 behind_keyword keywords.Open f size bs starts e = was_made _ _ _ f (λ x. was_open _ size bs x starts) e
+behind_keyword keywords.Side f size bs starts e = was_made _ _ _ f (λ x. was_named _ size bs x starts) e
 behind_keyword keywords.MakeDir f size bs starts e = was_made _ _ _ f (λ x. was_two _ name_of new_path_of refl refl size bs x starts) e
 behind_keyword keywords.MakeFile f size bs starts e = was_made _ _ _ f (λ x. was_two _ name_of new_path_of refl refl size bs x starts) e
 behind_keyword keywords.Rename f size bs starts e = was_made _ _ _ f (λ x. was_three _ name_of path_of name_of refl refl refl size bs x starts) e

@@ -46,6 +46,14 @@ pub record Only (word : List ℕ) (e : Formula (List ℕ)) (line : List ℕ) : T
   pub spells : parsed a ≡ Ok e
   pub all : line ≡ word ++ 32 ∷ a
 
+-- a keyword, a name, and an expression, which runs to the line's end and may hold spaces
+pub record Named (word name : List ℕ) (e : Formula (List ℕ)) (line : List ℕ) : Type 0 where
+  pub a : List ℕ
+  pub b : List ℕ
+  pub first : IsField name_of name a
+  pub spells : parsed b ≡ Ok e
+  pub all : line ≡ word ++ 32 ∷ (a ++ 32 ∷ b)
+
 -- a line and a text, which runs to the line's end, may hold spaces and, where it is empty, be missing
 pub record LineAndText (l : LineField) (t : List ℕ) (bytes : List ℕ) : Type 0 where
   pub a : List ℕ
@@ -72,6 +80,7 @@ HasForm line (lines.Prefer e) = Only (codes "prefer") e line
 HasForm line (lines.Default t on) = Two (codes "default") token_of switch_of t on line
 HasForm line (lines.Complete c) = One (codes "complete") bindings_of c line
 HasForm line (lines.OpenSession n c e) = Behind (codes "open") name_of bindings_of n c (Ambition e) line
+HasForm line (lines.Side n e) = Named (codes "side") n e line
 HasForm line (lines.MakeDir n p) = Two (codes "mkdir") name_of new_path_of n p line
 HasForm line (lines.MakeFile n p) = Two (codes "mkfile") name_of new_path_of n p line
 HasForm line (lines.Rename n p to) = Behind (codes "rename") name_of path_of n p (IsField name_of to) line

@@ -16,7 +16,7 @@ use Rattle.cov_script.specs.declared.line.LineSyntax.TheVariants.{Syntax}
 
 -- the keywords
 abbrev pub every_keyword : List Keyword
-every_keyword = keywords.Option ∷ keywords.Constraint ∷ keywords.Prefer ∷ keywords.Default ∷ keywords.Complete ∷ keywords.Open ∷ keywords.MakeDir ∷ keywords.MakeFile ∷ keywords.Rename ∷ keywords.Move ∷ keywords.Remove ∷ keywords.Insert ∷ keywords.Delete ∷ keywords.Replace ∷ keywords.Show ∷ keywords.List ∷ keywords.Refresh ∷ keywords.Commit ∷ keywords.Drop ∷ keywords.Cat ∷ keywords.Checkout ∷ keywords.Alt ∷ keywords.Where ∷ []
+every_keyword = keywords.Option ∷ keywords.Constraint ∷ keywords.Prefer ∷ keywords.Default ∷ keywords.Complete ∷ keywords.Open ∷ keywords.Side ∷ keywords.MakeDir ∷ keywords.MakeFile ∷ keywords.Rename ∷ keywords.Move ∷ keywords.Remove ∷ keywords.Insert ∷ keywords.Delete ∷ keywords.Replace ∷ keywords.Show ∷ keywords.List ∷ keywords.Refresh ∷ keywords.Commit ∷ keywords.Drop ∷ keywords.Cat ∷ keywords.Checkout ∷ keywords.Alt ∷ keywords.Where ∷ []
 
 -- each keyword with its bytes
 abbrev pub words : List (List ℕ × Keyword)
@@ -69,6 +69,10 @@ ambition rest = go_on (field (word_of (codes "for")) rest) (λ a. expression a.1
 abbrev pub opening : Rest → Result (List ℕ × List (List ℕ × Bool) × Formula (List ℕ)) LineSyntax
 opening rest = go_on (two_fields name_of bindings_of rest) (λ a. go_on (ambition a.1) (λ e. Ok (a.0.0, a.0.1, e)))
 
+-- a name, and an expression behind it
+abbrev pub named_expression : Rest → Result (List ℕ × Formula (List ℕ)) LineSyntax
+named_expression rest = go_on (field name_of rest) (λ a. go_on (expression a.1) (λ e. Ok (a.0, e)))
+
 -- a keyword whose line makes an edit
 abbrev pub is_edit : Keyword → Bool
 is_edit keywords.MakeDir = true
@@ -89,6 +93,7 @@ line_behind keywords.Prefer rest = made (expression rest) (λ e. lines.Prefer e)
 line_behind keywords.Default rest = made (pair token_of switch_of rest) (λ a. lines.Default a.0 a.1)
 line_behind keywords.Complete rest = made (alone bindings_of rest) (λ c. lines.Complete c)
 line_behind keywords.Open rest = made (opening rest) (λ a. lines.OpenSession a.0 a.1 a.2)
+line_behind keywords.Side rest = made (named_expression rest) (λ a. lines.Side a.0 a.1)
 line_behind keywords.MakeDir rest = made (pair name_of new_path_of rest) (λ a. lines.MakeDir a.0 a.1)
 line_behind keywords.MakeFile rest = made (pair name_of new_path_of rest) (λ a. lines.MakeFile a.0 a.1)
 line_behind keywords.Rename rest = made (triple name_of path_of name_of rest) (λ a. lines.Rename a.0 a.1 a.2)

@@ -51,6 +51,16 @@ pub enum Code {
     TooManySessions,
     /// The ambition of a session isn't true on its choice.
     OutsideAmbition,
+    /// The option is the first of a side, from the left, that was declared after the base of its session.
+    LateOption {
+        option: OptionId,
+    },
+    /// The side isn't true on the choice of its session.
+    OutsideSide,
+    /// The edit with this number, from 0, is the first whose side isn't true on the choice of its commit.
+    OutsideSideAt {
+        edit: u32,
+    },
     NoSuchPath,
     NotFile,
     NotDirectory,
@@ -142,6 +152,8 @@ fn word_of(code: &Code) -> &'static [u8]
         Code::NoSession => b"no-session",
         Code::TooManySessions => b"too-many-sessions",
         Code::OutsideAmbition => b"outside-ambition",
+        Code::LateOption { .. } => b"late-option",
+        Code::OutsideSide | Code::OutsideSideAt { .. } => b"outside-side",
         Code::NoSuchPath => b"no-such-path",
         Code::NotFile => b"not-file",
         Code::NotDirectory => b"not-directory",
@@ -183,12 +195,12 @@ fn append_detail(
         Code::Invalid { rule } => append_number(alloc, text, *rule as u64),
         Code::EditLost { index } => append_number(alloc, text, *index as u64),
         Code::BadRecord { edit } => append_number(alloc, text, *edit as u64),
+        Code::OutsideSideAt { edit } => append_number(alloc, text, *edit as u64),
         Code::Overtaken { position } => append_number(alloc, text, position.number() as u64),
         Code::UnknownOption { name } => append_word(text, name.as_slice()),
-        Code::Repeated { option } | Code::Incomplete { option } => append_word(
-            text,
-            options.name(*option),
-        ),
+        Code::Repeated { option } | Code::Incomplete { option } | Code::LateOption { option } => {
+            append_word(text, options.name(*option))
+        }
         Code::Clash { low, high, choice } => append_clash(
             alloc,
             text,

@@ -2,7 +2,7 @@
 ghost use Rattle.std.specs.Prelude.{◌≡◌, true};
 ghost use Rattle.cov_base.specs.Answers.{IsOrMemory};
 ghost use Rattle.cov_script.specs.Fields.{is_memory, at_end};
-ghost use Rattle.cov_script.specs.Lines.{two_fields, alone, pair, triple, line_and_text, named_text, ambition, opening, is_edit, line_behind};
+ghost use Rattle.cov_script.specs.Lines.{two_fields, alone, pair, triple, line_and_text, named_text, ambition, opening, named_expression, is_edit, line_behind};
 
 use crate::field::{Field, Got, NewPath, read_expression, read_field, read_for, read_text};
 use crate::keyword::Keyword;
@@ -30,6 +30,10 @@ pub(crate) fn read_behind(
             name,
             choice,
             ambition,
+        }),
+        Keyword::Side => named_expression(alloc, unread).map(|(name, side)| Line::Side {
+            name,
+            side,
         }),
         Keyword::MakeDir
         | Keyword::MakeFile
@@ -177,6 +181,16 @@ fn ambition(alloc: Global, unread: Unread) -> Result<RawExpr, LineSyntax>
 {
     match read_for(unread) {
         Ok(((), unread)) => read_expression(alloc, unread),
+        Err(fault) => Err(fault),
+    }
+}
+
+// A name, and an expression behind it.
+fn named_expression(alloc: Global, unread: Unread) -> Result<(Name, RawExpr), LineSyntax>
+    ensures { IsOrMemory is_memory (named_expression unread.entry) result }
+{
+    match read_field(alloc, unread) {
+        Ok((name, unread)) => read_expression(alloc, unread).map(|expr| (name, expr)),
         Err(fault) => Err(fault),
     }
 }

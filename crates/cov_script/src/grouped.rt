@@ -29,13 +29,18 @@ pub enum Declaration {
     Default { token: Text, on: bool },
 }
 
-/// A line with which a session begins, begins anew or ends.
+/// A line with which a session begins, goes on otherwise, begins anew or ends.
 #[derive(Drop)]
 pub enum SessionLine {
     Open {
         name: Name,
         choice: RawChoice,
         ambition: RawExpr,
+    },
+    /// It changes the side of the edits that follow.
+    Side {
+        name: Name,
+        side: RawExpr,
     },
     Refresh {
         name: Name,
@@ -137,6 +142,7 @@ impl Line {
                     ambition,
                 })
             }
+            Line::Side { name, side } => GroupedLine::Session(SessionLine::Side { name, side }),
             Line::MakeDir { name, path } => GroupedLine::Edit {
                 name,
                 edit: EditLine::MakeDir { path },

@@ -11,6 +11,7 @@ pub(crate) enum Keyword {
     Default,
     Complete,
     Open,
+    Side,
     MakeDir,
     MakeFile,
     Rename,
@@ -31,13 +32,14 @@ pub(crate) enum Keyword {
 }
 
 /// Each keyword with its bytes.
-const WORDS: [(&[u8], Keyword); 23] = [
+const WORDS: [(&[u8], Keyword); 24] = [
     (b"option", Keyword::Option),
     (b"constraint", Keyword::Constraint),
     (b"prefer", Keyword::Prefer),
     (b"default", Keyword::Default),
     (b"complete", Keyword::Complete),
     (b"open", Keyword::Open),
+    (b"side", Keyword::Side),
     (b"mkdir", Keyword::MakeDir),
     (b"mkfile", Keyword::MakeFile),
     (b"rename", Keyword::Rename),

@@ -37,6 +37,10 @@ pub enum Line {
         choice: RawChoice,
         ambition: RawExpr,
     },
+    Side {
+        name: Name,
+        side: RawExpr,
+    },
     MakeDir {
         name: Name,
         path: Path,

@@ -94,11 +94,15 @@ fn add_choices(alloc: Global, options: &Options, lines: &mut Texts) -> Result<()
     let incomplete = Code::Incomplete {
         option: OptionId::new(0),
     };
+    let late = Code::LateOption {
+        option: OptionId::new(1),
+    };
     lines.push(reply_complete(alloc, options, choice)?)?;
     lines.push(reply_open(alloc, Position::new(9), options, choice)?)?;
     lines.push(reply_refresh(alloc, Position::new(10), options, choice)?)?;
     add_code(alloc, options, &repeated, lines)?;
-    add_code(alloc, options, &incomplete, lines)
+    add_code(alloc, options, &incomplete, lines)?;
+    add_code(alloc, options, &late, lines)
 }
 
 // The refusals of a variant that isn't a tree, where there are two options.
@@ -128,13 +132,16 @@ fn add_refused(alloc: Global, options: &Options, lines: &mut Texts) -> Result<()
     add_code(alloc, options, &Code::EditLost { index: 16383 }, lines)?;
     let side = Code::SideInvalid { on: false, rule: 1 };
     add_code(alloc, options, &side, lines)?;
+    let outside = Code::OutsideSideAt { edit: 1 };
+    add_code(alloc, options, &outside, lines)?;
+    add_code(alloc, options, &Code::OutsideSide, lines)?;
     add_code(alloc, options, &Code::TreeTaken, lines)?;
     add_code(alloc, options, &Code::NoVariantLeft, lines)?;
     add_code(alloc, options, &Code::SessionExists, lines)?;
     add_code(alloc, options, &Code::TooManySessions, lines)
 }
 
-const REPLIES: &str = "ok 34
+const REPLIES: &str = "ok 37
 ok option 63
 ok constraint 256
 ok prefer 1
@@ -155,6 +162,7 @@ ok open 9 a=on,b=off
 ok refresh 10 a=on,b=off
 refused repeated b
 refused incomplete a
+refused late-option b
 refused clash 3 12 in a=off,b=on
 refused orphan 12 in a=off,b=on
 refused loop 12 in -
@@ -163,6 +171,8 @@ refused unknown-option for
 refused invalid 2
 refused edit-lost 16383
 refused side-invalid off 1
+refused outside-side 1
+refused outside-side
 refused tree-taken
 refused no-variant-left
 refused session-exists

@@ -14,6 +14,7 @@ fn keyword_of(line: &Line) -> &'static str {
         Line::Default { .. } => "default",
         Line::Complete { .. } => "complete",
         Line::OpenSession { .. } => "open",
+        Line::Side { .. } => "side",
         Line::MakeDir { .. } => "mkdir",
         Line::MakeFile { .. } => "mkfile",
         Line::Rename { .. } => "rename",
@@ -42,7 +43,7 @@ fn place_of(read: &Result<Line, LineSyntax>) -> Option<u32> {
     }
 }
 
-const FORMS: [(&[u8], &str); 39] = [
+const FORMS: [(&[u8], &str); 42] = [
     (b"", ""),
     (b"#x", ""),
     (b"# option", ""),
@@ -57,6 +58,9 @@ const FORMS: [(&[u8], &str); 39] = [
     (b"complete a=on,b=off", "complete"),
     (b"open s - for a & b", "open"),
     (b"open s - for  a", "open"),
+    (b"side s a", "side"),
+    (b"side s  a | !b ", "side"),
+    (b"side s true", "side"),
     (b"mkdir s /d", "mkdir"),
     (b"mkfile s /m", "mkfile"),
     (b"rename s /m n", "rename"),
@@ -84,7 +88,7 @@ const FORMS: [(&[u8], &str); 39] = [
     (b"where 1", "where"),
 ];
 
-const PLACES: [(&[u8], u32); 54] = [
+const PLACES: [(&[u8], u32); 62] = [
     (b"optoin a", 0),
     (b"option", 6),
     (b"option ", 7),
@@ -110,6 +114,14 @@ const PLACES: [(&[u8], u32); 54] = [
     (b"open s - for ", 13),
     (b"open s - for a)", 14),
     (b"open / - for a", 5),
+    (b"side", 4),
+    (b"side ", 5),
+    (b"side / a", 5),
+    (b"side s", 6),
+    (b"side s ", 7),
+    (b"side s a &", 10),
+    (b"side s a $", 9),
+    (b"side s a b", 9),
     (b"mkdir s /", 8),
     (b"mkfile s m", 9),
     (b"mkfile s", 8),
