@@ -7,7 +7,7 @@ use Rattle.std.specs.Str.{bytes_eq}
 use Rattle.std.proofs.Math.Seq.{take-length}
 use Rattle.std.proofs.lemmas.List.Folds.{find-append}
 use Rattle.cov_base.specs.declared.limits.TheConstants.{MOST_SCRIPT_LINE_BYTES}
-use Rattle.cov_expr.specs.Formula.{Formula, value}
+use Rattle.cov_expr.specs.Formula.{Formula, True, value}
 use Rattle.cov_rules.specs.Completion.{Completion, Complete, Invalid, Incomplete}
 use Rattle.cov_script.specs.Lines.{form_of}
 use Rattle.cov_script.specs.Replies.{open_reply, refresh_reply}
@@ -19,16 +19,16 @@ use Rattle.cov_script.specs.declared.grouped.SessionLine.{SessionLine}
 use Rattle.cov_script.specs.declared.grouped.SessionLine.TheVariants as session_lines
 use Rattle.cov_script.specs.declared.line.Line.{Line}
 use Rattle.cov_script.specs.declared.line.LineSyntax.{LineSyntax}
-use Rattle.cov_edit.specs.History.{options_of}
+use Rattle.cov_edit.specs.History.{option_count, options_of}
 use Rattle.cov_edit.specs.Numbering.{numbers_of}
 use Rattle.cov_edit.specs.Replay.{replay}
 use Rattle.cov_view.specs.Refusals.{first_refused}
 use Rattle.cov_view.specs.declared.fault.EditFault.{EditFault}
 use Rattle.cov_history.specs.Completing.{completed_in}
-use Rattle.cov_history.specs.Sessions.{Session}
+use Rattle.cov_history.specs.Sessions.{Session, edits_of}
 use Rattle.cov_session.specs.Calls.{refreshed_by}
 use Rattle.cov_session.specs.Faults.{unless}
-use Rattle.cov_session.specs.Named.{named, with_session}
+use Rattle.cov_session.specs.Named.{named, side_of, with_session}
 use Rattle.cov_session.specs.Open.{NamedSession}
 use Rattle.cov_session.specs.Opening.{opened_on}
 use Rattle.cov_session.specs.Refreshing.{as_lost, rebased, refreshed_on}
@@ -40,11 +40,12 @@ use Rattle.cov_lines.specs.Isolation.{HasSession, SessionsBeginNow, begins, has_
 use Rattle.cov_lines.specs.States.{State, with_sessions}
 use Rattle.cov_lines.specs.Step.{Act, Done, acted, as_outcome, opened, plainly, refreshed, served, served_session, step}
 use Rattle.cov_lines.proofs.NamedSessions.{itself, named-changed, same-name}
+use Rattle.cov_lines.proofs.Opened.{completed-whole}
 
 module _ (name : List ℕ) (st : State) where
-  -- a session with its base now
-  abbrev AsOfNow : Session → NamedSession
-  AsOfNow session = record { name = name; session = session }
+  -- a session with its base now, and its side
+  abbrev AsOfNow : Formula ℕ → Session → NamedSession
+  AsOfNow side session = record { name = name; side = side; session = session }
 
   -- what is done has the session, with the whole history before its base
   abbrev Begins : Act → Type 0
@@ -60,60 +61,62 @@ module _ (name : List ℕ) (st : State) where
   on-found (Ok x) later h = h x
   on-found (Err code) later h = tt
 
-  has-now : (ss : List NamedSession) (session : Session) → session.base ≡ length st.history → named ss name ≡ Some (AsOfNow session)
-      → (s : NamedSession) × HasSession name s st.history (with_sessions st ss)
-  has-now ss session now found =
-      (AsOfNow session, record { there = found; within = omega (arith, now); same = ap (λ n. take n st.history) now ∙ take-length st.history })
+  has-now : (ss : List NamedSession) (side : Formula ℕ) (session : Session) → session.base ≡ length st.history → length session.choice ≡ option_count st.history
+      → named ss name ≡ Some (AsOfNow side session) → (s : NamedSession) × HasSession name s st.history (with_sessions st ss)
+  has-now ss side session now whole found =
+      (AsOfNow side session, record { there = found; within = omega (arith, now); same = ap (λ n. take n st.history) now ∙ take-length st.history; whole = whole })
 
   -- a session with the name, behind those that don't have it
-  last-named : (session : Session) → named st.sessions name ≡ None → named (st.sessions ++ AsOfNow session ∷ []) name ≡ Some (AsOfNow session)
-  last-named session none =
-      find-append (λ t. bytes_eq t.name name) st.sessions (AsOfNow session ∷ [])
-      ∙ ap (λ o. option_or o (named (AsOfNow session ∷ []) name)) none
-      ∙ ap (λ b. if b then Some (AsOfNow session) else None) (itself name)
+  last-named : (new : NamedSession) → new.name ≡ name → named st.sessions name ≡ None → named (st.sessions ++ new ∷ []) name ≡ Some new
+  last-named new is none =
+      find-append (λ t. bytes_eq t.name name) st.sessions (new ∷ [])
+      ∙ ap (λ o. option_or o (named (new ∷ []) name)) none
+      ∙ ap (λ b. if b then Some new else None) (ap (λ n. bytes_eq n name) is ∙ itself name)
 
   opened-now : (bindings : List (List ℕ × Bool)) (ambition : Formula (List ℕ)) → Begins (opened st name bindings ambition)
   unfolding opened
   opened-now bindings ambition =
       on-found (found_partial st.history bindings) _ (λ partial. on-found (found_expression st.history ambition) _ (λ within.
-      at (named st.sessions name) refl (nat_le MOST_SESSIONS (length st.sessions)) within (completed_in st.history partial)))
+      at (named st.sessions name) refl (nat_le MOST_SESSIONS (length st.sessions)) within partial (completed_in st.history partial) refl))
     where
       told : Session → Act
-      told session = Ok (with_sessions st (st.sessions ++ AsOfNow session ∷ []), open_reply session.base (options_of st.history) session.choice)
+      told session = Ok (with_sessions st (st.sessions ++ AsOfNow True session ∷ []), open_reply session.base (options_of st.history) session.choice)
 
-      on : named st.sessions name ≡ None → (within : Formula ℕ) (choice : List Bool) (b : Bool)
+      on : named st.sessions name ≡ None → (within : Formula ℕ) (choice : List Bool) → length choice ≡ option_count st.history → (b : Bool)
           → Begins (by_code session_code (if b then Ok (record { base = length st.history; choice = choice; ambition = within; edits = [] }) else Err faults.OutsideAmbition) >>= told)
-      on none within choice true = has-now _ _ refl (last-named _ none)
-      on none within choice false = tt
+      on none within choice whole true = has-now _ _ _ refl whole (last-named _ refl none)
+      on none within choice whole false = tt
 
-      at : (o : Option NamedSession) → named st.sessions name ≡ o → (full : Bool) (within : Formula ℕ) (completion : Completion)
+      at : (o : Option NamedSession) → named st.sessions name ≡ o → (full : Bool) (within : Formula ℕ) (partial : List (ℕ × Bool)) (completion : Completion) → completed_in st.history partial ≡ completion
           → Begins (by_code session_code (if is_some o then Err faults.SessionExists else if full then Err faults.TooManySessions else opened_on st.history within completion) >>= told)
-      at (Some t) e full within completion = tt
-      at None e true within completion = tt
-      at None e false within (Complete choice) = on e within choice (value within choice)
-      at None e false within (Invalid rule) = tt
-      at None e false within (Incomplete option) = tt
+      at (Some t) e full within partial completion f = tt
+      at None e true within partial completion f = tt
+      at None e false within partial (Complete choice) f = on e within choice (completed-whole st.history partial choice f) (value within choice)
+      at None e false within partial (Invalid rule) f = tt
+      at None e false within partial (Incomplete option) f = tt
 
   refreshed-now : Begins (refreshed st name)
   unfolding refreshed
   refreshed-now = at (named st.sessions name) refl
     where
       told : Session → Act
-      told session = Ok (with_sessions st (with_session st.sessions (AsOfNow session)), refresh_reply session.base (options_of st.history) session.choice)
+      told session = Ok (with_sessions st (with_session st.sessions (AsOfNow (side_of st.sessions name) session)), refresh_reply session.base (options_of st.history) session.choice)
 
-      on : (t : NamedSession) → named st.sessions name ≡ Some t → (choice : List Bool) (refused : Option (ℕ × EditFault))
+      on : (t : NamedSession) → named st.sessions name ≡ Some t → (choice : List Bool) → length choice ≡ option_count st.history → (refused : Option (ℕ × EditFault))
           → Begins (by_code session_code (unless (as_lost refused) (rebased t.session (length st.history) choice)) >>= told)
-      on t e choice None = has-now _ _ refl (named-changed st.sessions name t _ refl e)
-      on t e choice (Some refused) = tt
+      on t e choice whole None = has-now _ _ _ refl whole (named-changed st.sessions name t _ refl e)
+      on t e choice whole (Some refused) = tt
 
-      by : (t : NamedSession) → named st.sessions name ≡ Some t → (completion : Completion) → Begins (by_code session_code (refreshed_on st.history t.session completion) >>= told)
-      by t e (Complete choice) = on t e choice (first_refused (numbers_of st.history) (replay choice st.history) t.session.edits)
-      by t e (Invalid rule) = tt
-      by t e (Incomplete option) = tt
+      by : (t : NamedSession) → named st.sessions name ≡ Some t → (completion : Completion) → completed_in st.history (enumerate_from 0 t.session.choice) ≡ completion
+          → Begins (by_code session_code (refreshed_on st.history t.session completion) >>= told)
+      by t e (Complete choice) f =
+          on t e choice (completed-whole st.history (enumerate_from 0 t.session.choice) choice f) (first_refused (numbers_of st.history) (replay choice st.history) (edits_of t.session))
+      by t e (Invalid rule) f = tt
+      by t e (Incomplete option) f = tt
 
       at : (o : Option NamedSession) → named st.sessions name ≡ o → Begins (by_code session_code (refreshed_by st.history o) >>= told)
       at None e = tt
-      at (Some t) e = by t e (completed_in st.history (enumerate_from 0 t.session.choice))
+      at (Some t) e = by t e (completed_in st.history (enumerate_from 0 t.session.choice)) refl
 
   session-now : (line : SessionLine) → is_start name line ≡ true → Begins (served_session st line)
   unfolding served_session

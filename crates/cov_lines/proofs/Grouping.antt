@@ -8,7 +8,7 @@ use Rattle.cov_script.specs.declared.grouped.Question.{Question}
 use Rattle.cov_script.specs.declared.grouped.SessionLine.{SessionLine}
 use Rattle.cov_script.specs.declared.grouped.SessionLine.TheVariants as session_lines
 use Rattle.cov_lines.specs.States.{State}
-use Rattle.cov_lines.specs.Step.{dropped, opened, plainly, refreshed, served, served_edit, served_question, served_session}
+use Rattle.cov_lines.specs.Step.{dropped, opened, plainly, refreshed, served, served_edit, served_question, served_session, side_changed}
 
 module _ (st : State) where
   pub edit-served : (line : GroupedLine) (name : List ℕ) (edit : EditLine) → line ≡ groups.Edit name edit → plainly (served_edit st name edit) ≡ served st line
@@ -23,6 +23,10 @@ module _ (st : State) where
       → opened st name bindings ambition ≡ served_session st line
   unfolding served_session
   opened-served line name bindings ambition e = ap (served_session st) (sym e)
+
+  pub side-served : (line : SessionLine) (name : List ℕ) (side : Formula (List ℕ)) → line ≡ session_lines.Side name side → side_changed st name side ≡ served_session st line
+  unfolding served_session
+  side-served line name side e = ap (served_session st) (sym e)
 
   pub refreshed-served : (line : SessionLine) (name : List ℕ) → line ≡ session_lines.Refresh name → refreshed st name ≡ served_session st line
   unfolding served_session

@@ -36,5 +36,5 @@ is-named st history ss trees name view is here found =
     (record {
       session = as_named s;
       has = named-some name ss s found.1;
-      is_open = subst (λ v. IsOpen history (record { name = s.name; session = s.session; view = v })) found.2 (named-open history name ss s here found.1);
+      is_open = subst (λ v. IsOpen history (record { name = s.name; side = s.side; session = s.session; view = v })) found.2 (named-open history name ss s here found.1);
     })

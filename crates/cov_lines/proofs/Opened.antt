@@ -2,7 +2,7 @@
 use Rattle.std.proofs.Common.{◌≡◌, ◌∙◌, refl, sym, ap, ℕ, Bool, true, false, nat_le, List, [], ◌∷◌, ◌++◌, length, Option, Some, None, is_some, Ok, Err}
 use Rattle.std.specs.Prelude.{if◌then◌else◌}
 use Rattle.std.specs.List.{enumerate_from}
-use Rattle.cov_expr.specs.Formula.{Formula, value}
+use Rattle.cov_expr.specs.Formula.{Formula, True, value}
 use Rattle.cov_rules.proofs.CallerLemmas.{completed_is_valid}
 use Rattle.cov_rules.specs.Completion.{Completion, Complete, Invalid, Incomplete, literals}
 use Rattle.cov_script.specs.Replies.{open_reply}
@@ -27,7 +27,7 @@ use Rattle.cov_lines.specs.Step.{Act, opened as opened_by_line}
 module _ (st : State) (name : List ℕ) (bindings : List (List ℕ × Bool)) (ambition : Formula (List ℕ)) (partial : List (ℕ × Bool)) (within : Formula ℕ)
     (bound : found_partial st.history bindings ≡ Ok partial) (expr : found_expression st.history ambition ≡ Ok within) where
   abbrev pub with_opened : Session → Act
-  with_opened s = Ok (with_sessions st (st.sessions ++ record { name = name; session = s } ∷ []), open_reply s.base (options_of st.history) s.choice)
+  with_opened s = Ok (with_sessions st (st.sessions ++ record { name = name; side = True; session = s } ∷ []), open_reply s.base (options_of st.history) s.choice)
 
   -- a session is opened among those that are open, once what the line names is found
   pub opened-as : opened_by_line st name bindings ambition ≡ (by_code session_code (opened_among st.history st.sessions name partial within) >>= with_opened)
@@ -36,12 +36,12 @@ module _ (st : State) (name : List ℕ) (bindings : List (List ℕ × Bool)) (am
       ap (λ r. r >>= (λ p. found_expression st.history ambition >>= (λ w. by_code session_code (opened_among st.history st.sessions name p w) >>= with_opened))) bound
       ∙ ap (λ r. r >>= (λ w. by_code session_code (opened_among st.history st.sessions name partial w) >>= with_opened)) expr
 
-module _ (history : List Command) (s : Session) where
-  -- a choice that is completed has all options
-  completed-whole : (partial : List (ℕ × Bool)) (choice : List Bool) → completed_in history partial ≡ Complete choice → choice ≡ s.choice → length s.choice ≡ option_count history
-  completed-whole partial choice e own =
-      ap length (sym own) ∙ (completed_is_valid (option_count history) (constraints_of history) (preferences_of history) (literals (defaults_of history)) partial choice e).whole
+-- a choice that is completed has all options
+pub completed-whole : (history : List Command) (partial : List (ℕ × Bool)) (choice : List Bool) → completed_in history partial ≡ Complete choice → length choice ≡ option_count history
+completed-whole history partial choice e =
+    (completed_is_valid (option_count history) (constraints_of history) (preferences_of history) (literals (defaults_of history)) partial choice e).whole
 
+module _ (history : List Command) (s : Session) where
   opened-whole : (partial : List (ℕ × Bool)) (within : Formula ℕ) → opened history partial within ≡ Ok s → length s.choice ≡ option_count history
   opened-whole partial within h = at (completed_in history partial) refl h
     where
@@ -50,7 +50,7 @@ module _ (history : List Command) (s : Session) where
       inside choice false k = absurd (cc)
 
       at : (c : Completion) → completed_in history partial ≡ c → opened_on history within c ≡ Ok s → length s.choice ≡ option_count history
-      at (Complete choice) e k = completed-whole partial choice e (inside choice (value within choice) k)
+      at (Complete choice) e k = ap length (sym (inside choice (value within choice) k)) ∙ completed-whole history partial choice e
       at (Invalid rule) e k = absurd (cc)
       at (Incomplete option) e k = absurd (cc)
 
@@ -72,7 +72,7 @@ module _ (history : List Command) (s : Session) where
       kept before choice (Some fault) k = absurd (cc)
 
       at : (before : Session) (c : Completion) → completed_in history (enumerate_from 0 before.choice) ≡ c → refreshed_on history before c ≡ Ok s → length s.choice ≡ option_count history
-      at before (Complete choice) e k = completed-whole (enumerate_from 0 before.choice) choice e (kept before choice _ k)
+      at before (Complete choice) e k = ap length (sym (kept before choice _ k)) ∙ completed-whole history (enumerate_from 0 before.choice) choice e
       at before (Invalid rule) e k = absurd (cc)
       at before (Incomplete option) e k = absurd (cc)
 

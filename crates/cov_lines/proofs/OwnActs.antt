@@ -15,8 +15,8 @@ use Rattle.cov_view.specs.Paths.{path_node}
 use Rattle.cov_view.specs.Refusals.{first_of, when, first_refused}
 use Rattle.cov_view.specs.declared.fault.EditFault.{EditFault}
 use Rattle.cov_view.specs.declared.fault.EditFault.TheVariants as edit_faults
-use Rattle.cov_history.specs.Sessions.{Session, seen}
-use Rattle.cov_session.specs.Adding.{as_fault, with_edits}
+use Rattle.cov_history.specs.Sessions.{Session, edits_of, seen}
+use Rattle.cov_session.specs.Adding.{as_fault, grown}
 use Rattle.cov_session.specs.Calls.{taken_by}
 use Rattle.cov_session.specs.Faults.{unless}
 use Rattle.cov_session.specs.Named.{with_session}
@@ -47,7 +47,7 @@ edit-quiet edit_faults.Memory = λ names others. refl
 
 -- the variant that a session sees, the history up to its base being known
 abbrev pub view_on : List Command → Session → Variant
-view_on before s = fold edited (replay s.choice before) (numbered (numbers_of before) s.edits)
+view_on before s = fold edited (replay s.choice before) (numbered (numbers_of before) (edits_of s))
 
 -- the node of a path, the history up to the session's base being known
 abbrev pub node_on : List Command → NamedSession → List (List ℕ) → Found (NamedSession × ℕ)
@@ -60,12 +60,8 @@ fault_by many large refused = first_of (when many faults.TooManyEdits ∷ when l
 -- why a session doesn't take more edits, the history up to its base being known
 abbrev pub fault_on : List Command → Session → List Edit → Option SessionFault
 fault_on before s es =
-    fault_by (nat_lt (limits_of before).edits (length (s.edits ++ es))) (nat_lt (limits_of before).commit_bytes (text_bytes (s.edits ++ es)))
-    (first_refused (numbers_of before) (replay s.choice before) (s.edits ++ es))
-
--- the session by its name, with more edits
-abbrev pub grown : NamedSession → List Edit → NamedSession
-grown s es = record { name = s.name; session = with_edits s.session es }
+    fault_by (nat_lt (limits_of before).edits (length (edits_of s ++ es))) (nat_lt (limits_of before).commit_bytes (text_bytes (edits_of s ++ es)))
+    (first_refused (numbers_of before) (replay s.choice before) (edits_of s ++ es))
 
 abbrev pub IsQuietFault : Option SessionFault → Type 0
 IsQuietFault None = Unit {0}
@@ -96,4 +92,5 @@ has-grown name s before st es has = record {
   there = named-changed st.sessions name s (grown s es) (named-has st.sessions name s has.there) has.there;
   within = has.within;
   same = has.same;
+  whole = has.whole;
 }

@@ -28,6 +28,7 @@ use Rattle.cov_view.specs.Listing.{listed}
 use Rattle.cov_view.specs.Paths.{path_node}
 use Rattle.cov_view.specs.Refusals.{is_dir}
 use Rattle.cov_view.specs.Views.{by_number}
+use Rattle.cov_session.specs.Adding.{grown}
 use Rattle.cov_session.specs.Faults.{unless}
 use Rattle.cov_session.specs.Named.{with_session}
 use Rattle.cov_session.specs.Open.{NamedSession}
@@ -40,7 +41,7 @@ use Rattle.cov_lines.specs.Replies.{directory_reply, seen_reply}
 use Rattle.cov_lines.specs.States.{State, with_sessions}
 use Rattle.cov_lines.specs.Step.{Act, Done, acted, added, as_outcome, deleted, inserted, listed_at, made_in, moved, node_at, plainly, ref_at, removed, renamed, replaced, served, served_edit, served_question, shown, step}
 use Rattle.cov_lines.proofs.NamedSessions.{same-name}
-use Rattle.cov_lines.proofs.OwnActs.{IsQuiet, IsQuietFault, added-is, fault-quiet, fault_on, grown, has-grown, node-is, node_on, view_on}
+use Rattle.cov_lines.proofs.OwnActs.{IsQuiet, IsQuietFault, added-is, fault-quiet, fault_on, has-grown, node-is, node_on, view_on}
 
 -- two acts are refused by one code, or tell the same and leave states that see a session alike
 abbrev pub AreAlike : List ℕ → Act → Act → Type 0

@@ -28,27 +28,32 @@ pub fault-stops : {X : Type 0} (wanted : Result X SessionFault) (old new : State
 fault-stops wanted old new faults.Memory same h d = ap (λ (t : State). t.history) same
 fault-stops wanted old new (faults.Edit edit_faults.Memory) same h d = absurd h
 fault-stops wanted old new (faults.Incomplete option) same h d = record { is = ap (by_code session_code) h; same = same; told = d }
+fault-stops wanted old new (faults.LateOption option) same h d = record { is = ap (by_code session_code) h; same = same; told = d }
 fault-stops wanted old new fault same h d = record { is = ap (by_code session_code) h; same = same; told = tt }
 
--- edits are never refused for an option that is left open
-never-incomplete : (b c : Bool) (o : Option (ℕ × EditFault)) (option : ℕ)
-    → first_of (when b faults.TooManyEdits ∷ when c faults.TooManyBytes ∷ as_fault o ∷ []) ≡ Some (faults.Incomplete option) → ⊥
-never-incomplete true c o option h = absurd (cc)
-never-incomplete false true o option h = absurd (cc)
-never-incomplete false false None option h = absurd (cc)
-never-incomplete false false (Some refused) option h = absurd (cc)
+-- edits are never refused for an option
+no-option : (n : ℕ) (fault : SessionFault) (b c : Bool) (o : Option (ℕ × EditFault))
+    → first_of (when b faults.TooManyEdits ∷ when c faults.TooManyBytes ∷ as_fault o ∷ []) ≡ Some fault → NamesDeclared n fault
+no-option n fault true c o h = subst (NamesDeclared n) (let same : faults.TooManyEdits ≡ fault = cc in same) tt
+no-option n fault false true o h = subst (NamesDeclared n) (let same : faults.TooManyBytes ≡ fault = cc in same) tt
+no-option n fault false false None h = absurd (cc)
+no-option n fault false false (Some refused) h = subst (NamesDeclared n) (let same : faults.Edit refused.1 ≡ fault = cc in same) tt
 
 -- nor are those of a session by its name
-taken-declared : (n : ℕ) (history : List Command) (ss : List NamedSession) (name : List ℕ) (es : List Edit) (fault : SessionFault) → IsSessionFaultOf (taken history ss name es) fault → NamesDeclared n fault
-taken-declared n history ss name es (faults.Incomplete option) h = absurd (at (named ss name) h)
+taken-no_option : (n : ℕ) (history : List Command) (ss : List NamedSession) (name : List ℕ) (es : List Edit) (fault : SessionFault) → taken history ss name es ≡ Err fault → NamesDeclared n fault
+taken-no_option n history ss name es fault h = at (named ss name) h
   where
-    refused : (o : Option SessionFault) (left : List NamedSession) → unless o left ≡ Err (faults.Incomplete option) → o ≡ Some (faults.Incomplete option)
+    refused : (o : Option SessionFault) (left : List NamedSession) → unless o left ≡ Err fault → o ≡ Some fault
     refused None left k = absurd (cc)
-    refused (Some fault) left k = cc
+    refused (Some own) left k = cc
 
-    at : (o : Option NamedSession) → taken_by history ss es o ≡ Err (faults.Incomplete option) → ⊥
-    at None k = absurd (cc)
-    at (Some s) k = never-incomplete _ _ _ option (refused (addition_fault history s.session es) _ k)
+    at : (o : Option NamedSession) → taken_by history ss es o ≡ Err fault → NamesDeclared n fault
+    at None k = subst (NamesDeclared n) (let same : faults.NoSession ≡ fault = cc in same) tt
+    at (Some s) k = no-option n fault _ _ _ (refused (addition_fault history s.session es) _ k)
+
+taken-declared : (n : ℕ) (history : List Command) (ss : List NamedSession) (name : List ℕ) (es : List Edit) (fault : SessionFault) → IsSessionFaultOf (taken history ss name es) fault → NamesDeclared n fault
+taken-declared n history ss name es (faults.Incomplete option) h = taken-no_option n history ss name es (faults.Incomplete option) h
+taken-declared n history ss name es (faults.LateOption option) h = taken-no_option n history ss name es (faults.LateOption option) h
 taken-declared n history ss name es fault h = tt
 
 -- where the session of a name doesn't take edits, nothing changes

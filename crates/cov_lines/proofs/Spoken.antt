@@ -52,6 +52,7 @@ has-parts law bytes (lines.Prefer e) h = tt
 has-parts law bytes (lines.Default t on) h = tt
 has-parts law bytes (lines.Complete c) h = tt
 has-parts law bytes (lines.OpenSession n c e) h = tt
+has-parts law bytes (lines.Side n e) h = tt
 has-parts law bytes (lines.MakeDir n p) h = let form = (law bytes (lines.MakeDir n p)).1 h in has-name form.b p form.second.of_kind
 has-parts law bytes (lines.MakeFile n p) h = let form = (law bytes (lines.MakeFile n p)).1 h in has-name form.b p form.second.of_kind
 has-parts law bytes (lines.Rename n p to) h = tt

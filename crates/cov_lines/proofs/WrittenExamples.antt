@@ -1,11 +1,11 @@
--- Worked scripts that write trees, compare sides and tell where a line is.
+-- Worked scripts that write trees, compare sides, tell where a line is, and edit for a side.
 use Rattle.std.proofs.Common.{◌≡◌, refl, [], ◌∷◌, ◌++◌}
 use Rattle.std.specs.Prelude.{codes}
 use Rattle.std.specs.Str.{is_utf8, chars}
 use Rattle.std.specs.Fmt.{digits}
 use lib.Utf8.{encode}
 use Rattle.cov_out.specs.Rows.{dir_row, file_row}
-use Rattle.cov_lines.specs.Step.{model, step, acted, checked_out, served, served_declaration, served_session, served_edit, served_question, declared, constrained, opened, made_in, inserted, deleted, committed, compared, presence_told, node_at}
+use Rattle.cov_lines.specs.Step.{model, step, acted, checked_out, served, served_declaration, served_session, served_edit, served_question, declared, constrained, defaulted, opened, side_changed, made_in, inserted, deleted, committed, told, file_told, compared, presence_told, node_at}
 use Rattle.cov_lines.specs.Written.{tree_reply}
 use Rattle.cov_lines.proofs.Examples.{text}
 
@@ -36,3 +36,15 @@ side_invalid : (model [] (text (codes "option d" ∷ codes "constraint d" ∷ co
     ≡ text (codes "ok option 0" ∷ codes "ok constraint 1" ∷ codes "refused side-invalid off 1" ∷ codes "refused unknown-option e" ∷ [])
 unfolding is_utf8 chars encode digits step acted served served_declaration served_question declared constrained compared
 side_invalid = refl
+
+-- a line for all and one for a side; no side has an option that was declared after the base, or is false on the session's choice
+for_a_side : (model [] (text (codes "option d" ∷ codes "open s d=on for true" ∷ codes "mkfile s /m" ∷ codes "insert s /m 0 one" ∷ codes "side s d" ∷ codes "insert s /m +0 two" ∷ codes "option e" ∷ codes "side s e" ∷ codes "side s !d" ∷ codes "commit s" ∷ codes "default e off" ∷ codes "cat d=on /m" ∷ codes "cat d=off /m" ∷ codes "where 2" ∷ []))).reply
+    ≡ text (codes "ok option 0" ∷ codes "ok open 1 d=on" ∷ codes "ok" ∷ codes "ok +0" ∷ codes "ok" ∷ codes "ok +1" ∷ codes "ok option 1" ∷ codes "refused late-option e" ∷ codes "refused outside-side" ∷ codes "ok commit 3" ∷ codes "ok default 1" ∷ codes "ok 2" ∷ codes "1 one" ∷ codes "2 two" ∷ codes "ok 1" ∷ codes "1 one" ∷ codes "ok 1 0" ∷ codes "0 d F T" ∷ [])
+unfolding is_utf8 chars encode digits step acted served served_declaration served_session served_edit served_question declared defaulted opened side_changed made_in inserted committed told file_told presence_told node_at
+for_a_side = refl
+
+-- a line that is inserted on one side and deleted on another stays where it isn't deleted
+own_line_kept : (model [] (text (codes "option d" ∷ codes "option e" ∷ codes "open s d=on,e=on for true" ∷ codes "mkfile s /m" ∷ codes "side s d" ∷ codes "insert s /m 0 x" ∷ codes "side s e" ∷ codes "delete s /m +0" ∷ codes "commit s" ∷ codes "where 1" ∷ []))).reply
+    ≡ text (codes "ok option 0" ∷ codes "ok option 1" ∷ codes "ok open 2 d=on,e=on" ∷ codes "ok" ∷ codes "ok" ∷ codes "ok +0" ∷ codes "ok" ∷ codes "ok" ∷ codes "ok commit 3" ∷ codes "ok 2 0" ∷ codes "0 d F 1" ∷ codes "1 e T F" ∷ [])
+unfolding is_utf8 chars encode digits step acted served served_declaration served_session served_edit served_question declared opened side_changed made_in inserted deleted committed presence_told node_at
+own_line_kept = refl

@@ -32,7 +32,7 @@ use Rattle.cov_view.specs.Paths.{path_node}
 use Rattle.cov_history.specs.Sessions.{commit_of}
 use Rattle.cov_history.specs.Verdict.{verdict}
 use Rattle.cov_history.specs.declared.refusal.Refusal.{Refusal}
-use Rattle.cov_session.specs.Calls.{opened_among, refreshed_among, taken}
+use Rattle.cov_session.specs.Calls.{opened_among, refreshed_among, side_set, taken}
 use Rattle.cov_session.specs.Named.{named}
 use Rattle.cov_session.specs.Open.{NamedSession}
 use Rattle.cov_session.specs.declared.fault.SessionFault.{SessionFault}
@@ -45,7 +45,7 @@ use Rattle.cov_lines.specs.Editing.{directory_of}
 use Rattle.cov_session.specs.Faults.{unless}
 use Rattle.cov_lines.specs.Finding.{Found, ◌>>=◌, by_code, completed_choice, found_choice, found_expression, found_option, found_partial}
 use Rattle.cov_lines.specs.States.{State, with_command, with_sessions}
-use Rattle.cov_lines.specs.Step.{Act, Done, acted, added, appended, as_outcome, checked_out, committed, compared, completed, constrained, declared, defaulted, deleted, dropped, file_told, inserted, is_taken, listed_at, made_in, moved, node_at, opened, plainly, preferred, presence_told, refreshed, removed, renamed, replaced, served, served_declaration, served_edit, served_question, served_session, shown, step, told}
+use Rattle.cov_lines.specs.Step.{Act, Done, acted, added, appended, as_outcome, checked_out, committed, compared, completed, constrained, declared, defaulted, deleted, dropped, file_told, inserted, is_taken, listed_at, made_in, moved, node_at, opened, plainly, preferred, presence_told, refreshed, removed, renamed, replaced, served, served_declaration, served_edit, served_question, served_session, shown, side_changed, step, told}
 use Rattle.cov_lines.specs.Storing.{count, stored}
 
 -- whether there is no reply
@@ -138,6 +138,10 @@ module _ (st : State) where
       found_keeps (found_partial st.history bindings) _ (λ partial. found_keeps (found_expression st.history ambition) _ (λ within.
       found_keeps (by_code session_code (opened_among st.history st.sessions n partial within)) _ (λ new. (refl, refl))))
 
+  pub side_keeps : (name : List ℕ) (side : Formula (List ℕ)) → Keeps (side_changed st name side)
+  unfolding side_changed
+  side_keeps n side = found_keeps (found_expression st.history side) _ (λ bound. found_keeps (by_code session_code (side_set st.sessions n bound)) _ (λ ss. (refl, refl)))
+
   pub refreshed_keeps : (name : List ℕ) → Keeps (refreshed st name)
   unfolding refreshed
   refreshed_keeps n = found_keeps (by_code session_code (refreshed_among st.history st.sessions n)) _ (λ new. (refl, refl))
@@ -186,6 +190,7 @@ module _ (st : State) where
   session_grows : (line : SessionLine) → Grows (plainly (served_session st line))
   unfolding served_session
   session_grows (session_lines.Open n bindings ambition) = kept_grows (opened st n bindings ambition) (opened_keeps n bindings ambition)
+  session_grows (session_lines.Side n side) = kept_grows (side_changed st n side) (side_keeps n side)
   session_grows (session_lines.Refresh n) = kept_grows (refreshed st n) (refreshed_keeps n)
   session_grows (session_lines.Commit n) = added_grows (committed st n) (commit_adds n)
   session_grows (session_lines.Discard n) = kept_grows (dropped st n) (dropped_keeps n)

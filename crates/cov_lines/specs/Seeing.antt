@@ -15,7 +15,7 @@ use Rattle.cov_lines.specs.Step.{node_at}
 pub record IsNamed (st : State) (name : List ℕ) (view : Seen) : Type 0 where
   pub session : NamedSession
   pub has : named st.sessions name ≡ Some session
-  pub is_open : IsOpen st.history (record { name = session.name; session = session.session; view = view })
+  pub is_open : IsOpen st.history (record { name = session.name; side = session.side; session = session.session; view = view })
 
 -- a node that a session sees, by its number and by reference
 pub record IsSeen (st : State) (s : Session) (node : ℕ) (ref : NodeRef) : Type 0 where

@@ -9,7 +9,7 @@ use Rattle.cov_base.specs.declared.number.Kind.TheVariants as kinds
 use Rattle.cov_base.specs.declared.number.LineRef.{LineRef}
 use Rattle.cov_base.specs.declared.number.NodeRef.{NodeRef}
 use Rattle.cov_base.specs.declared.limits.TheConstants.{MOST_SCRIPT_LINE_BYTES}
-use Rattle.cov_expr.specs.Formula.{Formula}
+use Rattle.cov_expr.specs.Formula.{Formula, True}
 use Rattle.cov_script.specs.Grouping.{grouped}
 use Rattle.cov_script.specs.Lines.{form_of}
 use Rattle.cov_script.specs.declared.grouped.Declaration.{Declaration}
@@ -45,9 +45,9 @@ use Rattle.cov_history.specs.Verdict.{verdict}
 use Rattle.cov_engine.specs.Visibility.{is_no_line, presence_of}
 use Rattle.cov_alt.specs.Sides.{sides_at}
 use Rattle.cov_out.specs.declared.row.OutRow.{OutRow}
-use Rattle.cov_session.specs.Calls.{opened_among, refreshed_among, taken}
+use Rattle.cov_session.specs.Calls.{opened_among, refreshed_among, side_set, taken}
 use Rattle.cov_session.specs.Counting.{line_made, own_lines}
-use Rattle.cov_session.specs.Named.{named, with_session, without}
+use Rattle.cov_session.specs.Named.{named, side_of, with_session, without}
 use Rattle.cov_session.specs.Open.{NamedSession}
 use Rattle.cov_loop.specs.Outcome.{Outcome, answers}
 use Rattle.cov_codes.specs.Codes.{alt_code, syntax_code, refusal_code, session_code}
@@ -134,19 +134,26 @@ completed st bindings = do
   choice ← found_choice st.history bindings
   Ok (st, complete_reply (options_of st.history) choice)
 
--- a session is opened
+-- a session is opened, and the edits that come next in it have the side True
 unfoldable pub opened : State → List ℕ → List (List ℕ × Bool) → Formula (List ℕ) → Act
 opened st name bindings ambition = do
   partial ← found_partial st.history bindings
   within ← found_expression st.history ambition
   session ← by_code session_code (opened_among st.history st.sessions name partial within)
-  Ok (with_sessions st (st.sessions ++ record { name = name; session = session } ∷ []), open_reply session.base (options_of st.history) session.choice)
+  Ok (with_sessions st (st.sessions ++ record { name = name; side = True; session = session } ∷ []), open_reply session.base (options_of st.history) session.choice)
 
--- a session is refreshed
+-- the edits that come next in a session have another side
+unfoldable pub side_changed : State → List ℕ → Formula (List ℕ) → Act
+side_changed st name expr = do
+  side ← found_expression st.history expr
+  ss ← by_code session_code (side_set st.sessions name side)
+  Ok (with_sessions st ss, plain_reply)
+
+-- a session is refreshed, and keeps its side
 unfoldable pub refreshed : State → List ℕ → Act
 refreshed st name = do
   session ← by_code session_code (refreshed_among st.history st.sessions name)
-  Ok (with_sessions st (with_session st.sessions (record { name = name; session = session })), refresh_reply session.base (options_of st.history) session.choice)
+  Ok (with_sessions st (with_session st.sessions (record { name = name; side = side_of st.sessions name; session = session })), refresh_reply session.base (options_of st.history) session.choice)
 
 -- a node of a kind is made in the directory at a path, with a name
 unfoldable pub made_in : State → Kind → List ℕ → List (List ℕ) → List ℕ → Act
@@ -297,9 +304,10 @@ served_declaration st (declarations.Constraint expr) = constrained st expr
 served_declaration st (declarations.Prefer expr) = preferred st expr
 served_declaration st (declarations.Default token on) = defaulted st token on
 
--- what a line does with which a session begins, begins anew or ends
+-- what a line does that opens a session, sets its side, refreshes it or ends it
 unfoldable pub served_session : State → SessionLine → Act
 served_session st (session_lines.Open name bindings ambition) = opened st name bindings ambition
+served_session st (session_lines.Side name side) = side_changed st name side
 served_session st (session_lines.Refresh name) = refreshed st name
 served_session st (session_lines.Commit name) = committed st name
 served_session st (session_lines.Discard name) = dropped st name

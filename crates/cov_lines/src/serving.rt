@@ -89,6 +89,7 @@ impl ServerState {
                 choice,
                 ambition,
             } => as_done(self.alloc, self.open(name, &choice, &ambition)),
+            SessionLine::Side { name, side } => as_done(self.alloc, self.set_side(&name, &side)),
             SessionLine::Refresh { name } => as_done(self.alloc, self.refresh(&name)),
             SessionLine::Commit { name } => self.commit(name),
             SessionLine::Discard { name } => as_done(self.alloc, self.discard(&name)),

@@ -1,7 +1,7 @@
-// How a session begins, begins anew and ends: it is opened, refreshed, committed or given up.
+// How a session is opened, given a side for the edits that come next, refreshed, committed and given up.
 ghost use Rattle.std.specs.Prelude.{◌≡◌};
 ghost use Rattle.cov_lines.specs.Acting.{Acts, Handles};
-ghost use Rattle.cov_lines.specs.Step.{committed, dropped, opened, plainly, refreshed};
+ghost use Rattle.cov_lines.specs.Step.{committed, dropped, opened, plainly, refreshed, side_changed};
 
 use crate::handled::{Addition, Confirmation, Handled};
 use crate::state::ServerState;
@@ -29,6 +29,17 @@ impl ServerState {
             .open(&mut self.engine, name, &partial, ambition)?;
         let options = self.engine.options();
         Ok(reply_open(self.alloc, opened.base, options, opened.choice)?)
+    }
+
+    /// Sets the side of the edits that come next in a session.
+    #[tactic(auto, unfolding(crate::specs::Step::side_changed))]
+    pub(crate) fn set_side(&mut self, name: &Name, side: &RawExpr) -> Result<Text, Stop>
+        ensures { Acts (side_changed self.old.state name.now side.now)
+            self.old.state self.new.state result }
+    {
+        let side = self.find_expression(side)?;
+        self.sessions.side(name, side)?;
+        Ok(reply_plain(self.alloc)?)
     }
 
     /// Moves the base of a session to now.

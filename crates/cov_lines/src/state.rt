@@ -23,7 +23,7 @@ impl Model for ServerState {
     ghost use Rattle.cov_dd.specs.contracts.triple.Triple as triples;
     ghost use Rattle.cov_expr.specs.Formula.{formula_code};
     ghost use Rattle.cov_edit.specs.contracts.command.Command as command_row;
-    ghost use Rattle.cov_edit.specs.contracts.edit.Edit as edit_row;
+    ghost use Rattle.cov_edit.specs.contracts.sided.Sided as sided_row;
     ghost use Rattle.cov_lines.specs.States.{Serving};
     ghost use Rattle.cov_session.specs.Calls.{AreOpen};
     ghost use Rattle.cov_session.specs.Open.{as_named};
@@ -34,7 +34,7 @@ impl Model for ServerState {
       codes,
       formula_code coded_ℕ,
       command_row.the_row.coded,
-      edit_row.the_row.coded,
+      sided_row.the_row.coded,
       triples.the_row.coded,
     ) };
 

@@ -4,4 +4,5 @@ mod faults;
 mod plain;
 mod rows;
 mod running;
+mod sides;
 mod stores;

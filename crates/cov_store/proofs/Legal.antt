@@ -6,6 +6,7 @@ use Rattle.std.proofs.lemmas.List.{length-map}
 use Rattle.cov_base.proofs.CallerLemmas.{all-append, all-map}
 use Rattle.cov_base.specs.declared.limits.TheConstants.{LIMITS}
 use Rattle.cov_edit.specs.Fits.{fits_command}
+use Rattle.cov_edit.specs.Sides.{the_edit, unsided}
 use Rattle.cov_edit.specs.declared.command.Command.{Command}
 use Rattle.cov_edit.specs.declared.command.Command.TheVariants as commands
 use Rattle.cov_engine.proofs.CallerLemmas.{accepted-sizes, edits-few, legal-one, text-few}
@@ -31,9 +32,9 @@ accepted-within history (commands.Option name) accepted = record { edits = omega
 accepted-within history (commands.Constraint expr) accepted = record { edits = omega arith; bytes = omega arith }
 accepted-within history (commands.Prefer expr) accepted = record { edits = omega arith; bytes = omega arith }
 accepted-within history (commands.Default option on) accepted = record { edits = omega arith; bytes = omega arith }
-accepted-within history (commands.Commit base choice ambition es) accepted =
-    let sized = accepted-sizes history base choice ambition es accepted in
-    record { edits = edits-few history es sized.0 sized.1; bytes = text-few history es sized.0 sized.1 }
+accepted-within history (commands.Commit base choice ambition ss) accepted =
+    let sized = accepted-sizes history base choice ambition ss accepted in
+    record { edits = omega (arith, length-map ss the_edit, edits-few history (unsided ss) sized.0 sized.1); bytes = text-few history (unsided ss) sized.0 sized.1 }
 
 legal-from-within : (before history : List Command) → IsLegalFrom before history → AllByRecursion IsWithinLimits history
 legal-from-within before [] legal = tt

@@ -110,7 +110,7 @@ fn has_many_edits(command: &Command) -> bool
     ensures { result ≡ nat_le (2 ^ 32) (length (edits_in command.now)) }
 {
     match command {
-        Command::Commit { edits, .. } => edits.as_slice().len() >= 1 << 32,
+        Command::Commit { edits, .. } => edits.len() >= 1 << 32,
         Command::Option { .. }
         | Command::Constraint { .. }
         | Command::Prefer { .. }

@@ -1,3 +1,4 @@
+mod edit_sides;
 mod endings;
 mod interleavings;
 mod limits;

@@ -161,7 +161,8 @@ fn code_of(told: &[u8]) -> u8 {
     }
 }
 
-fn check_words(
+/// Runs these words over a disk that can't be opened: what is told, and that the disk stays as it is.
+pub(crate) fn check_words(
     rt: &impl Abort,
     alloc: Global,
     words: &'static [&'static str],

@@ -196,6 +196,36 @@ const INVALID: [u8; 142] = [
     246, 236, 65, 167, 201, 198, 46, 0,
 ];
 
+// An option, and a commit whose edit is meant for the variants with it.
+const SIDED: [u8; 117] = [
+    67, 79, 86, 83, 84, 79, 82, 69, 0, 0, 0, 1, 1, 0, 0, 0, 3, 1, 1, 97, 147, 247, 53, 91, 227,
+    241, 213, 211, 196, 216, 235, 143, 164, 23, 174, 210, 3, 103, 5, 49, 151, 206, 175, 224, 125,
+    41, 13, 220, 179, 241, 251, 221, 1, 0, 0, 0, 27, 6, 0, 0, 0, 1, 1, 1, 1, 0, 0, 0, 1, 2, 0, 0,
+    0, 0, 1, 1, 0, 0, 0, 0, 0, 0, 1, 120, 189, 149, 57, 93, 131, 99, 129, 39, 82, 120, 216, 37, 43,
+    215, 150, 114, 108, 247, 140, 189, 197, 207, 236, 116, 97, 179, 121, 168, 140, 107, 136, 231,
+    0,
+];
+
+// The same, where the side of the third edit is false.
+const OUTSIDE_SIDE: [u8; 142] = [
+    67, 79, 86, 83, 84, 79, 82, 69, 0, 0, 0, 1, 1, 0, 0, 0, 3, 1, 1, 97, 147, 247, 53, 91, 227,
+    241, 213, 211, 196, 216, 235, 143, 164, 23, 174, 210, 3, 103, 5, 49, 151, 206, 175, 224, 125,
+    41, 13, 220, 179, 241, 251, 221, 1, 0, 0, 0, 52, 6, 0, 0, 0, 1, 1, 1, 1, 0, 0, 0, 2, 2, 0, 0,
+    0, 0, 2, 1, 0, 0, 0, 0, 0, 0, 1, 120, 1, 0, 0, 0, 0, 0, 0, 1, 121, 3, 2, 0, 0, 0, 0, 1, 1, 0,
+    0, 0, 0, 0, 0, 1, 122, 196, 145, 83, 120, 154, 111, 34, 73, 205, 174, 66, 82, 80, 23, 191, 44,
+    179, 96, 144, 187, 131, 64, 224, 184, 136, 142, 165, 201, 237, 94, 68, 44, 0,
+];
+
+// The same, where two runs one behind the other have one side.
+const TWICE: [u8; 132] = [
+    67, 79, 86, 83, 84, 79, 82, 69, 0, 0, 0, 1, 1, 0, 0, 0, 3, 1, 1, 97, 147, 247, 53, 91, 227,
+    241, 213, 211, 196, 216, 235, 143, 164, 23, 174, 210, 3, 103, 5, 49, 151, 206, 175, 224, 125,
+    41, 13, 220, 179, 241, 251, 221, 1, 0, 0, 0, 42, 6, 0, 0, 0, 1, 1, 1, 1, 0, 0, 0, 2, 2, 0, 0,
+    0, 0, 1, 1, 0, 0, 0, 0, 0, 0, 1, 120, 2, 0, 0, 0, 0, 1, 1, 0, 0, 0, 0, 0, 0, 1, 121, 101, 6,
+    206, 111, 228, 231, 178, 16, 187, 231, 48, 203, 78, 73, 18, 109, 93, 109, 41, 42, 133, 10, 138,
+    211, 69, 11, 206, 222, 92, 242, 4, 85, 0,
+];
+
 // An open record that is longer than the disk.
 const LONG: [u8; 22] = [
     67, 79, 86, 83, 84, 79, 82, 69, 0, 0, 0, 1, 1, 255, 255, 255, 255, 0, 0, 0, 0, 0,
@@ -206,8 +236,8 @@ const OTHER: [u8; 20] = [
     67, 79, 86, 83, 84, 79, 82, 69, 0, 0, 0, 2, 0, 0, 0, 0, 0, 0, 0, 0,
 ];
 
-/// Images with a record that is whole and has the right digest, but isn't accepted; one that is cut, and one that is no store.
-pub(crate) const ROWS: [Row; 9] = [
+/// Images with a record that is whole and has the right digest, one of which is accepted; one that is cut, and one that is no store.
+pub(crate) const ROWS: [Row; 12] = [
     Row {
         image: &PARTS,
         answer: Answer::NotARecord(1),
@@ -235,6 +265,18 @@ pub(crate) const ROWS: [Row; 9] = [
     Row {
         image: &INVALID,
         answer: Answer::Refused(3, Rule::Invalid(1)),
+    },
+    Row {
+        image: &SIDED,
+        answer: Answer::Opened(2),
+    },
+    Row {
+        image: &OUTSIDE_SIDE,
+        answer: Answer::Refused(2, Rule::OutsideSide(2)),
+    },
+    Row {
+        image: &TWICE,
+        answer: Answer::NotARecord(2),
     },
     Row {
         image: &LONG,

@@ -68,6 +68,9 @@ pub(crate) fn replies_of(alloc: Global, parts: &[&[Step]]) -> Result<Text, Fail>
     Ok(replies)
 }
 
+/// Parts of a script, and the status of a run on them.
+pub(crate) type Parts<'a> = (&'a [&'a [Step<'a>]], u8);
+
 /// The words, the size of pieces, the calls of the source that fail, and those of the sink.
 pub(crate) type Setting<'a> = (&'a [&'a str], usize, &'a [u64], &'a [u64]);
 
@@ -167,6 +170,21 @@ pub(crate) fn are_served(
 {
     for case in cases {
         expect(rt, alloc, setting, *case)?;
+    }
+    Ok(())
+}
+
+// Runs the program on each of these scripts.
+pub(crate) fn parts_are_served(
+    rt: &impl Abort,
+    alloc: Global,
+    cases: &[Parts],
+) -> Result<(), Fail> {
+    for (parts, status) in cases {
+        let script = script_of(alloc, parts)?;
+        let written = replies_of(alloc, parts)?;
+        let case = (script.as_slice(), written.as_slice(), *status);
+        expect(rt, alloc, SERVED, case)?;
     }
     Ok(())
 }

@@ -1,5 +1,5 @@
 // The lines of a file with an option on and with it off, and on which choices a line is.
-use crate::tests::running::{DONE, SERVED, SOME_REFUSED, Step, expect, replies_of, script_of};
+use crate::tests::running::{DONE, Parts, SOME_REFUSED, Step, parts_are_served};
 use std::test::Fail;
 
 // A line whose anchor is absent from a variant, and the newest of two behind one anchor.
@@ -260,8 +260,7 @@ const LOCATED: [Step; 59] = [
     ),
 ];
 
-// Parts of a script, and the status of a run on them.
-const CASES: [(&[&[Step]], u8); 5] = [
+const CASES: [Parts; 5] = [
     (&[&ANCHORED, &DELETED], DONE),
     (&[&ANCHORED, &CONSTRAINED], SOME_REFUSED),
     (&[&COMPARED], SOME_REFUSED),
@@ -271,16 +270,5 @@ const CASES: [(&[&[Step]], u8); 5] = [
 
 #[test]
 fn sides_are_compared_and_lines_located(rt: HostRuntime) -> Result<(), Fail> {
-    let alloc = rt.alloc();
-    for (parts, status) in CASES {
-        let script = script_of(alloc, parts)?;
-        let written = replies_of(alloc, parts)?;
-        expect(
-            &rt,
-            alloc,
-            SERVED,
-            (script.as_slice(), written.as_slice(), status),
-        )?;
-    }
-    Ok(())
+    parts_are_served(&rt, rt.alloc(), &CASES)
 }
