@@ -26,6 +26,7 @@ import plans
 import projection
 import renames
 import sessions
+import sides
 import stops
 import sweeping
 import touched
@@ -35,7 +36,7 @@ from timing import Figure, built_in, row, spelt, whether_met
 # Each bench, with the crate whose program it runs.
 BENCHES = ((comments, 'cov_cli'), (conjunction, 'cov_bench'), (sweeping, 'cov_bench'), (completion, 'cov_cli'), (memo, 'cov_cli'),
            (order, 'cov_order_bench'), (plans, 'cov_tree_bench'), (lines, 'cov_cli'), (commits, 'cov_cli'), (inserts, 'cov_cli'),
-           (renames, 'cov_cli'), (directories, 'cov_cli'), (overtaking, 'cov_cli'), (sessions, 'cov_cli'), (touched, 'cov_cli'), (variants, 'cov_cli'), (demo, 'cov_cli'),
+           (renames, 'cov_cli'), (directories, 'cov_cli'), (overtaking, 'cov_cli'), (sessions, 'cov_cli'), (sides, 'cov_cli'), (touched, 'cov_cli'), (variants, 'cov_cli'), (demo, 'cov_cli'),
            (checkout, 'cov_cli'), (projection, 'cov_cli'), (durable, 'cov_cli'), (opening, 'cov_cli'), (stops, 'cov_cli'),
            (damage, 'cov_cli'))
 
