@@ -1,5 +1,5 @@
 -- A session that is opened or refreshed is there, with the whole history before its base.
-use Rattle.std.proofs.Common.{◌≡◌, ◌∙◌, refl, sym, ap, subst, ℕ, Bool, true, false, nat_le, nat_lt, List, [], ◌∷◌, ◌++◌, length, take, Option, Some, None, Result, Ok, Err, is_some, arith}
+use Rattle.std.proofs.Common.{◌≡◌, ◌∙◌, refl, sym, ap, subst, ℕ, Bool, true, false, nat_le, nat_lt, List, [], ◌∷◌, ◌++◌, length, take, Option, Some, None, Result, Ok, Err, is_some, option_map, arith}
 use Rattle.std.specs.Prelude.{if◌then◌else◌}
 use Rattle.std.specs.List.{enumerate_from}
 use Rattle.std.specs.Option.{option_or}
@@ -19,7 +19,7 @@ use Rattle.cov_script.specs.declared.grouped.SessionLine.{SessionLine}
 use Rattle.cov_script.specs.declared.grouped.SessionLine.TheVariants as session_lines
 use Rattle.cov_script.specs.declared.line.Line.{Line}
 use Rattle.cov_script.specs.declared.line.LineSyntax.{LineSyntax}
-use Rattle.cov_edit.specs.History.{option_count, options_of}
+use Rattle.cov_edit.specs.History.{options_of}
 use Rattle.cov_edit.specs.Numbering.{numbers_of}
 use Rattle.cov_edit.specs.Replay.{replay}
 use Rattle.cov_view.specs.Refusals.{first_refused}
@@ -36,11 +36,10 @@ use Rattle.cov_session.specs.declared.fault.SessionFault.TheVariants as faults
 use Rattle.cov_session.specs.declared.sessions.TheConstants.{MOST_SESSIONS}
 use Rattle.cov_codes.specs.Codes.{session_code, syntax_code}
 use Rattle.cov_lines.specs.Finding.{Found, ◌>>=◌, by_code, found_expression, found_partial}
-use Rattle.cov_lines.specs.Isolation.{HasSession, SessionsBeginNow, begins, has_form, is_start}
+use Rattle.cov_lines.specs.Isolation.{HasSession, SessionsBeginNow, UnsidedSession, begins, has_form, is_start, without_sides}
 use Rattle.cov_lines.specs.States.{State, with_sessions}
 use Rattle.cov_lines.specs.Step.{Act, Done, acted, as_outcome, opened, plainly, refreshed, served, served_session, step}
 use Rattle.cov_lines.proofs.NamedSessions.{itself, named-changed, same-name}
-use Rattle.cov_lines.proofs.Opened.{completed-whole}
 
 module _ (name : List ℕ) (st : State) where
   -- a session with its base now, and its side
@@ -49,22 +48,22 @@ module _ (name : List ℕ) (st : State) where
 
   -- what is done has the session, with the whole history before its base
   abbrev Begins : Act → Type 0
-  Begins (Ok done) = (s : NamedSession) × HasSession name s done.0.history done.0
+  Begins (Ok done) = (s : UnsidedSession) × HasSession name s done.0.history done.0
   Begins (Err code) = Unit {0}
 
   -- the same of a line that may write rows
   abbrev BeginsDone : Found Done → Type 0
-  BeginsDone (Ok done) = (s : NamedSession) × HasSession name s done.state.history done.state
+  BeginsDone (Ok done) = (s : UnsidedSession) × HasSession name s done.state.history done.state
   BeginsDone (Err code) = Unit {0}
 
   on-found : {X : Type 0} (found : Found X) (later : X → Act) → ((x : X) → Begins (later x)) → Begins (found >>= later)
   on-found (Ok x) later h = h x
   on-found (Err code) later h = tt
 
-  has-now : (ss : List NamedSession) (side : Formula ℕ) (session : Session) → session.base ≡ length st.history → length session.choice ≡ option_count st.history
-      → named ss name ≡ Some (AsOfNow side session) → (s : NamedSession) × HasSession name s st.history (with_sessions st ss)
-  has-now ss side session now whole found =
-      (AsOfNow side session, record { there = found; within = omega (arith, now); same = ap (λ n. take n st.history) now ∙ take-length st.history; whole = whole })
+  has-now : (ss : List NamedSession) (side : Formula ℕ) (session : Session) → session.base ≡ length st.history → named ss name ≡ Some (AsOfNow side session)
+      → (s : UnsidedSession) × HasSession name s st.history (with_sessions st ss)
+  has-now ss side session now found =
+      (without_sides (AsOfNow side session), record { there = ap (option_map without_sides) found; within = omega (arith, now); same = ap (λ n. take n st.history) now ∙ take-length st.history })
 
   -- a session with the name, behind those that don't have it
   last-named : (new : NamedSession) → new.name ≡ name → named st.sessions name ≡ None → named (st.sessions ++ new ∷ []) name ≡ Some new
@@ -77,23 +76,23 @@ module _ (name : List ℕ) (st : State) where
   unfolding opened
   opened-now bindings ambition =
       on-found (found_partial st.history bindings) _ (λ partial. on-found (found_expression st.history ambition) _ (λ within.
-      at (named st.sessions name) refl (nat_le MOST_SESSIONS (length st.sessions)) within partial (completed_in st.history partial) refl))
+      at (named st.sessions name) refl (nat_le MOST_SESSIONS (length st.sessions)) within (completed_in st.history partial)))
     where
       told : Session → Act
       told session = Ok (with_sessions st (st.sessions ++ AsOfNow True session ∷ []), open_reply session.base (options_of st.history) session.choice)
 
-      on : named st.sessions name ≡ None → (within : Formula ℕ) (choice : List Bool) → length choice ≡ option_count st.history → (b : Bool)
+      on : named st.sessions name ≡ None → (within : Formula ℕ) (choice : List Bool) (b : Bool)
           → Begins (by_code session_code (if b then Ok (record { base = length st.history; choice = choice; ambition = within; edits = [] }) else Err faults.OutsideAmbition) >>= told)
-      on none within choice whole true = has-now _ _ _ refl whole (last-named _ refl none)
-      on none within choice whole false = tt
+      on none within choice true = has-now _ _ _ refl (last-named _ refl none)
+      on none within choice false = tt
 
-      at : (o : Option NamedSession) → named st.sessions name ≡ o → (full : Bool) (within : Formula ℕ) (partial : List (ℕ × Bool)) (completion : Completion) → completed_in st.history partial ≡ completion
+      at : (o : Option NamedSession) → named st.sessions name ≡ o → (full : Bool) (within : Formula ℕ) (completion : Completion)
           → Begins (by_code session_code (if is_some o then Err faults.SessionExists else if full then Err faults.TooManySessions else opened_on st.history within completion) >>= told)
-      at (Some t) e full within partial completion f = tt
-      at None e true within partial completion f = tt
-      at None e false within partial (Complete choice) f = on e within choice (completed-whole st.history partial choice f) (value within choice)
-      at None e false within partial (Invalid rule) f = tt
-      at None e false within partial (Incomplete option) f = tt
+      at (Some t) e full within completion = tt
+      at None e true within completion = tt
+      at None e false within (Complete choice) = on e within choice (value within choice)
+      at None e false within (Invalid rule) = tt
+      at None e false within (Incomplete option) = tt
 
   refreshed-now : Begins (refreshed st name)
   unfolding refreshed
@@ -102,21 +101,19 @@ module _ (name : List ℕ) (st : State) where
       told : Session → Act
       told session = Ok (with_sessions st (with_session st.sessions (AsOfNow (side_of st.sessions name) session)), refresh_reply session.base (options_of st.history) session.choice)
 
-      on : (t : NamedSession) → named st.sessions name ≡ Some t → (choice : List Bool) → length choice ≡ option_count st.history → (refused : Option (ℕ × EditFault))
+      on : (t : NamedSession) → named st.sessions name ≡ Some t → (choice : List Bool) (refused : Option (ℕ × EditFault))
           → Begins (by_code session_code (unless (as_lost refused) (rebased t.session (length st.history) choice)) >>= told)
-      on t e choice whole None = has-now _ _ _ refl whole (named-changed st.sessions name t _ refl e)
-      on t e choice whole (Some refused) = tt
+      on t e choice None = has-now _ _ _ refl (named-changed st.sessions name t _ refl e)
+      on t e choice (Some refused) = tt
 
-      by : (t : NamedSession) → named st.sessions name ≡ Some t → (completion : Completion) → completed_in st.history (enumerate_from 0 t.session.choice) ≡ completion
-          → Begins (by_code session_code (refreshed_on st.history t.session completion) >>= told)
-      by t e (Complete choice) f =
-          on t e choice (completed-whole st.history (enumerate_from 0 t.session.choice) choice f) (first_refused (numbers_of st.history) (replay choice st.history) (edits_of t.session))
-      by t e (Invalid rule) f = tt
-      by t e (Incomplete option) f = tt
+      by : (t : NamedSession) → named st.sessions name ≡ Some t → (completion : Completion) → Begins (by_code session_code (refreshed_on st.history t.session completion) >>= told)
+      by t e (Complete choice) = on t e choice (first_refused (numbers_of st.history) (replay choice st.history) (edits_of t.session))
+      by t e (Invalid rule) = tt
+      by t e (Incomplete option) = tt
 
       at : (o : Option NamedSession) → named st.sessions name ≡ o → Begins (by_code session_code (refreshed_by st.history o) >>= told)
       at None e = tt
-      at (Some t) e = by t e (completed_in st.history (enumerate_from 0 t.session.choice)) refl
+      at (Some t) e = by t e (completed_in st.history (enumerate_from 0 t.session.choice))
 
   session-now : (line : SessionLine) → is_start name line ≡ true → Begins (served_session st line)
   unfolding served_session
@@ -149,6 +146,6 @@ pub begin-now : SessionsBeginNow
 unfolding step
 begin-now name st line own accepted = at (acted st line) (acted-now name st line own) accepted
   where
-    at : (act : Found Done) → BeginsDone name st act → (as_outcome st act).is_refused ≡ false → (s : NamedSession) × HasSession name s (as_outcome st act).state.history (as_outcome st act).state
+    at : (act : Found Done) → BeginsDone name st act → (as_outcome st act).is_refused ≡ false → (s : UnsidedSession) × HasSession name s (as_outcome st act).state.history (as_outcome st act).state
     at (Ok done) h k = h
     at (Err code) h k = absurd (cc)

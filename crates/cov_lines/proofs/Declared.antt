@@ -9,7 +9,7 @@ use Rattle.cov_expr.specs.Options.{is_declared, option_number}
 use Rattle.cov_expr.specs.Partials.{partial_of}
 use Rattle.cov_expr.specs.declared.binding.BindFault.TheVariants as faults
 
-pub position-below : {X : Type 0} (p : X → Bool) (xs : List X) → list_any p xs ≡ true → position_or_len p xs < length xs
+position-below : {X : Type 0} (p : X → Bool) (xs : List X) → list_any p xs ≡ true → position_or_len p xs < length xs
 position-below p [] h = absurd (cc)
 position-below p (x ∷ xs) h = at (p x) h (λ k. position-below p xs k)
   where

@@ -1,61 +1,52 @@
 -- Sessions are isolated.
-use Rattle.std.proofs.Common.{◌≡◌, ◌∙◌, refl, sym, ap, subst, ℕ, Bool, true, false, cond, ◌||◌, List, [], ◌∷◌, take, Some}
+use Rattle.std.proofs.Common.{◌≡◌, ◌∙◌, refl, sym, ap, subst, ℕ, Bool, true, false, cond, List, [], ◌∷◌, take, Some}
 use Rattle.cov_edit.specs.declared.command.Command.{Command}
-use Rattle.cov_session.specs.Open.{NamedSession}
-use Rattle.cov_lines.specs.Isolation.{HasSession, SeeAlike, SessionsAreIsolated, StaysOpen, after, is_own, is_side_line, own_replies, own_script}
+use Rattle.cov_lines.specs.Isolation.{HasSession, SeeAlike, SessionsAreIsolated, StaysOpen, UnsidedSession, after, is_own, own_replies, own_script}
 use Rattle.cov_lines.specs.States.{State}
 use Rattle.cov_lines.specs.Step.{step}
 use Rattle.cov_lines.proofs.OthersLines.{others-leave}
+use Rattle.cov_lines.proofs.OwnActs.{named-there}
 use Rattle.cov_lines.proofs.OwnLines.{own-alike}
-use Rattle.cov_lines.proofs.SideLines.{side-alike}
 
 -- two runs give a session's own lines the same replies, and their states in the end see it alike
 abbrev EndAlike : List ℕ → State → State → List (List ℕ) → List (List ℕ) → Type 0
 EndAlike name one other script another = (own_replies name one script ≡ own_replies name other another) × SeeAlike name (after one script) (after other another)
 
--- a run over all lines, and one over the lines of the session alone
+-- a run over all lines, and one over the session's own lines alone
 alone : (name : List ℕ) (one other : State) (script : List (List ℕ)) → SeeAlike name one other → StaysOpen name one script → EndAlike name one other script (own_script name script)
 alone name one other [] alike stays = (refl, alike)
 alone name one other (line ∷ script) alike stays =
-    at (is_own name line) refl (is_side_line name line) refl
+    at (is_own name line) refl
     (λ k. alone name (step one line).state (step other line).state script k stays.1)
     (λ k. alone name (step one line).state other script k stays.1)
   where
-    more : List (List ℕ)
-    more = own_replies name (step other line).state (own_script name script)
-
-    replies : (b : Bool) → is_own name line ≡ b → cond b ((step other line).reply ∷ more) more ≡ own_replies name other (line ∷ own_script name script)
-    replies b e = sym (ap (λ d. cond d ((step other line).reply ∷ more) more) e)
-
-    at : (b : Bool) → is_own name line ≡ b → (c : Bool) → is_side_line name line ≡ c
+    at : (b : Bool) → is_own name line ≡ b
         → (SeeAlike name (step one line).state (step other line).state → EndAlike name (step one line).state (step other line).state script (own_script name script))
         → (SeeAlike name (step one line).state other → EndAlike name (step one line).state other script (own_script name script))
         → (cond b ((step one line).reply ∷ own_replies name (step one line).state script) (own_replies name (step one line).state script)
-        ≡ own_replies name other (cond (b || c) (line ∷ own_script name script) (own_script name script)))
-        × SeeAlike name (after one (line ∷ script)) (after other (cond (b || c) (line ∷ own_script name script) (own_script name script)))
-    at true e c f both first =
-        let now = own-alike name alike.session alike.before one other alike.in_one alike.in_other line e in
+        ≡ own_replies name other (cond b (line ∷ own_script name script) (own_script name script)))
+        × SeeAlike name (after one (line ∷ script)) (after other (cond b (line ∷ own_script name script) (own_script name script)))
+    at true e both first =
+        let t = named-there name alike.session alike.before one alike.in_one in
+        let u = named-there name alike.session alike.before other alike.in_other in
+        let now = own-alike name t.session u.session alike.before one other t.named_there u.named_there (t.is ∙ sym u.is) line e in
         let rest = both now.1 in (
           ap (λ r. r ∷ own_replies name (step one line).state script) now.0
               ∙ ap (λ rs. (step other line).reply ∷ rs) rest.0
-              ∙ replies true e,
+              ∙ sym (ap (λ c. let more = own_replies name (step other line).state (own_script name script) in cond c ((step other line).reply ∷ more) more) e),
           rest.1,
         )
-    at false e true f both first =
-        let set = side-alike name alike.session alike.before one other alike.in_one alike.in_other line f in
-        let rest = both set in
-        (rest.0 ∙ replies false e, rest.1)
-    at false e false f both first =
-        let kept = others-leave name alike.session alike.before one alike.in_one line e f stays.0 in
+    at false e both first =
+        let kept = others-leave name alike.session alike.before one alike.in_one line e stays.0 in
         first (record { session = alike.session; before = alike.before; in_one = kept; in_other = alike.in_other })
 
 -- the session of a name is one
-same-session : (name : List ℕ) (s t : NamedSession) (before past : List Command) (st : State) → HasSession name s before st → HasSession name t past st → (s ≡ t) × (before ≡ past)
+same-session : (name : List ℕ) (s t : UnsidedSession) (before past : List Command) (st : State) → HasSession name s before st → HasSession name t past st → (s ≡ t) × (before ≡ past)
 same-session name s t before past st h k =
     let same = some-same s t (sym h.there ∙ k.there) in
-    (same, sym h.same ∙ ap (λ u. take u.session.base st.history) same ∙ k.same)
+    (same, sym h.same ∙ ap (λ u. take u.base st.history) same ∙ k.same)
   where
-    some-same : (s t : NamedSession) → Some s ≡ Some t → s ≡ t
+    some-same : (s t : UnsidedSession) → Some s ≡ Some t → s ≡ t
     some-same s t e = cc
 
 -- through a state that both see alike

@@ -12,7 +12,7 @@ use Rattle.cov_lines.specs.Step.{step, acted, served, served_declaration, served
 abbrev script : List (List ℕ)
 script = codes "mkfile s /m" ∷ codes "mkfile t /n" ∷ codes "insert t /n 0 x" ∷ codes "commit t" ∷ codes "side s !false" ∷ codes "side t true" ∷ codes "insert s /m 0 y" ∷ codes "cat - /n" ∷ codes "show s /n" ∷ codes "list s /" ∷ []
 
-pub own_lines_alone : own_script (codes "s") script ≡ codes "mkfile s /m" ∷ codes "side s !false" ∷ codes "insert s /m 0 y" ∷ codes "show s /n" ∷ codes "list s /" ∷ []
+pub own_lines_alone : own_script (codes "s") script ≡ codes "mkfile s /m" ∷ codes "insert s /m 0 y" ∷ codes "show s /n" ∷ codes "list s /" ∷ []
 unfolding is_utf8 chars encode
 own_lines_alone = refl
 

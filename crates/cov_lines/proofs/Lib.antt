@@ -2,7 +2,6 @@ pub mod Acted
 pub mod Additions
 pub mod Appended
 pub mod Beginning
-pub mod BoundSides
 pub mod Compared
 pub mod Counting
 pub mod Declared
@@ -22,7 +21,6 @@ pub mod OwnLines
 pub mod References
 pub mod Refusals
 pub mod SessionFaults
-pub mod SideLines
 pub mod Spoken
 pub mod ToldFiles
 pub mod ToldLines

@@ -37,7 +37,7 @@ module _ (st : State) (name : List ℕ) (bindings : List (List ℕ × Bool)) (am
       ∙ ap (λ r. r >>= (λ w. by_code session_code (opened_among st.history st.sessions name partial w) >>= with_opened)) expr
 
 -- a choice that is completed has all options
-pub completed-whole : (history : List Command) (partial : List (ℕ × Bool)) (choice : List Bool) → completed_in history partial ≡ Complete choice → length choice ≡ option_count history
+completed-whole : (history : List Command) (partial : List (ℕ × Bool)) (choice : List Bool) → completed_in history partial ≡ Complete choice → length choice ≡ option_count history
 completed-whole history partial choice e =
     (completed_is_valid (option_count history) (constraints_of history) (preferences_of history) (literals (defaults_of history)) partial choice e).whole
 

@@ -1,4 +1,4 @@
--- A line of others leaves a session as it is, and the history up to its base.
+-- A line that isn't a session's own leaves it as it is but for its sides, and the history up to its base.
 use Rattle.std.proofs.Common.{◌≡◌, ◌∙◌, refl, sym, ap, subst, ℕ, ◌≤◌, Bool, true, false, nat_lt, List, [], ◌∷◌, ◌++◌, length, Option, Some, None, Result, Ok, Err, ok_or, option_map, arith}
 use Rattle.std.specs.Prelude.{if◌then◌else◌}
 use Rattle.std.specs.Str.{bytes_eq}
@@ -42,12 +42,13 @@ use Rattle.cov_alt.specs.Sides.{sides_at}
 use Rattle.cov_codes.specs.Codes.{alt_code, refusal_code, session_code, syntax_code}
 use Rattle.cov_lines.specs.Editing.{directory_of}
 use Rattle.cov_lines.specs.Finding.{Found, ◌>>=◌, by_code, completed_choice, found_choice, found_expression, found_option, found_partial}
-use Rattle.cov_lines.specs.Isolation.{HasSession, begins_or_ends, has_form, is_boundary, is_own, is_side, is_side_line, is_turn, sets_side, works_in}
+use Rattle.cov_lines.specs.Isolation.{HasSession, begins_or_ends, has_form, is_boundary, is_own, is_turn, without_sides, works_in, UnsidedSession}
 use Rattle.cov_lines.specs.States.{State, with_command, with_sessions, with_tree}
 use Rattle.cov_lines.specs.Step.{Act, Done, acted, added, appended, as_outcome, checked_out, committed, compared, completed, constrained, declared, defaulted, deleted, dropped, ended, file_told, inserted, is_taken, listed_at, made_in, moved, node_at, opened, plainly, preferred, presence_told, refreshed, removed, renamed, replaced, served, served_declaration, served_edit, served_question, served_session, shown, side_changed, step, told}
-use Rattle.cov_lines.proofs.NamedSessions.{named-before, named-has, named-kept, named-left}
+use Rattle.cov_lines.proofs.NamedSessions.{named-before, named-changed, named-has, named-kept, named-left, same-name}
+use Rattle.cov_lines.proofs.OwnActs.{named-there}
 
-module _ (name : List ℕ) (s : NamedSession) (before : List Command) where
+module _ (name : List ℕ) (s : UnsidedSession) (before : List Command) where
   -- what is done leaves the session
   abbrev Leaves : Act → Type 0
   Leaves (Ok done) = HasSession name s before done.0
@@ -72,14 +73,16 @@ module _ (name : List ℕ) (s : NamedSession) (before : List Command) where
     has-command : (k : Command) → HasSession name s before (with_command st k)
     has-command k = record {
       there = has.there;
-      within = subst (λ n. s.session.base ≤ n) (sym (length-append st.history (k ∷ []))) (omega (arith, has.within));
-      same = take-append-le s.session.base st.history (k ∷ []) has.within ∙ has.same;
-      whole = has.whole;
+      within = subst (λ n. s.base ≤ n) (sym (length-append st.history (k ∷ []))) (omega (arith, has.within));
+      same = take-append-le s.base st.history (k ∷ []) has.within ∙ has.same;
     }
 
-    -- other sessions, but this one among them
+    -- other sessions, but this one among them, whatever its sides
+    has-alike : (ss : List NamedSession) → option_map without_sides (named ss name) ≡ option_map without_sides (named st.sessions name) → HasSession name s before (with_sessions st ss)
+    has-alike ss kept = record { there = kept ∙ has.there; within = has.within; same = has.same }
+
     has-sessions : (ss : List NamedSession) → named ss name ≡ named st.sessions name → HasSession name s before (with_sessions st ss)
-    has-sessions ss kept = record { there = kept ∙ has.there; within = has.within; same = has.same; whole = has.whole }
+    has-sessions ss kept = has-alike ss (ap (option_map without_sides) kept)
 
     on-appended : (k : Command) (later : State → Act) → Leaves (later (with_command st k)) → Leaves (appended st k >>= later)
     on-appended k later h = at (verdict st.history k)
@@ -106,24 +109,32 @@ module _ (name : List ℕ) (s : NamedSession) (before : List Command) where
         at None e = tt
         at (Some t) e = done t (named-has st.sessions n t e) (addition_fault st.history t.session es)
 
-    -- another side of the session of another name
-    side-leaves : (n : List ℕ) (side : Formula ℕ) (reply : List ℕ) → bytes_eq n name ≡ false
-        → Leaves (by_code session_code (side_set_by st.sessions side (named st.sessions n)) >>= (λ ss. Ok (with_sessions st ss, reply)))
-    side-leaves n side reply other = at (named st.sessions n) refl
+    -- another side of a session, which is this one or not
+    side-leaves : (n : List ℕ) (side : Formula ℕ) (reply : List ℕ) → Leaves (by_code session_code (side_set_by st.sessions side (named st.sessions n)) >>= (λ ss. Ok (with_sessions st ss, reply)))
+    side-leaves n side reply = at (named st.sessions n) refl
       where
-        done : (t : NamedSession) → t.name ≡ n → (fault : Option SessionFault)
+        kept : (t : NamedSession) → named st.sessions n ≡ Some t → (b : Bool) → bytes_eq n name ≡ b
+            → option_map without_sides (named (with_session st.sessions (with_side t side)) name) ≡ option_map without_sides (named st.sessions name)
+        kept t e true own =
+            let there : named st.sessions name ≡ Some t = ap (named st.sessions) (sym (same-name n name own)) ∙ e in
+            ap (option_map without_sides) (named-changed st.sessions name t (with_side t side) (named-has st.sessions name t there) there)
+            ∙ sym (ap (option_map without_sides) there)
+        kept t e false other = ap (option_map without_sides) (named-kept st.sessions name (with_side t side) (ap (λ m. bytes_eq m name) (named-has st.sessions n t e) ∙ other))
+
+        done : (t : NamedSession) → named st.sessions n ≡ Some t → (fault : Option SessionFault)
             → Leaves (by_code session_code (unless fault (with_session st.sessions (with_side t side))) >>= (λ ss. Ok (with_sessions st ss, reply)))
-        done t is None =
-            has-sessions (with_session st.sessions (with_side t side)) (named-kept st.sessions name (with_side t side) (ap (λ m. bytes_eq m name) is ∙ other))
-        done t is (Some fault) = tt
+        done t e None = has-alike (with_session st.sessions (with_side t side)) (kept t e (bytes_eq n name) refl)
+        done t e (Some fault) = tt
 
         at : (o : Option NamedSession) → named st.sessions n ≡ o → Leaves (by_code session_code (side_set_by st.sessions side o) >>= (λ ss. Ok (with_sessions st ss, reply)))
         at None e = tt
-        at (Some t) e = done t (named-has st.sessions n t e) (side_fault t.session side)
+        at (Some t) e = done t e (side_fault t.session side)
 
     -- one that is opened; one that is refreshed or ended, of another name
     opened-leaves : (new : NamedSession) → HasSession name s before (with_sessions st (st.sessions ++ new ∷ []))
-    opened-leaves new = has-sessions (st.sessions ++ new ∷ []) (named-before st.sessions (new ∷ []) name s has.there ∙ sym has.there)
+    opened-leaves new =
+        let t = named-there name s before st has in
+        has-sessions (st.sessions ++ new ∷ []) (named-before st.sessions (new ∷ []) name t.session t.named_there.there ∙ sym t.named_there.there)
 
     refreshed-leaves : (new : NamedSession) → bytes_eq new.name name ≡ false → HasSession name s before (with_sessions st (with_session st.sessions new))
     refreshed-leaves new other = has-sessions (with_session st.sessions new) (named-kept st.sessions name new other)
@@ -141,7 +152,7 @@ module _ (name : List ℕ) (s : NamedSession) (before : List Command) where
     listed_in-leaves false code reply = tt
 
     has-tree : (tree : List ℕ) → HasSession name s before (with_tree st tree)
-    has-tree tree = record { there = has.there; within = has.within; same = has.same; whole = has.whole }
+    has-tree tree = record { there = has.there; within = has.within; same = has.same }
 
     -- lines that edit in the session of another name
     edit-leaves : (n : List ℕ) (edit : EditLine) → bytes_eq n name ≡ false → Leaves (served_edit st n edit)
@@ -155,18 +166,18 @@ module _ (name : List ℕ) (s : NamedSession) (before : List Command) where
     edit-leaves n (edit_lines.Delete path line) other = on-found (node_at st n path) _ (λ file. on-added st has n _ _ other)
     edit-leaves n (edit_lines.Replace path line text) other = on-found (node_at st n path) _ (λ file. on-added st has n _ _ other)
 
-    -- lines with which a session of another name begins, has another side or ends, and the first one of this name
-    session-leaves : (line : SessionLine) → is_turn name line ≡ false → is_side name line ≡ false → Leaves (served_session st line)
+    -- lines with which a session of another name begins or ends, the first one of this name, and another side
+    session-leaves : (line : SessionLine) → is_turn name line ≡ false → Leaves (served_session st line)
     unfolding served_session opened side_changed refreshed committed dropped
-    session-leaves (session_lines.Open n bindings ambition) turned other =
+    session-leaves (session_lines.Open n bindings ambition) turned =
         on-found (found_partial st.history bindings) _ (λ partial. on-found (found_expression st.history ambition) _ (λ within.
         on-found (by_code session_code (opened_among st.history st.sessions n partial within)) _ (λ new. opened-leaves st has (record { name = n; side = True; session = new }))))
-    session-leaves (session_lines.Side n side) turned other = on-found (found_expression st.history side) _ (λ bound. side-leaves st has n bound _ other)
-    session-leaves (session_lines.Refresh n) turned other =
+    session-leaves (session_lines.Side n side) turned = on-found (found_expression st.history side) _ (λ bound. side-leaves st has n bound _)
+    session-leaves (session_lines.Refresh n) turned =
         on-found (by_code session_code (refreshed_among st.history st.sessions n)) _ (λ new. refreshed-leaves st has (record { name = n; side = side_of st.sessions n; session = new }) turned)
-    session-leaves (session_lines.Commit n) turned other =
+    session-leaves (session_lines.Commit n) turned =
         on-found (ok_or (named st.sessions n) NoSession) _ (λ t. on-appended st has (commit_of t.session) _ (ended-leaves (with_command st (commit_of t.session)) n (has-command st has (commit_of t.session)) turned))
-    session-leaves (session_lines.Discard n) turned other = on-found (ok_or (named st.sessions n) NoSession) _ (λ t. ended-leaves st n has turned)
+    session-leaves (session_lines.Discard n) turned = on-found (ok_or (named st.sessions n) NoSession) _ (λ t. ended-leaves st n has turned)
 
     declaration-leaves : (declaration : Declaration) → Leaves (served_declaration st declaration)
     unfolding served_declaration declared constrained preferred defaulted
@@ -192,29 +203,28 @@ module _ (name : List ℕ) (s : NamedSession) (before : List Command) where
     plainly-leaves (Err code) h = tt
 
     -- lines of others of every group
-    served-leaves : (line : GroupedLine) → works_in name line ≡ false → sets_side name line ≡ false → begins_or_ends name line ≡ false → LeavesDone (served st line)
+    served-leaves : (line : GroupedLine) → works_in name line ≡ false → begins_or_ends name line ≡ false → LeavesDone (served st line)
     unfolding served checked_out
-    served-leaves groups.Silent other sided turned = has
-    served-leaves (groups.Declaration declaration) other sided turned = plainly-leaves (served_declaration st declaration) (declaration-leaves declaration)
-    served-leaves (groups.Session line) other sided turned = plainly-leaves (served_session st line) (session-leaves line turned sided)
-    served-leaves (groups.Edit n edit) other sided turned = plainly-leaves (served_edit st n edit) (edit-leaves n edit other)
-    served-leaves (groups.Question question) other sided turned = plainly-leaves (served_question st question) (question-leaves question)
-    served-leaves (groups.Checkout tree bindings) other sided turned =
+    served-leaves groups.Silent other turned = has
+    served-leaves (groups.Declaration declaration) other turned = plainly-leaves (served_declaration st declaration) (declaration-leaves declaration)
+    served-leaves (groups.Session line) other turned = plainly-leaves (served_session st line) (session-leaves line turned)
+    served-leaves (groups.Edit n edit) other turned = plainly-leaves (served_edit st n edit) (edit-leaves n edit other)
+    served-leaves (groups.Question question) other turned = plainly-leaves (served_question st question) (question-leaves question)
+    served-leaves (groups.Checkout tree bindings) other turned =
         on-found-done (found_partial st.history bindings) _ (λ partial. on-found-done (if is_taken st tree then Err TreeTaken else Ok tree) _ (λ new.
         on-found-done (completed_choice st.history partial) _ (λ c. has-tree new)))
 
-    acted-leaves : (line : List ℕ) → is_own name line ≡ false → is_side_line name line ≡ false → is_boundary name line ≡ false → LeavesDone (acted st line)
+    acted-leaves : (line : List ℕ) → is_own name line ≡ false → is_boundary name line ≡ false → LeavesDone (acted st line)
     unfolding acted
-    acted-leaves line other sided turned = at (nat_lt MOST_SCRIPT_LINE_BYTES (length line))
+    acted-leaves line other turned = at (nat_lt MOST_SCRIPT_LINE_BYTES (length line))
       where
-        of : (form : Result Line LineSyntax) → has_form (works_in name) form ≡ false → has_form (sets_side name) form ≡ false → has_form (begins_or_ends name) form ≡ false
-            → LeavesDone (by_code syntax_code form >>= (λ f. served st (grouped f)))
-        of (Ok form) h j k = served-leaves (grouped form) h j k
-        of (Err fault) h j k = tt
+        of : (form : Result Line LineSyntax) → has_form (works_in name) form ≡ false → has_form (begins_or_ends name) form ≡ false → LeavesDone (by_code syntax_code form >>= (λ f. served st (grouped f)))
+        of (Ok form) h k = served-leaves (grouped form) h k
+        of (Err fault) h k = tt
 
         at : (long : Bool) → LeavesDone ((if long then Err Long else Ok line) >>= (λ short. by_code syntax_code (form_of short) >>= (λ form. served st (grouped form))))
         at true = tt
-        at false = of (form_of line) other sided turned
+        at false = of (form_of line) other turned
 
     done-leaves : (act : Found Done) → LeavesDone act → HasSession name s before (as_outcome st act).state
     done-leaves (Ok done) h = h
@@ -224,11 +234,11 @@ module _ (name : List ℕ) (s : NamedSession) (before : List Command) where
     refused-leaves (Ok done) h = absurd (cc)
     refused-leaves (Err code) h = has
 
-    -- a line that isn't the session's own and doesn't set its side leaves it, unless it begins or ends it
-    pub others-leave : (line : List ℕ) → is_own name line ≡ false → is_side_line name line ≡ false → (is_boundary name line ≡ true → (step st line).is_refused ≡ true) → HasSession name s before (step st line).state
+    -- a line that isn't the session's own leaves it, unless it begins or ends it
+    pub others-leave : (line : List ℕ) → is_own name line ≡ false → (is_boundary name line ≡ true → (step st line).is_refused ≡ true) → HasSession name s before (step st line).state
     unfolding step
-    others-leave line other sided kept = at (is_boundary name line) refl
+    others-leave line other kept = at (is_boundary name line) refl
       where
         at : (b : Bool) → is_boundary name line ≡ b → HasSession name s before (as_outcome st (acted st line)).state
         at true e = refused-leaves (acted st line) (kept e)
-        at false e = done-leaves (acted st line) (acted-leaves line other sided e)
+        at false e = done-leaves (acted st line) (acted-leaves line other e)

@@ -1,9 +1,11 @@
 -- The law of isolation: what a session's own lines are answered, whatever lines of others come between.
-use Rattle.std.specs.Prelude.{◌≡◌, ℕ, ◌≤◌, Bool, true, false, ◌||◌, List, [], ◌∷◌, length, take, Some, Result, Ok, Err, if◌then◌else◌}
+use Rattle.std.specs.Prelude.{◌≡◌, ℕ, ◌≤◌, Bool, true, false, List, [], ◌∷◌, length, take, option_map, Some, Result, Ok, Err, if◌then◌else◌}
 use Rattle.std.specs.List.{filter}
 use Rattle.std.specs.Str.{bytes_eq}
+use Rattle.cov_expr.specs.Formula.{Formula}
 use Rattle.cov_edit.specs.declared.command.Command.{Command}
-use Rattle.cov_edit.specs.History.{option_count}
+use Rattle.cov_edit.specs.declared.edit.Edit.{Edit}
+use Rattle.cov_history.specs.Sessions.{edits_of}
 use Rattle.cov_script.specs.Grouping.{grouped}
 use Rattle.cov_script.specs.Lines.{form_of}
 use Rattle.cov_script.specs.declared.grouped.GroupedLine.{GroupedLine}
@@ -54,14 +56,6 @@ is_turn name (session_lines.Refresh n) = bytes_eq n name
 is_turn name (session_lines.Commit n) = bytes_eq n name
 is_turn name (session_lines.Discard n) = bytes_eq n name
 
--- whether the side of the session of a name is set
-abbrev pub is_side : List ℕ → SessionLine → Bool
-is_side name (session_lines.Open n bindings ambition) = false
-is_side name (session_lines.Side n side) = bytes_eq n name
-is_side name (session_lines.Refresh n) = false
-is_side name (session_lines.Commit n) = false
-is_side name (session_lines.Discard n) = false
-
 -- whether a line is one of a session that passes a test
 abbrev pub of_session : (SessionLine → Bool) → GroupedLine → Bool
 of_session test groups.Silent = false
@@ -79,10 +73,6 @@ begins name line = of_session (is_start name) line
 abbrev pub begins_or_ends : List ℕ → GroupedLine → Bool
 begins_or_ends name line = of_session (is_turn name) line
 
--- whether a line sets the side of the session of a name
-abbrev pub sets_side : List ℕ → GroupedLine → Bool
-sets_side name line = of_session (is_side name) line
-
 -- whether there is a form, and what it says passes a test
 abbrev pub has_form : (GroupedLine → Bool) → Result Line LineSyntax → Bool
 has_form test (Ok form) = test (grouped form)
@@ -96,13 +86,9 @@ is_own name line = has_form (works_in name) (form_of line)
 abbrev pub is_boundary : List ℕ → List ℕ → Bool
 is_boundary name line = has_form (begins_or_ends name) (form_of line)
 
--- whether a line is a `side` of the session of a name
-abbrev pub is_side_line : List ℕ → List ℕ → Bool
-is_side_line name line = has_form (sets_side name) (form_of line)
-
--- the lines of a session alone, in order: its own, and those that set its side, whose replies look at the options of now
+-- the lines of a session alone, in order
 abbrev pub own_script : List ℕ → List (List ℕ) → List (List ℕ)
-own_script name script = filter (λ line. is_own name line || is_side_line name line) script
+own_script name script = filter (is_own name) script
 
 -- the replies to a session's own lines, in order, in a run over all lines
 abbrev pub own_replies : List ℕ → State → List (List ℕ) → List (List ℕ)
@@ -120,16 +106,27 @@ abbrev pub StaysOpen : List ℕ → State → List (List ℕ) → Type 0
 StaysOpen name st [] = Unit {0}
 StaysOpen name st (line ∷ script) = (is_boundary name line ≡ true → (step st line).is_refused ≡ true) × StaysOpen name (step st line).state script
 
--- a session is the one of a name in a state whose history is this one up to the session's base, and its choice is of the options there
-pub record HasSession (name : List ℕ) (s : NamedSession) (before : List Command) (st : State) : Type 0 where
-  pub there : named st.sessions name ≡ Some s
-  pub within : s.session.base ≤ length st.history
-  pub same : take s.session.base st.history ≡ before
-  pub whole : length s.session.choice ≡ option_count before
+-- a session but for its sides: what it sees, and what its edits are told, is of these alone
+pub record UnsidedSession : Type 0 where
+  pub name : List ℕ
+  pub base : ℕ
+  pub choice : List Bool
+  pub ambition : Formula ℕ
+  pub edits : List Edit
 
--- two states have the same session of a name, and the same history up to its base
+-- a session without its current side and those of its edits
+abbrev pub without_sides : NamedSession → UnsidedSession
+without_sides s = record { name = s.name; base = s.session.base; choice = s.session.choice; ambition = s.session.ambition; edits = edits_of s.session }
+
+-- a session, but for its sides, is the one of a name in a state whose history is this one up to the session's base
+pub record HasSession (name : List ℕ) (s : UnsidedSession) (before : List Command) (st : State) : Type 0 where
+  pub there : option_map without_sides (named st.sessions name) ≡ Some s
+  pub within : s.base ≤ length st.history
+  pub same : take s.base st.history ≡ before
+
+-- two states have the same session of a name, but for its sides, and the same history up to its base
 pub record SeeAlike (name : List ℕ) (one other : State) : Type 0 where
-  pub session : NamedSession
+  pub session : UnsidedSession
   pub before : List Command
   pub in_one : HasSession name session before one
   pub in_other : HasSession name session before other
@@ -145,4 +142,4 @@ SessionsAreIsolated = (name : List ℕ) (one other : State) (script another : Li
 -- a session that is opened or refreshed is there, with the whole history before its base
 abbrev pub SessionsBeginNow : Type 0
 SessionsBeginNow = (name : List ℕ) (st : State) (line : List ℕ) → has_form (begins name) (form_of line) ≡ true → (step st line).is_refused ≡ false
-    → (s : NamedSession) × HasSession name s (step st line).state.history (step st line).state
+    → (s : UnsidedSession) × HasSession name s (step st line).state.history (step st line).state
