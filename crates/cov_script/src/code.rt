@@ -93,7 +93,8 @@ pub enum Code {
     BadRecord {
         edit: u32,
     },
-    /// The first commit after the base that touches a common node and shares a valid choice has this position.
+    /// The first commit after the base of which some edit touches a common node with some edit, where a valid choice makes both
+    /// ambitions and both sides true, has this position.
     Overtaken {
         position: Position,
     },
