@@ -165,13 +165,19 @@ def megabytes(kibibytes):
     return kibibytes * 1024 / 1e6
 
 
-def peak_of(command, source=None):
-    """The peak of memory of a command in MB, as Debian's `time` tells it. What os.wait4 tells is never less than the memory that this
-    script had when it began the command."""
+def time_and_peak(command, source=None):
+    """The seconds elapsed of a command and its peak of memory in MB, as Debian's `time` tells them. What os.wait4 tells of memory is
+    never less than what this script had when it began the command."""
     with tempfile.NamedTemporaryFile() as told:
-        command = ['/usr/bin/time', '--format=%M', '--output=' + told.name, *command]
+        command = ['/usr/bin/time', '--format=%e %M', '--output=' + told.name, *command]
         subprocess.run(command, stdin=source, stdout=subprocess.DEVNULL, check=True)
-        return megabytes(int(told.read()))
+        elapsed, peak = told.read().split()
+        return float(elapsed), megabytes(int(peak))
+
+
+def peak_of(command, source=None):
+    """The peak of memory of a command in MB."""
+    return time_and_peak(command, source)[1]
 
 
 def peak_served(lines, program):

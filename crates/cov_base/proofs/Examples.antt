@@ -8,7 +8,8 @@ use Rattle.cov_base.specs.Rows.{Row}
 use Rattle.cov_base.specs.Reaching.{has_clash, has_lost}
 use Rattle.cov_base.specs.declared.number.Kind.TheVariants as kinds
 use Rattle.cov_base.specs.Addresses.{address_in, with_lines, placed, after_anchor}
-use Rattle.cov_base.specs.declared.limits.TheConstants.{LIMITS, MOST_SCRIPT_LINE_BYTES, MOST_TEXT_BYTES, MOST_NAME_BYTES, MOST_OPTION_NAME_BYTES, MOST_TOKENS, TOO_MANY_SCRIPT_BYTES, CHOICE_WIDTH}
+use Rattle.cov_base.specs.Limits.{limits_when}
+use Rattle.cov_base.specs.declared.limits.TheConstants.{LIMITS, UPGRADED_LIMITS, MOST_SCRIPT_LINE_BYTES, MOST_TEXT_BYTES, MOST_NAME_BYTES, MOST_OPTION_NAME_BYTES, MOST_TOKENS, TOO_MANY_SCRIPT_BYTES, CHOICE_WIDTH}
 
 -- a name may have an accent and three dots, and no cut character, no space and not one dot alone
 names : map is_name (codes "main.c" ∷ (195 ∷ 169 ∷ []) ∷ codes "..." ∷ (195 ∷ []) ∷ codes "a b" ∷ codes "." ∷ [])
@@ -42,9 +43,15 @@ clashes = refl
 lost : map has_lost ((dir 2 1 ∷ dir 1 0 ∷ []) ∷ (dir 1 0 ∷ dir 3 2 ∷ []) ∷ (dir 1 2 ∷ dir 2 1 ∷ []) ∷ []) ≡ false ∷ true ∷ true ∷ []
 lost = refl
 
--- the limits of every history
+-- the limits of a history before an upgrade and after it, and that those are these by whether there is one
 limits : LIMITS ≡ record { options = 64; rules = 256; commands = 1048576; edits = 16384; commit_bytes = 16777216; lines = 1048576; nodes = 65536; bytes = 1073741824 }
 limits = refl
+
+upgraded_limits : UPGRADED_LIMITS ≡ record { options = 128; rules = 1024; commands = 1048576; edits = 16384; commit_bytes = 16777216; lines = 16777216; nodes = 1048576; bytes = 1073741824 }
+upgraded_limits = refl
+
+limits_by_upgrade : map limits_when (false ∷ true ∷ []) ≡ LIMITS ∷ UPGRADED_LIMITS ∷ []
+limits_by_upgrade = refl
 
 -- the limits of spelling, of what is read, and of a choice
 spelling_limits : (MOST_SCRIPT_LINE_BYTES ∷ MOST_TEXT_BYTES ∷ MOST_NAME_BYTES ∷ MOST_OPTION_NAME_BYTES ∷ MOST_TOKENS ∷ TOO_MANY_SCRIPT_BYTES ∷ CHOICE_WIDTH ∷ [])

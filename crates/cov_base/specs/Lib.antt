@@ -5,6 +5,7 @@ pub mod Bytes
 pub mod Causes
 pub mod Choices
 pub mod Faults
+pub mod Limits
 pub mod Lines
 pub mod Older
 pub mod Reaching

@@ -22,7 +22,8 @@ pub use error::{BadName, Failed, Memory, MemoryOr};
 pub use file_row::{FileRow, FileRows, SharedRows};
 pub use limits::{
     CHOICE_WIDTH, LIMITS, Limits, MOST_NAME_BYTES, MOST_OPTION_NAME_BYTES, MOST_PARTS,
-    MOST_SCRIPT_LINE_BYTES, MOST_TEXT_BYTES, MOST_TOKENS, TOO_MANY_SCRIPT_BYTES,
+    MOST_SCRIPT_LINE_BYTES, MOST_TEXT_BYTES, MOST_TOKENS, TOO_MANY_SCRIPT_BYTES, UPGRADED_LIMITS,
+    limits_when,
 };
 pub use line_text::is_line_text;
 pub use list::{ByReference, ByValue, LineNos, List, NodeNos, Numbers, Texts};

@@ -1,4 +1,6 @@
 // How much a history holds, and how long the spellings of what it holds are.
+ghost use Rattle.std.specs.Prelude.{◌≡◌};
+ghost use Rattle.cov_base.specs.Limits.{limits_when};
 
 /// How much a history holds at most.
 #[derive(Clone, Copy)]
@@ -6,8 +8,8 @@ pub struct Limits {
     /// Options.
     pub options: u8,
     /// Constraints, preferences and defaults: so many of each.
-    pub rules: usize,
-    /// Commands: options, rules and commits.
+    pub rules: u16,
+    /// Commands of every kind.
     pub commands: usize,
     /// Edits of a commit.
     pub edits: usize,
@@ -21,7 +23,7 @@ pub struct Limits {
     pub bytes: u64,
 }
 
-/// The limits of every history.
+/// The limits of a history without an upgrade.
 pub const LIMITS: Limits = Limits {
     options: 64,
     rules: 256,
@@ -32,6 +34,28 @@ pub const LIMITS: Limits = Limits {
     nodes: 65536,
     bytes: 1 << 30,
 };
+
+/// The limits of a history with an upgrade. Those of commands, edits and bytes are the same.
+pub const UPGRADED_LIMITS: Limits = Limits {
+    options: CHOICE_WIDTH,
+    rules: 1024,
+    commands: 1 << 20,
+    edits: 16384,
+    commit_bytes: 1 << 24,
+    lines: 1 << 24,
+    nodes: 1 << 20,
+    bytes: 1 << 30,
+};
+
+/// The limits of a history, by whether it has an upgrade.
+pub fn limits_when(upgraded: bool) -> Limits
+    ensures { result ≡ limits_when upgraded }
+{
+    match upgraded {
+        true => UPGRADED_LIMITS,
+        false => LIMITS,
+    }
+}
 
 /// From so many bytes of a script on no more are read, unless its end was met.
 pub const TOO_MANY_SCRIPT_BYTES: u64 = 1 << 32;

@@ -67,6 +67,7 @@ told-all history (commands.Constraint expr) = let n : ℕ = option_count history
 told-all history (commands.Prefer expr) = let n : ℕ = option_count history in (told-when n _ refusals.BadOption tt, (told-when n _ refusals.Full tt, tt))
 told-all history (commands.Default option on) = let n : ℕ = option_count history in (told-when n _ refusals.BadOption tt, (told-when n _ refusals.Full tt, tt))
 told-all history (commands.Commit base choice ambition ss) = let n : ℕ = option_count history in (told-when n _ refusals.BadBase tt, (told-when n _ refusals.BadOption tt, (told-when n _ refusals.TooManyEdits tt, (told-when n _ refusals.TooManyLines tt, (told-when n _ refusals.TooManyNodes tt, (told-when n _ refusals.TooManyBytes tt, (told-invalid n _, (told-when n _ refusals.OutsideAmbition tt, (told-outside n _, (told-when n _ refusals.Empty tt, (told-bad_record n _, (told-overtaken n _, (told-unsound history ambition (commands.Commit base choice ambition ss), tt)))))))))))))
+told-all history commands.Upgrade = (told-when (option_count history) _ refusals.Upgraded tt, tt)
 
 -- a command's refusal can be told
 refusal-told : (history : List Command) (k : Command) → Told (option_count history) (verdict history k)

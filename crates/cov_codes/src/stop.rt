@@ -177,6 +177,7 @@ impl From<Refusal> for Stop {
             Refusal::Full => Stop::Refused(Code::Full),
             Refusal::Exists => Stop::Refused(Code::Exists),
             Refusal::NoVariantLeft => Stop::Refused(Code::NoVariantLeft),
+            Refusal::Upgraded => Stop::Refused(Code::Upgraded),
             Refusal::BadBase => Stop::Refused(Code::BadBase),
             Refusal::BadOption => Stop::Refused(Code::BadOption),
             Refusal::TooManyEdits => Stop::Refused(Code::TooManyEdits),

@@ -1,5 +1,6 @@
 -- Lemmas on edits and their numbers, for the proofs of callers.
 pub use Rattle.cov_edit.proofs.Examples.{absent_anchor, commit, make_m}
+pub use Rattle.cov_edit.proofs.Limits.{limits-most, upgraded-append}
 pub use Rattle.cov_edit.proofs.Replays.{all-apply, all_within, behind-numbered, changes_within-append, each_change, fold-append, none-apply, none_outside, nothing_outside, numbers_from-append, replay-append, replay-commit, those_that_apply}
 pub use Rattle.cov_edit.proofs.Rising.{all-rest, opened, rest-is, rest_of}
 pub use Rattle.cov_edit.proofs.Sides.{ambition-low, conditions-low, edits-fit, outside-ambition, sides-low, unsided-append, unsided-length}

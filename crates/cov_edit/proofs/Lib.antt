@@ -1,6 +1,7 @@
 pub mod CallerLemmas
 pub mod Examples
 pub mod Fits
+pub mod Limits
 pub mod Replays
 pub mod Rising
 pub mod Runs

@@ -19,6 +19,7 @@ numbers_from-append ns (commands.Option name ∷ history) later = numbers_from-a
 numbers_from-append ns (commands.Constraint e ∷ history) later = numbers_from-append ns history later
 numbers_from-append ns (commands.Prefer e ∷ history) later = numbers_from-append ns history later
 numbers_from-append ns (commands.Default option on ∷ history) later = numbers_from-append ns history later
+numbers_from-append ns (commands.Upgrade ∷ history) later = numbers_from-append ns history later
 
 pub changes_from-append : (ns : Numbers) (history later : List Command) → changes_from ns (history ++ later) ≡ changes_from ns history ++ changes_from (numbers_from ns history) later
 changes_from-append ns [] later = refl
@@ -29,6 +30,7 @@ changes_from-append ns (commands.Option name ∷ history) later = changes_from-a
 changes_from-append ns (commands.Constraint e ∷ history) later = changes_from-append ns history later
 changes_from-append ns (commands.Prefer e ∷ history) later = changes_from-append ns history later
 changes_from-append ns (commands.Default option on ∷ history) later = changes_from-append ns history later
+changes_from-append ns (commands.Upgrade ∷ history) later = changes_from-append ns history later
 
 -- the replay of a longer history goes on from that of the shorter
 pub replay-append : (c : List Bool) (history later : List Command) → replay c (history ++ later) ≡ fold (applied c) (replay c history) (changes_from (numbers_of history) later)

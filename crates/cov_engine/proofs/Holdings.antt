@@ -54,6 +54,7 @@ more-options (suc n) (commands.Constraint expr ∷ history) later = more-options
 more-options (suc n) (commands.Prefer expr ∷ history) later = more-options n history later
 more-options (suc n) (commands.Default option on ∷ history) later = more-options n history later
 more-options (suc n) (commands.Commit base choice ambition es ∷ history) later = more-options n history later
+more-options (suc n) (commands.Upgrade ∷ history) later = more-options n history later
 
 held-same : (history : List Command) (k : Command) → has_commit (k ∷ []) ≡ false → held_by (history ++ k ∷ []) ≡ held_by history
 held-same history (commands.Option name) h = holding-goes_on history (commands.Option name ∷ [])
@@ -61,6 +62,7 @@ held-same history (commands.Constraint expr) h = holding-goes_on history (comman
 held-same history (commands.Prefer expr) h = holding-goes_on history (commands.Prefer expr ∷ [])
 held-same history (commands.Default option on) h = holding-goes_on history (commands.Default option on ∷ [])
 held-same history (commands.Commit base choice ambition es) h = absurd (cc)
+held-same history commands.Upgrade h = holding-goes_on history (commands.Upgrade ∷ [])
 
 -- so do the lines of a file
 pub dated-on : (old new : List Triple) (count more : ℕ) (ds : List DatedLine) (ls : List FileLine) → Extends old new → count ≤ more → AreDated old count ds ls → AreDated new more ds ls
@@ -119,6 +121,7 @@ replay-same c history (commands.Constraint expr) h = replay-append c history (co
 replay-same c history (commands.Prefer expr) h = replay-append c history (commands.Prefer expr ∷ [])
 replay-same c history (commands.Default option on) h = replay-append c history (commands.Default option on ∷ [])
 replay-same c history (commands.Commit base choice ambition es) h = absurd (cc)
+replay-same c history commands.Upgrade h = replay-append c history (commands.Upgrade ∷ [])
 
 -- up to the length of a history, and beyond it
 pub take-before : (p : ℕ) (history : List Command) (k : Command) → p ≤ length history → take p (history ++ k ∷ []) ≡ take p history
@@ -146,6 +149,7 @@ files-same history k h = files-append history (k ∷ []) ∙ ap (λ files. files
     none (commands.Prefer expr) h = refl
     none (commands.Default option on) h = refl
     none (commands.Commit base choice ambition es) h = absurd (cc)
+    none commands.Upgrade h = refl
 
 -- a declaration leaves what is held as it is
 pub held-declared : (history longer : List Command) (k : Command) (ts : List Triple) (commits : List CommitMark) (file_of_line : List ℕ) (entries : Dated) (stored : List FilePart)

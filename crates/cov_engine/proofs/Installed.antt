@@ -4,13 +4,13 @@ use Rattle.std.specs.List.{AllByRecursion}
 use Rattle.std.specs.Option.{option_map_or}
 use Rattle.std.proofs.lemmas.List.{length_push}
 use Rattle.cov_base.proofs.CallerLemmas.{all-map, all-both, all-append}
-use Rattle.cov_base.specs.declared.limits.TheConstants.{LIMITS}
 use Rattle.cov_expr.specs.Formula.{Formula}
 use Rattle.cov_edit.specs.declared.edit.Edit.{Edit}
 use Rattle.cov_edit.specs.declared.command.Command.{Command}
 use Rattle.cov_edit.specs.declared.command.Command.TheVariants as commands
 use Rattle.cov_edit.specs.declared.sided.Sided.{Sided}
 use Rattle.cov_edit.specs.History.{options_of, option_count}
+use Rattle.cov_edit.specs.Limits.{limits_of}
 use Rattle.cov_edit.specs.Numbering.{Numbers, nodes_made, anchors_of, no_numbers, numbers_of, line_count, node_count}
 use Rattle.cov_overtaking.specs.declared.mark.CommitMark.{CommitMark}
 use Rattle.cov_visible.specs.declared.file_part.FilePart.{FilePart}
@@ -43,7 +43,7 @@ use Rattle.cov_visible.specs.declared.resolved_edit.ResolvedEdit.{ResolvedEdit}
 use Rattle.cov_visible.specs.declared.resolved_edit.ResolvedEdit.TheVariants as resolved
 use Rattle.cov_history.proofs.CallerLemmas.{commit-lines, files-commit, files-rise, lines-edits, all-mapped, base-nodes, new-files_of_lines-count}
 use Rattle.cov_engine.proofs.FileLines.{all-unmapped}
-use Rattle.cov_edit.proofs.CallerLemmas.{numbers_from-append}
+use Rattle.cov_edit.proofs.CallerLemmas.{limits-most, numbers_from-append}
 use Rattle.cov_engine.proofs.RowPlans.{entries-committed}
 use Rattle.cov_engine.proofs.States.{options-append}
 use Rattle.cov_overtaking.proofs.CallerLemmas.{marks-committed}
@@ -54,17 +54,21 @@ use Rattle.cov_visible.proofs.CallerLemmas.{resolved-kinds, resolved-most, stage
 use Rattle.cov_engine.proofs.Committed.{new-files-all, line-files-after, file-empty}
 
 -- the nodes that its edits name have small numbers
-pub edits-near : (history : List Command) (base : ℕ) (choice : List Bool) (es : List Edit) → node_count history + nodes_made es ≤ LIMITS.nodes
+pub edits-near : (history : List Command) (base : ℕ) (choice : List Bool) (es : List Edit) → node_count history + nodes_made es ≤ (limits_of history).nodes
     → first_refused (numbers_of (take base history)) (replay choice (take base history)) es ≡ None → AreNear (numbers_of history).nodes es
 edits-near history base choice es few accepted =
-    named-near (numbers_of (take base history)).nodes (numbers_of history).nodes 0 es (base-nodes base history) (omega (arith, few)) (edits-named history base choice es accepted)
+    let most = limits-most history in
+    let nodes = most.nodes in
+    named-near (numbers_of (take base history)).nodes (numbers_of history).nodes 0 es (base-nodes base history) (omega (arith, few, nodes)) (edits-named history base choice es accepted)
 
 -- and the lines that they name
-pub edits-low : (history : List Command) (base : ℕ) (choice : List Bool) (ambition : Formula ℕ) (es : List Sided) → line_count history + length (anchors_of 0 (unsided es)) ≤ LIMITS.lines
+pub edits-low : (history : List Command) (base : ℕ) (choice : List Bool) (ambition : Formula ℕ) (es : List Sided) → line_count history + length (anchors_of 0 (unsided es)) ≤ (limits_of history).lines
     → IsGood history (session_of base choice ambition es) → IsLegal history → AreLow (line_count history) (unsided es)
 edits-low history base choice ambition es few good legal =
-    all-map (λ e. named_line (line_count history) e ≤ LIMITS.lines) (λ e. named_line (line_count history) e < 2 ^ 32) (λ e low. omega (arith, low)) (unsided es)
-    (named-low history base choice ambition es good legal LIMITS.lines (unsided es) [] refl
+    let most = limits-most history in
+    let lines = most.lines in
+    all-map (λ e. named_line (line_count history) e ≤ (limits_of history).lines) (λ e. named_line (line_count history) e < 2 ^ 32) (λ e low. omega (arith, low, lines)) (unsided es)
+    (named-low history base choice ambition es good legal (limits_of history).lines (unsided es) [] refl
     (let same = sym (new-files_of_lines-count 0 (line_count history) (unsided es)) ∙ new-files_of_lines-count 0 0 (unsided es) in omega (arith, few, same)))
 
 -- stored files that are the same but for their room have the same files

@@ -28,11 +28,12 @@ with_table s ts = record {
   counts = s.counts;
   index = s.index;
   visible = record { table = ts; entries = s.visible.entries; files = s.visible.files };
+  upgraded = s.upgraded;
 }
 
 pub kept-grown : (s : EngineState) (ts : List Triple) → IsKept s → Extends (table_of s) ts → IsKept (with_table s ts)
 kept-grown s ts kept x = (
-  (state-grown (history_of s) s.options.names (table_of s) ts s.rules.standing s.rules.standing s.counts kept.0.0 x refl, kept.0.1),
+  (state-grown (history_of s) s.options.names (table_of s) ts s.rules.standing s.rules.standing s.counts kept.0.0 x refl, kept.0.1, kept.0.2),
   held-grown (history_of s) (table_of s) ts s.index.commits.items s.index.file_of_line.items s.visible.entries s.visible.files kept.1 x,
 )
 
@@ -50,11 +51,12 @@ with_options s own = record {
   counts = s.counts;
   index = s.index;
   visible = s.visible;
+  upgraded = s.upgraded;
 }
 
 pub kept-roomier : (s : EngineState) (own : Declared) → IsKept s → own.names ≡ s.options.names → IsKept (with_options s own)
 kept-roomier s own kept same = (
-  (subst (λ names. AreDeclarationsOf (history_of s) names (table_of s) s.rules.standing s.counts) (sym same) kept.0.0, kept.0.1),
+  (subst (λ names. AreDeclarationsOf (history_of s) names (table_of s) s.rules.standing s.counts) (sym same) kept.0.0, kept.0.1, kept.0.2),
   kept.1,
 )
 
@@ -67,6 +69,10 @@ option-readied s k name is kept (Ok own) room named = (
       (is, room, kept.1),
 )
 option-readied s k name is kept (Err e) room named = tt
+
+-- so is an upgrade
+pub upgrade-readied : (s : EngineState) (k : Command) → k ≡ commands.Upgrade → IsKept s → IsReadyFor s k additions.Upgrade
+upgrade-readied s k is kept = (kept.0, (is, kept.1))
 
 -- a commit is ready once it is staged
 pub commit-readied : (s : EngineState) (k : Command) (base : ℕ) (choice : List Bool) (ambition : Formula ℕ) (es : List Sided)

@@ -20,6 +20,7 @@ none-below m n (commands.Constraint expr ∷ ks) later = none-below m (suc n) ks
 none-below m n (commands.Prefer expr ∷ ks) later = none-below m (suc n) ks (omega (arith, later))
 none-below m n (commands.Default option on ∷ ks) later = none-below m (suc n) ks (omega (arith, later))
 none-below m n (commands.Commit base choice ambition es ∷ ks) later = none-below m (suc n) ks (omega (arith, later))
+none-below m n (commands.Upgrade ∷ ks) later = none-below m (suc n) ks (omega (arith, later))
 
 -- so many of them are declared up to a base
 pub count-before : (n base p : ℕ) (ks : List Command) → p ≡ n + base → count_below (suc p) (options_at n ks) ≡ option_count (take base ks)
@@ -33,6 +34,7 @@ count-before n (suc base) p (commands.Constraint expr ∷ ks) is = count-before 
 count-before n (suc base) p (commands.Prefer expr ∷ ks) is = count-before (suc n) base p ks (omega (arith, is))
 count-before n (suc base) p (commands.Default option on ∷ ks) is = count-before (suc n) base p ks (omega (arith, is))
 count-before n (suc base) p (commands.Commit base' choice ambition es ∷ ks) is = count-before (suc n) base p ks (omega (arith, is))
+count-before n (suc base) p (commands.Upgrade ∷ ks) is = count-before (suc n) base p ks (omega (arith, is))
 
 all-after : (m n : ℕ) (ks : List Command) → m ≤ n → AllByRecursion (λ p. m < p) (options_at n ks)
 all-after m n [] later = tt
@@ -41,6 +43,7 @@ all-after m n (commands.Constraint expr ∷ ks) later = all-after m (suc n) ks (
 all-after m n (commands.Prefer expr ∷ ks) later = all-after m (suc n) ks (omega (arith, later))
 all-after m n (commands.Default option on ∷ ks) later = all-after m (suc n) ks (omega (arith, later))
 all-after m n (commands.Commit base choice ambition es ∷ ks) later = all-after m (suc n) ks (omega (arith, later))
+all-after m n (commands.Upgrade ∷ ks) later = all-after m (suc n) ks (omega (arith, later))
 
 -- they rise
 pub positions-rise : (n : ℕ) (ks : List Command) → AreRising (options_at n ks)
@@ -50,6 +53,7 @@ positions-rise n (commands.Constraint expr ∷ ks) = positions-rise (suc n) ks
 positions-rise n (commands.Prefer expr ∷ ks) = positions-rise (suc n) ks
 positions-rise n (commands.Default option on ∷ ks) = positions-rise (suc n) ks
 positions-rise n (commands.Commit base choice ambition es ∷ ks) = positions-rise (suc n) ks
+positions-rise n (commands.Upgrade ∷ ks) = positions-rise (suc n) ks
 
 -- there is one for each option
 pub positions-count : (n : ℕ) (ks : List Command) → length (options_at n ks) ≡ option_count ks
@@ -59,6 +63,7 @@ positions-count n (commands.Constraint expr ∷ ks) = positions-count (suc n) ks
 positions-count n (commands.Prefer expr ∷ ks) = positions-count (suc n) ks
 positions-count n (commands.Default option on ∷ ks) = positions-count (suc n) ks
 positions-count n (commands.Commit base choice ambition es ∷ ks) = positions-count (suc n) ks
+positions-count n (commands.Upgrade ∷ ks) = positions-count (suc n) ks
 
 -- those with a command more
 pub positions-with : (n p : ℕ) (history : List Command) (k : Command) → p ≡ n + length history → options_at n (history ++ k ∷ []) ≡ options_at n history ++ options_at p (k ∷ [])
@@ -68,6 +73,7 @@ positions-with n p (commands.Constraint expr ∷ ks) k is = positions-with (suc 
 positions-with n p (commands.Prefer expr ∷ ks) k is = positions-with (suc n) p ks k (omega (arith, is))
 positions-with n p (commands.Default option on ∷ ks) k is = positions-with (suc n) p ks k (omega (arith, is))
 positions-with n p (commands.Commit base choice ambition es ∷ ks) k is = positions-with (suc n) p ks k (omega (arith, is))
+positions-with n p (commands.Upgrade ∷ ks) k is = positions-with (suc n) p ks k (omega (arith, is))
 
 -- with an option more there is its position more
 pub positions-option : (history : List Command) (k : Command) (name : List ℕ) (at : ℕ) (positions later : List ℕ) → k ≡ commands.Option name → at ≡ length history + 1
@@ -94,9 +100,10 @@ positions-rule history k rule positions is old = old ∙ kept-with history k (by
     by (commands.Prefer expr) is = refl
     by (commands.Default option on) is = refl
     by (commands.Commit base choice ambition es) is = absurd (cc)
+    by commands.Upgrade is = refl
 
-pub positions-commit : (history : List Command) (k : Command) (positions : List ℕ) → options_of (k ∷ []) ≡ [] → positions ≡ options_at 0 history → positions ≡ options_at 0 (history ++ k ∷ [])
-positions-commit history k positions none old = old ∙ kept-with history k (by k none)
+pub positions-same : (history : List Command) (k : Command) (positions : List ℕ) → options_of (k ∷ []) ≡ [] → positions ≡ options_at 0 history → positions ≡ options_at 0 (history ++ k ∷ [])
+positions-same history k positions none old = old ∙ kept-with history k (by k none)
   where
     by : (j : Command) → options_of (j ∷ []) ≡ [] → options_at (length history) (j ∷ []) ≡ []
     by (commands.Option name) none = absurd (cc)
@@ -104,3 +111,4 @@ positions-commit history k positions none old = old ∙ kept-with history k (by 
     by (commands.Prefer expr) none = refl
     by (commands.Default option on) none = refl
     by (commands.Commit base choice ambition es) none = refl
+    by commands.Upgrade none = refl

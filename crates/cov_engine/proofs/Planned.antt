@@ -9,6 +9,7 @@ use Rattle.cov_edit.specs.declared.edit.Edit.{Edit}
 use Rattle.cov_edit.specs.declared.command.Command.{Command}
 use Rattle.cov_edit.specs.declared.sided.Sided.{Sided}
 use Rattle.cov_edit.specs.History.{option_count}
+use Rattle.cov_edit.proofs.CallerLemmas.{limits-most}
 use Rattle.cov_edit.specs.Numbering.{numbers_of, line_count}
 use Rattle.cov_edit.specs.Sides.{unsided, conditions}
 use Rattle.cov_edit.specs.Touched.{AreRising}
@@ -79,9 +80,12 @@ module _ (history : List Command) (ts : List Triple) (counts : Counts) (commits 
   edits-few-now some e =
       let nodes = fits.nodes in
       let lines = fits.lines in
+      let most = limits-most history in
+      let most_nodes = most.nodes in
+      let most_lines = most.lines in
       let m = nodes-before in
       let l = lines-before in
-      subst (HaveNumbers (record { nodes = context.nodes; lines = context.lines })) (sym e) (record { nodes = omega (arith, nodes, m); lines = omega (arith, lines, l) })
+      subst (HaveNumbers (record { nodes = context.nodes; lines = context.lines })) (sym e) (record { nodes = omega (arith, nodes, most_nodes, m); lines = omega (arith, lines, most_lines, l) })
 
   -- resolved in their context, its edits are resolved after the history
   resolved-now : (us : List Triple) (own : List FilePart) (on : List ℕ) (some : List Edit) (ss : List ResolvedEdit) → own ≡ stored → some ≡ unsided es → AreResolvedIn context own us on some ss
@@ -155,7 +159,7 @@ module _ (history : List Command) (old ts : List Triple) (commits : List CommitM
   }
 
   -- its rows can be tested, where a node stands for the ambition
-  pub can-be-tested : (valid node count : ℕ) → IsLegal history → count ≡ option_count history → count ≤ 64 → valid < diagram_size ts → span ts valid ≤ option_count history → Stands ts node 0 (option_count history) (value ambition)
+  pub can-be-tested : (valid node count : ℕ) → IsLegal history → count ≡ option_count history → count ≤ CHOICE_WIDTH → valid < diagram_size ts → span ts valid ≤ option_count history → Stands ts node 0 (option_count history) (value ambition)
       → CanBeTested ts entries plan valid node count
   can-be-tested valid node count legal few most within below stands =
       let own = entries-grown history old ts entries held.of_entries grown in
@@ -165,7 +169,7 @@ module _ (history : List Command) (old ts : List Triple) (commits : List CommitM
         ambition_within = stands.within;
         rows_within = planned.changes.within;
         once = once-with history ts entries ambition node es plan own stands planned.on planned.applies stored ss planned.resolved planned.changes;
-        most = let wide : count ≤ CHOICE_WIDTH = omega (arith, most) in wide;
+        most = most;
         valid_options = omega (arith, below, few);
         ambition_options = omega (arith, low, few);
         unread = subst (AreUnreadWith ts plan entries) (sym few) (unread-with history ts entries ambition node es plan own stands planned.on planned.applies stored ss planned.resolved planned.changes legal planned.marked.named);

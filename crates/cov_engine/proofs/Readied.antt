@@ -1,5 +1,5 @@
 -- What is ready for a command, staged, installed or given up.
-use Rattle.std.proofs.Common.{◌≡◌, ℕ, ◌+◌, ◌-◌, ◌<◌, ◌≤◌, Bool, true, List, [], Option, ◌∷◌, ◌++◌, length, map, take, None, Result, Ok, Err, OnErr, append-nil, refl, sym, ap, subst, ◌∙◌, arith}
+use Rattle.std.proofs.Common.{◌≡◌, ℕ, ◌+◌, ◌-◌, ◌<◌, ◌≤◌, Bool, true, false, List, [], Option, ◌∷◌, ◌++◌, length, map, take, None, Result, Ok, Err, OnErr, append-nil, refl, sym, ap, subst, ◌∙◌, arith}
 use Rattle.std.specs.List.{AllByRecursion}
 use Rattle.std.proofs.lemmas.List.{length_push, take-map, length-map, take-append-le, take_all}
 use Rattle.cov_base.proofs.CallerLemmas.{length-with_lines, all-map}
@@ -13,6 +13,7 @@ use Rattle.cov_edit.specs.declared.command.Command.TheVariants as commands
 use Rattle.cov_edit.specs.declared.sided.Sided.{Sided}
 use Rattle.cov_edit.specs.Fits.{fits_command}
 use Rattle.cov_edit.specs.History.{options_of, option_count, text_bytes, command_bytes}
+use Rattle.cov_edit.specs.Limits.{is_upgraded}
 use Rattle.cov_edit.specs.Numbering.{Numbers, nodes_made, anchors_of, no_numbers, numbers_after, numbers_of, line_count}
 use Rattle.cov_edit.specs.Sides.{unsided, reach_within}
 use Rattle.cov_edit.proofs.CallerLemmas.{numbers_from-append}
@@ -58,11 +59,11 @@ use Rattle.cov_visible.specs.Carrying.{CanCarryOutAll, AreInstalled}
 use Rattle.cov_dd.specs.Diagrams.{value_in, Stands}
 use Rattle.cov_edit.specs.History.{edits_in}
 use Rattle.cov_engine.specs.Ready.{IsNext, IsInBounds, AreCountsWith, IsCommitReady, IsStagedReady, IsReady}
-use Rattle.cov_history.proofs.CallerLemmas.{files-commit, files-rise, made-within, new-files_of_lines-count}
+use Rattle.cov_history.proofs.CallerLemmas.{files-commit, files-rise, legal-one, made-within, new-files_of_lines-count}
 use Rattle.cov_history.specs.BadChoices.{unsound_refusal}
 use Rattle.cov_engine.specs.declared.addition.Addition.{Addition}
 use Rattle.cov_engine.specs.declared.addition.Addition.TheVariants as additions
-use Rattle.cov_engine.proofs.States.{legal-one, sum-one, options-append, below}
+use Rattle.cov_engine.proofs.States.{sum-one, options-append, below}
 use Rattle.cov_engine.proofs.RowPlans.{entries-room, makes-room}
 use Rattle.cov_engine.proofs.Refused.{bytes-few, commit-good, commit-sizes, commit-verdict, declared-less, edits-few, lines-few, nodes-few}
 use Rattle.cov_engine.proofs.Ruling.{rules-same}
@@ -123,6 +124,7 @@ module _ (history : List Command) (k : Command) (base : ℕ) (choice : List Bool
     pub as-staged : (r : Addition) → IsStagedReady history ts ambition es spare commits file_of_line entries stored r → IsReady history k os ts rules spare commits file_of_line entries stored r
     as-staged (additions.Option name) h = absurd h
     as-staged (additions.Rule rule plan) h = absurd h
+    as-staged additions.Upgrade h = absurd h
     as-staged (additions.Commit mark counts ss rows) h =
         subst (λ c. IsCommitReady history ts c spare commits file_of_line entries stored mark counts ss.items rows) (sym is) (good, h.0, h.1, h.2)
 
@@ -241,6 +243,7 @@ module _ (history : List Command) (names : List (List ℕ)) (ts : List Triple) (
   ready-rising (commands.Default option on) spare next r = absurd r
   ready-rising (commands.Commit base choice ambition es) spare next r =
       staged-rise history base choice ambition es state.legal r.0 next.accepted ts commits mark ss plan file_of_line entries stored r.1
+  ready-rising commands.Upgrade spare next r = absurd r
 
   pub ready-plans : (command : Command) (spare : ℕ) → IsNext history command spare → IsThat command → CanCarryOutAll mark.position ss stored
   ready-plans (commands.Option name) spare next r = absurd r
@@ -250,6 +253,7 @@ module _ (history : List Command) (names : List (List ℕ)) (ts : List Triple) (
   ready-plans (commands.Commit base choice ambition es) spare next r =
       subst (λ q. CanCarryOutAll q ss stored) (sym r.1.marked.position)
       (staged-plans history base choice ambition es state.legal r.0 next.accepted ts commits mark ss plan file_of_line entries stored r.1)
+  ready-plans commands.Upgrade spare next r = absurd r
 
   pub ready-state : (command : Command) (spare : ℕ) → IsNext history command spare → IsThat command → AreDeclarationsOf (history ++ command ∷ []) names ts standing new
   ready-state (commands.Option name) spare next r = absurd r
@@ -257,6 +261,7 @@ module _ (history : List Command) (names : List (List ℕ)) (ts : List Triple) (
   ready-state (commands.Prefer expr) spare next r = absurd r
   ready-state (commands.Default option on) spare next r = absurd r
   ready-state (commands.Commit base choice ambition es) spare next r = state-with history base choice ambition es names ts standing old new next.fits next.accepted r.2 state
+  ready-state commands.Upgrade spare next r = absurd r
 
   -- it declares no option
   pub ready-options : (command : Command) → IsThat command → options_of (command ∷ []) ≡ []
@@ -265,6 +270,16 @@ module _ (history : List Command) (names : List (List ℕ)) (ts : List Triple) (
   ready-options (commands.Prefer expr) r = refl
   ready-options (commands.Default option on) r = refl
   ready-options (commands.Commit base choice ambition es) r = refl
+  ready-options commands.Upgrade r = refl
+
+  -- and is no upgrade
+  pub ready-raises_none : (command : Command) → IsThat command → is_upgraded (command ∷ []) ≡ false
+  ready-raises_none (commands.Option name) r = absurd r
+  ready-raises_none (commands.Constraint expr) r = refl
+  ready-raises_none (commands.Prefer expr) r = refl
+  ready-raises_none (commands.Default option on) r = refl
+  ready-raises_none (commands.Commit base choice ambition es) r = refl
+  ready-raises_none commands.Upgrade r = absurd r
 
   pub ready-rows : (command : Command) (spare : ℕ) → IsNext history command spare → IsThat command → (entries.from ≤ mark.position) × HasRowRoom plan entries
   ready-rows (commands.Option name) spare next r = absurd r
@@ -275,6 +290,7 @@ module _ (history : List Command) (names : List (List ℕ)) (ts : List Triple) (
     subst (λ q. entries.from ≤ q) (sym r.1.marked.position) (row-later history base choice ambition es state.legal r.0 next.accepted ts commits mark ss plan file_of_line entries stored r.1),
     r.1.row_room,
   )
+  ready-rows commands.Upgrade spare next r = absurd r
 
   pub ready-held : (command : Command) (spare : ℕ) (commits' : List CommitMark) (file_of_line' : List ℕ) (entries' : Dated) (stored' : List FilePart) → IsNext history command spare → IsThat command
       → commits' ≡ commits ++ mark ∷ [] → file_of_line' ≡ file_of_line → IsSet mark.position plan entries entries' → AreInstalled mark.position ss stored stored'
@@ -288,6 +304,7 @@ module _ (history : List Command) (names : List (List ℕ)) (ts : List Triple) (
       (subst (λ xs. AreRowsAndLinesOf (history ++ commands.Commit base choice ambition es ∷ []) ts (commits ++ mark ∷ []) xs entries' stored') (sym he)
       (held-committed history base choice ambition es state.legal r.0 next.accepted ts commits mark ss plan file_of_line entries stored r.1 entries' stored'
       (subst (λ q. IsSet q plan entries entries') r.1.marked.position set) (subst (λ q. AreInstalled q ss stored stored') r.1.marked.position installed)))
+  ready-held commands.Upgrade spare commits' file_of_line' entries' stored' next r ce he set installed = absurd r
 
   -- given up, it leaves what is held
   pub ready-given-up : (command : Command) (commits' : List CommitMark) (file_of_line' : List ℕ) (entries' : Dated) (stored' : List FilePart) → IsThat command
@@ -298,6 +315,7 @@ module _ (history : List Command) (names : List (List ℕ)) (ts : List Triple) (
   ready-given-up (commands.Default option on) commits' file_of_line' entries' stored' r ce he xe ee = absurd r
   ready-given-up (commands.Commit base choice ambition es) commits' file_of_line' entries' stored' r ce he xe ee =
       given-up history ts ambition es old commits mark ss plan file_of_line entries stored commits' file_of_line' entries' stored' state.counted r.1 ce he xe ee
+  ready-given-up commands.Upgrade commits' file_of_line' entries' stored' r ce he xe ee = absurd r
 
 -- the node of the constraints is one of each table that goes on, and names only declared options
 pub conjunction-stands : {history : List Command} {names : List (List ℕ)} {ts : List Triple} {standing : Standing} {counts : Counts} (new : List Triple) → AreDeclarationsOf history names ts standing counts → Extends ts new

@@ -4,6 +4,7 @@ use Rattle.std.specs.List.{position_or_len, AllByRecursion}
 use Rattle.std.proofs.Math.Nat.{max-le}
 use Rattle.std.proofs.lemmas.Bool.{not-false, or_parts}
 use Rattle.std.proofs.lemmas.Bool.Decides.{nat_tests}
+use Rattle.cov_base.specs.declared.limits.Limits.{Limits}
 use Rattle.cov_base.specs.declared.limits.TheConstants.{LIMITS}
 use Rattle.cov_expr.specs.Formula.{Formula, value, reach}
 use Rattle.cov_expr.specs.Validity.{is_valid, first_false}
@@ -13,7 +14,7 @@ use Rattle.cov_edit.specs.declared.command.Command.TheVariants as commands
 use Rattle.cov_edit.specs.declared.sided.Sided.{Sided}
 use Rattle.cov_edit.specs.Fits.{reach_of as options_reach}
 use Rattle.cov_edit.specs.Limits.{limits_of}
-use Rattle.cov_edit.specs.History.{option_count, constraints_of, preferences_of, defaults_of, first_false_in, byte_count, text_bytes}
+use Rattle.cov_edit.specs.History.{options_of, option_count, constraints_of, preferences_of, defaults_of, first_false_in, byte_count, text_bytes}
 use Rattle.cov_edit.specs.Numbering.{anchors_of, line_count, node_count, nodes_made, numbers_of}
 use Rattle.cov_edit.specs.Replay.{replay}
 use Rattle.cov_edit.specs.Sides.{unsided, reach_within}
@@ -30,7 +31,7 @@ use Rattle.cov_history.proofs.CallerLemmas.{legal-take, no-record, rules-low}
 use Rattle.cov_rules.specs.Installing.{reach_of}
 use Rattle.cov_engine.specs.Refusing.{base_refusals, choice_refusals, commit_refusals, early_refusal, early_refusals, edit_refusals, undeclared}
 use Rattle.cov_engine.specs.Sizes.{sizes_refusal}
-use Rattle.cov_engine.specs.States.{AreCountsOf}
+use Rattle.cov_engine.specs.States.{AreCountsOf, name_refusal}
 use Rattle.cov_engine.specs.declared.counts.Counts.{Counts}
 use Rattle.cov_engine.proofs.States.{not-below}
 
@@ -50,8 +51,8 @@ module _ {F : Type 0} where
   first-others os ps h = others-behind os ps ∙ ap (λ o. first_of (o ∷ ps)) h
 
 -- the refusal by sizes that are counted is that by the history's
-pub sized-as : (history : List Command) (counts : Counts) (es : List Edit) → AreCountsOf history counts → sizes_refusal counts es ≡ first_of (size_refusals history es)
-sized-as history counts es are = rw (are.lines, are.nodes, are.bytes) refl
+pub sized-as : (history : List Command) (limits : Limits) (counts : Counts) (es : List Edit) → limits ≡ limits_of history → AreCountsOf history counts → sizes_refusal limits counts es ≡ first_of (size_refusals history es)
+sized-as history limits counts es allowed are = rw (allowed, are.lines, are.nodes, are.bytes) refl
 
 full-prefix : (c : List Bool) (es : List (Formula ℕ)) → length es ≤ position_or_len (λ f. not (value f c)) es → is_valid es c ≡ true
 full-prefix c [] h = refl
@@ -148,22 +149,22 @@ module _ (history : List Command) (es : List Edit) (others : List (Option Refusa
   too_much = nat_lt LIMITS.commit_bytes (text_bytes es) || nat_lt LIMITS.bytes (byte_count history + text_bytes es)
 
   -- no test of a size holds
-  none-beyond : (nat_lt LIMITS.edits (length es) ≡ false) × (nat_lt LIMITS.lines (line_count history + length (anchors_of 0 es)) ≡ false)
-      × (nat_lt LIMITS.nodes (node_count history + nodes_made es) ≡ false) × (too_much ≡ false)
+  none-beyond : (nat_lt LIMITS.edits (length es) ≡ false) × (nat_lt (limits_of history).lines (line_count history + length (anchors_of 0 es)) ≡ false)
+      × (nat_lt (limits_of history).nodes (node_count history + nodes_made es) ≡ false) × (too_much ≡ false)
   none-beyond =
       let edits = none-when (nat_lt LIMITS.edits (length es)) refusals.TooManyEdits _ sized in
-      let lines = none-when (nat_lt LIMITS.lines (line_count history + length (anchors_of 0 es))) refusals.TooManyLines _ edits.1 in
-      let nodes = none-when (nat_lt LIMITS.nodes (node_count history + nodes_made es)) refusals.TooManyNodes _ lines.1 in
+      let lines = none-when (nat_lt (limits_of history).lines (line_count history + length (anchors_of 0 es))) refusals.TooManyLines _ edits.1 in
+      let nodes = none-when (nat_lt (limits_of history).nodes (node_count history + nodes_made es)) refusals.TooManyNodes _ lines.1 in
       (edits.0, lines.0, nodes.0, (none-when too_much refusals.TooManyBytes _ nodes.1).0)
 
   pub edits-few : length es ≤ LIMITS.edits
   edits-few = not-below LIMITS.edits (length es) none-beyond.0
 
-  pub lines-few : line_count history + length (anchors_of 0 es) ≤ LIMITS.lines
-  lines-few = not-below LIMITS.lines (line_count history + length (anchors_of 0 es)) none-beyond.1
+  pub lines-few : line_count history + length (anchors_of 0 es) ≤ (limits_of history).lines
+  lines-few = not-below (limits_of history).lines (line_count history + length (anchors_of 0 es)) none-beyond.1
 
-  pub nodes-few : node_count history + nodes_made es ≤ LIMITS.nodes
-  nodes-few = not-below LIMITS.nodes (node_count history + nodes_made es) none-beyond.2
+  pub nodes-few : node_count history + nodes_made es ≤ (limits_of history).nodes
+  nodes-few = not-below (limits_of history).nodes (node_count history + nodes_made es) none-beyond.2
 
   pub text-few : text_bytes es ≤ LIMITS.commit_bytes
   text-few =
@@ -190,6 +191,7 @@ early-may history (commands.Constraint expr) passes = declared (option_count his
 early-may history (commands.Prefer expr) passes = declared (option_count history) (reach expr) [] passes
 early-may history (commands.Default option on) passes = let within = declared (option_count history) (option + 1) [] passes in omega (arith, within)
 early-may history (commands.Commit base choice ambition es) passes = commit-good history base choice ambition es passes
+early-may history commands.Upgrade passes = tt
 
 not-full : (history : List Command) (rs : List (Option Refusal)) → length history < LIMITS.commands → first_of (when (nat_le LIMITS.commands (length history)) refusals.Full ∷ rs) ≡ first_of rs
 not-full history rs few = first-not_when (nat_le LIMITS.commands (length history)) refusals.Full rs (grind (arith, nat_tests, few))
@@ -205,6 +207,18 @@ early-verdict history k r few refused = not-full history (refusals_of history k)
     by (commands.Default option on) refused = first-some (early_refusals history (commands.Default option on)) _ r refused
     by (commands.Commit base choice ambition es) refused =
         first-some (commit_refusals history base choice ambition es) (as_overtaken (overtaken history base ambition es) ∷ unsound_refusal history ambition (commands.Commit base choice ambition es) ∷ []) r refused
+    by commands.Upgrade refused = first-some (early_refusals history commands.Upgrade) _ r refused
+
+-- an upgrade that isn't refused early is accepted
+pub upgrade-accepted : (history : List Command) (k : Command) → k ≡ commands.Upgrade → length history < LIMITS.commands → early_refusal history k ≡ None → verdict history k ≡ None
+upgrade-accepted history k is few passes =
+    ap (verdict history) is ∙ not-full history (refusals_of history commands.Upgrade) few ∙ ap (early_refusal history) (sym is) ∙ passes
+
+-- the verdict on an option is that of its name
+pub option-verdict : (history : List Command) (k : Command) (name : List ℕ) (most : ℕ) (names : List (List ℕ)) → k ≡ commands.Option name → length history < LIMITS.commands → most ≡ (limits_of history).options → names ≡ options_of history
+    → verdict history k ≡ name_refusal most names name
+option-verdict history k name most names is few allowed same =
+    ap (verdict history) is ∙ not-full history (refusals_of history (commands.Option name)) few ∙ (λ j. name_refusal (sym allowed j) (sym same j) name)
 
 -- the verdict on a commit that isn't refused early
 pub commit-verdict : (history : List Command) (base : ℕ) (choice : List Bool) (ambition : Formula ℕ) (es : List Sided) → length history < LIMITS.commands → first_of (commit_refusals history base choice ambition es) ≡ None
@@ -223,6 +237,7 @@ options-split (suc n) (commands.Constraint expr ∷ history) = options-split n h
 options-split (suc n) (commands.Prefer expr ∷ history) = options-split n history
 options-split (suc n) (commands.Default option on ∷ history) = options-split n history
 options-split (suc n) (commands.Commit base choice ambition es ∷ history) = options-split n history
+options-split (suc n) (commands.Upgrade ∷ history) = options-split n history
 
 -- no fewer options are declared later
 pub declared-less : (base : ℕ) (history : List Command) → option_count (take base history) ≤ option_count history
@@ -237,6 +252,7 @@ rule-low history count standing os h =
 pub accepted-low : (history : List Command) (k : Command) → verdict history k ≡ None → options_reach k ≤ option_count history
 accepted-low history (commands.Option name) h = omega arith
 accepted-low history (commands.Constraint expr) h = rule-low history (reach expr) (length (constraints_of history)) (when (not (leaves_variant history expr)) refusals.NoVariantLeft ∷ []) h
+accepted-low history commands.Upgrade h = omega arith
 accepted-low history (commands.Prefer expr) h = rule-low history (reach expr) (length (preferences_of history)) [] h
 accepted-low history (commands.Default option on) h = rule-low history (option + 1) (length (defaults_of history)) [] h
 accepted-low history (commands.Commit base choice ambition es) h =

@@ -186,6 +186,7 @@ module _ (s t : EngineState) (us : List Triple) (same : IsRenumberedState (with_
         subst (λ (q : List (List ℕ) × List Triple × Counts). AreDeclarationsOf history q.0 q.1 t.rules.standing q.2)
             (λ j. (sym (ap (λ (d : Declared). d.names) same.options) j, sym same.table j, sym same.counts j)) base,
         same.positions ∙ h.1,
+        same.upgraded ∙ h.2,
       )
 
   pub state-renumbered : IsKept s → IsKept t

@@ -9,6 +9,7 @@ use Rattle.cov_expr.specs.Formula.{Formula, reach}
 use Rattle.cov_edit.specs.declared.sided.Sided.{Sided}
 use Rattle.cov_edit.specs.declared.command.Command.{Command}
 use Rattle.cov_edit.specs.declared.command.Command.TheVariants as commands
+use Rattle.cov_edit.specs.Limits.{limits_of}
 use Rattle.cov_edit.specs.History.{option_count, constraints_of, preferences_of, defaults_of}
 use Rattle.cov_rules.specs.Completion.{AreBelow, completed, completed_by, fallbacks, literals}
 use Rattle.cov_rules.specs.Growth.{Follows, constraints_in, preferences_in, defaults_in}
@@ -134,6 +135,7 @@ rules-same history k ts s none more most are = by k none (constraints-append his
     by (commands.Prefer expr) none ce pe de at = absurd (cc)
     by (commands.Default option on) none ce pe de at = absurd (cc)
     by (commands.Commit base choice ambition es) none ce pe de at = without (no-more _ _ ce) (no-more _ _ pe) (no-more _ _ de) (λ q. either (nat_le (length history + 1) q) _ _ (at q))
+    by commands.Upgrade none ce pe de at = without (no-more _ _ ce) (no-more _ _ pe) (no-more _ _ de) (λ q. either (nat_le (length history + 1) q) _ _ (at q))
 
 -- a rule adds to the rules of its kind what its command adds to the history's
 record Adds (k : Command) (rule : Rule) : Type 0 where
@@ -147,6 +149,7 @@ adds (commands.Constraint expr) rule is = let same : rules.Constraint expr ≡ r
 adds (commands.Prefer expr) rule is = let same : rules.Prefer expr ≡ rule = cc in subst (Adds (commands.Prefer expr)) same (record { constraints = refl; preferences = refl; defaults = refl })
 adds (commands.Default option on) rule is = let same : rules.Default option on ≡ rule = cc in subst (Adds (commands.Default option on)) same (record { constraints = refl; preferences = refl; defaults = refl })
 adds (commands.Commit base choice ambition es) rule is = absurd (cc)
+adds commands.Upgrade rule is = absurd (cc)
 
 -- the rules of a history with a rule more
 pub rules-with : (history : List Command) (k : Command) (rule : Rule) (ts : List Triple) (old new : Standing) → rule_in k ≡ Some rule → Follows rule (length history + 1) old new → Holds ts new
@@ -191,27 +194,28 @@ module _ (history : List Command) (ts : List Triple) (s : Standing) (are : AreRu
   declared : (n : ℕ) → n ≤ option_count history → nat_lt (option_count history) n ≡ false
   declared n le = grind (arith, nat_tests, le)
 
-  on-rule : (k : Command) (rule : Rule) → rule_in k ≡ Some rule → MayCome history k → verdict history k ≡ as_refusal (refusal (option_count history) s rule)
+  on-rule : (k : Command) (rule : Rule) → rule_in k ≡ Some rule → MayCome history k → verdict history k ≡ as_refusal (refusal (limits_of history).rules (option_count history) s rule)
   on-rule (commands.Option name) rule is may = absurd (cc)
   on-rule (commands.Constraint expr) rule is may =
       let same : rules.Constraint expr ≡ rule = cc in
-      subst (λ q. verdict history (commands.Constraint expr) ≡ as_refusal (refusal (option_count history) s q)) same
+      subst (λ q. verdict history (commands.Constraint expr) ≡ as_refusal (refusal (limits_of history).rules (option_count history) s q)) same
       (full_or_bad (nat_le LIMITS.commands (length history)) (nat_lt (option_count history) (reach expr)) _ not_full (declared (reach expr) may)
-      ∙ judged (nat_le LIMITS.rules (length (constraints_of history))) (leaves_variant history expr)
-      ∙ (λ j. as_refusal (if nat_le LIMITS.rules (constraint_count j) then Some faults.Full else (if is_met (option_count history) (sym are.constraints j) expr then None else Some faults.NoVariantLeft))))
+      ∙ judged (nat_le (limits_of history).rules (length (constraints_of history))) (leaves_variant history expr)
+      ∙ (λ j. as_refusal (if nat_le (limits_of history).rules (constraint_count j) then Some faults.Full else (if is_met (option_count history) (sym are.constraints j) expr then None else Some faults.NoVariantLeft))))
   on-rule (commands.Prefer expr) rule is may =
       let same : rules.Prefer expr ≡ rule = cc in
-      subst (λ q. verdict history (commands.Prefer expr) ≡ as_refusal (refusal (option_count history) s q)) same
+      subst (λ q. verdict history (commands.Prefer expr) ≡ as_refusal (refusal (limits_of history).rules (option_count history) s q)) same
       (full_or_bad (nat_le LIMITS.commands (length history)) (nat_lt (option_count history) (reach expr)) _ not_full (declared (reach expr) may)
-      ∙ counted (nat_le LIMITS.rules (length (preferences_of history)))
-      ∙ (λ j. as_refusal (if nat_le LIMITS.rules (preference_count j) then Some faults.Full else (if true then None else Some faults.NoVariantLeft))))
+      ∙ counted (nat_le (limits_of history).rules (length (preferences_of history)))
+      ∙ (λ j. as_refusal (if nat_le (limits_of history).rules (preference_count j) then Some faults.Full else (if true then None else Some faults.NoVariantLeft))))
   on-rule (commands.Default option on) rule is may =
       let same : rules.Default option on ≡ rule = cc in
-      subst (λ q. verdict history (commands.Default option on) ≡ as_refusal (refusal (option_count history) s q)) same
+      subst (λ q. verdict history (commands.Default option on) ≡ as_refusal (refusal (limits_of history).rules (option_count history) s q)) same
       (full_or_bad (nat_le LIMITS.commands (length history)) (nat_lt (option_count history) (option + 1)) _ not_full (declared (option + 1) (omega (arith, may)))
-      ∙ counted (nat_le LIMITS.rules (length (defaults_of history)))
-      ∙ (λ j. as_refusal (if nat_le LIMITS.rules (default_count j) then Some faults.Full else (if true then None else Some faults.NoVariantLeft))))
+      ∙ counted (nat_le (limits_of history).rules (length (defaults_of history)))
+      ∙ (λ j. as_refusal (if nat_le (limits_of history).rules (default_count j) then Some faults.Full else (if true then None else Some faults.NoVariantLeft))))
   on-rule (commands.Commit base choice ambition es) rule is may = absurd (cc)
+  on-rule commands.Upgrade rule is may = absurd (cc)
 
   rule-reach : (k : Command) (rule : Rule) → rule_in k ≡ Some rule → MayCome history k → reach_of_rule rule ≤ option_count history
   rule-reach (commands.Option name) rule is may = absurd (cc)
@@ -219,15 +223,16 @@ module _ (history : List Command) (ts : List Triple) (s : Standing) (are : AreRu
   rule-reach (commands.Prefer expr) rule is may = let same : rules.Prefer expr ≡ rule = cc in subst (λ q. reach_of_rule q ≤ option_count history) same may
   rule-reach (commands.Default option on) rule is may = let same : rules.Default option on ≡ rule = cc in subst (λ q. reach_of_rule q ≤ option_count history) same (omega (arith, may))
   rule-reach (commands.Commit base choice ambition es) rule is may = absurd (cc)
+  rule-reach commands.Upgrade rule is may = absurd (cc)
 
   module _ (k : Command) (rule : Rule) (is : rule_in k ≡ Some rule) (may : MayCome history k) where
     options : AreOptions (option_count history) s rule
     options = (are.below.few, are.below.constraints, rule-reach k rule is may)
 
-    pub rule-accepted : IsAccepted s rule → verdict history k ≡ None
+    pub rule-accepted : IsAccepted (limits_of history).rules s rule → verdict history k ≡ None
     rule-accepted accepted = on-rule k rule is may ∙ ap as_refusal (accepted (option_count history) options)
 
-    pub rule-refused : (r : Refusal) → IsRefusalOf s rule r → RefusedBy r (verdict history k)
+    pub rule-refused : (r : Refusal) → IsRefusalOf (limits_of history).rules s rule r → RefusedBy r (verdict history k)
     rule-refused r refused = subst (RefusedBy r) (sym (on-rule k rule is may)) (refused (option_count history) options)
 
 -- a refusal is that of a verdict which names it
@@ -235,18 +240,19 @@ pub refused-by : (r : Refusal) (verdict : Option Refusal) → verdict ≡ Some r
 refused-by refusals.Memory verdict is = tt
 refused-by r verdict is = is
 
--- the rule of a command that is neither an option nor a commit
+-- the rule of a command that is no option, no commit and no upgrade
 pub record RuleOf (k : Command) : Type 0 where
   pub rule : Rule
   pub is : rule_in k ≡ Some rule
 
 pub rule-of : (k : Command) → ((name : List ℕ) → k ≡ commands.Option name → ⊥)
-    → ((base : ℕ) (choice : List Bool) (ambition : Formula ℕ) (es : List Sided) → k ≡ commands.Commit base choice ambition es → ⊥) → RuleOf k
-rule-of (commands.Option name) not_option not_commit = absurd (not_option name refl)
-rule-of (commands.Constraint expr) not_option not_commit = record { rule = rules.Constraint expr; is = refl }
-rule-of (commands.Prefer expr) not_option not_commit = record { rule = rules.Prefer expr; is = refl }
-rule-of (commands.Default option on) not_option not_commit = record { rule = rules.Default option on; is = refl }
-rule-of (commands.Commit base choice ambition es) not_option not_commit = absurd (not_commit base choice ambition es refl)
+    → ((base : ℕ) (choice : List Bool) (ambition : Formula ℕ) (es : List Sided) → k ≡ commands.Commit base choice ambition es → ⊥) → (k ≡ commands.Upgrade → ⊥) → RuleOf k
+rule-of (commands.Option name) not_option not_commit not_upgrade = absurd (not_option name refl)
+rule-of (commands.Constraint expr) not_option not_commit not_upgrade = record { rule = rules.Constraint expr; is = refl }
+rule-of (commands.Prefer expr) not_option not_commit not_upgrade = record { rule = rules.Prefer expr; is = refl }
+rule-of (commands.Default option on) not_option not_commit not_upgrade = record { rule = rules.Default option on; is = refl }
+rule-of (commands.Commit base choice ambition es) not_option not_commit not_upgrade = absurd (not_commit base choice ambition es refl)
+rule-of commands.Upgrade not_option not_commit not_upgrade = absurd (not_upgrade refl)
 
 -- with what is held, a rule that is ready is what its command wants
 module _ (history : List Command) (k : Command) (os : ℕ) (ts : List Triple) (standing : RulesValue) (ks : ℕ) (commits : List CommitMark) (file_of_line : List ℕ) (entries : Dated) (stored : List FilePart) (held : AreRowsAndLinesOf history ts commits file_of_line entries stored) where
@@ -254,3 +260,4 @@ module _ (history : List Command) (k : Command) (os : ℕ) (ts : List Triple) (s
   as-ready (additions.Option name) h = absurd h
   as-ready (additions.Rule rule plan) h = (h.0, h.1, held)
   as-ready (additions.Commit mark counts plans rows) h = absurd h
+  as-ready additions.Upgrade h = absurd h

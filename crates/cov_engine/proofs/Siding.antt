@@ -1,6 +1,6 @@
 -- What the runs of edits tell of their sides.
-use Rattle.std.proofs.Common.{◌≡◌, ℕ, zero, suc, ◌+◌, ◌<◌, ◌≤◌, Bool, true, false, cond, not, max, nat_le, nat_lt, List, [], ◌∷◌, length, map, Option, Some, None, refl, sym, ap, subst, ◌∙◌, arith}
-use Rattle.std.specs.List.{fold, position, position_or_len, AllByRecursion}
+use Rattle.std.proofs.Common.{◌≡◌, ℕ, suc, ◌+◌, ◌<◌, ◌≤◌, Bool, true, false, cond, not, max, nat_le, nat_lt, List, [], ◌∷◌, length, map, Option, Some, None, refl, sym, ap, subst, ◌∙◌, arith}
+use Rattle.std.specs.List.{fold, position_or_len, AllByRecursion}
 use Rattle.std.proofs.Math.Nat.{max-le, le-max_left, le-max_right}
 use Rattle.std.proofs.lemmas.Bool.Decides.{nat_tests}
 use Rattle.cov_base.proofs.CallerLemmas.{all-map, all-both}
@@ -82,7 +82,7 @@ all-most n [] h = omega arith
 all-most n (run ∷ runs) h = max-le h.0 (all-most n runs h.1)
 
 -- runs that begin at edits have the options of these edits' sides
-runs-reach : (runs : List Run) (es : List Edit) → RunsRise runs → AreBelow (length es) runs → reach_of_runs runs ≡ reach_of_sides (sided_by runs es)
+pub runs-reach : (runs : List Run) (es : List Edit) → RunsRise runs → AreBelow (length es) runs → reach_of_runs runs ≡ reach_of_sides (sided_by runs es)
 runs-reach runs es rise below =
     let most = all-most (reach_of_sides (sided_by runs es)) runs
     (all-both (λ run. (side : Formula ℕ) → fold (side_with run.first) side runs ≡ run.side) (λ run. run.first < length es) (λ run. reach run.side ≤ reach_of_sides (sided_by runs es))

@@ -1,9 +1,9 @@
 -- A history with one declaration more.
-use Rattle.std.proofs.Common.{◌≡◌, refl, append-nil, ap, sym, ◌∙◌, ℕ, ◌+◌, ◌<◌, ◌≤◌, Bool, true, false, nat_le, nat_lt, List, [], ◌∷◌, ◌++◌, length, Some, None, subst, arith, append_assoc}
+use Rattle.std.proofs.Common.{◌≡◌, refl, append-nil, ap, sym, ◌∙◌, ℕ, ◌+◌, ◌<◌, ◌≤◌, Bool, true, false, ◌||◌, nat_le, nat_lt, List, [], ◌∷◌, ◌++◌, length, Some, None, subst, arith, append_assoc}
 use Rattle.std.specs.List.{sum_by}
 use Rattle.std.proofs.lemmas.Bool.Decides.{nat_tests}
 use Rattle.std.proofs.lemmas.List.{length_push}
-use Rattle.cov_base.specs.declared.limits.TheConstants.{LIMITS}
+use Rattle.cov_base.specs.declared.limits.TheConstants.{CHOICE_WIDTH, LIMITS}
 use Rattle.cov_dd.specs.declared.triple.Triple.{Triple}
 use Rattle.cov_dd.specs.Diagrams.{Extends}
 use Rattle.cov_expr.specs.Formula.{reach}
@@ -11,8 +11,9 @@ use Rattle.cov_edit.specs.declared.command.Command.{Command}
 use Rattle.cov_edit.specs.declared.command.Command.TheVariants as commands
 use Rattle.cov_edit.specs.Fits.{fits_command}
 use Rattle.cov_edit.specs.History.{options_of, option_count, command_bytes, byte_count}
+use Rattle.cov_edit.specs.Limits.{is_upgraded, limits_of}
 use Rattle.cov_edit.specs.Numbering.{no_numbers, numbers_of}
-use Rattle.cov_edit.proofs.CallerLemmas.{fold-append, numbers_from-append}
+use Rattle.cov_edit.proofs.CallerLemmas.{fold-append, limits-most, numbers_from-append, upgraded-append}
 use Rattle.cov_rules.specs.Completion.{AreBelow, completed}
 use Rattle.cov_rules.specs.Growth.{Follows}
 use Rattle.cov_rules.specs.Installing.{Standing, Holds, Plans}
@@ -29,17 +30,13 @@ use Rattle.cov_history.specs.Completing.{completed_in}
 use Rattle.cov_history.specs.Sessions.{has_commit}
 use Rattle.cov_engine.specs.States.{EngineValue, AreCountsOf, AreDeclarationsOf}
 use Rattle.cov_history.specs.Verdict.{IsLegalFrom, verdict, refusals_of}
+use Rattle.cov_history.proofs.CallerLemmas.{legal-one}
 use Rattle.cov_engine.proofs.Ruling.{rules-grown, rules-same, rules-with, completed-same}
 
 pub options-append : (history later : List Command) → options_of (history ++ later) ≡ options_of history ++ options_of later
 options-append [] later = refl
 options-append (commands.Option name ∷ history) later = ap (λ names. name ∷ names) (options-append history later)
 options-append (k ∷ history) later = options-append history later
-
-pub legal-one : (before history : List Command) (k : Command) → IsLegalFrom before history → fits_command k ≡ true → verdict (before ++ history) k ≡ None → IsLegalFrom before (history ++ k ∷ [])
-legal-one before [] k legal fits accepted = (fits, ap (λ h. verdict h k) (sym (append-nil before)) ∙ accepted, tt)
-legal-one before (j ∷ history) k legal fits accepted =
-    (legal.0, legal.1, legal-one (before ++ j ∷ []) history k legal.2 fits (ap (λ h. verdict h k) (append_assoc before (j ∷ []) history) ∙ accepted))
 
 -- what stays with each accepted command stays along a legal history
 pub along-legal : (P : List Command → Type 0) → ((history : List Command) (k : Command) → verdict history k ≡ None → P history → P (history ++ k ∷ [])) → (before history : List Command)
@@ -103,10 +100,34 @@ state-declared history k names names' ts standing standing' counts h fits accept
 }
 
 -- there is room for an option that is accepted
-pub options-few : (history : List Command) (k : Command) (name : List ℕ) → k ≡ commands.Option name → verdict history k ≡ None → option_count history < LIMITS.options
+pub options-few : (history : List Command) (k : Command) (name : List ℕ) → k ≡ commands.Option name → verdict history k ≡ None → option_count history < (limits_of history).options
 options-few history k name is accepted =
-    below LIMITS.options (option_count history)
+    below (limits_of history).options (option_count history)
     (none-when _ refusals.Full _ (none-when (nat_le LIMITS.commands (length history)) refusals.Full (refusals_of history (commands.Option name)) (ap (verdict history) (sym is) ∙ accepted)).1).0
+
+-- there is room for its position, and in a choice
+pub options-below : (history : List Command) (k : Command) (name : List ℕ) → k ≡ commands.Option name → verdict history k ≡ None → option_count history < CHOICE_WIDTH
+options-below history k name is accepted =
+    let few = options-few history k name is accepted in
+    let most = limits-most history in
+    let options = most.options in
+    omega (arith, few, options)
+
+-- a history has an upgrade as before with a command that is none
+pub upgraded-kept : (history : List Command) (k : Command) → is_upgraded (k ∷ []) ≡ false → is_upgraded (history ++ k ∷ []) ≡ is_upgraded history
+upgraded-kept history k none = upgraded-append history (k ∷ []) ∙ ap (λ b. is_upgraded history || b) none ∙ by (is_upgraded history)
+  where
+    by : (b : Bool) → (b || false) ≡ b
+    by true = refl
+    by false = refl
+
+-- and it has one with an upgrade
+pub upgraded-now : (history : List Command) (k : Command) → k ≡ commands.Upgrade → is_upgraded (history ++ k ∷ []) ≡ true
+upgraded-now history k is = upgraded-append history (k ∷ []) ∙ ap (λ j. is_upgraded history || is_upgraded (j ∷ [])) is ∙ by (is_upgraded history)
+  where
+    by : (b : Bool) → (b || true) ≡ true
+    by true = refl
+    by false = refl
 
 -- so of an option
 pub option-installed : (history : List Command) (k : Command) (name : List ℕ) (names names' : List (List ℕ)) (ts : List Triple) (standing : Standing) (counts : Counts)
@@ -114,20 +135,37 @@ pub option-installed : (history : List Command) (k : Command) (name : List ℕ) 
 option-installed history k name names names' ts standing counts is fits accepted old ne =
     let one : option_count (history ++ k ∷ []) ≡ option_count history + 1 =
     ap (λ j. option_count (history ++ j ∷ [])) is ∙ ap (λ ns. length ns) (options-append history (commands.Option name ∷ [])) ∙ length_push (options_of history) name in
-    let few = options-few history k name is accepted in
+    let few = options-below history k name is accepted in
     state-declared history k names names' ts standing standing counts (ap (λ j. has_commit (j ∷ [])) is) fits accepted old
     (ne ∙ ap (λ ns. ns ++ name ∷ []) old.options ∙ sym (options-append history (commands.Option name ∷ [])) ∙ ap (λ j. options_of (history ++ j ∷ [])) (sym is))
     (rules-same history k ts standing (ap rule_in is) (omega (arith, one)) (omega (arith, one, few)) old.rules)
 
--- a rule is no commit, declares no option and speaks of declared ones
+-- the state of a history with an upgrade more
+pub upgrade-installed : (history : List Command) (k : Command) (names : List (List ℕ)) (ts : List Triple) (standing : Standing) (counts : Counts)
+    → k ≡ commands.Upgrade → fits_command k ≡ true → verdict history k ≡ None → AreDeclarationsOf history names ts standing counts → AreDeclarationsOf (history ++ k ∷ []) names ts standing counts
+upgrade-installed history k names ts standing counts is fits accepted old =
+    let same : options_of (history ++ k ∷ []) ≡ options_of history =
+    ap (λ j. options_of (history ++ j ∷ [])) is ∙ options-append history (commands.Upgrade ∷ []) ∙ append-nil (options_of history) in
+    let count : option_count (history ++ k ∷ []) ≡ option_count history = ap length same in
+    let few = old.rules.below.few in
+    state-declared history k names names ts standing standing counts (ap (λ j. has_commit (j ∷ [])) is) fits accepted old (old.options ∙ sym same)
+    (rules-same history k ts standing (ap rule_in is) (omega (arith, count)) (omega (arith, count, few)) old.rules)
+
+-- a rule is no commit and no upgrade, declares no option and speaks of declared ones
+pub rule-raises_none : (k : Command) (rule : Rule) → rule_in k ≡ Some rule → is_upgraded (k ∷ []) ≡ false
+rule-raises_none commands.Upgrade rule is = absurd (cc)
+rule-raises_none k rule is = refl
+
 pub rule-alone : (k : Command) (rule : Rule) → rule_in k ≡ Some rule → has_commit (k ∷ []) ≡ false
 rule-alone (commands.Option name) rule is = absurd (cc)
 rule-alone (commands.Commit base choice ambition es) rule is = absurd (cc)
+rule-alone commands.Upgrade rule is = absurd (cc)
 rule-alone k rule is = refl
 
 rule-options : (k : Command) (rule : Rule) → rule_in k ≡ Some rule → options_of (k ∷ []) ≡ []
 rule-options (commands.Option name) rule is = absurd (cc)
 rule-options (commands.Commit base choice ambition es) rule is = absurd (cc)
+rule-options commands.Upgrade rule is = absurd (cc)
 rule-options k rule is = refl
 
 rule-reach : (history : List Command) (k : Command) (rule : Rule) → rule_in k ≡ Some rule → verdict history k ≡ None → reach_of_rule rule ≤ option_count history
@@ -145,6 +183,7 @@ rule-reach history k rule is accepted = by k is (none-when (nat_le LIMITS.comman
         let same : rules.Default option on ≡ rule = cc in
         subst (λ q. reach_of_rule q ≤ option_count history) same (not-below (option_count history) (option + 1) (none-when _ refusals.BadOption _ h).0)
     by (commands.Commit base choice ambition es) is h = absurd (cc)
+    by commands.Upgrade is h = absurd (cc)
 
 -- the state of a history with a rule more
 pub rule-installed : (history : List Command) (k : Command) (rule : Rule) (plan : RulePlan) (at : ℕ) (names : List (List ℕ)) (ts : List Triple) (standing standing' : Standing) (counts : Counts)

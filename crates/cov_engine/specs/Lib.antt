@@ -1,5 +1,7 @@
 pub mod Evidence
 pub mod Holdings
+pub mod LineCounts
+pub mod Meeting
 pub mod Ready
 pub mod Refusing
 pub mod Ruling

@@ -54,6 +54,7 @@ pub record AreCountsWith (history : List Command) (es : List Edit) (counts : Cou
 abbrev pub IsStagedReady : List Command → List Triple → Formula ℕ → List Sided → ℕ → List CommitMark → List ℕ → Dated → List FilePart → Addition → Type 0
 IsStagedReady history ts ambition es spare commits file_of_line entries stored (additions.Option name) = ⊥
 IsStagedReady history ts ambition es spare commits file_of_line entries stored (additions.Rule rule plan) = ⊥
+IsStagedReady history ts ambition es spare commits file_of_line entries stored additions.Upgrade = ⊥
 IsStagedReady history ts ambition es spare commits file_of_line entries stored (additions.Commit mark counts ss rows) =
     IsStaged history ts ambition es commits mark ss.items rows file_of_line entries stored × AreCountsWith history (unsided es) counts × (0 < spare)
 
@@ -63,7 +64,7 @@ IsCommitReady history ts (commands.Commit base choice ambition es) spare commits
     MayCome history (commands.Commit base choice ambition es) × IsStaged history ts ambition es commits mark ss rows file_of_line entries stored × AreCountsWith history (unsided es) counts × (0 < spare)
 IsCommitReady history ts command spare commits file_of_line entries stored mark counts ss rows = ⊥
 
--- what a command wants is ready: a name and room for it, a rule with its plan, or what a commit stages
+-- what a command wants is ready: a name and room for it, a rule with its plan, what a commit stages, or nothing for an upgrade
 abbrev pub IsReady : List Command → Command → ℕ → List Triple → RulesValue → ℕ → List CommitMark → List ℕ → Dated → List FilePart → Addition → Type 0
 IsReady history command options_spare ts rules commits_spare commits file_of_line entries stored (additions.Option name) =
     (command ≡ commands.Option name) × (0 < options_spare) × AreRowsAndLinesOf history ts commits file_of_line entries stored
@@ -71,6 +72,8 @@ IsReady history command options_spare ts rules commits_spare commits file_of_lin
     (rule_in command ≡ Some rule) × IsPlan ts rules rule plan × AreRowsAndLinesOf history ts commits file_of_line entries stored
 IsReady history command options_spare ts rules commits_spare commits file_of_line entries stored (additions.Commit mark counts ss rows) =
     IsCommitReady history ts command commits_spare commits file_of_line entries stored mark counts ss.items rows
+IsReady history command options_spare ts rules commits_spare commits file_of_line entries stored additions.Upgrade =
+    (command ≡ commands.Upgrade) × AreRowsAndLinesOf history ts commits file_of_line entries stored
 
 -- a commit is planned in a state
 abbrev pub IsPlannedFor : EngineState → Formula ℕ → List Sided → CommitMark → List ResolvedEdit → List Entry → Type 0

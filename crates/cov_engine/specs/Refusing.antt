@@ -6,6 +6,7 @@ use Rattle.cov_edit.specs.declared.command.Command.TheVariants as commands
 use Rattle.cov_edit.specs.declared.edits.Run.{Run}
 use Rattle.cov_edit.specs.declared.sided.Sided.{Sided}
 use Rattle.cov_edit.specs.History.{option_count, first_false_in}
+use Rattle.cov_edit.specs.Limits.{is_upgraded}
 use Rattle.cov_edit.specs.Numbering.{numbers_of}
 use Rattle.cov_edit.specs.Replay.{replay}
 use Rattle.cov_edit.specs.Sides.{unsided, reach_within}
@@ -17,6 +18,10 @@ use Rattle.cov_history.specs.declared.refusal.Refusal.TheVariants as refusals
 -- the refusal where not all of so many options are declared
 abbrev pub undeclared : ℕ → ℕ → Option Refusal
 undeclared declared count = when (nat_lt declared count) refusals.BadOption
+
+-- the refusal of an upgrade, by whether there is one
+abbrev pub upgrade_refusal : Bool → Option Refusal
+upgrade_refusal upgraded = when upgraded refusals.Upgraded
 
 -- the least count of options that has every option of the sides of runs
 abbrev pub reach_of_runs : List Run → ℕ
@@ -60,6 +65,7 @@ early_refusals history (commands.Constraint expr) = undeclared (option_count his
 early_refusals history (commands.Prefer expr) = undeclared (option_count history) (reach expr) ∷ []
 early_refusals history (commands.Default option on) = undeclared (option_count history) (option + 1) ∷ []
 early_refusals history (commands.Commit base choice ambition es) = commit_refusals history base choice ambition es
+early_refusals history commands.Upgrade = upgrade_refusal (is_upgraded history) ∷ []
 
 -- the first of them, if there is one
 abbrev pub early_refusal : List Command → Command → Option Refusal

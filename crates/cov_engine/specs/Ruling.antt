@@ -45,12 +45,14 @@ abbrev pub as_refusal : Option RuleFault → Option Refusal
 as_refusal None = None
 as_refusal (Some fault) = Some (rule_refusal fault)
 
--- a refusal is that of a rule beside those that stand, whatever options are declared, unless memory is wanting
-abbrev pub IsRefusalOf : Standing → Rule → Refusal → Type 0
-IsRefusalOf s rule r = (count : ℕ) → AreOptions count s rule → RefusedBy r (as_refusal (refusal count s rule))
+-- a refusal is that of a rule beside those that stand, where so many of a kind may stand, whatever options are declared, unless memory is
+-- wanting
+abbrev pub IsRefusalOf : ℕ → Standing → Rule → Refusal → Type 0
+IsRefusalOf limit s rule r = (count : ℕ) → AreOptions count s rule → RefusedBy r (as_refusal (refusal limit count s rule))
 
 -- a command's rule is ready, with its plan beside the rules that stand
 abbrev pub IsRuleReady : Command → List Triple → RulesValue → Addition → Type 0
 IsRuleReady command ts standing (additions.Option name) = ⊥
 IsRuleReady command ts standing (additions.Rule rule plan) = (rule_in command ≡ Some rule) × IsPlan ts standing rule plan
 IsRuleReady command ts standing (additions.Commit mark counts ss rows) = ⊥
+IsRuleReady command ts standing additions.Upgrade = ⊥

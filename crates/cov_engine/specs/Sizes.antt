@@ -1,6 +1,6 @@
 -- How much edits make.
 use Rattle.std.specs.Prelude.{List, length, Option}
-use Rattle.cov_base.specs.declared.limits.TheConstants.{LIMITS}
+use Rattle.cov_base.specs.declared.limits.Limits.{Limits}
 use Rattle.cov_edit.specs.declared.edit.Edit.{Edit}
 use Rattle.cov_edit.specs.History.{text_bytes}
 use Rattle.cov_edit.specs.Numbering.{nodes_made, anchors_of}
@@ -14,6 +14,6 @@ use Rattle.cov_engine.specs.declared.sizes.Sizes.{Sizes}
 abbrev pub sizes_of : List Edit → Sizes
 sizes_of es = record { lines = length (anchors_of 0 es); nodes = nodes_made es; bytes = text_bytes es }
 
--- the refusal of edits that are too many or make too much, so much being there already
-abbrev pub sizes_refusal : Counts → List Edit → Option Refusal
-sizes_refusal counts es = first_of (refusals_by_size LIMITS counts.lines counts.nodes counts.bytes es)
+-- the refusal of edits that are too many or make too much for limits, so much being there already
+abbrev pub sizes_refusal : Limits → Counts → List Edit → Option Refusal
+sizes_refusal limits counts es = first_of (refusals_by_size limits counts.lines counts.nodes counts.bytes es)

@@ -1,12 +1,11 @@
 -- What an engine keeps of its history.
 use Rattle.std.specs.Prelude.{◌≡◌, ℕ, suc, ◌+◌, ◌≤◌, List, [], ◌∷◌, ◌++◌, length, Option}
-use Rattle.cov_base.specs.declared.limits.TheConstants.{LIMITS}
 use Rattle.cov_dd.specs.Sweeps.{AreReached}
 use Rattle.cov_dd.specs.declared.triple.Triple.{Triple}
 use Rattle.cov_edit.specs.declared.command.Command.{Command}
 use Rattle.cov_edit.specs.declared.command.Command.TheVariants as commands
 use Rattle.cov_edit.specs.History.{options_of, constraints_of, preferences_of, defaults_of, byte_count}
-use Rattle.cov_edit.specs.Limits.{limits_of}
+use Rattle.cov_edit.specs.Limits.{is_upgraded, limits_of}
 use Rattle.cov_edit.specs.Numbering.{line_count, node_count}
 use Rattle.cov_rules.specs.Installing.{Standing}
 use Rattle.cov_rules.specs.Renumbered.{nodes_of as rule_nodes}
@@ -72,12 +71,14 @@ options_at n (commands.Constraint expr ∷ ks) = options_at (suc n) ks
 options_at n (commands.Prefer expr ∷ ks) = options_at (suc n) ks
 options_at n (commands.Default option on ∷ ks) = options_at (suc n) ks
 options_at n (commands.Commit base choice ambition es ∷ ks) = options_at (suc n) ks
+options_at n (commands.Upgrade ∷ ks) = options_at (suc n) ks
 
--- a state's options with their positions, its rules and its counts are those of a history
+-- a state's options with their positions, its rules and its counts are those of a history, and it says whether there is an upgrade
 abbrev pub Declares : List Command → EngineState → Type 0
 Declares history s =
     AreDeclarationsOf history s.options.names (table_of s) s.rules.standing s.counts
     × (s.option_positions ≡ options_at 0 history)
+    × (s.upgraded ≡ is_upgraded history)
 
 -- so are its rows, files, lines and commits
 abbrev pub Contains : List Command → EngineState → Type 0
@@ -93,14 +94,15 @@ Keeps history s = Declares history s × Contains history s
 abbrev pub IsKept : EngineState → Type 0
 IsKept s = Keeps (history_of s) s
 
--- the refusal of an option by its name, these being declared
-abbrev pub name_refusal : List (List ℕ) → List ℕ → Option Refusal
-name_refusal names name = first_of (name_refusals LIMITS.options names name)
+-- the refusal of an option by its name, so many being allowed and these declared
+abbrev pub name_refusal : ℕ → List (List ℕ) → List ℕ → Option Refusal
+name_refusal most names name = first_of (name_refusals most names name)
 
--- the number on the receipt of a command: that of the option, that of the rule within its kind, or 0 for a commit
+-- the number on the receipt of a command: that of the option, that of the rule within its kind, 0 for a commit, or 2 for an upgrade
 abbrev pub receipt_number : List Command → Command → ℕ
 receipt_number history (commands.Option name) = length (options_of history)
 receipt_number history (commands.Constraint expr) = length (constraints_of history) + 1
 receipt_number history (commands.Prefer expr) = length (preferences_of history) + 1
 receipt_number history (commands.Default option on) = length (defaults_of history) + 1
 receipt_number history (commands.Commit base choice ambition es) = 0
+receipt_number history commands.Upgrade = 2

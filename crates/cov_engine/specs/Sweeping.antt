@@ -14,6 +14,7 @@ pub record IsRenumberedState (old new : EngineState) : Type 0 where
   pub options : new.options ≡ old.options
   pub positions : new.option_positions ≡ old.option_positions
   pub counts : new.counts ≡ old.counts
+  pub upgraded : new.upgraded ≡ old.upgraded
   pub table : table_of new ≡ table_of old
   pub rule_count : length (rule_nodes new.rules.standing) ≡ length (rule_nodes old.rules.standing)
   pub rules : without_nodes new.rules.standing ≡ without_nodes old.rules.standing

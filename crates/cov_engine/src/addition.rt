@@ -35,6 +35,8 @@ pub(crate) enum Addition {
         edits: Vec<ResolvedEdit>,
         rows: EntryPlan,
     },
+    /// Nothing: an upgrade takes no room but that of its command.
+    Upgrade,
 }
 
 /// Stages what a commit's edits make, up to a last node, so many lines being there before; on `Err` nothing of it is there. It

@@ -1,11 +1,13 @@
 // A history in use.
-ghost use Rattle.std.specs.Prelude.{ℕ, Bool, List, ◌≡◌, ◌≤◌, ◌+◌, ◌++◌, ◌∷◌, [], true, nat_lt, length, map, take, None, Some, is_none, IfOk, IfErr, IfSome, OnOk, OnErr};
+ghost use Rattle.std.specs.Prelude.{ℕ, Bool, List, ◌≡◌, ◌≤◌, ◌+◌, ◌-◌, ◌++◌, ◌∷◌, [], true, nat_lt, length, map, take, slice_get, None, Some, is_none, IfOk, IfErr, IfSome, OnOk, OnErr};
 ghost use Rattle.std.specs.List.{list_all};
 ghost use Rattle.cov_base.specs.Rows.{is_present};
+ghost use Rattle.cov_base.specs.declared.limits.TheConstants.{CHOICE_WIDTH};
 ghost use Rattle.cov_dd.specs.Diagrams.{diagram_size, Extends};
 ghost use Rattle.cov_dd.specs.Sweeps.{AreRenumbered};
+ghost use Rattle.cov_expr.specs.Formula.{reach};
 ghost use Rattle.cov_edit.specs.History.{options_of, option_count, constraints_of, first_false_in};
-ghost use Rattle.cov_edit.specs.Numbering.{numbers_of};
+ghost use Rattle.cov_edit.specs.Numbering.{line_count, numbers_of};
 ghost use Rattle.cov_edit.specs.Replay.{replay};
 ghost use Rattle.cov_edit.specs.Variant.{lines_of};
 ghost use Rattle.cov_rules.specs.Completion.{Complete, IsCompletion, IsRefusalBy};
@@ -15,14 +17,19 @@ ghost use Rattle.cov_history.specs.Files.{file_dated};
 ghost use Rattle.cov_history.specs.Kept.{kept_of};
 ghost use Rattle.cov_history.specs.Completing.{completed_in};
 ghost use Rattle.cov_visible.specs.Reading.{IsFileAt, line_row};
+ghost use Rattle.cov_engine.specs.Meeting.{least_valid};
+ghost use Rattle.cov_engine.specs.Ruling.{AreRulesOf};
 ghost use Rattle.cov_engine.specs.States.{AreCountsOf, IsKept, IsSwept, history_of, nodes_of, table_of, receipt_number};
 ghost use Rattle.cov_history.specs.Verdict.{IsLegal, verdict, RefusedBy};
 ghost use Rattle.cov_engine.specs.Visibility.{IsVisibilityOf, as_row, has_line_number, is_no_line, is_refusal, presence_of};
 ghost use Rattle.cov_visible.specs.Visible.{IsWhole, shown};
 
+use crate::counted_commands::CountedCommands;
 use crate::history_index::{HistoryIndex, file_of};
 use crate::installing::add;
+use crate::meeting::first_meeting;
 use crate::option_positions::OptionPositions;
+use crate::refusing::count_up_to;
 use crate::state::{EngineState, make_ready};
 use crate::sweeping::{append_nodes, sweep};
 use crate::{
@@ -30,8 +37,8 @@ use crate::{
 };
 use cov_base::{Choice, FileRows, LineNo, Memory, MemoryOr, Name, NodeNo, Position};
 use cov_dd::{Node, Nodes, Table};
-use cov_edit::{Command, Commands};
-use cov_expr::{Options, Partial};
+use cov_edit::Command;
+use cov_expr::{Expr, Options, Partial};
 use cov_overtaking::Commits;
 use cov_rules::{CompleteFault, Invalid, Rules};
 use cov_tree::Entries;
@@ -77,7 +84,7 @@ impl Engine {
     {
         Ok(Engine {
             state: EngineState {
-                commands: Commands::new(alloc),
+                commands: CountedCommands::new(alloc),
                 options: Options::new(alloc),
                 rules: Rules::new(alloc),
                 counts: Counts {
@@ -95,6 +102,7 @@ impl Engine {
                     files: FileParts::new(alloc),
                 },
                 option_positions: OptionPositions::new(alloc)?,
+                upgraded: false,
             },
         })
     }
@@ -104,6 +112,32 @@ impl Engine {
         ensures { result ≡ length self.now.history }
     {
         Position::new(self.state.commands.len() as u32)
+    }
+
+    /// The command at a position. Takes no memory.
+    pub fn command(&self, at: Position) -> &Command
+        requires from { 1 ≤ at }
+        requires to { at ≤ length self.now.history }
+        ensures { slice_get self.now.history (at - 1) ≡ Some result.now }
+    {
+        &self.state.commands.as_slice()[at.number() as usize - 1]
+    }
+
+    /// How many options were declared up to a position; beyond the history all are. Takes no memory. It looks at as many as halvings
+    /// leave.
+    pub fn options_at(&self, at: Position) -> u8
+        ensures count { result ≡ option_count (take at self.now.history) }
+        ensures most { result ≤ CHOICE_WIDTH }
+    {
+        count_up_to(&self.state, at)
+    }
+
+    /// How many lines the first so many commands insert. Takes no memory. It takes the same time for a position of long ago.
+    pub fn line_count_at(&self, at: Position) -> u32
+        requires { at ≤ length self.now.history }
+        ensures { result ≡ line_count (take at self.now.history) }
+    {
+        self.state.commands.line_count_at(at)
     }
 
     pub fn options(&self) -> &Options
@@ -139,6 +173,13 @@ impl Engine {
         ensures { result.now ≡ self.now.table }
     {
         &self.state.visible.table
+    }
+
+    /// The rules that stand: those that the history declares, with nodes of the engine's table.
+    pub fn rules(&self) -> &Rules
+        ensures { AreRulesOf self.now.history self.now.table result.now.standing }
+    {
+        &self.state.rules
     }
 
     /// The visibility of a line now: the node that is true on exactly the choices in whose replay of the whole history the
@@ -194,6 +235,16 @@ impl Engine {
         self.state.rules.valid(choice, self.position())
     }
 
+    /// Whether each constraint of the first so many commands is true on a choice. Takes no memory.
+    pub fn valid_at(&self, choice: Choice, at: Position) -> Result<(), Invalid>
+        requires { option_count (take at self.now.history) ≤ length choice }
+        ensures ok { OnOk result (first_false_in (take at self.now.history) choice ≡ None) }
+        ensures err { IfErr result (λ invalid. first_false_in (take at self.now.history) choice ≡
+            Some invalid.rule) }
+    {
+        self.state.rules.valid(choice, at)
+    }
+
     /// Completes a partial choice by the rules: of the valid choices that agree with it each preference in order keeps
     /// those on which it is true, if there are any, then each default. The one choice left is the answer.
     pub fn complete(&mut self, partial: &Partial) -> Result<Choice, CompleteFault>
@@ -211,6 +262,20 @@ impl Engine {
         self.state
             .rules
             .complete(&mut self.state.visible.table, partial, count)
+    }
+
+    /// The first valid choice of all options on which an expression is true, None exactly where there is none. Every node keeps its
+    /// value. It takes time in the diagrams of the expression and of all constraints.
+    pub fn least_valid(&mut self, condition: &Expr) -> Result<Option<Choice>, Memory>
+        requires { reach condition.now ≤ option_count self.old.history }
+        ensures same { self.new.history ≡ self.old.history }
+        ensures extends { Extends self.old.table self.new.table }
+        ensures first { IfOk result (λ found. found ≡
+            least_valid self.old.history condition.now) }
+    {
+        let count = self.state.options.count();
+        let valid = self.state.rules.conjunction();
+        first_meeting(&mut self.state.visible.table, valid, condition, count)
     }
 
     /// What is shown, which is whole. At each position and on each choice it shows the variant of the replay, in which nothing is
@@ -333,10 +398,8 @@ impl Engine {
         };
         holders.release(which);
         let number = add(&mut self.state, &command, ready);
-        match self.state.commands.push(command) {
-            Ok(()) => (),
-            Err(_) => unreachable!(),
-        }
+        let lines = self.state.counts.lines;
+        self.state.commands.push(command, lines);
         let position = Position::new(self.state.commands.len() as u32);
         Ok(Receipt { position, number })
     }

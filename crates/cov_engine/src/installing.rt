@@ -36,6 +36,7 @@ pub(crate) fn add(state: &mut EngineState, command: &Command, ready: Addition) -
             edits,
             rows,
         } => add_commit(state, command, mark, counts, edits, rows),
+        Addition::Upgrade => add_upgrade(state, command),
     }
 }
 
@@ -92,6 +93,17 @@ fn add_commit(
     0
 }
 
+fn add_upgrade(state: &mut EngineState, command: &Command) -> u32
+    requires prepared { IsPrepared state.old command.now additions.Upgrade }
+    ensures commands { state.new.commands ≡ state.old.commands }
+    ensures table { table_of state.new ≡ table_of state.old }
+    ensures kept { Keeps (history_of state.old ++ command.now ∷ []) state.new }
+    ensures number { result ≡ receipt_number (history_of state.old) command.now }
+{
+    state.upgraded = true;
+    2
+}
+
 /// Gives up what is ready for a command.
 pub(crate) fn give_up(state: &mut EngineState, command: &Command, ready: &Addition)
     requires prepared { IsPrepared state.old command.now ready.now }
@@ -100,7 +112,7 @@ pub(crate) fn give_up(state: &mut EngineState, command: &Command, ready: &Additi
     ensures kept { IsKept state.new }
 {
     match ready {
-        Addition::Option { .. } | Addition::Rule { .. } => (),
+        Addition::Option { .. } | Addition::Rule { .. } | Addition::Upgrade => (),
         Addition::Commit { mark, .. } => cut_off(
             &mut state.index,
             &mut state.visible,

@@ -2,6 +2,7 @@
 #![tactic(auto)]
 
 mod addition;
+mod counted_commands;
 mod counts;
 mod engine;
 mod evidence;
@@ -9,6 +10,7 @@ mod history_index;
 mod holders;
 mod installing;
 pub mod laws;
+mod meeting;
 mod option_positions;
 mod prepared;
 mod refusing;

@@ -1,10 +1,10 @@
 // Where options were declared.
 ghost use Rattle.std.specs.Prelude.{◌≡◌, ◌<◌, ◌++◌, [], ◌∷◌, suc, length, nat_lt, IfOk};
-ghost use Rattle.cov_base.specs.declared.limits.TheConstants.{LIMITS};
+ghost use Rattle.cov_base.specs.declared.limits.TheConstants.{CHOICE_WIDTH};
 ghost use Rattle.cov_edit.specs.Touched.{AreRising};
 ghost use Rattle.cov_visible.specs.Parts.{count_below};
 
-use cov_base::{LIMITS, Memory, Position};
+use cov_base::{CHOICE_WIDTH, Memory, Position};
 use std::alloc::Global;
 use std::marker::Model;
 
@@ -16,14 +16,14 @@ pub(crate) struct OptionPositions {
 
 impl Model for OptionPositions {
     ghost use Rattle.std.specs.Prelude.{◌≤◌, ℕ, List, length, vec_capacity};
-    ghost use Rattle.cov_base.specs.declared.limits.TheConstants.{LIMITS};
+    ghost use Rattle.cov_base.specs.declared.limits.TheConstants.{CHOICE_WIDTH};
 
     ghost Value = { List ℕ };
 
     ghost view = { λ p. p.positions.items };
 
-    ghost invariant = { λ p. (length p.positions.items ≤ LIMITS.options)
-        × (LIMITS.options ≤ vec_capacity p.positions) };
+    ghost invariant = { λ p. (length p.positions.items ≤ CHOICE_WIDTH)
+        × (CHOICE_WIDTH ≤ vec_capacity p.positions) };
 }
 
 impl OptionPositions {
@@ -31,13 +31,13 @@ impl OptionPositions {
         ensures { IfOk result (λ positions. positions ≡ []) }
     {
         Ok(OptionPositions {
-            positions: Vec::with_capacity(alloc, usize::from(LIMITS.options))?,
+            positions: Vec::with_capacity(alloc, usize::from(CHOICE_WIDTH))?,
         })
     }
 
     /// Adds the position of an option. Takes no memory.
     pub(crate) fn push(&mut self, at: Position)
-        requires { length self.old < LIMITS.options }
+        requires { length self.old < CHOICE_WIDTH }
         ensures { self.new ≡ self.old ++ at ∷ [] }
     {
         self.positions.push_reserved(at);

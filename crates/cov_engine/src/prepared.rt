@@ -39,7 +39,7 @@ impl Model for Prepared {
     ghost invariant = { λ p. IsPrepared p.state p.command p.ready };
 }
 
-/// What a command made: the position after it, and the option's number, the rule's within its kind, or 0 for a commit.
+/// What a command made: the position after it, and the option's number, the rule's within its kind, 0 for a commit, or 2 for an upgrade.
 #[derive(Clone, Copy, Debug, PartialEq, Eq)]
 pub struct Receipt {
     pub position: Position,
@@ -96,10 +96,8 @@ impl Prepared {
             ready,
         } = self;
         let number = add(&mut state, &command, ready);
-        match state.commands.push(command) {
-            Ok(()) => (),
-            Err(_) => unreachable!(),
-        }
+        let lines = state.counts.lines;
+        state.commands.push(command, lines);
         let position = Position::new(state.commands.len() as u32);
         (Engine::of_state(state), Receipt { position, number })
     }

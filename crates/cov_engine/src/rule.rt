@@ -15,12 +15,13 @@ use cov_edit::Command;
 use cov_rules::{Rule, RuleFault, RulePlan, Rules};
 use std::alloc::Global;
 
-/// Makes a command's rule ready beside those that stand, unless they refuse it.
+/// Makes a command's rule ready beside those that stand, unless they refuse it or as many of its kind stand as the limit allows.
 pub(crate) fn rule_ready(
     alloc: Global,
     rules: &mut Rules,
     table: &mut Table,
     command: &Command,
+    limit: u16,
 ) -> Result<Addition, Refusal>
     requires holds { Holds table.old rules.old.standing }
     requires rule { is_some (rule_in command.now) ≡ true }
@@ -28,12 +29,12 @@ pub(crate) fn rule_ready(
     ensures same { rules.new.standing ≡ rules.old.standing }
     ensures ready { IfOk result (IsRuleReady command.now table.new rules.new) }
     ensures accepted { OnOk result ((rule : AnyRule) → rule_in command.now ≡ Some rule →
-        IsAccepted rules.old.standing rule) }
+        IsAccepted limit rules.old.standing rule) }
     ensures refused { IfErr result (λ refusal. (rule : AnyRule) → rule_in command.now ≡ Some rule →
-        IsRefusalOf rules.old.standing rule refusal) }
+        IsRefusalOf limit rules.old.standing rule refusal) }
 {
     match copied_rule(alloc, command) {
-        Ok(rule) => planned(rules, table, rule),
+        Ok(rule) => planned(rules, table, rule, limit),
         Err(_) => Err(Refusal::Memory),
     }
 }
@@ -47,21 +48,26 @@ fn copied_rule(alloc: Global, command: &Command) -> Result<Rule, Memory>
         Command::Constraint { expr } => Ok(Rule::Constraint(expr.copy(alloc)?)),
         Command::Prefer { expr } => Ok(Rule::Prefer(expr.copy(alloc)?)),
         Command::Default { option, on } => Ok(Rule::Default(*option, *on)),
-        Command::Option { .. } | Command::Commit { .. } => unreachable!(),
+        Command::Option { .. } | Command::Commit { .. } | Command::Upgrade => unreachable!(),
     }
 }
 
 // A rule with its plan.
-fn planned(rules: &mut Rules, table: &mut Table, rule: Rule) -> Result<Addition, Refusal>
+fn planned(
+    rules: &mut Rules,
+    table: &mut Table,
+    rule: Rule,
+    limit: u16,
+) -> Result<Addition, Refusal>
     requires holds { Holds table.old rules.old.standing }
     ensures extends { Extends table.old table.new }
     ensures same { rules.new.standing ≡ rules.old.standing }
     ensures ready { (command : AnyCommand) → rule_in command ≡ Some rule →
         IfOk result (IsRuleReady command table.new rules.new) }
-    ensures accepted { OnOk result (IsAccepted rules.old.standing rule) }
-    ensures refused { IfErr result (IsRefusalOf rules.old.standing rule) }
+    ensures accepted { OnOk result (IsAccepted limit rules.old.standing rule) }
+    ensures refused { IfErr result (IsRefusalOf limit rules.old.standing rule) }
 {
-    match plan(rules, table, &rule) {
+    match plan(rules, table, &rule, limit) {
         Ok(plan) => Ok(Addition::Rule { rule, plan }),
         Err(refusal) => given_up(rule, refusal),
     }
@@ -74,15 +80,15 @@ fn given_up(_: Rule, refusal: Refusal) -> Result<Addition, Refusal>
     Err(refusal)
 }
 
-fn plan(rules: &mut Rules, table: &mut Table, rule: &Rule) -> Result<RulePlan, Refusal>
+fn plan(rules: &mut Rules, table: &mut Table, rule: &Rule, limit: u16) -> Result<RulePlan, Refusal>
     requires holds { Holds table.old rules.old.standing }
     ensures extends { Extends table.old table.new }
     ensures same { rules.new.standing ≡ rules.old.standing }
     ensures planned { IfOk result (IsPlan table.new rules.new rule.now) }
-    ensures accepted { OnOk result (IsAccepted rules.old.standing rule.now) }
-    ensures refused { IfErr result (IsRefusalOf rules.old.standing rule.now) }
+    ensures accepted { OnOk result (IsAccepted limit rules.old.standing rule.now) }
+    ensures refused { IfErr result (IsRefusalOf limit rules.old.standing rule.now) }
 {
-    match rules.prepare(table, rule) {
+    match rules.prepare(table, rule, limit) {
         Ok(plan) => Ok(plan),
         Err(fault) => Err(rule_refusal(fault)),
     }

@@ -1,7 +1,7 @@
 // How much edits make.
 ghost use Rattle.std.specs.Prelude.{◌≡◌, ◌<◌, ◌+◌, ◌*◌, ◌^◌, ◌≤◌, [], ◌∷◌, true, length};
 ghost use Rattle.std.specs.List.{list_all};
-ghost use Rattle.cov_base.specs.declared.limits.TheConstants.{MOST_TEXT_BYTES};
+ghost use Rattle.cov_base.specs.declared.limits.TheConstants.{LIMITS, MOST_TEXT_BYTES};
 ghost use Rattle.cov_edit.specs.EditFits.{fits_edit};
 ghost use Rattle.cov_edit.specs.History.{edit_bytes};
 ghost use Rattle.cov_edit.specs.Numbering.{nodes_made, anchors_of};
@@ -11,7 +11,7 @@ ghost use Rattle.cov_view.specs.Refusals.{first_of};
 ghost use Rattle.cov_history.specs.Verdict.{amount_refusals};
 
 use crate::{Counts, Refusal};
-use cov_base::LIMITS;
+use cov_base::Limits;
 use cov_edit::Edit;
 
 /// How many lines and nodes edits make, and how many bytes of text they insert.
@@ -65,29 +65,36 @@ fn with_edit(sizes: Sizes, edit: &Edit) -> Sizes
     }
 }
 
-/// The refusal of edits that are too many or make too much, where so much is there already.
-pub(crate) fn refusal(counts: Counts, edits: &[Edit], sizes: Sizes) -> Option<Refusal>
-    requires { length edits.now ≤ LIMITS.edits → sizes ≡ sizes_of edits.now }
-    ensures { result ≡ sizes_refusal counts edits.now }
+/// The refusal of edits that are too many or make too much for limits, where so much is there already.
+pub(crate) fn refusal(
+    limits: Limits,
+    counts: Counts,
+    edits: &[Edit],
+    sizes: Sizes,
+) -> Option<Refusal>
+    requires sizes { length edits.now ≤ limits.edits → sizes ≡ sizes_of edits.now }
+    requires within { limits.commit_bytes ≤ limits.bytes }
+    ensures { result ≡ sizes_refusal limits counts edits.now }
 {
-    if edits.len() > LIMITS.edits {
+    if edits.len() > limits.edits {
         return Some(Refusal::TooManyEdits);
     }
-    refusal_of_sizes(counts, sizes)
+    refusal_of_sizes(limits, counts, sizes)
 }
 
-fn refusal_of_sizes(counts: Counts, sizes: Sizes) -> Option<Refusal>
+fn refusal_of_sizes(limits: Limits, counts: Counts, sizes: Sizes) -> Option<Refusal>
+    requires { limits.commit_bytes ≤ limits.bytes }
     ensures { result ≡
-        first_of (amount_refusals LIMITS (counts.lines + sizes.lines) (counts.nodes +
+        first_of (amount_refusals limits (counts.lines + sizes.lines) (counts.nodes +
         sizes.nodes) sizes.bytes (counts.bytes + sizes.bytes)) }
 {
-    if u64::from(counts.lines) + u64::from(sizes.lines) > LIMITS.lines {
+    if u64::from(counts.lines) + u64::from(sizes.lines) > limits.lines {
         return Some(Refusal::TooManyLines);
     }
-    if u64::from(counts.nodes) + u64::from(sizes.nodes) > LIMITS.nodes {
+    if u64::from(counts.nodes) + u64::from(sizes.nodes) > limits.nodes {
         return Some(Refusal::TooManyNodes);
     }
-    if sizes.bytes > LIMITS.commit_bytes || counts.bytes > LIMITS.bytes - sizes.bytes {
+    if sizes.bytes > limits.commit_bytes || counts.bytes > limits.bytes - sizes.bytes {
         return Some(Refusal::TooManyBytes);
     }
     None

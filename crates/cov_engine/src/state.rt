@@ -2,6 +2,7 @@
 ghost use Rattle.std.specs.Prelude.{◌≡◌, ◌<◌, ◌≤◌, ◌-◌, length, None, IfOk, IfErr, OnOk, OnErr};
 ghost use Rattle.cov_dd.specs.Diagrams.{Extends};
 ghost use Rattle.cov_edit.specs.History.{edits_in, option_count};
+ghost use Rattle.cov_edit.specs.Limits.{limits_of};
 ghost use Rattle.cov_edit.specs.Sides.{unsided, reach_within};
 ghost use Rattle.cov_engine.specs.Refusing.{early_refusal};
 ghost use Rattle.cov_engine.specs.Summaries.{summary_of, IsSummaryOf};
@@ -12,6 +13,7 @@ ghost use Rattle.cov_history.specs.Verdict.{verdict, RefusedBy};
 ghost use Rattle.cov_engine.specs.declared.addition.Addition.TheVariants as additions;
 
 use crate::addition::{Addition, stage_commit};
+use crate::counted_commands::CountedCommands;
 use crate::evidence::refusal_left;
 use crate::history_index::HistoryIndex;
 use crate::option_positions::OptionPositions;
@@ -20,8 +22,8 @@ use crate::rule::rule_ready;
 use crate::sizes::with_sizes;
 use crate::summary::{EditSummary, summarize};
 use crate::{Counts, Refusal, Visible};
-use cov_base::{LIMITS, Memory, NodeNo, OptionName, Position};
-use cov_edit::{Command, Commands, Edits};
+use cov_base::{LIMITS, Limits, Memory, NodeNo, OptionName, Position, limits_when};
+use cov_edit::{Command, Edits};
 use cov_expr::{Expr, Options};
 use cov_overtaking::{CommitMark, conditions_of, mark_of, overtaken};
 use cov_rules::Rules;
@@ -29,16 +31,25 @@ use cov_tree::EntryPlan;
 use cov_vis::compile;
 use cov_visible::{CommitContext, ResolvedEdit, plan_rows, resolve};
 
-/// The history with what it declares and shows. The table has the nodes of the rules too.
+/// The history with what it declares and shows, and whether it has an upgrade. The table has the nodes of the rules too.
 #[derive(Drop)]
 pub(crate) struct EngineState {
-    pub(crate) commands: Commands,
+    pub(crate) commands: CountedCommands,
     pub(crate) options: Options,
     pub(crate) option_positions: OptionPositions,
     pub(crate) rules: Rules,
     pub(crate) counts: Counts,
     pub(crate) index: HistoryIndex,
     pub(crate) visible: Visible,
+    pub(crate) upgraded: bool,
+}
+
+/// The limits of the history.
+pub(crate) fn limits_now(state: &EngineState) -> Limits
+    requires { IsKept state.now }
+    ensures { result ≡ limits_of (history_of state.now) }
+{
+    limits_when(state.upgraded)
 }
 
 /// Makes everything ready for a command, unless the history refuses it.
@@ -111,8 +122,9 @@ fn ready_for(
     ensures kept { OnErr result (IsKept state.new) }
 {
     let alloc = state.index.commits.allocator();
+    let limits = limits_now(state);
     match command {
-        Command::Option { name } => option_ready(&mut state.options, name),
+        Command::Option { name } => option_ready(&mut state.options, name, limits.options),
         Command::Commit {
             base,
             ambition,
@@ -132,20 +144,27 @@ fn ready_for(
             Ok(None) => commit_ready(state, ambition, edits, summary),
             Err(Memory) => Err(Refusal::Memory),
         },
-        _ => rule_ready(alloc, &mut state.rules, &mut state.visible.table, command),
+        Command::Upgrade => Ok(Addition::Upgrade),
+        _ => rule_ready(
+            alloc,
+            &mut state.rules,
+            &mut state.visible.table,
+            command,
+            limits.rules,
+        ),
     }
 }
 
-// Makes room for an option, and a copy of its name.
-fn option_ready(options: &mut Options, name: &OptionName) -> Result<Addition, Refusal>
+// Makes room for an option, and a copy of its name, where so many may be declared.
+fn option_ready(options: &mut Options, name: &OptionName, most: u8) -> Result<Addition, Refusal>
     ensures names { options.new.names ≡ options.old.names }
     ensures room { OnOk result (0 < options.new.spare) }
-    ensures accepted { OnOk result (name_refusal options.old.names name.now ≡ None) }
+    ensures accepted { OnOk result (name_refusal most options.old.names name.now ≡ None) }
     ensures ready { IfOk result (λ r. r ≡ additions.Option name.now) }
     ensures refused { IfErr result (λ refusal.
-        RefusedBy refusal (name_refusal options.old.names name.now)) }
+        RefusedBy refusal (name_refusal most options.old.names name.now)) }
 {
-    match name_refusal(options, name.as_slice()) {
+    match name_refusal(options, name.as_slice(), most) {
         Some(refusal) => Err(refusal),
         None => match copied_name(options, name) {
             Ok(name) => Ok(Addition::Option { name }),
@@ -163,11 +182,11 @@ fn copied_name(options: &mut Options, name: &OptionName) -> Result<OptionName, M
     name.copy()
 }
 
-// The refusal of an option by its name, where there is room for a command.
-fn name_refusal(options: &Options, name: &[u8]) -> Option<Refusal>
-    ensures { result ≡ name_refusal options.now.names name.now }
+// The refusal of an option by its name, where there is room for a command and so many options may be declared.
+fn name_refusal(options: &Options, name: &[u8], most: u8) -> Option<Refusal>
+    ensures { result ≡ name_refusal most options.now.names name.now }
 {
-    if options.count() >= LIMITS.options {
+    if options.count() >= most {
         return Some(Refusal::Full);
     }
     match options.find(name) {

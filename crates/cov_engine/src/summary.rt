@@ -27,7 +27,8 @@ pub(crate) fn summarize(alloc: Global, command: &Command) -> Result<EditSummary,
         Command::Option { .. }
         | Command::Constraint { .. }
         | Command::Prefer { .. }
-        | Command::Default { .. } => Ok(no_edits(alloc)),
+        | Command::Default { .. }
+        | Command::Upgrade => Ok(no_edits(alloc)),
     }
 }
 

@@ -1,5 +1,6 @@
 // Expressions of a bounded size.
 ghost use Rattle.std.specs.Prelude.{◌≡◌, ◌<◌, ◌≤◌, true, IfOk, OnErr, length};
+ghost use Rattle.cov_base.specs.declared.limits.TheConstants.{MOST_PARTS};
 ghost use Rattle.cov_expr.specs.ExpressionText.{text_of};
 ghost use Rattle.cov_expr.specs.Formula.{part_count, reach, value};
 ghost use Rattle.cov_expr.specs.Options.{option_name};
@@ -90,6 +91,17 @@ impl Expr {
         ensures alike { self.now ≡ other.now → result ≡ true }
     {
         are_same_parts(&self.part, &other.part)
+    }
+
+    /// How many parts it consists of, itself included.
+    pub fn parts(&self) -> u32
+        ensures parts { result ≡ part_count self.now }
+        ensures most { result ≤ MOST_PARTS }
+    {
+        match room_after(&self.part, MOST_PARTS) {
+            Some(rest) => MOST_PARTS - rest,
+            None => unreachable!(),
+        }
     }
 
     /// The truth value on a choice that binds each option of the expression. Takes no memory.

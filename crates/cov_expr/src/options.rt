@@ -3,7 +3,7 @@ ghost use Rattle.std.specs.Prelude.{◌≡◌, ◌<◌, ◌≤◌, ◌+◌, ◌+
 ghost use Rattle.std.specs.List.{list_all, IsDistinct};
 ghost use Rattle.std.specs.Str.{bytes_eq};
 ghost use Rattle.cov_base.specs.Spelling.{is_option_name};
-ghost use Rattle.cov_base.specs.declared.limits.TheConstants.{LIMITS};
+ghost use Rattle.cov_base.specs.declared.limits.TheConstants.{CHOICE_WIDTH};
 ghost use Rattle.cov_expr.specs.Options.{is_declared, option_name};
 
 use cov_base::{Memory, OptionId, OptionName};
@@ -11,7 +11,7 @@ use indexmap::IndexSet;
 use std::alloc::Global;
 use std::marker::Model;
 
-/// The options of a product line, at most `LIMITS.options` of them, numbered from 0 in order of declaration.
+/// The options of a product line, at most `CHOICE_WIDTH` of them, numbered from 0 in order of declaration.
 #[derive(Drop)]
 pub struct Options {
     names: IndexSet<Vec<u8>>,
@@ -20,7 +20,7 @@ pub struct Options {
 impl Model for Options {
     ghost use Rattle.std.specs.Prelude.{◌≡◌, ◌≤◌, true, length, map};
     ghost use Rattle.std.specs.List.{list_all};
-    ghost use Rattle.cov_base.specs.declared.limits.TheConstants.{LIMITS};
+    ghost use Rattle.cov_base.specs.declared.limits.TheConstants.{CHOICE_WIDTH};
     ghost use Rattle.indexmap.specs.IndexSet.{spare};
     ghost use Rattle.cov_base.specs.Spelling.{is_option_name};
     ghost use Rattle.cov_expr.specs.Options.{Declared};
@@ -32,7 +32,7 @@ impl Model for Options {
       spare = spare o.names;
     } };
 
-    ghost invariant = { λ o. (length o.names.keys ≤ LIMITS.options) ×
+    ghost invariant = { λ o. (length o.names.keys ≤ CHOICE_WIDTH) ×
         (list_all (λ name. is_option_name name.items) o.names.keys ≡ true) };
 }
 
@@ -48,7 +48,7 @@ impl Options {
     /// How many options there are.
     pub fn count(&self) -> u8
         ensures count { result ≡ length self.now.names }
-        ensures most { result ≤ LIMITS.options }
+        ensures most { result ≤ CHOICE_WIDTH }
         ensures spelt { list_all is_option_name self.now.names ≡ true }
         ensures distinct { IsDistinct bytes_eq self.now.names }
     {
@@ -90,7 +90,7 @@ impl Options {
     /// Declares an option, for which room was made. It takes no memory.
     pub fn declare(&mut self, name: OptionName) -> OptionId
         requires fresh { is_declared self.old.names name ≡ false }
-        requires below { length self.old.names < LIMITS.options }
+        requires below { length self.old.names < CHOICE_WIDTH }
         requires room { 0 < self.old.spare }
         ensures names { self.new.names ≡ self.old.names ++ name ∷ [] }
         ensures number { result ≡ length self.old.names }

@@ -1,6 +1,6 @@
 // Expressions whose names are texts.
 use crate::naming::bind_tree;
-use crate::tree::Tree;
+use crate::tree::{Tree, count_parts};
 use crate::{Expr, NameFault, Options};
 use std::alloc::Global;
 use std::marker::Model;
@@ -38,6 +38,14 @@ impl RawExpr {
         ensures { result ≡ tree }
     {
         RawExpr { tree }
+    }
+
+    /// How many parts it consists of, itself included.
+    pub fn parts(&self) -> u32
+        ensures parts { result ≡ part_count self.now }
+        ensures most { result ≤ MOST_PARTS }
+    {
+        count_parts(&self.tree.part)
     }
 
     /// The expression with options in place of their names; `UnknownOption` has the first name, from the left, that no

@@ -1,7 +1,9 @@
 // Expressions whose names are texts, while they are read.
-ghost use Rattle.std.specs.Prelude.{◌≡◌, IfOk, List, ℕ, Option, Some, None};
-ghost use Rattle.cov_expr.specs.Formula.{Formula, Not, And, Or};
+ghost use Rattle.std.specs.Prelude.{◌≡◌, ◌≤◌, IfOk, List, ℕ, Option, Some, None};
+ghost use Rattle.cov_base.specs.declared.limits.TheConstants.{MOST_PARTS};
+ghost use Rattle.cov_expr.specs.Formula.{Formula, Not, And, Or, part_count};
 ghost use Rattle.cov_expr.specs.Grammar.{constant_of, word_formula};
+ghost use Rattle.cov_expr.specs.Parts.{raw_formula};
 
 use cov_base::{Memory, Text};
 use std::alloc::Global;
@@ -78,6 +80,20 @@ impl Tree {
         Ok(Tree {
             part: RawPart::Or(Box::new(alloc, left)?, Box::new(alloc, right)?),
         })
+    }
+}
+
+/// How many parts the part consists of, itself included.
+pub(crate) fn count_parts(part: &RawPart) -> u32
+    requires { part_count (raw_formula part.now) ≤ MOST_PARTS }
+    ensures { result ≡ part_count (raw_formula part.now) }
+{
+    match part {
+        RawPart::False | RawPart::True | RawPart::Named(_) => 1,
+        RawPart::Not(inner) => 1 + count_parts(inner),
+        RawPart::And(left, right) | RawPart::Or(left, right) => {
+            1 + count_parts(left) + count_parts(right)
+        }
     }
 }
 

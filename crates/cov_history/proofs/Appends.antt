@@ -21,6 +21,7 @@ held_from-append p q held ns (commands.Option name ∷ history) later e = held_f
 held_from-append p q held ns (commands.Constraint expr ∷ history) later e = held_from-append p (q + 1) held ns history later (omega (arith, e))
 held_from-append p q held ns (commands.Prefer expr ∷ history) later e = held_from-append p (q + 1) held ns history later (omega (arith, e))
 held_from-append p q held ns (commands.Default option on ∷ history) later e = held_from-append p (q + 1) held ns history later (omega (arith, e))
+held_from-append p q held ns (commands.Upgrade ∷ history) later e = held_from-append p (q + 1) held ns history later (omega (arith, e))
 
 pub holding-goes_on : (history later : List Command) → held_by (history ++ later) ≡ held_from (length history) (held_by history) (numbers_of history) later
 holding-goes_on history later = held_from-append (length history) 0 nothing_held no_numbers history later (omega arith)

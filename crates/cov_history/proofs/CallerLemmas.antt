@@ -5,6 +5,7 @@ pub use Rattle.cov_history.proofs.Deletes.{delete-dated, delete-elsewhere, delet
 pub use Rattle.cov_history.proofs.FileNodes.{AreTold, AreWithin, absent-high, absent-low, among-last, among-more, edits-told, files-append, files-commit, files-rise, from-within, made-append, made-within, onto_both, replay-told, rows-tell}
 pub use Rattle.cov_history.proofs.Files.{anchor-below, anchor-case, any-seen, file-replay}
 pub use Rattle.cov_history.proofs.Inserts.{amid-goes_on, amid-within, anchor-known, anchors-append, anchors-stay, insert-elsewhere, is_table-of, stands-amid}
+pub use Rattle.cov_history.proofs.Legal.{accepted-room, legal-one}
 pub use Rattle.cov_history.proofs.LineFiles.{AreLinesIn, accepted-names, amid-in_files, begun-named, legal-in_files, named-in_turn, turn-names}
 pub use Rattle.cov_history.proofs.Naming.{AreNamed, IsNamed, accepted-named, base-nodes, edits-accepted, further, legal-named, made-number, no-record, nodes-replay, sound-accepted, the_node}
 pub use Rattle.cov_history.proofs.Older.{accepted-anchored, accepted-there, legal-take}

@@ -1,5 +1,5 @@
 -- Worked histories.
-use Rattle.std.proofs.Common.{◌≡◌, ℕ, Bool, true, false, List, [], ◌∷◌, ◌++◌, map, Some, None, refl}
+use Rattle.std.proofs.Common.{◌≡◌, ℕ, Bool, true, false, List, [], ◌∷◌, ◌++◌, map, replicate, Option, Some, None, refl, ap}
 use Rattle.std.specs.Prelude.{codes}
 use Rattle.cov_base.specs.Addresses.{line_of}
 use Rattle.cov_base.specs.Rows.{Row, Renamed, Removed}
@@ -11,12 +11,15 @@ use Rattle.cov_edit.specs.declared.edit.Edit.{Edit}
 use Rattle.cov_edit.specs.declared.edit.Edit.TheVariants as edits
 use Rattle.cov_edit.specs.declared.command.Command.{Command}
 use Rattle.cov_edit.specs.declared.command.Command.TheVariants as commands
+use Rattle.cov_edit.specs.Limits.{limits_of}
 use Rattle.cov_edit.specs.Numbering.{OnRows, Deleted}
 use Rattle.cov_edit.specs.Replay.{replay}
 use Rattle.cov_edit.specs.Sides.{sided}
 use Rattle.cov_edit.specs.Variant.{lines_of}
 use Rattle.cov_edit.proofs.CallerLemmas.{commit, make_m, absent_anchor as history}
-use Rattle.cov_history.specs.Verdict.{verdict}
+use Rattle.cov_view.specs.Refusals.{first_of}
+use Rattle.cov_history.specs.Verdict.{IsLegal, verdict, when_full, refusals_of, refusals_by_size}
+use Rattle.cov_history.specs.declared.refusal.Refusal.{Refusal}
 use Rattle.cov_history.specs.declared.refusal.Refusal.TheVariants as refusals
 use Rattle.cov_history.specs.FileNodes.{files_made, files_of}
 use Rattle.cov_history.specs.FileOfLine.{file_of_line_in}
@@ -318,3 +321,70 @@ outside_ambition_first = refl
 
 outside_side_first : verdict with_sides (commands.Commit 4 (true ∷ false ∷ []) True (sided (On 0) (into 3) ∷ sided (On 1) (into 1) ∷ [])) ≡ Some (refusals.OutsideSide 1)
 outside_side_first = refl
+
+-- a history is upgraded once, and a full one is refused as such before that is asked
+upgraded_once : map (λ before. verdict before commands.Upgrade) ([] ∷ (commands.Upgrade ∷ []) ∷ (commands.Upgrade ∷ commands.Option (codes "a") ∷ []) ∷ (commands.Option (codes "a") ∷ commands.Upgrade ∷ []) ∷ [])
+    ≡ None ∷ Some refusals.Upgraded ∷ Some refusals.Upgraded ∷ Some refusals.Upgraded ∷ []
+upgraded_once = refl
+
+-- so a history with an upgrade is legal as one without is, and one with two is not
+legal_with_upgrade : IsLegal (commands.Option (codes "a") ∷ commands.Upgrade ∷ commands.Option (codes "b") ∷ [])
+legal_with_upgrade = (refl, refl, (refl, refl, (refl, refl, tt)))
+
+not_legal_with_two : IsLegal (commands.Upgrade ∷ commands.Upgrade ∷ []) → ⊥
+not_legal_with_two h = let refused : Some refusals.Upgraded ≡ None = h.2.1 in absurd (cc)
+
+full_before_upgraded : (before : List Command) → when_full before ≡ Some refusals.Full → verdict before commands.Upgrade ≡ Some refusals.Full
+full_before_upgraded before is = ap (λ first. first_of (first ∷ refusals_of before commands.Upgrade)) is
+
+-- the verdict on one command more of a kind, where so many of it stand behind others
+abbrev one_more : List Command → ℕ → Command → Option Refusal
+one_more before n k = verdict (before ++ replicate n k) k
+
+-- 64 options, and 128 with an upgrade; the options that stand have one name here, as another name is asked for
+abbrev another_option : List Command → ℕ → Option Refusal
+another_option before n = verdict (before ++ replicate n (commands.Option (codes "a"))) (commands.Option (codes "b"))
+
+most_options : map (another_option []) (63 ∷ 64 ∷ []) ≡ None ∷ Some refusals.Full ∷ []
+most_options = refl
+
+most_options_upgraded : map (another_option (commands.Upgrade ∷ [])) (64 ∷ 127 ∷ 128 ∷ []) ≡ None ∷ None ∷ Some refusals.Full ∷ []
+most_options_upgraded = refl
+
+-- 256 rules of each kind, and 1,024 with an upgrade
+abbrev a_rule_of_each_kind : List Command
+a_rule_of_each_kind = commands.Constraint (On 0) ∷ commands.Prefer (On 0) ∷ commands.Default 0 true ∷ []
+
+abbrev with_a : List Command
+with_a = commands.Option (codes "a") ∷ []
+
+rule_256 : map (one_more with_a 255) a_rule_of_each_kind ≡ None ∷ None ∷ None ∷ []
+rule_256 = refl
+
+rule_257 : map (one_more with_a 256) a_rule_of_each_kind ≡ Some refusals.Full ∷ Some refusals.Full ∷ Some refusals.Full ∷ []
+rule_257 = refl
+
+rule_257_upgraded : map (one_more (commands.Upgrade ∷ with_a) 256) a_rule_of_each_kind ≡ None ∷ None ∷ None ∷ []
+rule_257_upgraded = refl
+
+rule_1024_upgraded : map (one_more (commands.Upgrade ∷ with_a) 1023) a_rule_of_each_kind ≡ None ∷ None ∷ None ∷ []
+rule_1024_upgraded = refl
+
+rule_1025_upgraded : map (one_more (commands.Upgrade ∷ with_a) 1024) a_rule_of_each_kind ≡ Some refusals.Full ∷ Some refusals.Full ∷ Some refusals.Full ∷ []
+rule_1025_upgraded = refl
+
+-- 2^20 lines, and 2^24 with an upgrade; 65,536 nodes, and 2^20 with one. So many lines and nodes stand already, the root among these
+abbrev beside : List Command → ℕ → ℕ → Edit → Option Refusal
+beside before l n e = first_of (refusals_by_size (limits_of before) l n 0 (e ∷ []))
+
+most_lines : map (λ n. beside [] n 2 (insert_1 (codes "x"))) (1048575 ∷ 1048576 ∷ []) ≡ None ∷ Some refusals.TooManyLines ∷ []
+most_lines = refl
+
+most_lines_upgraded : map (λ n. beside (commands.Upgrade ∷ []) n 2 (insert_1 (codes "x"))) (1048576 ∷ 16777215 ∷ 16777216 ∷ []) ≡ None ∷ None ∷ Some refusals.TooManyLines ∷ []
+most_lines_upgraded = refl
+
+most_nodes : map (λ n. beside [] 0 n make_m) (65535 ∷ 65536 ∷ []) ≡ None ∷ Some refusals.TooManyNodes ∷ []
+most_nodes = refl
+
+most_nodes_upgraded : map (λ n. beside (commands.Upgrade ∷ []) 0 n make_m) (65536 ∷ 1048575 ∷ 1048576 ∷ []) ≡ None ∷ None ∷ Some refusals.TooManyNodes ∷ []
+most_nodes_upgraded = refl

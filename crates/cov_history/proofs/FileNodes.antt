@@ -98,6 +98,7 @@ from-within ns (commands.Option name ∷ history) = from-within ns history
 from-within ns (commands.Constraint expr ∷ history) = from-within ns history
 from-within ns (commands.Prefer expr ∷ history) = from-within ns history
 from-within ns (commands.Default option on ∷ history) = from-within ns history
+from-within ns (commands.Upgrade ∷ history) = from-within ns history
 
 from-rise : (ns : Numbers) (history : List Command) → AreRising (files_from ns.nodes history)
 from-rise ns [] = tt
@@ -111,6 +112,7 @@ from-rise ns (commands.Option name ∷ history) = from-rise ns history
 from-rise ns (commands.Constraint expr ∷ history) = from-rise ns history
 from-rise ns (commands.Prefer expr ∷ history) = from-rise ns history
 from-rise ns (commands.Default option on ∷ history) = from-rise ns history
+from-rise ns (commands.Upgrade ∷ history) = from-rise ns history
 
 pub files-rise : (history : List Command) → AreRising (files_of history) × AllByRecursion (λ file. (0 < file) × (file ≤ (numbers_of history).nodes)) (files_of history)
 files-rise history = (from-rise no_numbers history, from-within no_numbers history)
@@ -137,6 +139,7 @@ from-append ns (commands.Option name ∷ history) later = from-append ns history
 from-append ns (commands.Constraint expr ∷ history) later = from-append ns history later
 from-append ns (commands.Prefer expr ∷ history) later = from-append ns history later
 from-append ns (commands.Default option on ∷ history) later = from-append ns history later
+from-append ns (commands.Upgrade ∷ history) later = from-append ns history later
 
 pub files-append : (history later : List Command) → files_of (history ++ later) ≡ files_of history ++ files_from (numbers_of history).nodes later
 files-append history later = from-append no_numbers history later
@@ -274,6 +277,7 @@ module _ (c : List Bool) where
   from-told ns v files all (commands.Constraint expr ∷ history) f h = from-told ns v files all history f h
   from-told ns v files all (commands.Prefer expr ∷ history) f h = from-told ns v files all history f h
   from-told ns v files all (commands.Default option on ∷ history) f h = from-told ns v files all history f h
+  from-told ns v files all (commands.Upgrade ∷ history) f h = from-told ns v files all history f h
 
   pub replay-told : (history : List Command) → AreTold (numbers_of history).nodes (files_of history) (replay c history)
   replay-told history = from-told no_numbers bare [] (files_of history) history refl (tt, tt, tt)

@@ -103,6 +103,7 @@ texts-along q ns held (commands.Commit base choice ambition ss ∷ history) text
     (texts-along (q + 1) (numbers_after ns es) after history (texts ++ new_texts es) (table-after ns es table) count
     (subst (AllByRecursion (HasText (texts ++ new_texts es))) (sym (lines-edits (q + 1) held (commit_changes ns ambition ss)))
     (texts-edits (q + 1) (conditions ambition ss) ns t ns.nodes m m es held.lines texts (table-after ns es table) (omega (arith, grown)) e h)))
+texts-along q ns held (commands.Upgrade ∷ history) texts table e h = texts-along (q + 1) ns held history texts table e h
 
 pub lines-keep_texts : LinesKeepTheirTexts
 lines-keep_texts history = texts-along 0 no_numbers nothing_held history [] no_table refl tt

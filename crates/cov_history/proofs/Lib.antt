@@ -9,6 +9,8 @@ pub mod FileNodes
 pub mod Files
 pub mod Inserts
 pub mod KeptTexts
+pub mod LeftVariants
+pub mod Legal
 pub mod LineFiles
 pub mod Meanwhile
 pub mod Naming

@@ -265,6 +265,7 @@ held-one history (commands.Option name) accepted h = same-held history (commands
 held-one history (commands.Constraint expr) accepted h = same-held history (commands.Constraint expr) refl refl h
 held-one history (commands.Prefer expr) accepted h = same-held history (commands.Prefer expr) refl refl h
 held-one history (commands.Default option on) accepted h = same-held history (commands.Default option on) refl refl h
+held-one history commands.Upgrade accepted h = same-held history commands.Upgrade refl refl h
 
 held-from : (before history : List Command) → IsLegalFrom before history → AreHeldInFiles before → AreHeldInFiles (before ++ history)
 held-from before [] legal h = subst AreHeldInFiles (sym (append-nil before)) h

@@ -138,6 +138,7 @@ module _ (history : List Command) (ambition : Formula ℕ) (ss : List Sided) (c 
   left-one (commands.Prefer expr) h = tt
   left-one (commands.Default option on) h = tt
   left-one (commands.Commit base choice other others) h = none-touch other others h
+  left-one commands.Upgrade h = tt
 
   left-all : (p : ℕ) (later : List Command) → overtaken_from history ambition ss p later ≡ None → AllByRecursion (LeavesOn node c) later
   left-all p [] h = tt

@@ -239,6 +239,7 @@ module _ (c : List Bool) where
   nodes-from ns v (commands.Constraint expr ∷ history) h = nodes-from ns v history h
   nodes-from ns v (commands.Prefer expr ∷ history) h = nodes-from ns v history h
   nodes-from ns v (commands.Default option on ∷ history) h = nodes-from ns v history h
+  nodes-from ns v (commands.Upgrade ∷ history) h = nodes-from ns v history h
 
   pub nodes-replay : (history : List Command) → AreUpTo the_node (numbers_of history).nodes (replay c history).rows
   nodes-replay history = nodes-from no_numbers bare history tt
@@ -254,6 +255,7 @@ nodes-grow ns (commands.Option name ∷ history) = nodes-grow ns history
 nodes-grow ns (commands.Constraint expr ∷ history) = nodes-grow ns history
 nodes-grow ns (commands.Prefer expr ∷ history) = nodes-grow ns history
 nodes-grow ns (commands.Default option on ∷ history) = nodes-grow ns history
+nodes-grow ns (commands.Upgrade ∷ history) = nodes-grow ns history
 
 pub base-nodes : (base : ℕ) (history : List Command) → (numbers_of (take base history)).nodes ≤ (numbers_of history).nodes
 base-nodes base history =
@@ -330,6 +332,9 @@ module _ (c : List Bool) where
       (accepted-named nb (numbers_after nb es).addresses nb.nodes 0 (length nb.addresses) 0 (replay choice (take base history)) es (omega arith)
       (further the_node nb.nodes (nb.nodes + 0) (replay choice (take base history)).rows (omega arith) (nodes-replay choice (take base history)))
       (edits-accepted history base choice ambition ss accepted)) h)
+  names-one history commands.Upgrade accepted h =
+      as-before (numbers_of (history ++ commands.Upgrade ∷ [])) (numbers_of history) (replay c (history ++ commands.Upgrade ∷ [])) (replay c history)
+      (numbers_from-append no_numbers history (commands.Upgrade ∷ [])) (replay-append c history (commands.Upgrade ∷ [])) h
 
   names-from : (before history : List Command) → IsLegalFrom before history → Names before → Names (before ++ history)
   names-from before [] legal h = subst Names (sym (append-nil before)) h

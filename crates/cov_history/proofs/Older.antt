@@ -74,6 +74,7 @@ module _ (file line : ℕ) where
   anchor-from q held ns (commands.Constraint expr ∷ history) h = anchor-from (q + 1) held ns history h
   anchor-from q held ns (commands.Prefer expr ∷ history) h = anchor-from (q + 1) held ns history h
   anchor-from q held ns (commands.Default option on ∷ history) h = anchor-from (q + 1) held ns history h
+  anchor-from q held ns (commands.Upgrade ∷ history) h = anchor-from (q + 1) held ns history h
 
   -- a line that was kept at a position is kept at the end
   pub anchor-since : (base : ℕ) (history : List Command) → is_kept_anchor file line (kept_of (take base history)) ≡ true → is_kept_anchor file line (kept_of history) ≡ true

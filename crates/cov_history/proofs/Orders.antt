@@ -26,6 +26,7 @@ same-held q held ns (commands.Option name ∷ history) h = same-held (q + 1) hel
 same-held q held ns (commands.Constraint expr ∷ history) h = same-held (q + 1) held ns history h
 same-held q held ns (commands.Prefer expr ∷ history) h = same-held (q + 1) held ns history h
 same-held q held ns (commands.Default option on ∷ history) h = same-held (q + 1) held ns history h
+same-held q held ns (commands.Upgrade ∷ history) h = same-held (q + 1) held ns history h
 
 pub no_commit-holds : (history later : List Command) → has_commit later ≡ false → held_by (history ++ later) ≡ held_by history
 no_commit-holds history later h = holding-goes_on history later ∙ same-held (length history) (held_by history) (numbers_of history) later h

@@ -38,6 +38,7 @@ options-later (suc p) (suc q) (commands.Constraint expr ∷ history) h = options
 options-later (suc p) (suc q) (commands.Prefer expr ∷ history) h = options-later p q history (omega (arith, h))
 options-later (suc p) (suc q) (commands.Default option on ∷ history) h = options-later p q history (omega (arith, h))
 options-later (suc p) (suc q) (commands.Commit base choice ambition ss ∷ history) h = options-later p q history (omega (arith, h))
+options-later (suc p) (suc q) (commands.Upgrade ∷ history) h = options-later p q history (omega (arith, h))
 
 module _ (history : List Command) where
   pub seen-reached : (q : ℕ) (changes : List (ℕ × Formula ℕ)) → AllByRecursion (IsReached history) changes → reach (seen_at changes q) ≤ option_count (take q history)
@@ -188,6 +189,10 @@ reached-from before q held ns (commands.Default option on ∷ history) e legal h
     subst (λ l. IsHeldInReach l (held_from (q + 1) held ns history)) (append_assoc before (commands.Default option on ∷ []) history)
     (reached-from (before ++ commands.Default option on ∷ []) (q + 1) held ns history (omega (arith, e, length-append before (commands.Default option on ∷ []))) legal.2
     (held-longer before (commands.Default option on ∷ []) held h))
+reached-from before q held ns (commands.Upgrade ∷ history) e legal h =
+    subst (λ l. IsHeldInReach l (held_from (q + 1) held ns history)) (append_assoc before (commands.Upgrade ∷ []) history)
+    (reached-from (before ++ commands.Upgrade ∷ []) (q + 1) held ns history (omega (arith, e, length-append before (commands.Upgrade ∷ []))) legal.2
+    (held-longer before (commands.Upgrade ∷ []) held h))
 
 pub legal-reached : (history : List Command) → IsLegal history → IsHeldInReach history (held_by history)
 legal-reached history legal = reached-from [] 0 nothing_held no_numbers history refl legal (record { of_rows = tt; of_lines = tt })

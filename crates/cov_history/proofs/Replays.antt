@@ -100,6 +100,7 @@ module _ (c : List Bool) where
   history-before p q held ns (commands.Constraint expr ∷ history) h = history-before p (q + 1) held ns history (omega (arith, h))
   history-before p q held ns (commands.Prefer expr ∷ history) h = history-before p (q + 1) held ns history (omega (arith, h))
   history-before p q held ns (commands.Default option on ∷ history) h = history-before p (q + 1) held ns history (omega (arith, h))
+  history-before p q held ns (commands.Upgrade ∷ history) h = history-before p (q + 1) held ns history (omega (arith, h))
 
   -- each position sees the same once nothing is newer
   pub variant-later : (t : List (List ℕ)) (n p q : ℕ) (held : Holding) → q ≤ p → IsHolding t n q held → variant_seen c p held ≡ variant_seen c q held
@@ -133,6 +134,9 @@ module _ (c : List Bool) where
       replay-from m p (q + 1) held ns history (omega (arith, e)) table (stands-later ns.addresses (length ns.addresses) q (q + 1) held (omega arith) s)
       ∙ ap (λ v. fold (applied c) v (changes_from ns (take m history))) (variant-later ns.addresses (length ns.addresses) (q + 1) q held (omega arith) s)
   replay-from (suc m) p q held ns (commands.Default option on ∷ history) e table s =
+      replay-from m p (q + 1) held ns history (omega (arith, e)) table (stands-later ns.addresses (length ns.addresses) q (q + 1) held (omega arith) s)
+      ∙ ap (λ v. fold (applied c) v (changes_from ns (take m history))) (variant-later ns.addresses (length ns.addresses) (q + 1) q held (omega arith) s)
+  replay-from (suc m) p q held ns (commands.Upgrade ∷ history) e table s =
       replay-from m p (q + 1) held ns history (omega (arith, e)) table (stands-later ns.addresses (length ns.addresses) q (q + 1) held (omega arith) s)
       ∙ ap (λ v. fold (applied c) v (changes_from ns (take m history))) (variant-later ns.addresses (length ns.addresses) (q + 1) q held (omega arith) s)
 

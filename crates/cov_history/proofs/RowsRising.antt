@@ -91,6 +91,7 @@ changes-up c ns v (commands.Option name ∷ history) h = changes-up c ns v histo
 changes-up c ns v (commands.Constraint expr ∷ history) h = changes-up c ns v history h
 changes-up c ns v (commands.Prefer expr ∷ history) h = changes-up c ns v history h
 changes-up c ns v (commands.Default option on ∷ history) h = changes-up c ns v history h
+changes-up c ns v (commands.Upgrade ∷ history) h = changes-up c ns v history h
 
 replay-up : (c : List Bool) (history : List Command) → AreUp 0 (replay c history).rows
 replay-up c history = (changes-up c no_numbers bare history (tt, tt)).0

@@ -147,6 +147,7 @@ no-commit ns (commands.Option name ∷ history) h = no-commit ns history h
 no-commit ns (commands.Constraint expr ∷ history) h = no-commit ns history h
 no-commit ns (commands.Prefer expr ∷ history) h = no-commit ns history h
 no-commit ns (commands.Default option on ∷ history) h = no-commit ns history h
+no-commit ns (commands.Upgrade ∷ history) h = no-commit ns history h
 
 numbers-since : (base : ℕ) (history : List Command) → has_commit (drop base history) ≡ false → numbers_of history ≡ numbers_of (take base history)
 numbers-since base history h =

@@ -51,6 +51,7 @@ valid-earlier c (commands.Constraint expr ∷ before) later h =
 valid-earlier c (commands.Prefer expr ∷ before) later h = valid-earlier c before later h
 valid-earlier c (commands.Default option on ∷ before) later h = valid-earlier c before later h
 valid-earlier c (commands.Commit base choice ambition ss ∷ before) later h = valid-earlier c before later h
+valid-earlier c (commands.Upgrade ∷ before) later h = valid-earlier c before later h
 
 -- the options of an accepted constraint are declared
 rule-low : (history : List Command) (e : Formula ℕ) → verdict history (commands.Constraint e) ≡ None → reach e ≤ option_count history
@@ -78,6 +79,7 @@ rules-low before (commands.Prefer e ∷ later) legal = low-next before (commands
 rules-low before (commands.Default option on ∷ later) legal = low-next before (commands.Default option on) later (rules-low (before ++ commands.Default option on ∷ []) later legal.2)
 rules-low before (commands.Commit base choice ambition ss ∷ later) legal =
     low-next before (commands.Commit base choice ambition ss) later (rules-low (before ++ commands.Commit base choice ambition ss ∷ []) later legal.2)
+rules-low before (commands.Upgrade ∷ later) legal = low-next before commands.Upgrade later (rules-low (before ++ commands.Upgrade ∷ []) later legal.2)
 
 -- so only these options count in whether a choice is valid
 valid-front : (history : List Command) (c : List Bool) → IsLegal history → is_valid_in history c ≡ is_valid_in history (take (option_count history) c)
@@ -140,6 +142,7 @@ next-sound history (commands.Constraint e) legal accepted sound = declared-sound
 next-sound history (commands.Prefer e) legal accepted sound = declared-sound history (commands.Prefer e) (λ c. replay-append c history (commands.Prefer e ∷ [])) sound
 next-sound history (commands.Default option on) legal accepted sound = declared-sound history (commands.Default option on) (λ c. replay-append c history (commands.Default option on ∷ [])) sound
 next-sound history (commands.Commit base choice ambition ss) legal accepted sound = commit-sound history base choice ambition ss legal accepted sound
+next-sound history commands.Upgrade legal accepted sound = declared-sound history commands.Upgrade (λ c. replay-append c history (commands.Upgrade ∷ [])) sound
 
 sound-along : (before later : List Command) → IsLegal (before ++ later) → IsLegalFrom before later → IsSoundOn before → IsSoundOn (before ++ later)
 sound-along before [] whole legal sound = subst IsSoundOn (sym (append-nil before)) sound

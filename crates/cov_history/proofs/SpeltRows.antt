@@ -76,6 +76,7 @@ changes-spelt c ns v before (commands.Option name ∷ later) legal h = changes-s
 changes-spelt c ns v before (commands.Constraint expr ∷ later) legal h = changes-spelt c ns v (before ++ commands.Constraint expr ∷ []) later legal.2 h
 changes-spelt c ns v before (commands.Prefer expr ∷ later) legal h = changes-spelt c ns v (before ++ commands.Prefer expr ∷ []) later legal.2 h
 changes-spelt c ns v before (commands.Default option on ∷ later) legal h = changes-spelt c ns v (before ++ commands.Default option on ∷ []) later legal.2 h
+changes-spelt c ns v before (commands.Upgrade ∷ later) legal h = changes-spelt c ns v (before ++ commands.Upgrade ∷ []) later legal.2 h
 
 -- the names of a legal history's replay are well spelt
 pub replay-spelt : (c : List Bool) (history : List Command) → IsLegal history → AllByRecursion IsSpelt (replay c history).rows

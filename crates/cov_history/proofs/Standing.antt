@@ -228,6 +228,8 @@ stands-from ns p q held (commands.Prefer expr ∷ history) e table s =
     stands-from ns p (q + 1) held history (omega (arith, e)) table (stands-later ns.addresses (length ns.addresses) q (q + 1) held (omega arith) s)
 stands-from ns p q held (commands.Default option on ∷ history) e table s =
     stands-from ns p (q + 1) held history (omega (arith, e)) table (stands-later ns.addresses (length ns.addresses) q (q + 1) held (omega arith) s)
+stands-from ns p q held (commands.Upgrade ∷ history) e table s =
+    stands-from ns p (q + 1) held history (omega (arith, e)) table (stands-later ns.addresses (length ns.addresses) q (q + 1) held (omega arith) s)
 
 pub no_table : IsTable []
 no_table n h = absurd (omega (arith, h))

@@ -120,6 +120,7 @@ file_of_line-along q ns held (commands.Commit base choice ambition ss ∷ histor
     (file_of_line-along (q + 1) (numbers_after ns es) after history (file_of_line ++ new_file_of_line ns.nodes es) (table-after ns es table) count
     (subst (λ ks. AreFilesOfLines ks 0 (file_of_line ++ new_file_of_line ns.nodes es)) (sym (lines-edits (q + 1) held (commit_changes ns ambition ss)))
     (file_of_line-edits (q + 1) (conditions ambition ss) ns t ns.nodes m m es held.lines file_of_line (table-after ns es table) (omega (arith, grown)) e h)))
+file_of_line-along q ns held (commands.Upgrade ∷ history) file_of_line table e h = file_of_line-along (q + 1) ns held history file_of_line table e h
 
 -- whether there is a row of a node
 abbrev has_row_of : ℕ → List (Kept Row) → Bool
@@ -211,6 +212,7 @@ rows-along q ns held (commands.Commit base choice ambition ss ∷ history) h =
     rows-along (q + 1) (numbers_after ns es) (fold (held_with (q + 1)) held (commit_changes ns ambition ss)) history
     (subst (HasRows (ns.nodes + nodes_made es)) (sym (rows-edits (q + 1) held (commit_changes ns ambition ss)))
     (rows-more (q + 1) (conditions ambition ss) ns (numbers_after ns es).addresses ns.nodes (length ns.addresses) es held.rows h))
+rows-along q ns held (commands.Upgrade ∷ history) h = rows-along (q + 1) ns held history h
 
 none-made : HasRows 0 []
 none-made node above low = absurd (omega (arith, above, low))

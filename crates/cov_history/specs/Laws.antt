@@ -1,15 +1,17 @@
 -- Laws of histories: replay, sessions, verdicts and soundness.
-use Rattle.std.specs.Prelude.{◌≡◌, ℕ, ◌<◌, ◌≤◌, Bool, true, false, List, [], ◌∷◌, ◌++◌, take, drop, length, map, Some, None, is_some}
+use Rattle.std.specs.Prelude.{◌≡◌, ◌↔◌, ℕ, ◌<◌, ◌≤◌, Bool, true, false, List, [], ◌∷◌, ◌++◌, take, drop, length, map, Some, None, is_some}
 use Rattle.std.specs.List.{fold, filter, list_any, AllByRecursion}
 use Rattle.cov_base.specs.Choices.{with_option}
 use Rattle.cov_base.specs.Faults.{in_node_order, fault_of}
 use Rattle.cov_base.specs.Rows.{changed, AreOnce}
 use Rattle.cov_base.specs.Addresses.{IsLineOf, AreInOrder}
+use Rattle.cov_base.specs.declared.limits.TheConstants.{LIMITS}
 use Rattle.cov_expr.specs.Formula.{Formula, value}
 use Rattle.cov_edit.specs.declared.sided.Sided.{Sided}
 use Rattle.cov_edit.specs.Sides.{unsided, reach_within}
 use Rattle.cov_edit.specs.declared.command.Command.{Command}
 use Rattle.cov_edit.specs.declared.command.Command.TheVariants as commands
+use Rattle.cov_edit.specs.Limits.{is_upgraded}
 use Rattle.cov_edit.specs.Numbering.{numbers_of}
 use Rattle.cov_edit.specs.History.{option_count, is_valid_in}
 use Rattle.cov_edit.specs.Variant.{Line, line_address, lines_of}
@@ -27,6 +29,11 @@ use Rattle.cov_history.specs.declared.refusal.Refusal.TheVariants as refusals
 use Rattle.cov_history.specs.Naming.{NamesOnlyMade}
 use Rattle.cov_history.specs.Verdict.{IsLegal, verdict, when_full, size_refusals, has_no_edits, as_overtaken}
 use Rattle.cov_history.specs.Sessions.{Session, edits_of, IsGood, seen, commit_of, has_commit}
+
+-- behind a legal history an upgrade is legal exactly where none stands and there is room for a command
+abbrev pub UpgradeIsLegalOnce : Type 0
+UpgradeIsLegalOnce = (history : List Command) → IsLegal history
+    → IsLegal (history ++ commands.Upgrade ∷ []) ↔ ((is_upgraded history ≡ false) × (length history < LIMITS.commands))
 
 -- a good session stays good when its history grows
 abbrev pub GoodSessionsStay : Type 0
@@ -138,3 +145,11 @@ RowsAreFew = (c : List Bool) (history : List Command) → length (replay c histo
 abbrev pub LegalTreeIsWhole : Type 0
 LegalTreeIsWhole = (history : List Command) (c : List Bool) → IsLegal history → option_count history ≤ length c → is_valid_in history c ≡ true
     → IsTreeOf (replay c history) (tree_of (replay c history))
+
+-- some choice of its options meets the constraints of a history
+abbrev pub LeavesVariant : List Command → Type 0
+LeavesVariant history = (c : List Bool) × (length c ≡ option_count history) × (is_valid_in history c ≡ true)
+
+-- so it is with a legal history
+abbrev pub LegalLeavesVariant : Type 0
+LegalLeavesVariant = (history : List Command) → IsLegal history → LeavesVariant history

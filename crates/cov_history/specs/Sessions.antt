@@ -64,3 +64,4 @@ MayCome history (commands.Constraint expr) = reach expr ≤ option_count history
 MayCome history (commands.Prefer expr) = reach expr ≤ option_count history
 MayCome history (commands.Default option on) = option < option_count history
 MayCome history (commands.Commit base choice ambition ss) = IsGood history (session_of base choice ambition ss)
+MayCome history commands.Upgrade = Unit {0}

@@ -11,7 +11,7 @@ use Rattle.cov_edit.specs.declared.command.Command.{Command}
 use Rattle.cov_edit.specs.declared.command.Command.TheVariants as commands
 use Rattle.cov_edit.specs.Fits.{fits_command}
 use Rattle.cov_edit.specs.History.{options_of, option_count, constraints_of, preferences_of, defaults_of, is_valid_in, first_false_in, text_bytes, byte_count}
-use Rattle.cov_edit.specs.Limits.{limits_of}
+use Rattle.cov_edit.specs.Limits.{is_upgraded, limits_of}
 use Rattle.cov_edit.specs.Numbering.{numbers_of, nodes_made, anchors_of, line_count, node_count}
 use Rattle.cov_edit.specs.Replay.{replay}
 use Rattle.cov_edit.specs.Sides.{unsided, reach_within}
@@ -103,6 +103,7 @@ refusals_of history (commands.Commit base choice ambition ss) =
     ∷ as_overtaken (overtaken history base ambition ss)
     ∷ unsound_refusal history ambition (commands.Commit base choice ambition ss)
     ∷ [])
+refusals_of history commands.Upgrade = when (is_upgraded history) refusals.Upgraded ∷ []
 
 -- the refusal of a history that has as many commands as it holds
 abbrev pub when_full : List Command → Option Refusal

@@ -1,5 +1,5 @@
 //! Laws of histories: replay, sessions, verdicts and soundness. Each function does nothing; what it ensures is the law.
-ghost use Rattle.cov_history.specs.Laws.{GoodSessionsStay, GoodCommitsPass, CommitShowsSeen, ReplayStands, LegalIsMade, CommitShowsFiles, SeenStays, OpenOptionsAreDeclared, RowsAreInOrder, RowsAreOnce, CommitChangesRows, LinesKeepRows, LegalIsUnread, CommitIsUnread, NoneBadIsSound, BadHasFault, LegalIsSound, LinesStaySound, RowsAreFew, LegalTreeIsWhole};
+ghost use Rattle.cov_history.specs.Laws.{GoodSessionsStay, GoodCommitsPass, CommitShowsSeen, ReplayStands, LegalIsMade, CommitShowsFiles, SeenStays, OpenOptionsAreDeclared, RowsAreInOrder, RowsAreOnce, CommitChangesRows, LinesKeepRows, LegalIsUnread, CommitIsUnread, NoneBadIsSound, BadHasFault, LegalIsSound, UpgradeIsLegalOnce, LinesStaySound, RowsAreFew, LegalTreeIsWhole, LegalLeavesVariant};
 
 use cov_view::laws::tree_is_whole;
 
@@ -89,6 +89,11 @@ pub fn legal_is_sound()
     ensures { LegalIsSound }
 {}
 
+/// Behind a legal history an upgrade is legal exactly where none stands and there is room for a command.
+pub fn upgrade_is_legal_once()
+    ensures { UpgradeIsLegalOnce }
+{}
+
 /// A commit of edits of lines alone has no bad choice after a legal history.
 pub fn lines_stay_sound()
     ensures { LinesStaySound }
@@ -105,3 +110,8 @@ pub fn legal_tree_is_whole()
 {
     tree_is_whole();
 }
+
+/// Some choice of all its options meets the constraints of a legal history.
+pub fn legal_leaves_variant()
+    ensures { LegalLeavesVariant }
+{}

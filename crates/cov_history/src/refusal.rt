@@ -10,6 +10,8 @@ pub enum Refusal {
     Exists,
     /// No choice would meet all constraints.
     NoVariantLeft,
+    /// The history has an upgrade.
+    Upgraded,
     /// The base is beyond the history.
     BadBase,
     /// An option isn't declared, or the choice isn't one of all options of the base.

@@ -5,7 +5,8 @@ use Rattle.std.specs.Str.{is_utf8, chars}
 use Rattle.std.specs.Fmt.{digits}
 use Rattle.std.specs.List.{flat_map}
 use lib.Utf8.{encode}
-use Rattle.cov_lines.specs.Step.{model, step, acted, served, served_declaration, served_session, served_edit, served_question, declared, constrained, preferred, defaulted, completed, opened, refreshed, made_in, renamed, moved, removed, inserted, deleted, replaced, shown, listed_at, committed, dropped, told, file_told, node_at}
+use Rattle.cov_edit.specs.declared.command.Command.TheVariants as commands
+use Rattle.cov_lines.specs.Step.{model, step, acted, served, served_declaration, served_session, served_edit, served_question, declared, constrained, preferred, defaulted, upgraded, completed, opened, refreshed, made_in, renamed, moved, removed, inserted, deleted, replaced, shown, listed_at, committed, dropped, told, file_told, node_at}
 
 abbrev pub text : List (List ℕ) → List ℕ
 text ls = flat_map (λ l. l ++ 10 ∷ []) ls
@@ -133,3 +134,14 @@ directory_listed : (model [] (text (codes "open s - for true" ∷ codes "mkdir s
     ≡ text (codes "ok open 0 -" ∷ codes "ok" ∷ codes "ok" ∷ codes "ok" ∷ codes "ok" ∷ codes "ok 3" ∷ codes "f Makefile" ∷ codes "f a" ∷ codes "d src" ∷ codes "ok 1" ∷ codes "d b" ∷ codes "ok 0" ∷ codes "refused not-directory" ∷ codes "refused no-such-path" ∷ codes "refused no-session" ∷ codes "ok" ∷ codes "ok" ∷ codes "ok 4" ∷ codes "f Makefile" ∷ codes "d b" ∷ codes "d src" ∷ codes "f z" ∷ [])
 unfolding is_utf8 chars encode digits step acted served served_declaration served_session served_edit served_question declared constrained preferred defaulted completed opened made_in renamed moved removed inserted deleted replaced shown listed_at committed dropped told file_told node_at
 directory_listed = refl
+
+-- a history is upgraded once, in this run or before it
+upgraded_once : (model [] (text (codes "upgrade" ∷ codes "upgrade" ∷ codes "option a" ∷ codes "upgrade" ∷ codes "upgrade x" ∷ []))).reply
+    ≡ text (codes "ok upgrade 2" ∷ codes "refused upgraded" ∷ codes "ok option 0" ∷ codes "refused upgraded" ∷ codes "refused syntax 7" ∷ [])
+unfolding digits step acted served served_declaration declared upgraded
+upgraded_once = refl
+
+upgraded_before : (model (commands.Option (codes "a") ∷ commands.Upgrade ∷ []) (text (codes "upgrade" ∷ codes "option a" ∷ codes "option b" ∷ []))).reply
+    ≡ text (codes "refused upgraded" ∷ codes "refused exists" ∷ codes "ok option 1" ∷ [])
+unfolding digits step acted served served_declaration declared upgraded
+upgraded_before = refl

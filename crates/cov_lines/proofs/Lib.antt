@@ -8,6 +8,7 @@ pub mod Declared
 pub mod Ended
 pub mod Entries
 pub mod Examples
+pub mod FullOptions
 pub mod Grouping
 pub mod Growing
 pub mod Isolated

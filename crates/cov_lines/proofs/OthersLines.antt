@@ -44,7 +44,7 @@ use Rattle.cov_lines.specs.Editing.{directory_of}
 use Rattle.cov_lines.specs.Finding.{Found, ◌>>=◌, by_code, completed_choice, found_choice, found_expression, found_option, found_partial}
 use Rattle.cov_lines.specs.Isolation.{HasSession, begins_or_ends, has_form, is_boundary, is_own, is_turn, without_sides, works_in, UnsidedSession}
 use Rattle.cov_lines.specs.States.{State, with_command, with_sessions, with_tree}
-use Rattle.cov_lines.specs.Step.{Act, Done, acted, added, appended, as_outcome, checked_out, committed, compared, completed, constrained, declared, defaulted, deleted, dropped, ended, file_told, inserted, is_taken, listed_at, made_in, moved, node_at, opened, plainly, preferred, presence_told, refreshed, removed, renamed, replaced, served, served_declaration, served_edit, served_question, served_session, shown, side_changed, step, told}
+use Rattle.cov_lines.specs.Step.{Act, Done, acted, added, appended, as_outcome, checked_out, committed, compared, completed, constrained, declared, defaulted, deleted, dropped, ended, file_told, inserted, is_taken, listed_at, made_in, moved, node_at, opened, plainly, preferred, presence_told, refreshed, removed, renamed, replaced, served, served_declaration, served_edit, served_question, served_session, shown, side_changed, step, told, upgraded}
 use Rattle.cov_lines.proofs.NamedSessions.{named-before, named-changed, named-has, named-kept, named-left, same-name}
 use Rattle.cov_lines.proofs.OwnActs.{named-there}
 
@@ -180,11 +180,12 @@ module _ (name : List ℕ) (s : UnsidedSession) (before : List Command) where
     session-leaves (session_lines.Discard n) turned = on-found (ok_or (named st.sessions n) NoSession) _ (λ t. ended-leaves st n has turned)
 
     declaration-leaves : (declaration : Declaration) → Leaves (served_declaration st declaration)
-    unfolding served_declaration declared constrained preferred defaulted
+    unfolding served_declaration declared constrained preferred defaulted upgraded
     declaration-leaves (declarations.Option token) = on-found (if is_option_name token then Ok token else Err BadName) _ (λ n. on-command st has (commands.Option n) _)
     declaration-leaves (declarations.Constraint expr) = on-found (found_expression st.history expr) _ (λ bound. on-command st has (commands.Constraint bound) _)
     declaration-leaves (declarations.Prefer expr) = on-found (found_expression st.history expr) _ (λ bound. on-command st has (commands.Prefer bound) _)
     declaration-leaves (declarations.Default token on) = on-found (found_option st.history token) _ (λ option. on-command st has (commands.Default option on) _)
+    declaration-leaves declarations.Upgrade = on-command st has commands.Upgrade _
 
     question-leaves : (question : Question) → Leaves (served_question st question)
     unfolding served_question completed shown listed_at told file_told compared presence_told

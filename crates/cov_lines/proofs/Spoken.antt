@@ -70,6 +70,7 @@ has-parts law bytes (lines.Cat c p) h = tt
 has-parts law bytes (lines.Checkout t c) h = tt
 has-parts law bytes (lines.Alt c t p) h = tt
 has-parts law bytes (lines.Presence n) h = tt
+has-parts law bytes lines.Upgrade h = tt
 
 found-there : (p : Row → Bool) (rows : List Row) (r : Row) → find p rows ≡ Some r → list_any (λ (q : Row). nat_eq q.node r.node) rows ≡ true
 found-there p [] r h = absurd (cc)

@@ -5,7 +5,7 @@ use Rattle.cov_engine.specs.States.{receipt_number}
 use Rattle.cov_engine.specs.declared.prepared.Receipt.{Receipt}
 use Rattle.cov_loop.specs.declared.ending.Ending.{Ending}
 use Rattle.cov_loop.specs.declared.ending.Ending.TheVariants as endings
-use Rattle.cov_script.specs.Replies.{constraint_reply, prefer_reply, default_reply, commit_reply}
+use Rattle.cov_script.specs.Replies.{constraint_reply, prefer_reply, default_reply, upgrade_reply, commit_reply}
 use Rattle.cov_store.specs.declared.appending.AppendFault.{AppendFault}
 use Rattle.cov_store.specs.declared.appending.AppendFault.TheVariants as faults
 use Rattle.cov_lines.specs.Finding.{Found, ◌>>=◌}
@@ -24,6 +24,7 @@ confirmed (confirmations.Known text) number position = text
 confirmed confirmations.Constraint number position = constraint_reply number
 confirmed confirmations.Prefer number position = prefer_reply number
 confirmed confirmations.Default number position = default_reply number
+confirmed confirmations.Upgrade number position = upgrade_reply number
 confirmed confirmations.Commit number position = commit_reply position
 
 -- the session of a name has ended, if there is a name

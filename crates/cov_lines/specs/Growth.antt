@@ -45,7 +45,7 @@ use Rattle.cov_lines.specs.Editing.{directory_of}
 use Rattle.cov_session.specs.Faults.{unless}
 use Rattle.cov_lines.specs.Finding.{Found, ◌>>=◌, by_code, completed_choice, found_choice, found_expression, found_option, found_partial}
 use Rattle.cov_lines.specs.States.{State, with_command, with_sessions}
-use Rattle.cov_lines.specs.Step.{Act, Done, acted, added, appended, as_outcome, checked_out, committed, compared, completed, constrained, declared, defaulted, deleted, dropped, file_told, inserted, is_taken, listed_at, made_in, moved, node_at, opened, plainly, preferred, presence_told, refreshed, removed, renamed, replaced, served, served_declaration, served_edit, served_question, served_session, shown, side_changed, step, told}
+use Rattle.cov_lines.specs.Step.{Act, Done, acted, added, appended, as_outcome, checked_out, committed, compared, completed, constrained, declared, defaulted, deleted, dropped, file_told, inserted, is_taken, listed_at, made_in, moved, node_at, opened, plainly, preferred, presence_told, refreshed, removed, renamed, replaced, served, served_declaration, served_edit, served_question, served_session, shown, side_changed, step, told, upgraded}
 use Rattle.cov_lines.specs.Storing.{count, stored}
 
 -- whether there is no reply
@@ -163,11 +163,12 @@ module _ (st : State) where
   question_keeps (questions.Presence line) = found_keeps (if is_no_line st.history line then Err NoSuchLine else Ok line) _ (λ there. (refl, refl))
 
   declaration_adds : (declaration : Declaration) → Adds (served_declaration st declaration)
-  unfolding served_declaration declared constrained preferred defaulted
+  unfolding served_declaration declared constrained preferred defaulted upgraded
   declaration_adds (declarations.Option token) = found_adds (if is_option_name token then Ok token else Err BadName) _ (λ n. command_adds (commands.Option n) _ (commands.Option n, refl, refl))
   declaration_adds (declarations.Constraint expr) = found_adds (found_expression st.history expr) _ (λ bound. command_adds (commands.Constraint bound) _ (commands.Constraint bound, refl, refl))
   declaration_adds (declarations.Prefer expr) = found_adds (found_expression st.history expr) _ (λ bound. command_adds (commands.Prefer bound) _ (commands.Prefer bound, refl, refl))
   declaration_adds (declarations.Default token on) = found_adds (found_option st.history token) _ (λ option. command_adds (commands.Default option on) _ (commands.Default option on, refl, refl))
+  declaration_adds declarations.Upgrade = command_adds commands.Upgrade _ (commands.Upgrade, refl, refl)
 
   commit_adds : (name : List ℕ) → Adds (committed st name)
   unfolding committed

@@ -23,7 +23,7 @@ use Rattle.cov_script.specs.declared.grouped.Question.TheVariants as questions
 use Rattle.cov_script.specs.declared.grouped.SessionLine.{SessionLine}
 use Rattle.cov_script.specs.declared.grouped.SessionLine.TheVariants as session_lines
 use Rattle.cov_script.specs.declared.line.LineField.{LineField}
-use Rattle.cov_script.specs.Replies.{refused_reply, option_reply, constraint_reply, prefer_reply, default_reply, complete_reply, open_reply, refresh_reply, plain_reply, new_line_reply, commit_reply}
+use Rattle.cov_script.specs.Replies.{refused_reply, option_reply, constraint_reply, prefer_reply, default_reply, upgrade_reply, complete_reply, open_reply, refresh_reply, plain_reply, new_line_reply, commit_reply}
 use Rattle.cov_script.specs.declared.code.Code.{Code}
 use Rattle.cov_script.specs.declared.code.Code.TheVariants.{Long, BadName, NoSession, NoSuchLine, NoSuchPath, NotFile, NotDirectory, TreeTaken}
 use Rattle.cov_edit.specs.declared.edit.Edit.{Edit}
@@ -127,6 +127,12 @@ defaulted st token on = do
   option ← found_option st.history token
   next ← appended st (commands.Default option on)
   Ok (next, default_reply (length (defaults_of st.history) + 1))
+
+-- the history is upgraded
+unfoldable pub upgraded : State → Act
+upgraded st = do
+  next ← appended st commands.Upgrade
+  Ok (next, upgrade_reply 2)
 
 -- the choice to which the rules complete bindings is told
 unfoldable pub completed : State → List (List ℕ × Bool) → Act
@@ -303,6 +309,7 @@ served_declaration st (declarations.Option token) = declared st token
 served_declaration st (declarations.Constraint expr) = constrained st expr
 served_declaration st (declarations.Prefer expr) = preferred st expr
 served_declaration st (declarations.Default token on) = defaulted st token on
+served_declaration st declarations.Upgrade = upgraded st
 
 -- what a line does that opens a session, sets its side, refreshes it or ends it
 unfoldable pub served_session : State → SessionLine → Act

@@ -17,7 +17,7 @@ use cov_disk::Disk;
 use cov_edit::Command;
 use cov_engine::Receipt;
 use cov_loop::Ending;
-use cov_script::{reply_commit, reply_constraint, reply_default, reply_prefer};
+use cov_script::{reply_commit, reply_constraint, reply_default, reply_prefer, reply_upgrade};
 use cov_session::laws::open_sessions_stay;
 use cov_store::{AppendFault, append};
 use std::alloc::Global;
@@ -97,6 +97,7 @@ pub(crate) fn confirm(
         Confirmation::Constraint => reply_constraint(alloc, receipt.number),
         Confirmation::Prefer => reply_prefer(alloc, receipt.number),
         Confirmation::Default => reply_default(alloc, receipt.number),
+        Confirmation::Upgrade => reply_upgrade(alloc, receipt.number),
         Confirmation::Commit => reply_commit(alloc, receipt.position),
     }
 }

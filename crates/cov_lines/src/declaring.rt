@@ -1,14 +1,14 @@
-// How options and rules are declared.
+// How options and rules are declared, and the history is upgraded.
 ghost use Rattle.cov_lines.specs.Acting.{Handles};
-ghost use Rattle.cov_lines.specs.Step.{plainly, declared, constrained, preferred, defaulted};
+ghost use Rattle.cov_lines.specs.Step.{plainly, declared, constrained, preferred, defaulted, upgraded};
 
 use crate::handled::{Confirmation, Handled};
 use crate::state::ServerState;
-use cov_base::{OptionId, OptionName, Text};
+use cov_base::{CHOICE_WIDTH, OptionId, OptionName, Text};
 use cov_codes::Stop;
 use cov_edit::Command;
 use cov_expr::RawExpr;
-use cov_script::reply_option;
+use cov_script::{Code, reply_option};
 
 impl ServerState {
     #[tactic(auto, unfolding(crate::specs::Step::declared))]
@@ -17,7 +17,12 @@ impl ServerState {
             self.now.state self.now.state result }
     {
         let name = OptionName::read(self.alloc, token.as_slice())?;
-        let reply = reply_option(self.alloc, OptionId::new(self.engine.options().count()))?;
+        let count = self.engine.options().count();
+        // No option has a number that the reply could tell, and no history room for one.
+        if count >= CHOICE_WIDTH {
+            return Err(Stop::Refused(Code::Full));
+        }
+        let reply = reply_option(self.alloc, OptionId::new(count))?;
         Ok(Handled::to_declare(Command::Option { name }, Confirmation::Known(reply)))
     }
 
@@ -47,5 +52,13 @@ impl ServerState {
     {
         let option = self.find_option(token)?;
         Ok(Handled::to_declare(Command::Default { option, on }, Confirmation::Default))
+    }
+
+    #[tactic(auto, unfolding(crate::specs::Step::upgraded))]
+    pub(crate) fn upgrade(&self) -> Result<Handled, Stop>
+        ensures { Handles (plainly (upgraded self.now.state))
+            self.now.state self.now.state result }
+    {
+        Ok(Handled::to_declare(Command::Upgrade, Confirmation::Upgrade))
     }
 }

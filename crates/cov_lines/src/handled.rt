@@ -35,12 +35,14 @@ pub(crate) enum Confirmation {
     Prefer,
     /// It gives the number of the default.
     Default,
+    /// It gives the number of an upgrade.
+    Upgrade,
     /// It gives the position that the history then has.
     Commit,
 }
 
 impl Handled {
-    /// A command that declares something, with which no session ends, is added.
+    /// A command with which no session ends is added: one that declares something, or an upgrade.
     pub(crate) fn to_declare(command: Command, confirmation: Confirmation) -> Handled
         ensures { result ≡ Adds
             (record { command = command; ends = None; confirmation = confirmation }) }

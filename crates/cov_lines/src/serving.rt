@@ -75,6 +75,7 @@ impl ServerState {
             Declaration::Constraint { expr } => self.constrain(&expr),
             Declaration::Prefer { expr } => self.prefer(&expr),
             Declaration::Default { token, on } => self.set_default(token, on),
+            Declaration::Upgrade => self.upgrade(),
         }
     }
 

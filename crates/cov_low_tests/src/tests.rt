@@ -1,3 +1,4 @@
+mod analysing;
 mod dated;
 mod diagrams;
 mod edits;

@@ -44,6 +44,7 @@ module _ (ts : List Triple) (count : ℕ) where
     (let at = h.0.position in omega (arith, at)),
     all-map (λ k. p + 1 < k.position) (λ k. p < k.position) (λ k low. omega (arith, low)) ms (marks-above (p + 1) later ms h.1),
   )
+  marks-above p (commands.Upgrade ∷ later) ms h = all-map (λ m. p + 1 < m.position) (λ m. p < m.position) (λ m low. omega (arith, low)) ms (marks-above (p + 1) later ms h)
 
   -- the positions of commits rise
   marks-ascend : (p : ℕ) (later : List Command) (ms : List CommitMark) → AreMarks ts count p later ms → AreAscending ms
@@ -57,6 +58,7 @@ module _ (ts : List Triple) (count : ℕ) where
     (let at = h.0.position in all-map (λ k. p + 1 < k.position) (λ k. m.position < k.position) (λ k low. omega (arith, low, at)) ms (marks-above (p + 1) later ms h.1)),
     marks-ascend (p + 1) later ms h.1,
   )
+  marks-ascend p (commands.Upgrade ∷ later) ms h = marks-ascend (p + 1) later ms h
 
 -- the last of more than one
 last-more : {X : Type 0} (x y : X) (xs : List X) → slice_get (x ∷ y ∷ xs) (length (x ∷ y ∷ xs) - 1) ≡ slice_get (y ∷ xs) (length (y ∷ xs) - 1)
@@ -123,6 +125,7 @@ module _ (ts : List Triple) (history : List Command) (base : ℕ) (ambition : Fo
       let apart : have_common (touched (unsided fs)) (touched (unsided ss)) ≡ false = ap (λ xs. have_common xs (touched (unsided ss))) (sym mark.touches) ∙ none.0 (omega (arith, at, le)) in
       ap (λ b. cond b (Some (p + 1)) (overtaken_from history ambition ss (p + 1) later)) (unmet other fs mark.named apart)
       ∙ none-after (p + 1) later ms (omega (arith, le)) are.1 none.1
+  none-after p (commands.Upgrade ∷ later) ms le are none = none-after (p + 1) later ms (omega (arith, le)) are none
 
   none-from : (k p : ℕ) (later : List Command) (ms : List CommitMark) → p + k ≡ base → AreMarks ts count p later ms → NoneTouches base (touched (unsided ss)) ms
       → overtaken_from history ambition ss base (drop k later) ≡ None
@@ -136,6 +139,7 @@ module _ (ts : List Triple) (history : List Command) (base : ℕ) (ambition : Fo
   none-from (suc k) p (commands.Default option on ∷ later) ms at are none = none-from k (p + 1) later ms (omega (arith, at)) are none
   none-from (suc k) p (commands.Commit old choice other fs ∷ later) [] at are none = absurd are
   none-from (suc k) p (commands.Commit old choice other fs ∷ later) (m ∷ ms) at are none = none-from k (p + 1) later ms (omega (arith, at)) are.1 none.1
+  none-from (suc k) p (commands.Upgrade ∷ later) ms at are none = none-from k (p + 1) later ms (omega (arith, at)) are none
 
 pub none-overtakes : (ts : List Triple) (valid : ℕ) (commits : List CommitMark) (base : ℕ) (ambition : Formula ℕ) (ss : List Sided) (nodes : List ℕ) → nodes ≡ touched (unsided ss)
     → NoneTouches base nodes commits → IsOvertaker ts valid commits base ambition ss None

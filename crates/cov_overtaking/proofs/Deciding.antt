@@ -222,6 +222,7 @@ module _ (history : List Command) (ts : List Triple) (base : ℕ) (ambition : Fo
           h.1 ∙ ap Some are.0.position ∙ sym (ap (λ b. cond b (Some (p + 1)) (overtaken_from history ambition ss (p + 1) later)) (yes-overtakes other fs m (p + 1) are.0 h.0))
       at (inr h) rest =
           rest h.1 ∙ sym (ap (λ b. cond b (Some (p + 1)) (overtaken_from history ambition ss (p + 1) later)) (not-overtakes other fs m (p + 1) are.0 (omega (arith, le)) h.0))
+  marks-after p (commands.Upgrade ∷ later) marks found le are first = marks-after (p + 1) later marks found (omega (arith, le)) are first
 
   -- up to the base, no mark overtakes
   marks-decide : (k p : ℕ) (later : List Command) (marks : List CommitMark) (found : Option ℕ) → p + k ≡ base → AreMarks ts (option_count history) p later marks → IsFirstOf ts base own marks found
@@ -243,6 +244,7 @@ module _ (history : List Command) (ts : List Triple) (base : ℕ) (ambition : Fo
           → found ≡ overtaken_from history ambition ss base (drop k later)
       by (inl h) rest = let after = h.0.after in let position = are.0.position in absurd (omega (arith, after, position, at))
       by (inr h) rest = rest h.1
+  marks-decide (suc k) p (commands.Upgrade ∷ later) marks found at are first = marks-decide k (p + 1) later marks found (omega (arith, at)) are first
 
 -- the first mark that overtakes is that of the first commit that does
 pub marks-overtaken : (history : List Command) (ts : List Triple) (marks : List CommitMark) (base : ℕ) (ambition : Formula ℕ) (ss : List Sided) (own : List Touch) (found : Option ℕ)

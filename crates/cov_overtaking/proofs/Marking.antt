@@ -56,6 +56,7 @@ module _ (old new : List Triple) (count more : ℕ) (grown : Extends old new) (f
   marks-grown p (commands.Default option on ∷ later) ms h = marks-grown (p + 1) later ms h
   marks-grown p (commands.Commit base choice ambition ss ∷ later) [] h = absurd h
   marks-grown p (commands.Commit base choice ambition ss ∷ later) (m ∷ ms) h = (mark-grown (p + 1) ambition ss m h.0, marks-grown (p + 1) later ms h.1)
+  marks-grown p (commands.Upgrade ∷ later) ms h = marks-grown (p + 1) later ms h
 
 module _ (ts : List Triple) (count : ℕ) where
   -- a declaration has none
@@ -71,6 +72,8 @@ module _ (ts : List Triple) (count : ℕ) where
   marks-declared p (commands.Default option on ∷ later) k ms none h = marks-declared (p + 1) later k ms none h
   marks-declared p (commands.Commit base choice ambition ss ∷ later) k [] none h = absurd h
   marks-declared p (commands.Commit base choice ambition ss ∷ later) k (m ∷ ms) none h = (h.0, marks-declared (p + 1) later k ms none h.1)
+  marks-declared p [] commands.Upgrade ms none h = h
+  marks-declared p (commands.Upgrade ∷ later) k ms none h = marks-declared (p + 1) later k ms none h
 
   -- a commit has one more
   pub marks-committed : (q p base : ℕ) (later : List Command) (choice : List Bool) (ambition : Formula ℕ) (ss : List Sided) (last : CommitMark) (ms : List CommitMark) → q ≡ p + length later + 1
@@ -85,6 +88,7 @@ module _ (ts : List Triple) (count : ℕ) where
   marks-committed q p base (commands.Commit b c a fs ∷ later) choice ambition ss last [] at mark h = absurd h
   marks-committed q p base (commands.Commit b c a fs ∷ later) choice ambition ss last (m ∷ ms) at mark h =
       (h.0, marks-committed q (p + 1) base later choice ambition ss last ms (omega (arith, at)) mark h.1)
+  marks-committed q p base (commands.Upgrade ∷ later) choice ambition ss last ms at mark h = marks-committed q (p + 1) base later choice ambition ss last ms (omega (arith, at)) mark h
 
   -- the nodes of marks are of the table
   pub marks-within : (p : ℕ) (later : List Command) (ms : List CommitMark) → AreMarks ts count p later ms → AllByRecursion (λ n. n < diagram_size ts) (all_mark_nodes ms)
@@ -96,6 +100,7 @@ module _ (ts : List Triple) (count : ℕ) where
   marks-within p (commands.Commit base choice ambition ss ∷ later) [] h = absurd h
   marks-within p (commands.Commit base choice ambition ss ∷ later) (m ∷ ms) h =
       all-append (λ n. n < diagram_size ts) (mark_nodes m) (all_mark_nodes ms) h.0.of_table (marks-within (p + 1) later ms h.1)
+  marks-within p (commands.Upgrade ∷ later) ms h = marks-within (p + 1) later ms h
 
   -- what they touch rises, with a diagram of the table for each node
   pub marks-kept : (p : ℕ) (later : List Command) (ms : List CommitMark) → AreMarks ts count p later ms → AreKept ts ms
@@ -109,6 +114,7 @@ module _ (ts : List Triple) (count : ℕ) where
     record { rising = subst AreRising (sym h.0.touches) (touched-rising (unsided ss)).0; of_table = h.0.of_table; long = h.0.long },
     marks-kept (p + 1) later ms h.1,
   )
+  marks-kept p (commands.Upgrade ∷ later) ms h = marks-kept (p + 1) later ms h
 
 -- what edits touch rises
 pub touched-own : (es : List Edit) (nodes nodes' : List ℕ) → nodes' ≡ nodes → nodes ≡ touched es → AreRising nodes'

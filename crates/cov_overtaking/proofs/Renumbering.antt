@@ -157,6 +157,7 @@ module _ (ts us : List Triple) (by : ℕ → ℕ) where
       let split = parted k.each (all_mark_nodes ks) (map by m.each) (map by (all_mark_nodes ms)) (each-length k m first ∙ sym (length-map m.each by)) tails in
       let moved = split-all (mark_nodes m) (all_mark_nodes ms) all in
       (mark-renumbered count (p + 1) ambition ss m k first number split.0 moved.0 h.0, moved-marks count (p + 1) later ms ks others split.1 moved.1 h.1)
+  moved-marks count p (commands.Upgrade ∷ later) ms ks shape numbers all h = moved-marks count (p + 1) later ms ks shape numbers all h
 
 -- marks stay those of a history where their nodes have the same options and values under their new numbers
 pub marks-renumbered : (ts us : List Triple) (count p : ℕ) (later : List Command) (ms ks : List CommitMark) → map without_nodes ks ≡ map without_nodes ms → AreRenumbered ts us (all_mark_nodes ms) (all_mark_nodes ks)

@@ -64,6 +64,7 @@ AreMarks ts count p (commands.Prefer expr ∷ later) ms = AreMarks ts count (p +
 AreMarks ts count p (commands.Default option on ∷ later) ms = AreMarks ts count (p + 1) later ms
 AreMarks ts count p (commands.Commit base choice ambition ss ∷ later) [] = ⊥
 AreMarks ts count p (commands.Commit base choice ambition ss ∷ later) (m ∷ ms) = IsMark ts count (p + 1) ambition ss m × AreMarks ts count (p + 1) later ms
+AreMarks ts count p (commands.Upgrade ∷ later) ms = AreMarks ts count (p + 1) later ms
 
 -- what a mark touches rises, with a diagram of a table for each node
 pub record IsKeptMark (ts : List Triple) (m : CommitMark) : Type 0 where

@@ -30,6 +30,16 @@ prefer_or = refl
 default_off : payload (commands.Default 3 false) ≡ 4 ∷ 3 ∷ 0 ∷ []
 default_off = refl
 
+-- an upgrade is one byte, and nothing may follow it
+upgrade_spelt : payload commands.Upgrade ≡ 7 ∷ []
+upgrade_spelt = refl
+
+upgrade_read : alone (front_command (7 ∷ [])) ≡ Some commands.Upgrade
+upgrade_read = refl
+
+upgrade_and_more : alone (front_command (7 ∷ 7 ∷ [])) ≡ None
+upgrade_and_more = refl
+
 -- a directory made, a line taken out, and a node renamed, moved into the directory and taken out, where false is true
 each_other_edit : payload (commands.Commit 0 [] False (under True (
     edits.New Dir (nodes.Old 0) (115 ∷ []) ∷ edits.Delete (nodes.Old 1) (lines.Old 2) ∷ edits.Rename (nodes.Old 1) (121 ∷ [])

@@ -131,6 +131,7 @@ payload-length (commands.Commit base choice ambition ss) h =
       expression-length ambition own.0,
       sided-length (has_sides ss) ss own.1,
     )
+payload-length commands.Upgrade h = omega arith
 
 -- a command has no more edits and bytes of text than a commit may have
 pub record IsWithinLimits (c : Command) : Type 0 where

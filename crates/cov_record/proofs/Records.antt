@@ -58,6 +58,7 @@ command_back (commands.Default o on) r h =
 command_back (commands.Commit base choice ambition ss) r h =
     let own = and_parts (fits_expr ambition) (list_all fits_with_side ss) h.0 in
     commit_back (has_sides ss) base choice ambition ss r h.1.0 h.1.1 own.0 (sided_back (has_sides ss) ss r refl h.1.2 own.1 h.1.3)
+command_back commands.Upgrade r h = refl
 
 option_forth : (bs : List ℕ) (x : Command) (r : List ℕ) → front_option bs ≡ Some (x, r) → Begins payload FitsRecord (1 ∷ bs) x r
 option_forth bs x r h =
@@ -111,6 +112,9 @@ commit_forth t bs x r h =
           ∙ ap (λ t. commit_spelling t a.0 b.0 d.0 f.0 ++ f.1) (sym w.sides),
     ) f.3
 
+upgrade_forth : (bs : List ℕ) (x : Command) (r : List ℕ) → command_of 7 bs ≡ Some (x, r) → Begins payload FitsRecord (7 ∷ bs) x r
+upgrade_forth bs x r h = begins_with payload FitsRecord commands.Upgrade x bs r (7 ∷ bs) ((refl, tt), refl) h
+
 command_of_forth : (tag : ℕ) (bs : List ℕ) (x : Command) (r : List ℕ) → command_of tag bs ≡ Some (x, r) → Begins payload FitsRecord (tag ∷ bs) x r
 command_of_forth zero bs x r h = absurd (none-some (x, r) h)
 command_of_forth (suc zero) bs x r h = option_forth bs x r h
@@ -119,7 +123,8 @@ command_of_forth (suc (suc (suc zero))) bs x r h = prefer_forth bs x r h
 command_of_forth (suc (suc (suc (suc zero)))) bs x r h = default_forth bs x r h
 command_of_forth (suc (suc (suc (suc (suc zero))))) bs x r h = commit_forth false bs x r h
 command_of_forth (suc (suc (suc (suc (suc (suc zero)))))) bs x r h = commit_forth true bs x r h
-command_of_forth (suc (suc (suc (suc (suc (suc (suc n))))))) bs x r h = absurd (none-some (x, r) h)
+command_of_forth (suc (suc (suc (suc (suc (suc (suc zero))))))) bs x r h = upgrade_forth bs x r h
+command_of_forth (suc (suc (suc (suc (suc (suc (suc (suc n)))))))) bs x r h = absurd (none-some (x, r) h)
 
 pub command_forth : (bs : List ℕ) (x : Command) (r : List ℕ) → front_command bs ≡ Some (x, r) → FitsRecord x × (bs ≡ payload x ++ r)
 command_forth bs x r h =

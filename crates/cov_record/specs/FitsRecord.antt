@@ -61,6 +61,7 @@ FitsNumbers (commands.Prefer expr) = Unit {0}
 FitsNumbers (commands.Default option on) = Unit {0}
 FitsNumbers (commands.Commit base choice ambition ss) =
     (base < 2 ^ 32) × (length choice ≤ CHOICE_WIDTH) × FitsCounts (has_sides ss) ss × AllByRecursion FitsReferences (unsided ss)
+FitsNumbers commands.Upgrade = Unit {0}
 
 -- a command that has a record
 abbrev pub FitsRecord : Command → Type 0

@@ -107,3 +107,4 @@ payload (commands.Constraint expr) = 2 ∷ expression_spelling expr
 payload (commands.Prefer expr) = 3 ∷ expression_spelling expr
 payload (commands.Default option on) = 4 ∷ option ∷ bit on ∷ []
 payload (commands.Commit base choice ambition ss) = commit_spelling (has_sides ss) base choice ambition ss
+payload commands.Upgrade = 7 ∷ []

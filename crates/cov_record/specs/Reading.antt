@@ -309,7 +309,8 @@ command_of (suc (suc (suc zero))) bytes = front_prefer bytes
 command_of (suc (suc (suc (suc zero)))) bytes = front_default bytes
 command_of (suc (suc (suc (suc (suc zero))))) bytes = front_commit false bytes
 command_of (suc (suc (suc (suc (suc (suc zero)))))) bytes = front_commit true bytes
-command_of (suc (suc (suc (suc (suc (suc (suc n))))))) bytes = None
+command_of (suc (suc (suc (suc (suc (suc (suc zero))))))) bytes = Some (commands.Upgrade, bytes)
+command_of (suc (suc (suc (suc (suc (suc (suc (suc n)))))))) bytes = None
 
 abbrev pub front_command : List ℕ → Front Command
 front_command bytes = behind (front_u8 bytes) command_of

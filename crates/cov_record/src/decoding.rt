@@ -52,6 +52,7 @@ fn take_command(alloc: Global, ahead: &mut Ahead<'_>) -> Result<Command, Fault>
         Some(4) => take_default(ahead),
         Some(5) => take_commit(alloc, ahead, false),
         Some(6) => take_commit(alloc, ahead, true),
+        Some(7) => Ok(Command::Upgrade),
         _ => Err(MemoryOr::Refused(NotARecord)),
     }
 }

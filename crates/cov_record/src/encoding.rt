@@ -70,6 +70,7 @@ fn append_command(text: &mut Text, command: &Command) -> Result<(), Memory>
             append_part(text, ambition.part())?;
             append_sided(text, edits, with_sides)
         }
+        Command::Upgrade => text.push(7),
     }
 }
 

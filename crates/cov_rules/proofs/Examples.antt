@@ -42,11 +42,11 @@ bound_whole = refl
 wishes_in_order : completed 2 wishing [] ≡ Complete (true ∷ true ∷ [])
 wishes_in_order = refl
 
-no_variant_with_a : refusal 2 constrained (rules.Constraint (On 0)) ≡ Some faults.NoVariantLeft
+no_variant_with_a : refusal 256 2 constrained (rules.Constraint (On 0)) ≡ Some faults.NoVariantLeft
 no_variant_with_a = refl
 
-variants_without_a : refusal 2 constrained (rules.Constraint (Not (On 0))) ≡ None
+variants_without_a : refusal 256 2 constrained (rules.Constraint (Not (On 0))) ≡ None
 variants_without_a = refl
 
-wished_anyway : refusal 2 constrained (rules.Prefer (On 0)) ≡ None
+wished_anyway : refusal 256 2 constrained (rules.Prefer (On 0)) ≡ None
 wished_anyway = refl

@@ -1,7 +1,6 @@
 -- Rules in order, with their positions and the nodes that stand for them.
 use Rattle.std.specs.Prelude.{ℕ, ◌<◌, Bool, true, false, nat_le, max, List, [], ◌∷◌, ◌++◌, map, length}
 use Rattle.std.specs.List.{filter, AllByRecursion}
-use Rattle.cov_base.specs.declared.limits.TheConstants.{LIMITS}
 use Rattle.cov_dd.specs.declared.triple.Triple.{Triple}
 use Rattle.cov_dd.specs.Diagrams.{Stands}
 use Rattle.cov_expr.specs.Formula.{Formula, On, Not, value, reach}
@@ -11,6 +10,7 @@ use Rattle.cov_rules.specs.declared.rules.Installed.{Installed}
 use Rattle.cov_rules.specs.declared.rules.Rule.{Rule}
 use Rattle.cov_rules.specs.declared.rules.Rule.TheVariants as rules
 use Rattle.cov_rules.specs.declared.rules.RulePlan.{RulePlan}
+use Rattle.cov_rules.specs.declared.rules.TheConstants.{MOST_RULES}
 
 -- the rules of each kind in order, and the node of all constraints
 pub record Standing : Type 0 where
@@ -92,6 +92,6 @@ Plans ts s (rules.Default o on) plan = Unit {0}
 
 -- a plan is one of this rule as the next of its kind, and there is room for it
 pub record IsPlan (ts : List Triple) (r : RulesValue) (rule : Rule) (plan : RulePlan) : Type 0 where
-  pub few : count_of rule r.standing < LIMITS.rules
+  pub few : count_of rule r.standing < MOST_RULES
   pub room : 0 < r.spare
   pub nodes : Plans ts r.standing rule plan

@@ -1,12 +1,13 @@
 // Why a partial choice isn't completed, and what bindings, preferences, defaults and constraints in order leave of choices.
 ghost use Rattle.std.specs.Prelude.{◌≡◌, ◌≤◌, ℕ, true, nat_lt, length, IfOk};
 ghost use Rattle.std.specs.List.{list_all};
-ghost use Rattle.cov_base.specs.declared.limits.TheConstants.{CHOICE_WIDTH, LIMITS};
+ghost use Rattle.cov_base.specs.declared.limits.TheConstants.{CHOICE_WIDTH};
 ghost use Rattle.cov_dd.specs.Diagrams.{Extends};
 ghost use Rattle.cov_expr.specs.Partials.{is_in_order};
 ghost use Rattle.cov_rules.specs.Completion.{agreeing, fallbacks};
 ghost use Rattle.cov_rules.specs.Installing.{expressions, reach_of, AllStand};
 ghost use Rattle.cov_rules.specs.Lefts.{IsLeastUnmet, IsLeft, IsSound, Keeps};
+ghost use Rattle.cov_rules.specs.declared.rules.TheConstants.{MOST_RULES};
 
 use crate::lefts::Left;
 use crate::rules::{Fallback, Installed};
@@ -87,7 +88,7 @@ impl Left {
         constraints: &[Installed],
     ) -> Result<u32, Memory>
         requires sound { IsSound table.old self.now }
-        requires few { length constraints.now ≤ LIMITS.rules }
+        requires few { length constraints.now ≤ MOST_RULES }
         requires nodes { AllStand table.old constraints.now }
         requires below { reach_of (expressions constraints.now) ≤ length self.now.bound }
         ensures extends { Extends table.old table.new }

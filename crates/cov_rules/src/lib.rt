@@ -7,4 +7,4 @@ mod lefts;
 mod rules;
 
 pub use completing::CompleteFault;
-pub use rules::{Invalid, Rule, RuleFault, RulePlan, Rules};
+pub use rules::{Invalid, MOST_RULES, Rule, RuleFault, RulePlan, Rules};

@@ -1,12 +1,12 @@
 // Rules in the order in which they were installed.
-ghost use Rattle.std.specs.Prelude.{◌≡◌, ◌<◌, ◌≤◌, ◌+◌, ◌-◌, ◌++◌, ◌∷◌, ℕ, List, [], Bool, ◌&&◌, max, true, false, nat_lt, length, None, Some, IfOk, IfErr, IfSome, OnOk, OnErr};
+ghost use Rattle.std.specs.Prelude.{◌≡◌, ◌<◌, ◌≤◌, ◌+◌, ◌-◌, ◌++◌, ◌∷◌, ℕ, List, [], Bool, ◌&&◌, max, true, false, nat_lt, length, slice_get, None, Some, IfOk, IfErr, IfSome, OnOk, OnErr};
 ghost use Rattle.std.specs.List.{list_all};
 ghost use Rattle.cov_base.specs.declared.limits.TheConstants.{CHOICE_WIDTH};
 ghost use Rattle.cov_expr.specs.Formula.{reach, value};
 ghost use Rattle.cov_expr.specs.Validity.{is_valid, first_false};
 ghost use Rattle.cov_dd.specs.declared.triple.Triple.{Triple};
 ghost use Rattle.cov_dd.specs.Diagrams.{diagram_size, span, value_in, Extends, Stands};
-ghost use Rattle.cov_rules.specs.Installing.{expressions_at, reach_of, count_of, with_default, with_rule, IsNodeOf, Holds, Plans, IsPlan};
+ghost use Rattle.cov_rules.specs.Installing.{expressions, expressions_at, reach_of, count_of, with_default, with_rule, IsNodeOf, Holds, Plans, IsPlan};
 ghost use Rattle.cov_rules.specs.Completion.{Complete, completed, AreBelow, IsRefusalBy};
 ghost use Rattle.cov_rules.specs.Lefts.{unmet_answer, IsSound, IsWhole, Narrows};
 ghost use Rattle.cov_rules.specs.Refusals.{reach_of_rule, IsAccepted, IsRuleFaultOf};
@@ -18,12 +18,15 @@ mod renumbering;
 
 use crate::completing::CompleteFault;
 use crate::lefts::Left;
-use cov_base::{Choice, LIMITS, Memory, OptionId, Position, Steps, Uncounted};
+use cov_base::{Choice, Memory, OptionId, Position, Steps, Uncounted};
 use cov_dd::{Node, TRUE, Table};
 use cov_expr::{Expr, Partial};
 use cov_vis::compile;
 use std::alloc::Global;
 use std::marker::Model;
+
+/// The greatest limit that can be handed in, so that no more rules of a kind ever stand. How many may stand is the limit's to say.
+pub const MOST_RULES: usize = 65535;
 
 /// A rule by which choices are judged or completed.
 #[derive(Debug, Drop)]
@@ -87,9 +90,9 @@ pub struct Rules {
 impl Model for Rules {
     ghost use Rattle.std.specs.Prelude.{◌-◌, ◌≤◌, min, vec_len, vec_capacity};
     ghost use Rattle.std.specs.Coded.{codes, coded_ℕ};
-    ghost use Rattle.cov_base.specs.declared.limits.TheConstants.{LIMITS};
     ghost use Rattle.cov_expr.specs.Formula.{formula_code};
     ghost use Rattle.cov_rules.specs.Installing.{RulesValue};
+    ghost use Rattle.cov_rules.specs.declared.rules.TheConstants.{MOST_RULES};
 
     ghost Value = { RulesValue };
 
@@ -107,8 +110,8 @@ impl Model for Rules {
           (vec_capacity r.defaults - vec_len r.defaults));
     } };
 
-    ghost invariant = { λ r. (vec_len r.constraints ≤ LIMITS.rules) ×
-        (vec_len r.preferences ≤ LIMITS.rules) × (vec_len r.defaults ≤ LIMITS.rules) };
+    ghost invariant = { λ r. (vec_len r.constraints ≤ MOST_RULES) ×
+        (vec_len r.preferences ≤ MOST_RULES) × (vec_len r.defaults ≤ MOST_RULES) };
 }
 
 impl Rules {
@@ -127,33 +130,47 @@ impl Rules {
         }
     }
 
-    /// Makes room for a rule. It is refused where as many of its kind stand as there may be, else a constraint where no choice meets it
-    /// and the constraints.
-    pub fn prepare(&mut self, table: &mut Table, rule: &Rule) -> Result<RulePlan, RuleFault>
+    /// Makes room for a rule. It is refused where as many of its kind stand as the limit allows, else a constraint where no choice
+    /// meets it and the constraints.
+    pub fn prepare(
+        &mut self,
+        table: &mut Table,
+        rule: &Rule,
+        limit: u16,
+    ) -> Result<RulePlan, RuleFault>
         requires holds { Holds table.old self.old.standing }
         ensures extends { Extends table.old table.new }
         ensures same { self.new.standing ≡ self.old.standing }
         ensures planned { IfOk result (IsPlan table.new self.new rule.now) }
-        ensures accepted { IfOk result (λ _. IsAccepted self.old.standing rule.now) }
-        ensures refused { IfErr result (IsRuleFaultOf self.old.standing rule.now) }
+        ensures accepted { IfOk result (λ _. IsAccepted limit self.old.standing rule.now) }
+        ensures refused { IfErr result (IsRuleFaultOf limit self.old.standing rule.now) }
     {
         match rule {
-            Rule::Constraint(expr) => self.prepare_constraint(table, expr),
-            Rule::Prefer(expr) => self.prepare_preference(table, expr),
-            Rule::Default(_, _) if self.defaults.len() >= LIMITS.rules => Err(RuleFault::Full),
+            Rule::Constraint(expr) => self.prepare_constraint(table, expr, limit),
+            Rule::Prefer(expr) => self.prepare_preference(table, expr, limit),
+            Rule::Default(_, _) if self.defaults.len() >= usize::from(limit) => {
+                Err(RuleFault::Full)
+            }
             Rule::Default(_, _) => self.planned(TRUE),
         }
     }
 
-    fn prepare_constraint(&mut self, table: &mut Table, expr: &Expr) -> Result<RulePlan, RuleFault>
+    fn prepare_constraint(
+        &mut self,
+        table: &mut Table,
+        expr: &Expr,
+        limit: u16,
+    ) -> Result<RulePlan, RuleFault>
         requires holds { Holds table.old self.old.standing }
         ensures extends { Extends table.old table.new }
         ensures same { self.new.standing ≡ self.old.standing }
         ensures planned { IfOk result (IsPlan table.new self.new (a_constraint expr.now)) }
-        ensures accepted { IfOk result (λ _. IsAccepted self.old.standing (a_constraint expr.now)) }
-        ensures refused { IfErr result (IsRuleFaultOf self.old.standing (a_constraint expr.now)) }
+        ensures accepted { IfOk result (λ _.
+            IsAccepted limit self.old.standing (a_constraint expr.now)) }
+        ensures refused { IfErr result
+            (IsRuleFaultOf limit self.old.standing (a_constraint expr.now)) }
     {
-        if self.constraints.len() >= LIMITS.rules {
+        if self.constraints.len() >= usize::from(limit) {
             return Err(RuleFault::Full);
         }
         let plan = match conjoined(table, self.conjunction, expr) {
@@ -167,14 +184,21 @@ impl Rules {
         judged(table, plan)
     }
 
-    fn prepare_preference(&mut self, table: &mut Table, expr: &Expr) -> Result<RulePlan, RuleFault>
+    fn prepare_preference(
+        &mut self,
+        table: &mut Table,
+        expr: &Expr,
+        limit: u16,
+    ) -> Result<RulePlan, RuleFault>
         ensures extends { Extends table.old table.new }
         ensures same { self.new.standing ≡ self.old.standing }
         ensures planned { IfOk result (IsPlan table.new self.new (a_preference expr.now)) }
-        ensures accepted { IfOk result (λ _. IsAccepted self.old.standing (a_preference expr.now)) }
-        ensures refused { IfErr result (IsRuleFaultOf self.old.standing (a_preference expr.now)) }
+        ensures accepted { IfOk result (λ _.
+            IsAccepted limit self.old.standing (a_preference expr.now)) }
+        ensures refused { IfErr result
+            (IsRuleFaultOf limit self.old.standing (a_preference expr.now)) }
     {
-        if self.preferences.len() >= LIMITS.rules {
+        if self.preferences.len() >= usize::from(limit) {
             return Err(RuleFault::Full);
         }
         let node = match compile(table, expr) {
@@ -212,7 +236,7 @@ impl Rules {
     /// Takes a rule by its plan, on the condition that no other rule was installed since the plan was made. The answer
     /// is the rule's number within its kind, from 1. It takes no memory.
     pub fn install(&mut self, plan: RulePlan, rule: Rule, at: Position) -> u32
-        requires few { count_of rule self.old.standing < LIMITS.rules }
+        requires few { count_of rule self.old.standing < MOST_RULES }
         requires room { 0 < self.old.spare }
         ensures number { result ≡ count_of rule self.old.standing + 1 }
         ensures with_rule { self.new.standing ≡ with_rule plan rule at self.old.standing }
@@ -231,7 +255,7 @@ impl Rules {
     }
 
     fn install_constraint(&mut self, plan: RulePlan, expr: Expr, at: Position) -> u32
-        requires few { length self.old.standing.constraints < LIMITS.rules }
+        requires few { length self.old.standing.constraints < MOST_RULES }
         requires room { 0 < self.old.spare }
         ensures number { result ≡ length self.old.standing.constraints + 1 }
         ensures with_rule { self.new.standing ≡
@@ -245,7 +269,7 @@ impl Rules {
     }
 
     fn install_preference(&mut self, plan: RulePlan, expr: Expr, at: Position) -> u32
-        requires few { length self.old.standing.preferences < LIMITS.rules }
+        requires few { length self.old.standing.preferences < MOST_RULES }
         requires room { 0 < self.old.spare }
         ensures number { result ≡ length self.old.standing.preferences + 1 }
         ensures with_rule { self.new.standing ≡
@@ -258,7 +282,7 @@ impl Rules {
     }
 
     fn install_default(&mut self, option: OptionId, on: bool) -> u32
-        requires few { length self.old.standing.defaults < LIMITS.rules }
+        requires few { length self.old.standing.defaults < MOST_RULES }
         requires room { 0 < self.old.spare }
         ensures number { result ≡ length self.old.standing.defaults + 1 }
         ensures with_default { self.new.standing ≡ with_default option on self.old.standing }
@@ -351,6 +375,22 @@ impl Rules {
         self.conjunction
     }
 
+    /// How many constraints stand.
+    pub fn constraints(&self) -> u32
+        ensures { result ≡ length self.now.standing.constraints }
+    {
+        self.constraints.len() as u32
+    }
+
+    /// The constraint with a number, from 1.
+    pub fn constraint(&self, rule: u32) -> &Expr
+        requires first { 1 ≤ rule }
+        requires last { rule ≤ length self.now.standing.constraints }
+        ensures { slice_get (expressions self.now.standing.constraints) (rule - 1) ≡ Some result.now }
+    {
+        &self.constraints[rule as usize - 1].expr
+    }
+
     /// Names the least of the constraints among the first `at` commands that is false on a choice. It takes no memory.
     pub fn valid(&self, choice: Choice, at: Position) -> Result<(), Invalid>
         requires { reach_of (expressions_at at self.now.standing.constraints) ≤ length choice }
@@ -401,7 +441,7 @@ fn judged(table: &Table, plan: RulePlan) -> Result<RulePlan, RuleFault>
 
 // The number, from 1, of the first constraint among the first `at` commands that is false on a choice.
 fn first_broken(constraints: &[Installed], choice: Choice, at: Position) -> Option<u32>
-    requires few { length constraints.now ≤ LIMITS.rules }
+    requires few { length constraints.now ≤ MOST_RULES }
     requires within { reach_of (expressions_at at constraints.now) ≤ length choice }
     ensures { result ≡ first_false (expressions_at at constraints.now) choice }
 {

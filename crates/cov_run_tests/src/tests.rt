@@ -6,3 +6,4 @@ mod rows;
 mod running;
 mod sides;
 mod stores;
+mod upgrades;

@@ -151,3 +151,4 @@ behind-told keywords.Cat rest = two-told bindings_of path_of (λ c p. lines.Cat 
 behind-told keywords.Checkout rest = two-told name_of bindings_of (λ t c. lines.Checkout t c) rest
 behind-told keywords.Alt rest = three-told bindings_of token_of path_of (λ c t p. lines.Alt c t p) rest
 behind-told keywords.Where rest = one-told number_of (λ n. lines.Presence n) rest
+behind-told keywords.Upgrade rest = at_end-told lines.Upgrade rest

@@ -46,6 +46,11 @@ places_of_variants : map form_of (codes "checkout t" ∷ codes "checkout - t" �
 unfolding is_utf8 chars encode
 places_of_variants = refl
 
+-- nothing stands behind the word of an upgrade
+upgrades : map form_of (codes "upgrade" ∷ codes "upgrade " ∷ codes "upgrade x" ∷ codes "upgrades" ∷ codes " upgrade" ∷ [])
+    ≡ Ok lines.Upgrade ∷ at 7 ∷ at 7 ∷ at 0 ∷ at 0 ∷ []
+upgrades = refl
+
 -- a text has at most 4,096 bytes and no line's end
 texts : map form_of ((codes "insert s /m 0 " ++ replicate 4097 120) ∷ (codes "insert s /m 0 a" ++ 10 ∷ codes "b") ∷ [])
     ≡ map at (14 ∷ 14 ∷ [])

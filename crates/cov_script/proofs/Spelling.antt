@@ -120,6 +120,7 @@ reads_as_spelt line (lines.Refresh x) h = ap form_of h.all ∙ one_read name_of 
 reads_as_spelt line (lines.Commit x) h = ap form_of h.all ∙ one_read name_of (λ x. lines.Commit x) x h.a _ h.first
 reads_as_spelt line (lines.Discard x) h = ap form_of h.all ∙ one_read name_of (λ x. lines.Discard x) x h.a _ h.first
 reads_as_spelt line (lines.Presence x) h = ap form_of h.all ∙ one_read number_of (λ x. lines.Presence x) x h.a _ h.first
+reads_as_spelt line lines.Upgrade h = ap form_of h
 reads_as_spelt line (lines.Constraint e) h = ap form_of h.all ∙ only_read (λ e. lines.Constraint e) e h.a _ h.spells
 reads_as_spelt line (lines.Prefer e) h = ap form_of h.all ∙ only_read (λ e. lines.Prefer e) e h.a _ h.spells
 reads_as_spelt line (lines.Default x y) h = ap form_of h.all ∙ two_read token_of switch_of (λ x y. lines.Default x y) x y h.a h.b _ h.first h.second

@@ -1,5 +1,5 @@
 -- What reads as a form is spelt by it.
-use Rattle.std.proofs.Common.{◌≡◌, ◌⊎◌, ℕ, suc, ◌+◌, Bool, true, false, cond, nat_eq, List, [], ◌∷◌, ◌++◌, map, length, take, drop, Option, Some, None, Result, Ok, Err, refl, ap, subst, sym, inl, inr, ◌∙◌, one-add}
+use Rattle.std.proofs.Common.{◌≡◌, ◌⊎◌, ℕ, suc, ◌+◌, ◌-◌, Bool, true, false, cond, nat_eq, List, [], ◌∷◌, ◌++◌, map, length, take, drop, Option, Some, None, Result, Ok, Err, refl, ap, subst, sym, inl, inr, ◌∙◌, one-add}
 use Rattle.std.specs.Prelude.{codes, ◌&&◌, if◌then◌else◌}
 use Rattle.std.specs.List.{list_all, prefix_len}
 use Rattle.std.specs.Str.{bytes_eq}
@@ -314,6 +314,16 @@ was_made line (Ok x) form f spelt e =
     subst (HasForm line) same (spelt x refl)
 was_made line (Err fault) form f spelt e = cc
 
+-- a line ends where nothing more is read
+was_end : (size : ℕ) (bs : List ℕ) (form f : Line) → at_end form (size, bs) ≡ Ok f → (bs ≡ []) × (form ≡ f)
+was_end size [] form f h = (refl, cc)
+was_end size (b ∷ bs) form f h = let wrong : Err (Syntax (size - length (b ∷ bs))) ≡ Ok f = h in absurd (cc)
+
+was_bare : (k : Keyword) (size : ℕ) (bs : List ℕ) (form f : Line) → HasForm (word_for k ++ []) form → at_end form (size, bs) ≡ Ok f → HasForm (word_for k ++ bs) f
+was_bare k size bs form f spelt e =
+    let end = was_end size bs form f e in
+    subst (λ (r : List ℕ × Line). HasForm (word_for k ++ r.0) r.1) (λ j. (sym end.0 j, end.1 j)) spelt
+
 -- what reads as a form behind a keyword is spelt by it
 behind_keyword : (k : Keyword) (f : Line) (size : ℕ) (bs : List ℕ) → Starts bs → line_behind k (size, bs) ≡ Ok f → HasForm (word_for k ++ bs) f
 behind_keyword keywords.Option f size bs starts e = was_made _ _ _ f (λ x. was_one _ token_of refl size bs x starts) e
@@ -340,6 +350,7 @@ behind_keyword keywords.Cat f size bs starts e = was_made _ _ _ f (λ x. was_two
 behind_keyword keywords.Checkout f size bs starts e = was_made _ _ _ f (λ x. was_two _ name_of bindings_of refl refl size bs x starts) e
 behind_keyword keywords.Alt f size bs starts e = was_made _ _ _ f (λ x. was_three _ bindings_of token_of path_of refl refl refl size bs x starts) e
 behind_keyword keywords.Where f size bs starts e = was_made _ _ _ f (λ x. was_one _ number_of refl size bs x starts) e
+behind_keyword keywords.Upgrade f size bs starts e = was_bare keywords.Upgrade size bs lines.Upgrade f refl e
 
 was_spoken : (o : Option Keyword) (rest : Rest) (f : Line) → if_keyword o rest ≡ Ok f → (k : Keyword) × (o ≡ Some k) × (line_behind k rest ≡ Ok f)
 was_spoken None rest f h = cc

@@ -98,6 +98,7 @@ HasForm line (lines.Cat c p) = Two (codes "cat") bindings_of path_of c p line
 HasForm line (lines.Checkout t c) = Two (codes "checkout") name_of bindings_of t c line
 HasForm line (lines.Alt c t p) = Behind (codes "alt") bindings_of token_of c t (IsField path_of p) line
 HasForm line (lines.Presence n) = One (codes "where") number_of n line
+HasForm line lines.Upgrade = line ≡ codes "upgrade"
 
 -- a line reads as a form exactly where it is spelt by it
 abbrev pub ReadsAsSpelt : Type 0

@@ -35,3 +35,4 @@ grouped (lines.Cat choice path) = groups.Question (questions.Cat choice path)
 grouped (lines.Checkout tree choice) = groups.Checkout tree choice
 grouped (lines.Alt choice token path) = groups.Question (questions.Alt choice token path)
 grouped (lines.Presence line) = groups.Question (questions.Presence line)
+grouped lines.Upgrade = groups.Declaration declarations.Upgrade

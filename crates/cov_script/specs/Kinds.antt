@@ -71,6 +71,7 @@ word_for keywords.Cat = codes "cat"
 word_for keywords.Checkout = codes "checkout"
 word_for keywords.Alt = codes "alt"
 word_for keywords.Where = codes "where"
+word_for keywords.Upgrade = codes "upgrade"
 
 -- the kinds of the fields behind a keyword
 abbrev pub kinds_behind : Keyword → List Kind
@@ -98,3 +99,4 @@ kinds_behind keywords.Cat = Choice ∷ Path ∷ []
 kinds_behind keywords.Checkout = Name ∷ Choice ∷ []
 kinds_behind keywords.Alt = Choice ∷ Token ∷ Path ∷ []
 kinds_behind keywords.Where = StoreLine ∷ []
+kinds_behind keywords.Upgrade = []

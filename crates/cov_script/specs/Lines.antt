@@ -16,7 +16,7 @@ use Rattle.cov_script.specs.declared.line.LineSyntax.TheVariants.{Syntax}
 
 -- the keywords
 abbrev pub every_keyword : List Keyword
-every_keyword = keywords.Option ∷ keywords.Constraint ∷ keywords.Prefer ∷ keywords.Default ∷ keywords.Complete ∷ keywords.Open ∷ keywords.Side ∷ keywords.MakeDir ∷ keywords.MakeFile ∷ keywords.Rename ∷ keywords.Move ∷ keywords.Remove ∷ keywords.Insert ∷ keywords.Delete ∷ keywords.Replace ∷ keywords.Show ∷ keywords.List ∷ keywords.Refresh ∷ keywords.Commit ∷ keywords.Drop ∷ keywords.Cat ∷ keywords.Checkout ∷ keywords.Alt ∷ keywords.Where ∷ []
+every_keyword = keywords.Option ∷ keywords.Constraint ∷ keywords.Prefer ∷ keywords.Default ∷ keywords.Complete ∷ keywords.Open ∷ keywords.Side ∷ keywords.MakeDir ∷ keywords.MakeFile ∷ keywords.Rename ∷ keywords.Move ∷ keywords.Remove ∷ keywords.Insert ∷ keywords.Delete ∷ keywords.Replace ∷ keywords.Show ∷ keywords.List ∷ keywords.Refresh ∷ keywords.Commit ∷ keywords.Drop ∷ keywords.Cat ∷ keywords.Checkout ∷ keywords.Alt ∷ keywords.Where ∷ keywords.Upgrade ∷ []
 
 -- each keyword with its bytes
 abbrev pub words : List (List ℕ × Keyword)
@@ -111,6 +111,7 @@ line_behind keywords.Cat rest = made (pair bindings_of path_of rest) (λ a. line
 line_behind keywords.Checkout rest = made (pair name_of bindings_of rest) (λ a. lines.Checkout a.0 a.1)
 line_behind keywords.Alt rest = made (triple bindings_of token_of path_of rest) (λ a. lines.Alt a.0 a.1 a.2)
 line_behind keywords.Where rest = made (alone number_of rest) (λ n. lines.Presence n)
+line_behind keywords.Upgrade rest = at_end lines.Upgrade rest
 
 -- the line that follows a keyword, if there is one
 abbrev pub if_keyword : Option Keyword → Rest → Result Line LineSyntax

@@ -35,6 +35,8 @@ pub enum Code {
     },
     /// No choice meets the constraints.
     NoVariantLeft,
+    /// The history is upgraded already.
+    Upgraded,
     /// The constraint with this number, from 1, is the first that can't hold.
     Invalid {
         rule: u32,
@@ -147,6 +149,7 @@ fn word_of(code: &Code) -> &'static [u8]
         Code::UnknownOption { .. } => b"unknown-option",
         Code::Repeated { .. } => b"repeated",
         Code::NoVariantLeft => b"no-variant-left",
+        Code::Upgraded => b"upgraded",
         Code::Invalid { .. } => b"invalid",
         Code::Incomplete { .. } => b"incomplete",
         Code::SessionExists => b"session-exists",

@@ -59,6 +59,7 @@ pub(crate) fn read_behind(
             path,
         }),
         Keyword::Where => alone(alloc, unread).map(|line| Line::Presence { line }),
+        Keyword::Upgrade => end(unread, Line::Upgrade),
     }
 }
 

@@ -20,13 +20,14 @@ pub enum GroupedLine {
     Checkout { tree: Name, choice: RawChoice },
 }
 
-/// A line that adds an option or a rule.
+/// A line that adds an option or a rule, or upgrades the history.
 #[derive(Drop)]
 pub enum Declaration {
     Option { token: Text },
     Constraint { expr: RawExpr },
     Prefer { expr: RawExpr },
     Default { token: Text, on: bool },
+    Upgrade,
 }
 
 /// A line with which a session begins, goes on otherwise, begins anew or ends.
@@ -202,6 +203,7 @@ impl Line {
                 path,
             }),
             Line::Presence { line } => GroupedLine::Question(Question::Presence { line }),
+            Line::Upgrade => GroupedLine::Declaration(Declaration::Upgrade),
         }
     }
 }

@@ -29,10 +29,11 @@ pub(crate) enum Keyword {
     Checkout,
     Alt,
     Where,
+    Upgrade,
 }
 
 /// Each keyword with its bytes.
-const WORDS: [(&[u8], Keyword); 24] = [
+const WORDS: [(&[u8], Keyword); 25] = [
     (b"option", Keyword::Option),
     (b"constraint", Keyword::Constraint),
     (b"prefer", Keyword::Prefer),
@@ -57,6 +58,7 @@ const WORDS: [(&[u8], Keyword); 24] = [
     (b"checkout", Keyword::Checkout),
     (b"alt", Keyword::Alt),
     (b"where", Keyword::Where),
+    (b"upgrade", Keyword::Upgrade),
 ];
 
 impl Keyword {

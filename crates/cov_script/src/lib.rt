@@ -29,7 +29,7 @@ pub use read::read_line;
 pub use reply::{
     alt_line, append_cat_line, cat_line, list_line, reply_checkout, reply_commit, reply_complete,
     reply_constraint, reply_count, reply_default, reply_new_line, reply_open, reply_option,
-    reply_plain, reply_prefer, reply_refresh, reply_refused, reply_where, show_line, where_line,
-    whole,
+    reply_plain, reply_prefer, reply_refresh, reply_refused, reply_upgrade, reply_where, show_line,
+    where_line, whole,
 };
 pub use target::Target;

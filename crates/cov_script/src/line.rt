@@ -113,6 +113,7 @@ pub enum Line {
     Presence {
         line: u32,
     },
+    Upgrade,
 }
 
 /// Why a line has no form.

@@ -1,7 +1,7 @@
 // The texts of replies. Each function but `whole` gives one line with its end.
 ghost use Rattle.std.specs.Prelude.{◌≡◌, ◌<◌, ◌≤◌, ◌++◌, [], IfOk, OnOk, codes, get_or, length};
 ghost use Rattle.std.specs.List.{concat};
-ghost use Rattle.cov_script.specs.Replies.{option_reply, constraint_reply, prefer_reply, default_reply, complete_reply, open_reply, refresh_reply, plain_reply, new_line_reply, count_reply, commit_reply, shown_line, cat_line, kind_letter, list_line, refused_reply, numbered, based, checkout_reply, alt_line, where_reply, where_line, IsCodeOf};
+ghost use Rattle.cov_script.specs.Replies.{option_reply, constraint_reply, prefer_reply, default_reply, upgrade_reply, complete_reply, open_reply, refresh_reply, plain_reply, new_line_reply, count_reply, commit_reply, shown_line, cat_line, kind_letter, list_line, refused_reply, numbered, based, checkout_reply, alt_line, where_reply, where_line, IsCodeOf};
 
 use crate::code::{Code, code_text};
 use crate::target::{Target, append_target};
@@ -40,6 +40,13 @@ pub fn reply_default(alloc: Global, number: u32) -> ReplyText
     ensures { IfOk result (λ text. text ≡ default_reply number) }
 {
     numbered(alloc, "ok default ", number as u64)
+}
+
+/// The reply to an upgrade, with the number that the receipt of an upgrade has.
+pub fn reply_upgrade(alloc: Global, number: u32) -> ReplyText
+    ensures { IfOk result (λ text. text ≡ upgrade_reply number) }
+{
+    numbered(alloc, "ok upgrade ", number as u64)
 }
 
 /// The reply that tells a completion.

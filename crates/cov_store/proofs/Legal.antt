@@ -9,7 +9,8 @@ use Rattle.cov_edit.specs.Fits.{fits_command}
 use Rattle.cov_edit.specs.Sides.{the_edit, unsided}
 use Rattle.cov_edit.specs.declared.command.Command.{Command}
 use Rattle.cov_edit.specs.declared.command.Command.TheVariants as commands
-use Rattle.cov_engine.proofs.CallerLemmas.{accepted-sizes, edits-few, legal-one, text-few}
+use Rattle.cov_engine.proofs.CallerLemmas.{accepted-sizes, edits-few, text-few}
+use Rattle.cov_history.proofs.CallerLemmas.{accepted-room, legal-one}
 use Rattle.cov_history.specs.Verdict.{verdict, refusals_of, IsLegal, IsLegalFrom}
 use Rattle.cov_history.specs.declared.refusal.Refusal.TheVariants as refusals
 use Rattle.cov_journal.specs.Journal.{records_size}
@@ -20,13 +21,7 @@ use Rattle.cov_record.proofs.CallerLemmas.{IsWithinLimits, payloads-short}
 use Rattle.cov_store.specs.Stands.{payloads, gate_of}
 use Rattle.cov_view.proofs.CallerLemmas.{none-when}
 
--- where a command is accepted, the history isn't full
-pub accepted-room : (history : List Command) (c : Command) → verdict history c ≡ None → length history < LIMITS.commands
-accepted-room history c accepted =
-    let room = (none-when (nat_le LIMITS.commands (length history)) refusals.Full (refusals_of history c) accepted).0 in
-    grind (arith, nat_tests, room)
-
--- and the command has no more edits and text than a commit may have
+-- where a command is accepted, it has no more edits and text than a commit may have
 pub accepted-within : (history : List Command) (c : Command) → verdict history c ≡ None → IsWithinLimits c
 accepted-within history (commands.Option name) accepted = record { edits = omega arith; bytes = omega arith }
 accepted-within history (commands.Constraint expr) accepted = record { edits = omega arith; bytes = omega arith }
@@ -35,6 +30,7 @@ accepted-within history (commands.Default option on) accepted = record { edits =
 accepted-within history (commands.Commit base choice ambition ss) accepted =
     let sized = accepted-sizes history base choice ambition ss accepted in
     record { edits = omega (arith, length-map ss the_edit, edits-few history (unsided ss) sized.0 sized.1); bytes = text-few history (unsided ss) sized.0 sized.1 }
+accepted-within history commands.Upgrade accepted = record { edits = omega arith; bytes = omega arith }
 
 legal-from-within : (before history : List Command) → IsLegalFrom before history → AllByRecursion IsWithinLimits history
 legal-from-within before [] legal = tt

@@ -155,6 +155,7 @@ refused_unread history p c refusals.Memory is by = tt
 refused_unread history p c refusals.Full is by = (tt, (c, is, by))
 refused_unread history p c refusals.Exists is by = (tt, (c, is, by))
 refused_unread history p c refusals.NoVariantLeft is by = (tt, (c, is, by))
+refused_unread history p c refusals.Upgraded is by = (tt, (c, is, by))
 refused_unread history p c refusals.BadBase is by = (tt, (c, is, by))
 refused_unread history p c refusals.BadOption is by = (tt, (c, is, by))
 refused_unread history p c refusals.TooManyEdits is by = (tt, (c, is, by))

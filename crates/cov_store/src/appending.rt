@@ -114,7 +114,8 @@ fn has_many_edits(command: &Command) -> bool
         Command::Option { .. }
         | Command::Constraint { .. }
         | Command::Prefer { .. }
-        | Command::Default { .. } => false,
+        | Command::Default { .. }
+        | Command::Upgrade => false,
     }
 }
 

@@ -10,4 +10,5 @@ mod sessions;
 mod sides;
 mod stops;
 mod trees;
+mod upgrades;
 mod views;

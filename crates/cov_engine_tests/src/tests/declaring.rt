@@ -1,4 +1,4 @@
-//! Declarations that are appended, refused, installed and given up, and a completion.
+//! Declarations and upgrades that are appended, refused, installed and given up, and a completion.
 ghost use Rattle.std.specs.Prelude.{◌≡◌, [], ◌∷◌, IfOk};
 ghost use Rattle.cov_engine_tests.specs.Lines.{of_d};
 
@@ -87,6 +87,36 @@ fn a_default_is_given_up(rt: HostRuntime) -> Result<(), Fail> {
     check_options(&rt, &options);
     drop(options);
     Ok(())
+}
+
+fn check_upgrade(rt: &impl Abort, engine: &mut Engine) -> Result<(), Fail> {
+    let receipt = append(engine, Command::Upgrade)?;
+    assert_eq!(rt; receipt.position.number(), 1);
+    assert_eq!(rt; receipt.number, 2);
+    engine.sweep()?;
+    let refused = engine.append(Command::Upgrade);
+    assert!(rt; matches!(refused, Err(Refusal::Upgraded)));
+    assert_eq!(rt; engine.position().number(), 1);
+    Ok(())
+}
+
+// An upgrade that is given up.
+fn without_upgrade(engine: Engine) -> Result<Engine, Fail> {
+    match engine.prepare(Command::Upgrade) {
+        Ok(prepared) => Ok(prepared.cancel()),
+        Err((engine, _)) => {
+            close(engine);
+            Err(Fail::from("refused"))
+        }
+    }
+}
+
+#[test]
+fn an_upgrade_is_appended_once(rt: HostRuntime) -> Result<(), Fail> {
+    let mut engine = without_upgrade(Engine::new(rt.alloc())?)?;
+    let checked = check_upgrade(&rt, &mut engine);
+    close(engine);
+    checked
 }
 
 // With a constraint that d is on, only the choice with d is left.

@@ -29,7 +29,8 @@ fn edit_count(command: &Command) -> usize
         Command::Option { .. }
         | Command::Constraint { .. }
         | Command::Prefer { .. }
-        | Command::Default { .. } => 0,
+        | Command::Default { .. }
+        | Command::Upgrade => 0,
     }
 }
 
@@ -162,8 +163,17 @@ fn a_commit_with_sides_has_its_record(rt: HostRuntime) -> Result<(), Fail> {
     Ok(())
 }
 
+#[test]
+fn an_upgrade_has_its_record(rt: HostRuntime) -> Result<(), Fail> {
+    let upgrade = Command::Upgrade;
+    let is_record = is_record(rt.alloc(), &upgrade, b"\x07");
+    drop(upgrade);
+    assert!(rt; is_record?);
+    Ok(())
+}
+
 // Bytes, and whether they are a record.
-const RECORDS: [(&[u8], bool); 23] = [
+const RECORDS: [(&[u8], bool); 27] = [
     (COMMIT, true),
     (
         b"\x05\0\0\0\x01\x01\x01\x02\0\0\0\0\x02\x01\0\0\0\0\0\0\x01x\x02\x01\0\0\0\0\0\0\0\0\0\0\x01A\0",
@@ -220,6 +230,11 @@ const RECORDS: [(&[u8], bool); 23] = [
         b"\x06\0\0\0\0\0\x01\0\0\0\x01\x02\x80\0\0\0\x01\x06\0\0\0\0\x01",
         false,
     ),
+    // An upgrade, which has no bytes behind it, and a byte that begins no record.
+    (b"\x07", true),
+    (b"\x07\0", false),
+    (b"\x07\x07", false),
+    (b"\x08", false),
 ];
 
 // Whether so many `!` before `true` come back, between what stands before and behind them in a record.

@@ -1,9 +1,9 @@
 //! Rules: one that is installed, and a completion.
 ghost use Rattle.std.specs.Prelude.{List, ◌<◌};
-ghost use Rattle.cov_base.specs.declared.limits.TheConstants.{LIMITS};
 ghost use Rattle.cov_dd.specs.declared.triple.Triple.{Triple};
 ghost use Rattle.cov_rules.specs.Installing.{Holds, count_of};
 ghost use Rattle.cov_rules.specs.Completion.{AreBelow};
+ghost use Rattle.cov_rules.specs.declared.rules.TheConstants.{MOST_RULES};
 
 use cov_base::{Choice, Position};
 use cov_dd::Table;
@@ -33,9 +33,9 @@ fn check_completion(
 
 fn check_constraint(table: &mut Table, rules: &mut Rules, rule: Rule) -> Result<u32, Fail>
     requires holds { (ts : List Triple) → Holds ts rules.old.standing }
-    requires few { count_of rule rules.old.standing < LIMITS.rules }
+    requires few { count_of rule rules.old.standing < MOST_RULES }
 {
-    match rules.prepare(table, &rule) {
+    match rules.prepare(table, &rule, 1) {
         Ok(plan) => Ok(rules.install(plan, rule, Position::new(2))),
         Err(_) => Err(Fail::from("refused")),
     }

@@ -226,6 +226,28 @@ const TWICE: [u8; 132] = [
     211, 69, 11, 206, 222, 92, 242, 4, 85, 0,
 ];
 
+// An upgrade.
+const UPGRADED: [u8; 51] = [
+    67, 79, 86, 83, 84, 79, 82, 69, 0, 0, 0, 1, 1, 0, 0, 0, 1, 7, 54, 202, 52, 66, 25, 215, 57,
+    217, 113, 221, 190, 64, 70, 6, 93, 204, 149, 197, 148, 161, 96, 175, 164, 184, 226, 35, 198,
+    180, 250, 182, 252, 99, 0,
+];
+
+// A second one.
+const UPGRADED_TWICE: [u8; 89] = [
+    67, 79, 86, 83, 84, 79, 82, 69, 0, 0, 0, 1, 1, 0, 0, 0, 1, 7, 54, 202, 52, 66, 25, 215, 57,
+    217, 113, 221, 190, 64, 70, 6, 93, 204, 149, 197, 148, 161, 96, 175, 164, 184, 226, 35, 198,
+    180, 250, 182, 252, 99, 1, 0, 0, 0, 1, 7, 59, 45, 249, 9, 41, 229, 195, 142, 54, 146, 27, 156,
+    249, 50, 77, 88, 185, 62, 102, 211, 173, 214, 168, 123, 88, 28, 65, 87, 54, 224, 6, 157, 0,
+];
+
+// One with a byte behind it.
+const UPGRADED_AND_MORE: [u8; 52] = [
+    67, 79, 86, 83, 84, 79, 82, 69, 0, 0, 0, 1, 1, 0, 0, 0, 2, 7, 0, 18, 143, 17, 218, 44, 75, 180,
+    109, 2, 114, 78, 70, 5, 241, 119, 172, 178, 52, 41, 148, 105, 160, 237, 8, 235, 98, 142, 58,
+    224, 224, 232, 152, 0,
+];
+
 // An open record that is longer than the disk.
 const LONG: [u8; 22] = [
     67, 79, 86, 83, 84, 79, 82, 69, 0, 0, 0, 1, 1, 255, 255, 255, 255, 0, 0, 0, 0, 0,
@@ -236,8 +258,8 @@ const OTHER: [u8; 20] = [
     67, 79, 86, 83, 84, 79, 82, 69, 0, 0, 0, 2, 0, 0, 0, 0, 0, 0, 0, 0,
 ];
 
-/// Images with a record that is whole and has the right digest, one of which is accepted; one that is cut, and one that is no store.
-pub(crate) const ROWS: [Row; 12] = [
+/// Images with a record that is whole and has the right digest, two of which are accepted; one that is cut, and one that is no store.
+pub(crate) const ROWS: [Row; 15] = [
     Row {
         image: &PARTS,
         answer: Answer::NotARecord(1),
@@ -277,6 +299,18 @@ pub(crate) const ROWS: [Row; 12] = [
     Row {
         image: &TWICE,
         answer: Answer::NotARecord(2),
+    },
+    Row {
+        image: &UPGRADED,
+        answer: Answer::Opened(1),
+    },
+    Row {
+        image: &UPGRADED_TWICE,
+        answer: Answer::Refused(2, Rule::Upgraded),
+    },
+    Row {
+        image: &UPGRADED_AND_MORE,
+        answer: Answer::NotARecord(1),
     },
     Row {
         image: &LONG,

@@ -11,6 +11,7 @@ use std::test::Fail;
 /// The refusals of these tests.
 #[derive(Clone, Copy, Debug, PartialEq)]
 pub(crate) enum Rule {
+    Upgraded,
     BadOption,
     BadBase,
     TooManyEdits,
@@ -41,6 +42,7 @@ fn close_fault(_: StoreFault) {}
 
 fn rule_of(refusal: &Refusal) -> Rule {
     match refusal {
+        Refusal::Upgraded => Rule::Upgraded,
         Refusal::BadOption => Rule::BadOption,
         Refusal::BadBase => Rule::BadBase,
         Refusal::TooManyEdits => Rule::TooManyEdits,

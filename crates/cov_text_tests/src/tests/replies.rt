@@ -10,8 +10,8 @@ use cov_expr::Options;
 use cov_script::{
     Code, Target, alt_line, cat_line, list_line, reply_checkout, reply_commit, reply_complete,
     reply_constraint, reply_count, reply_default, reply_new_line, reply_open, reply_option,
-    reply_plain, reply_prefer, reply_refresh, reply_refused, reply_where, show_line, where_line,
-    whole,
+    reply_plain, reply_prefer, reply_refresh, reply_refused, reply_upgrade, reply_where, show_line,
+    where_line, whole,
 };
 use std::alloc::Global;
 use std::test::Fail;
@@ -22,6 +22,7 @@ fn add_numbers(alloc: Global, lines: &mut Texts) -> Result<(), Memory> {
     lines.push(reply_constraint(alloc, 256)?)?;
     lines.push(reply_prefer(alloc, 1)?)?;
     lines.push(reply_default(alloc, 2)?)?;
+    lines.push(reply_upgrade(alloc, 2)?)?;
     lines.push(reply_plain(alloc)?)?;
     lines.push(reply_new_line(alloc, 0)?)?;
     lines.push(reply_commit(alloc, Position::new(7))?)
@@ -137,15 +138,17 @@ fn add_refused(alloc: Global, options: &Options, lines: &mut Texts) -> Result<()
     add_code(alloc, options, &Code::OutsideSide, lines)?;
     add_code(alloc, options, &Code::TreeTaken, lines)?;
     add_code(alloc, options, &Code::NoVariantLeft, lines)?;
+    add_code(alloc, options, &Code::Upgraded, lines)?;
     add_code(alloc, options, &Code::SessionExists, lines)?;
     add_code(alloc, options, &Code::TooManySessions, lines)
 }
 
-const REPLIES: &str = "ok 37
+const REPLIES: &str = "ok 39
 ok option 63
 ok constraint 256
 ok prefer 1
 ok default 2
+ok upgrade 2
 ok
 ok +0
 ok commit 7
@@ -175,6 +178,7 @@ refused outside-side 1
 refused outside-side
 refused tree-taken
 refused no-variant-left
+refused upgraded
 refused session-exists
 refused too-many-sessions
 ";

@@ -32,6 +32,7 @@ fn keyword_of(line: &Line) -> &'static str {
         Line::Checkout { .. } => "checkout",
         Line::Alt { .. } => "alt",
         Line::Presence { .. } => "where",
+        Line::Upgrade => "upgrade",
     }
 }
 
@@ -43,7 +44,7 @@ fn place_of(read: &Result<Line, LineSyntax>) -> Option<u32> {
     }
 }
 
-const FORMS: [(&[u8], &str); 42] = [
+const FORMS: [(&[u8], &str); 43] = [
     (b"", ""),
     (b"#x", ""),
     (b"# option", ""),
@@ -86,9 +87,10 @@ const FORMS: [(&[u8], &str); 42] = [
     (b"alt d=on d /m", "alt"),
     (b"where 0", "where"),
     (b"where 1", "where"),
+    (b"upgrade", "upgrade"),
 ];
 
-const PLACES: [(&[u8], u32); 62] = [
+const PLACES: [(&[u8], u32); 65] = [
     (b"optoin a", 0),
     (b"option", 6),
     (b"option ", 7),
@@ -150,6 +152,9 @@ const PLACES: [(&[u8], u32); 62] = [
     (b"where 00", 6),
     (b"where +1", 6),
     (b"where ", 6),
+    (b"upgrade ", 7),
+    (b"upgrade x", 7),
+    (b"upgrade\r", 0),
     (b"insert s /m 0 a\nb", 14),
 ];
 

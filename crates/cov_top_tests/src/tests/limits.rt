@@ -92,8 +92,8 @@ fn limits_are_kept(rt: HostRuntime) -> Result<(), Fail> {
     )
 }
 
-// The kinds of rules with a rule of each.
-const KINDS: [(&str, &str); 3] = [
+/// The kinds of rules with a rule of each.
+pub(crate) const KINDS: [(&str, &str); 3] = [
     ("constraint", "constraint a\n"),
     ("prefer", "prefer a\n"),
     ("default", "default a on\n"),

@@ -66,7 +66,7 @@ const RULES: [Case; 6] = [
     ),
     (
         b"mkdir s /d\nrename s /m n\nmove s /m /\nremove s /m\nlist s /\nrefresh s\ncheckout t -\nalt - a /m\nwhere 1\nmkdir s m\nwhere 01\nside s true\nupgrade\n",
-        b"refused no-session\nrefused no-session\nrefused no-session\nrefused no-session\nrefused no-session\nrefused no-session\nok checkout t 0 0 e3b0c44298fc1c149afbf4c8996fb92427ae41e4649b934ca495991b7852b855\nrefused unknown-option a\nrefused no-such-line\nrefused syntax 8\nrefused syntax 6\nrefused no-session\nrefused syntax 0\n",
+        b"refused no-session\nrefused no-session\nrefused no-session\nrefused no-session\nrefused no-session\nrefused no-session\nok checkout t 0 0 e3b0c44298fc1c149afbf4c8996fb92427ae41e4649b934ca495991b7852b855\nrefused unknown-option a\nrefused no-such-line\nrefused syntax 8\nrefused syntax 6\nrefused no-session\nok upgrade 2\n",
         SOME_REFUSED,
     ),
 ];

@@ -14,7 +14,7 @@ cut_off-requires c = record {
 
 pub returns-in-Commit-clause-kept : goal.returns-in-Commit-clause-kept
 returns-in-Commit-clause-kept c = (
-  (subst (λ ts. AreDeclarationsOf c.args.state.now.commands.commands c.args.state.now.options.names ts c.args.state.now.rules.standing c.args.state.now.counts) (sym c.cut_off.ensures.table) c.requires.prepared.1.0.0, c.requires.prepared.1.0.1),
+  (subst (λ ts. AreDeclarationsOf c.args.state.now.commands.commands c.args.state.now.options.names ts c.args.state.now.rules.standing c.args.state.now.counts) (sym c.cut_off.ensures.table) c.requires.prepared.1.0.0, c.requires.prepared.1.0.1, c.requires.prepared.1.0.2),
   subst (λ ts. AreRowsAndLinesOf c.args.state.now.commands.commands ts c.cut_off.new.index.commits.items c.cut_off.new.index.file_of_line.items c.cut_off.new.visible.entries c.cut_off.new.visible.files) (sym c.cut_off.ensures.table)
       (ready-given-up c.args.state.now.commands.commands c.args.state.now.options.names c.args.state.now.visible.table c.args.state.now.rules.standing c.args.state.now.counts c.in-Commit.counts _
       c.args.state.now.index.commits.items c.in-Commit.mark c.in-Commit.edits.items c.in-Commit.rows c.args.state.now.index.file_of_line.items c.args.state.now.visible.entries c.args.state.now.visible.files c.requires.prepared.1.0.0 c.args.command.now

@@ -1,4 +1,4 @@
-use Rattle.std.proofs.Common.{◌≡◌, ◌≤◌, ℕ, Bool, List, None, true, false, length, take, sym, ap, subst, ◌∙◌, arith}
+use Rattle.std.proofs.Common.{◌≡◌, ◌≤◌, ℕ, Bool, List, None, true, length, take, sym, ap, subst, ◌∙◌, arith}
 use Rattle.cov_edit.specs.History.{constraints_of, first_false_in}
 use Rattle.cov_edit.proofs.CallerLemmas.{ambition-low, sides-low}
 use Rattle.cov_edit.specs.declared.command.Command.{Command}

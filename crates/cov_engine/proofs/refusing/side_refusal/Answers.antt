@@ -1,4 +1,4 @@
-use Rattle.std.proofs.Common.{◌≤◌, length, ap, sym, ◌∙◌, arith}
+use Rattle.std.proofs.Common.{ap, sym, ◌∙◌, arith}
 use Rattle.cov_base.specs.declared.limits.TheConstants.{LIMITS}
 use Rattle.cov_history.specs.Verdict.{as_outside}
 use Rattle.cov_engine.proofs.Siding.{runs-below, sides-outside, sides-reach}

@@ -21,7 +21,7 @@ use Rattle.cov_engine.proofs.Conditions.{stand-later, stands-of_table}
 use Rattle.cov_engine.proofs.Holdings.{entries-grown}
 use Rattle.cov_engine.proofs.Judging.{told-refusal}
 use Rattle.cov_engine.proofs.Keeping.{kept-grown}
-use Rattle.cov_engine.proofs.Planned.{files-rising, files-within, edits-near-now, edits-low-now, edits-few-now, changes-new, changes-within, commit-plan, entries-now, plan-grown, can-be-tested}
+use Rattle.cov_engine.proofs.Planned.{files-rising, files-within, edits-near-now, changes-new, changes-within, commit-plan, entries-now, plan-grown, can-be-tested}
 use Rattle.cov_engine.proofs.Readied.{conjunction-later, conjunction-stands}
 use Rattle.cov_engine.proofs.Ruling.{refused-by}
 use Rattle.cov_engine.proofs.state.commit_planned.Goals as goal

@@ -1,6 +1,8 @@
 use Rattle.cov_edit.specs.Recorded.{Recorded}
 use Rattle.cov_engine.specs.Refusing.{early_refusal}
 use Rattle.cov_engine.specs.States.{IsKept}
+use Rattle.cov_engine.specs.Ruling.{IsRefusalOf}
+use Rattle.cov_rules.specs.Refusals.{IsAccepted}
 use Rattle.std.proofs.Common.{◌≡◌, [], ◌∷◌, refl, sym, ap, subst, ◌∙◌}
 use Rattle.std.proofs.lemmas.Result.{IfErr-weaker, IfOk-weaker, on_ok_weaker}
 use Rattle.cov_dd.proofs.CallerLemmas.{extends_trans}
@@ -12,10 +14,10 @@ use Rattle.cov_view.proofs.CallerLemmas.{first-one}
 use Rattle.cov_history.specs.BadChoices.{unsound_refusal}
 use Rattle.cov_history.specs.Verdict.{verdict, as_overtaken, RefusedBy}
 use Rattle.cov_engine.proofs.Holdings.{held-grown}
-use Rattle.cov_engine.proofs.Keeping.{kept-grown, kept-roomier, with_options, option-readied, commit-readied}
+use Rattle.cov_engine.proofs.Keeping.{kept-grown, kept-roomier, with_options, option-readied, upgrade-readied, commit-readied}
 use Rattle.cov_overtaking.proofs.CallerLemmas.{marks-kept, touched-own}
 use Rattle.cov_engine.proofs.Readied.{on-any, commit-summary, reach-declared, in-bounds, late-verdict}
-use Rattle.cov_engine.proofs.Refused.{early-may}
+use Rattle.cov_engine.proofs.Refused.{early-may, option-verdict, upgrade-accepted}
 use Rattle.cov_engine.proofs.Ruling.{RuleOf, rule-of, as-ready, rule-accepted, rule-refused}
 use Rattle.cov_engine.proofs.States.{state-grown}
 use Rattle.cov_engine.proofs.state.ready_for.Goals as goal
@@ -90,6 +92,32 @@ returns-in-Option-clause-ready c =
     option-readied (with_options c.args.state.now c.option_ready.new.options) c.args.command.now c.in-Option.name c.in-Option.is
     (kept-roomier c.args.state.now c.option_ready.new.options c.requires.kept c.option_ready.ensures.names) c.option_ready.result c.option_ready.ensures.room c.option_ready.ensures.ready
 
+pub returns-in-Option-clause-accepted : goal.returns-in-Option-clause-accepted
+returns-in-Option-clause-accepted c =
+    on_ok_weaker c.option_ready.result
+    (λ none.
+    option-verdict c.args.state.now.commands.commands c.args.command.now c.in-Option.name c.limits_now-limits.result.options c.args.state.now.options.names c.in-Option.is c.requires.few
+    (ap (λ l. l.options) c.limits_now-limits.ensures) c.requires.kept.0.0.options
+    ∙ none)
+    c.option_ready.ensures.accepted
+
+pub returns-in-Option-clause-refused : goal.returns-in-Option-clause-refused
+returns-in-Option-clause-refused c =
+    IfErr-weaker c.option_ready.result _ _
+    (λ r refused.
+    subst (RefusedBy r)
+    (sym
+    (option-verdict c.args.state.now.commands.commands c.args.command.now c.in-Option.name c.limits_now-limits.result.options c.args.state.now.options.names c.in-Option.is c.requires.few
+    (ap (λ l. l.options) c.limits_now-limits.ensures) c.requires.kept.0.0.options))
+    refused)
+    c.option_ready.ensures.refused
+
+pub returns-in-Upgrade-clause-accepted : goal.returns-in-Upgrade-clause-accepted
+returns-in-Upgrade-clause-accepted c = upgrade-accepted c.args.state.now.commands.commands c.args.command.now c.in-Upgrade.is c.requires.few c.requires.passes
+
+pub returns-in-Upgrade-clause-ready : goal.returns-in-Upgrade-clause-ready
+returns-in-Upgrade-clause-ready c = upgrade-readied c.args.state.now c.args.command.now c.in-Upgrade.is c.requires.kept
+
 pub returns-in-Option-clause-kept : goal.returns-in-Option-clause-kept
 returns-in-Option-clause-kept c = on-any c.option_ready.result _ (kept-roomier c.args.state.now c.option_ready.new.options c.requires.kept c.option_ready.ensures.names)
 
@@ -99,7 +127,8 @@ returns-in_default c =
     let k = c.args.command.now in
     let ts = c.args.state.now.visible.table in
     let standing = c.args.state.now.rules.standing in
-    let of : RuleOf k = rule-of k c.in_default.not-Option c.in_default.not-Commit in
+    let of : RuleOf k = rule-of k c.in_default.not-Option c.in_default.not-Commit c.in_default.not-Upgrade in
+    let allowed = (ap (λ l. l.rules) c.limits_now-limits.ensures) in
     let kept : IsKept (record {
       commands = c.args.state.now.commands;
       options = c.args.state.now.options;
@@ -108,23 +137,25 @@ returns-in_default c =
       counts = c.args.state.now.counts;
       index = c.args.state.now.index;
       visible = record { table = c.rule_ready.new.table; entries = c.args.state.now.visible.entries; files = c.args.state.now.visible.files };
+      upgraded = c.args.state.now.upgraded;
     }) = (
       (
         state-grown history c.args.state.now.options.names ts c.rule_ready.new.table standing c.rule_ready.new.rules.standing c.args.state.now.counts
             c.requires.kept.0.0 c.rule_ready.ensures.extends c.rule_ready.ensures.same,
         c.requires.kept.0.1,
+        c.requires.kept.0.2,
       ),
       held-grown history ts c.rule_ready.new.table c.args.state.now.index.commits.items c.args.state.now.index.file_of_line.items c.args.state.now.visible.entries c.args.state.now.visible.files c.requires.kept.1 c.rule_ready.ensures.extends,
     ) in
     record {
       commands = refl;
       extends = c.rule_ready.ensures.extends;
-      accepted = on_ok_weaker c.rule_ready.result (λ accepted. rule-accepted history ts standing c.requires.kept.0.0.rules c.requires.few k of.rule of.is (early-may history k c.requires.passes) (accepted of.rule of.is)) c.rule_ready.ensures.accepted;
+      accepted = on_ok_weaker c.rule_ready.result (λ accepted. rule-accepted history ts standing c.requires.kept.0.0.rules c.requires.few k of.rule of.is (early-may history k c.requires.passes) (subst (λ l. IsAccepted l standing of.rule) allowed (accepted of.rule of.is))) c.rule_ready.ensures.accepted;
       ready = IfOk-weaker c.rule_ready.result _ _ (λ own is. (
         kept.0,
         as-ready history k c.args.state.now.options.spare c.rule_ready.new.table c.rule_ready.new.rules _ c.args.state.now.index.commits.items c.args.state.now.index.file_of_line.items c.args.state.now.visible.entries c.args.state.now.visible.files
             kept.1 own is,
       )) c.rule_ready.ensures.ready;
-      refused = IfErr-weaker c.rule_ready.result _ _ (λ r refused. rule-refused history ts standing c.requires.kept.0.0.rules c.requires.few k of.rule of.is (early-may history k c.requires.passes) r (refused of.rule of.is)) c.rule_ready.ensures.refused;
+      refused = IfErr-weaker c.rule_ready.result _ _ (λ r refused. rule-refused history ts standing c.requires.kept.0.0.rules c.requires.few k of.rule of.is (early-may history k c.requires.passes) r (subst (λ l. IsRefusalOf l standing of.rule r) allowed (refused of.rule of.is))) c.rule_ready.ensures.refused;
       kept = on-any c.rule_ready.result _ kept;
     }

@@ -33,6 +33,7 @@ returns-clause-state c =
       options = refl;
       positions = refl;
       counts = refl;
+      upgraded = refl;
       table = refl;
       rule_count = ap length c.renumber-second.ensures.nodes ∙ length-take-le (length (rule_nodes c.args.state.now.rules.standing)) from (omega (arith, c.requires, count));
       rules = c.renumber-second.ensures.same;

@@ -1,0 +1,15 @@
+pub mod Accepted
+pub mod Chained
+pub mod Chains
+pub mod Examples
+pub mod Exported
+pub mod Expressions
+pub mod Importable
+pub mod Imported
+pub mod Legal
+pub mod Made
+pub mod Meant
+pub mod Projecting
+pub mod ReadingBack
+pub mod Spelt
+pub mod Trying

@@ -1,0 +1,4 @@
+pub mod Exporting
+pub mod Fitting
+pub mod Importing
+pub mod Laws

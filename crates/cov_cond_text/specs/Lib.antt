@@ -1,0 +1,5 @@
+pub mod Conditional
+pub mod Forms
+pub mod Readers
+pub mod Reading
+pub mod RunLists
