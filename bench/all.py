@@ -11,11 +11,13 @@ import checkout
 import comments
 import commits
 import completion
+import conditions
 import conjunction
 import damage
 import demo
 import directories
 import durable
+import imports
 import inserts
 import lines
 import memo
@@ -39,7 +41,7 @@ BENCHES = ((comments, 'cov_cli'), (conjunction, 'cov_bench'), (sweeping, 'cov_be
            (order, 'cov_order_bench'), (plans, 'cov_tree_bench'), (lines, 'cov_cli'), (commits, 'cov_cli'), (inserts, 'cov_cli'),
            (renames, 'cov_cli'), (directories, 'cov_cli'), (overtaking, 'cov_cli'), (sessions, 'cov_cli'), (sides, 'cov_cli'), (touched, 'cov_cli'), (variants, 'cov_cli'), (demo, 'cov_cli'),
            (checkout, 'cov_cli'), (projection, 'cov_cli'), (durable, 'cov_cli'), (opening, 'cov_cli'), (stops, 'cov_cli'),
-           (damage, 'cov_cli'), (upgraded, 'cov_cli'))
+           (damage, 'cov_cli'), (upgraded, 'cov_cli'), (conditions, 'cov_cli'), (imports, 'cov_cli'))
 
 
 def words():

@@ -11,9 +11,9 @@ OPTIONS, LINES, BLOCKS, DEEPEST, SESSION, ASKED = 20, 100000, 500, 3, 16000, 10
 ON = ['o%d' % option for option in range(0, OPTIONS, 2)]
 
 
-def directives(random):
-    """The directives of the file, each with the conditions under which what follows is shown."""
-    left, blocks = BLOCKS, []
+def directives(random, left):
+    """The directives of a file with so many blocks, each with the conditions under which what follows is shown."""
+    blocks = []
     while left or blocks:
         if blocks and (not left or len(blocks) == DEEPEST or random.below(2)):
             condition, has_else = blocks.pop()
@@ -25,32 +25,37 @@ def directives(random):
             a, b, left = random.below(OPTIONS), random.below(OPTIONS), left - 1
             forms = ('o%d' % a, '!o%d' % a, 'o%d & o%d' % (a, b), 'o%d | !o%d' % (a, b), '!(o%d & o%d)' % (a, b))
             blocks.append((forms[random.below(len(forms))], False))
-            directive = '#if ' + in_c(blocks[-1][0])
+            directive = '#if ' + blocks[-1][0]
         yield directive, [condition for condition, _ in blocks]
 
 
-def parts():
+def parts(lines=LINES, blocks=BLOCKS):
     """The file in parts: a directive, none for the first part; the conditions; and the lines. About half of the lines are in no block."""
     random = Random()
-    heads = [('', [])] + list(directives(random))
+    heads = [('', [])] + list(directives(random, blocks))
     sizes = [4 + random.below(8)] + [(1 + random.below(8)) * (1 if conditions else 5) for _, conditions in heads[1:]]
     whole = sum(sizes)
-    counts = [LINES * size // whole for size in sizes]
-    counts[-1] += LINES - sum(counts)
+    counts = [lines * size // whole for size in sizes]
+    counts[-1] += lines - sum(counts)
     ends = list(itertools.accumulate(counts))
     return [(*head, ['text %d of the file with some words' % line for line in range(first, end)])
             for head, first, end in zip(heads, [0] + ends, ends)]
 
 
 def conditional(file):
+    """The file as conditional text."""
     return [line for directive, _, lines in file for line in ([directive] if directive else []) + lines]
+
+
+def test_of(expression):
+    """An expression as one of Python, to be evaluated over the values of its names."""
+    return compile(expression.replace('!', ' not ').replace('&', ' and ').replace('|', ' or ').strip(), '', 'eval')
 
 
 def choice_within(conditions):
     """Bindings that meet the conditions, or None where nothing does."""
-    expression = ' and '.join('(%s)' % condition for condition in conditions)
-    test = compile(expression.replace('!', ' not ').replace('&', 'and').replace('|', 'or').strip(), '', 'eval')
-    names = sorted(set(re.findall('o[0-9]+', expression)))
+    expression = ' & '.join('(%s)' % condition for condition in conditions)
+    test, names = test_of(expression), sorted(set(re.findall('o[0-9]+', expression)))
     for values in itertools.product((False, True), repeat=len(names)):
         if eval(test, dict(zip(names, values))):
             return as_choice(dict(zip(names, values)))
@@ -99,7 +104,7 @@ def by_unifdef(file, names):
     """The median of the processor seconds that unifdef takes for the file, and the lines that it leaves."""
     with elsewhere():
         with open('file.c', 'wb') as source:
-            as_script(conditional(file), source)
+            as_script([in_c(line) if line.startswith('#') else line for line in conditional(file)], source)
         defined = ['-D%s=%d' % (name, name in ON) for name in names]
         runs = [told('unifdef', '-t', '-x2', *defined, 'file.c') for _ in range(ASKED)]
     return statistics.median(clock.processor for clock, _ in runs), runs[-1][1].splitlines()

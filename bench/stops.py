@@ -50,7 +50,7 @@ insert s /d/m 0 line 0
 commit s
 checkout t -
 """
-WORDS = (('run',), ('check',), ('demo', '1'))  # that open the store
+WORDS = (('run',), ('check',), ('demo', '1'), ('import', '/m'))  # that open the store
 
 
 def script(count):

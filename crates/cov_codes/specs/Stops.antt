@@ -4,10 +4,17 @@ use Rattle.cov_alt.specs.declared.fault.AltFault.TheVariants as sides
 use Rattle.cov_base.specs.declared.error.BadName.{BadName}
 use Rattle.cov_base.specs.declared.error.MemoryOr.{MemoryOr}
 use Rattle.cov_base.specs.declared.error.MemoryOr.TheVariants as memory_or
+use Rattle.cov_cond_text.specs.declared.fault.CondFault.{CondFault}
+use Rattle.cov_cond_text.specs.declared.fault.CondFault.TheVariants as conds
+use Rattle.cov_cond.specs.declared.fault.ExportFault.{ExportFault}
+use Rattle.cov_cond.specs.declared.fault.ExportFault.TheVariants as exports
+use Rattle.cov_cond.specs.declared.fault.ImportFault.{ImportFault}
+use Rattle.cov_cond.specs.declared.fault.ImportFault.TheVariants as imports
 use Rattle.cov_expr.specs.declared.binding.BindFault.{BindFault}
 use Rattle.cov_expr.specs.declared.binding.BindFault.TheVariants as binds
 use Rattle.cov_expr.specs.declared.naming.NameFault.{NameFault}
 use Rattle.cov_expr.specs.declared.naming.NameFault.TheVariants as names
+use Rattle.cov_hist.specs.declared.fault.PastFault.{PastFault}
 use Rattle.cov_script.specs.declared.code.Code.TheVariants as codes
 use Rattle.cov_script.specs.declared.line.LineSyntax.{LineSyntax}
 use Rattle.cov_script.specs.declared.line.LineSyntax.TheVariants as places
@@ -27,7 +34,7 @@ use Rattle.cov_rules.specs.declared.completing.CompleteFault.TheVariants as comp
 use Rattle.cov_session.specs.declared.fault.SessionFault.{SessionFault}
 use Rattle.cov_session.specs.declared.fault.SessionFault.TheVariants as sessions
 use Rattle.cov_session.specs.declared.fault.NoSession.{NoSession}
-use Rattle.cov_codes.specs.Codes.{alt_code, bind_code, edit_code, name_code, refusal_code, session_code, syntax_code}
+use Rattle.cov_codes.specs.Codes.{alt_code, bind_code, cond_code, edit_code, export_code, import_code, name_code, past_code, refusal_code, session_code, syntax_code}
 use Rattle.cov_codes.specs.declared.stop.Stop.{Stop}
 use Rattle.cov_codes.specs.declared.stop.Stop.TheVariants as stops
 
@@ -108,3 +115,23 @@ no_line_stop (memory_or.Refused none) = stops.Refused codes.NoSuchLine
 abbrev pub alt_stop : AltFault → Stop
 alt_stop sides.Memory = stops.Memory
 alt_stop fault = stops.Refused (alt_code fault)
+
+-- bindings that are no choice at a position
+abbrev pub past_stop : PastFault → Stop
+past_stop fault = stops.Refused (past_code fault)
+
+-- a file whose conditional text can't be told
+abbrev pub export_stop : ExportFault → Stop
+export_stop exports.Memory = stops.Memory
+export_stop fault = stops.Refused (export_code fault)
+
+-- a conditional text that isn't imported
+abbrev pub import_stop : ImportFault → Stop
+import_stop imports.Memory = stops.Memory
+import_stop (imports.Edit fault) = edit_stop fault
+import_stop fault = stops.Refused (import_code fault)
+
+-- lines that are no conditional text
+abbrev pub cond_stop : CondFault → Stop
+cond_stop conds.Memory = stops.Memory
+cond_stop fault = stops.Refused (cond_code fault)

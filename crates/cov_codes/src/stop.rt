@@ -1,11 +1,13 @@
 // Why a line isn't done.
 ghost use Rattle.std.specs.Prelude.{◌≡◌};
-ghost use Rattle.cov_codes.specs.Stops.{alt_stop, file_stop, no_line_stop, syntax_stop, bad_name_stop, name_stop, bind_stop, complete_stop, read_stop, list_stop, edit_stop, session_stop, no_session_stop, command_stop, refusal_stop};
+ghost use Rattle.cov_codes.specs.Stops.{alt_stop, cond_stop, export_stop, file_stop, import_stop, no_line_stop, past_stop, syntax_stop, bad_name_stop, name_stop, bind_stop, complete_stop, read_stop, list_stop, edit_stop, session_stop, no_session_stop, command_stop, refusal_stop};
 
 use cov_alt::AltFault;
 use cov_base::{BadName, Memory, MemoryOr};
+use cov_cond::{CondFault, ExportFault, ImportFault};
 use cov_engine::{FileFault, NoSuchLine, Refusal};
 use cov_expr::{BindFault, NameFault};
+use cov_hist::PastFault;
 use cov_rules::CompleteFault;
 use cov_script::{Code, LineSyntax};
 use cov_session::{NoSession, SessionFault};
@@ -231,6 +233,61 @@ impl From<AltFault> for Stop {
             AltFault::NoSuchPath => Stop::Refused(Code::NoSuchPath),
             AltFault::NotFile => Stop::Refused(Code::NotFile),
             AltFault::Memory => Stop::Memory,
+        }
+    }
+}
+
+impl From<PastFault> for Stop {
+    ghost from_gives = { λ fault stop. stop ≡ past_stop fault };
+
+    fn from(fault: PastFault) -> Self {
+        match fault {
+            PastFault::NoSuchPosition => Stop::Refused(Code::NoSuchPosition),
+            PastFault::LateOption { option } => Stop::Refused(Code::LateOption { option }),
+            PastFault::Incomplete { option } => Stop::Refused(Code::Incomplete { option }),
+            PastFault::Invalid { rule } => Stop::Refused(Code::Invalid { rule }),
+        }
+    }
+}
+
+impl From<ExportFault> for Stop {
+    ghost from_gives = { λ fault stop. stop ≡ export_stop fault };
+
+    fn from(fault: ExportFault) -> Self {
+        match fault {
+            ExportFault::TooLong { line } => Stop::Refused(Code::TooLongAt {
+                line: line.number(),
+            }),
+            ExportFault::Memory => Stop::Memory,
+        }
+    }
+}
+
+impl From<ImportFault> for Stop {
+    ghost from_gives = { λ fault stop. stop ≡ import_stop fault };
+
+    fn from(fault: ImportFault) -> Self {
+        match fault {
+            ImportFault::TooManyEdits => Stop::Refused(Code::TooManyEdits),
+            ImportFault::TooManyBytes => Stop::Refused(Code::TooManyBytes),
+            ImportFault::Full => Stop::Refused(Code::Full),
+            ImportFault::TooManyLines => Stop::Refused(Code::TooManyLines),
+            ImportFault::NoSuchPath => Stop::Refused(Code::NoSuchPath),
+            ImportFault::Edit { fault } => Stop::from(fault),
+            ImportFault::Memory => Stop::Memory,
+        }
+    }
+}
+
+impl From<CondFault> for Stop {
+    ghost from_gives = { λ fault stop. stop ≡ cond_stop fault };
+
+    fn from(fault: CondFault) -> Self {
+        match fault {
+            CondFault::Syntax { line } => Stop::Refused(Code::Syntax { at: line }),
+            CondFault::TooLong { line } => Stop::Refused(Code::TooLongAt { line }),
+            CondFault::UnknownOption { name, .. } => Stop::Refused(Code::UnknownOption { name }),
+            CondFault::Memory => Stop::Memory,
         }
     }
 }

@@ -42,7 +42,7 @@ use Rattle.cov_history.proofs.CallerLemmas.{good-passes, is_table-of, lines-soun
 use Rattle.cov_engine.specs.Meeting.{least_valid}
 use Rattle.cov_cond.specs.Importing.{meant_for_all, chained}
 use Rattle.cov_cond.proofs.Chained.{anchors-chained}
-use Rattle.cov_cond.proofs.Meant.{in-all, reach-all, unsided-all}
+use Rattle.cov_cond.proofs.Meant.{in-all, reach_all, unsided-all}
 use Rattle.cov_cond.proofs.Trying.{chain-taken}
 
 within : (most n : ℕ) → n ≤ most → nat_lt most n ≡ false
@@ -195,7 +195,7 @@ module _ (now : List Command) (file anchor : ℕ) (e : Formula ℕ) (choice : Li
     valid = ap (λ h. is_valid_in h choice) whole ∙ (and_parts (is_valid_in now choice) (value e choice) passes.0).0;
     in_ambition = (and_parts (is_valid_in now choice) (value e choice) passes.0).1;
     in_sides = in-all choice es;
-    in_reach = subst (λ h. reach_within e (meant_for_all es) ≤ option_count h) (sym whole) (reach-all (option_count now) e es may.declared);
+    in_reach = subst (λ h. reach_within e (meant_for_all es) ≤ option_count h) (sym whole) (reach_all (option_count now) e es may.declared);
     accepted = subst (λ (x : List Command × List Edit). first_refused (numbers_of x.0) (replay choice x.0) x.1 ≡ None) (λ j. (sym whole j, sym (unsided-all es) j)) taken;
   }
 

@@ -69,7 +69,7 @@ same_entries-is (e ∷ es) (f ∷ fs) h =
     let parts = and_parts (same_entry e f) (pointwise same_entry es fs) h in
     λ i. same_entry-is e f parts.0 i ∷ same_entries-is es fs parts.1 i
 
-same_listing-is : (l m : ListingValue) → same_listing l m ≡ true → l ≡ m
+pub same_listing-is : (l m : ListingValue) → same_listing l m ≡ true → l ≡ m
 same_listing-is l m h =
     let parts = and_parts (same_child l.root m.root) (pointwise same_entry l.entries m.entries) h in
     let root = same_child-is l.root m.root parts.0 in

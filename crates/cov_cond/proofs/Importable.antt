@@ -46,10 +46,10 @@ module _ (count : ℕ) (wide : count ≤ CHOICE_WIDTH) where
 
 -- what is measured of a text's lines is that of the texts of its runs
 module _ (measure : List ℕ → ℕ) where
-  abbrev of_texts : List (List ℕ) → ℕ
+  abbrev pub of_texts : List (List ℕ) → ℕ
   of_texts texts = sum_by measure texts
 
-  abbrev of_run : Run → ℕ
+  abbrev pub of_run : Run → ℕ
   of_run r = of_texts r.texts
 
   abbrev of_runs : List Run → ℕ
@@ -70,7 +70,7 @@ module _ (measure : List ℕ → ℕ) where
           let f = sum_by-cons measure l.text [] in
           omega (arith, e, f)
 
-  runs-measure : (t : List CondLine) → of_runs (runs_of t) ≡ sum_by (λ l. measure l.text) t
+  pub runs-measure : (t : List CondLine) → of_runs (runs_of t) ≡ sum_by (λ l. measure l.text) t
   runs-measure [] = refl
   runs-measure (l ∷ ls) = onto-measure l (runs_of ls) ∙ ap (λ n. measure l.text + n) (runs-measure ls) ∙ sym (sum_by-cons (λ (m : CondLine). measure m.text) l ls)
 
@@ -90,7 +90,7 @@ module _ (measure : List ℕ → ℕ) where
       at (e ∷ es) = omega arith
 
 -- how many there are
-counted : {X : Type 0} (xs : List X) → sum_by (λ x. 1) xs ≡ length xs
+pub counted : {X : Type 0} (xs : List X) → sum_by (λ x. 1) xs ≡ length xs
 counted [] = refl
 counted {X} (x ∷ xs) = let e = counted xs in let f = sum_by-cons (λ (y : X). 1) x xs in omega (arith, e, f)
 

@@ -39,8 +39,8 @@ no-options : (es : List Edit) → reach_of_sides (meant_for_all es) ≡ 0
 no-options [] = refl
 no-options (e ∷ es) = ap (λ n. max 0 n) (no-options es)
 
-pub reach-all : (count : ℕ) (ambition : Formula ℕ) (es : List Edit) → reach ambition ≤ count → reach_within ambition (meant_for_all es) ≤ count
-reach-all count ambition es h = let none = no-options es in omega (arith, h, none)
+pub reach_all : (count : ℕ) (ambition : Formula ℕ) (es : List Edit) → reach ambition ≤ count → reach_within ambition (meant_for_all es) ≤ count
+reach_all count ambition es h = let none = no-options es in omega (arith, h, none)
 
 pub in-all : (c : List Bool) (es : List Edit) → AllByRecursion (λ s. value s.side c ≡ true) (meant_for_all es)
 in-all c [] = tt

@@ -26,7 +26,7 @@ use Rattle.cov_cond_text.specs.declared.fault.CondFault.{CondFault}
 use Rattle.cov_cond_text.specs.declared.fault.CondFault.TheVariants as faults
 
 -- an expression has no more parts than tokens
-parts-few : {rule : Rule} {ts : List Token} {e : Formula (List ℕ)} → Spells rule ts e → part_count e ≤ length ts
+pub parts-few : {rule : Rule} {ts : List Token} {e : Formula (List ℕ)} → Spells rule ts e → part_count e ≤ length ts
 parts-few (lone_and h) = parts-few h
 parts-few (either {ts = ts} {us = us} split h k) =
     let a = parts-few h in

@@ -1,6 +1,6 @@
 -- The conditional text of a file.
-use Rattle.std.specs.Prelude.{◌≡◌, ℕ, zero, suc, ◌+◌, ◌≤◌, ◌&&◌, not, nat_eq, Bool, List, [], ◌∷◌, ◌++◌, map, length, Option, Some, None, slice_get, Ok, if◌then◌else◌, codes}
-use Rattle.std.specs.List.{filter, flat_map, AllByRecursion}
+use Rattle.std.specs.Prelude.{◌≡◌, ℕ, zero, suc, ◌+◌, ◌≤◌, ◌&&◌, not, nat_eq, nat_le, Bool, false, List, [], ◌∷◌, ◌++◌, map, length, Option, Some, None, slice_get, Result, Ok, Err, if◌then◌else◌, codes}
+use Rattle.std.specs.List.{filter, find, flat_map, AllByRecursion}
 use Rattle.std.specs.Cmp.Lexicographic.{pointwise}
 use Rattle.cov_base.specs.declared.limits.TheConstants.{CHOICE_WIDTH, MOST_TOKENS}
 use Rattle.cov_expr.specs.ExpressionText.{text_of}
@@ -16,6 +16,8 @@ use Rattle.cov_vis.specs.Listings.{ListingValue, same_child, same_entry}
 use Rattle.cov_history.specs.Files.{DatedLine, file_dated}
 use Rattle.cov_history.specs.Kept.{kept_of}
 use Rattle.cov_engine.specs.Visibility.{presence_of}
+use Rattle.cov_cond.specs.declared.fault.ExportFault.{ExportFault}
+use Rattle.cov_cond.specs.declared.fault.ExportFault.TheVariants as faults
 
 -- the expression of an entry by its option and its children, and by what expression each child is
 abbrev pub entry_expression : (Child → Formula ℕ) → ℕ → Child → Child → Formula ℕ
@@ -102,6 +104,30 @@ listed_lines names r = enclosed names r.first.listing (map text_line (r.first.te
 -- the conditional text of a file, as lines
 abbrev pub conditional_text : List Command → ℕ → List (List ℕ)
 conditional_text history file = flat_map (listed_lines (options_of history)) (listed (present_lines history file))
+
+-- whether a count of tokens, if there is one, is within the limit
+abbrev pub is_few : Result ℕ ℕ → Bool
+is_few (Ok count) = nat_le count MOST_TOKENS
+is_few (Err at) = false
+
+-- whether the text of a listing's expression has no more tokens than the limit
+abbrev pub is_short : List (List ℕ) → ListingValue → Bool
+is_short names l = is_few (token_count (tokens_of (text_of (option_name names) (expression_of l))))
+
+-- lines that are exported, unless a run's expression is too long
+abbrev pub unless_long : Option Listed → List (List ℕ) → Result (List (List ℕ)) ExportFault
+unless_long None lines = Ok lines
+unless_long (Some r) lines = Err (faults.TooLong r.first.line)
+
+-- the conditional text of a file, as lines; or its first line whose expression has too many tokens
+unfoldable pub exported : List Command → ℕ → Result (List (List ℕ)) ExportFault
+exported history file =
+    unless_long (find (λ r. not (is_short (options_of history) r.first.listing)) (listed (present_lines history file))) (conditional_text history file)
+
+-- a fault is want of memory, or the one that an answer has
+abbrev pub IsExportFaultOf : {X : Type 0} → Result X ExportFault → ExportFault → Type 0
+IsExportFaultOf answer faults.Memory = Unit {0}
+IsExportFaultOf answer (faults.TooLong line) = answer ≡ Err (faults.TooLong line)
 
 -- the text of a listing's expression has no more tokens than the limit
 abbrev pub IsShort : List (List ℕ) → ListingValue → Type 0

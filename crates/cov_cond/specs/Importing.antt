@@ -40,10 +40,14 @@ plain_texts (r ∷ rs) = plain_in r.conditions r.texts ++ plain_texts rs
 abbrev pub making_edits : ℕ → List ℕ → List Run → List Edit
 making_edits parent name rs = edits.New kinds.File (nodes.Old parent) name ∷ chained (nodes.New 0) (lines.Old 0) 0 (plain_texts rs)
 
--- the commit that makes the file, on the first valid choice; a legal history has one
+-- the first valid choice; a legal history has one
+abbrev pub first_choice : List Command → List Bool
+first_choice history = unwrap_or (least_valid history True) []
+
+-- the commit that makes the file, on the first valid choice
 abbrev pub making_commit : List Command → ℕ → List ℕ → List Run → Command
 making_commit history parent name rs =
-    commands.Commit (length history) (unwrap_or (least_valid history True) []) True (meant_for_all (making_edits parent name rs))
+    commands.Commit (length history) (first_choice history) True (meant_for_all (making_edits parent name rs))
 
 -- the number of the k-th of lines that stand behind so many others; the head, 0, where there is none
 abbrev pub anchor_at : ℕ → ℕ → ℕ

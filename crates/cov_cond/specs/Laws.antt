@@ -11,7 +11,7 @@ use Rattle.cov_edit.specs.Variant.{lines_of}
 use Rattle.cov_history.specs.Laws.{text_of}
 use Rattle.cov_history.specs.Verdict.{IsLegal, verdict}
 use Rattle.cov_cond_text.specs.Conditional.{CondLine, AreGrouped, projection, runs_of, IsCondText}
-use Rattle.cov_cond.specs.Exporting.{AreShort, conditional_text}
+use Rattle.cov_cond.specs.Exporting.{AreShort, conditional_text, exported}
 use Rattle.cov_cond.specs.Fitting.{HasRoom}
 use Rattle.cov_cond.specs.Importing.{making_commit, imported}
 use Rattle.cov_cond_text.specs.Reading.{read_text}
@@ -20,6 +20,12 @@ use Rattle.cov_cond_text.specs.Reading.{read_text}
 abbrev pub ExportGivesText : Type 0
 ExportGivesText = (history : List Command) (file : ℕ) → IsLegal history → AreShort history file
     → (t : List CondLine) × (read_text (options_of history) (conditional_text history file) ≡ Ok t)
+    × ((c : List Bool) → length c ≡ option_count history → projection t c ≡ map text_of (lines_of (replay c history) file))
+
+-- what is exported of a file is read back, and gives on each choice the texts of the file there
+abbrev pub ExportedIsRead : Type 0
+ExportedIsRead = (history : List Command) (file : ℕ) (lines : List (List ℕ)) → IsLegal history → exported history file ≡ Ok lines
+    → (t : List CondLine) × (read_text (options_of history) lines ≡ Ok t)
     × ((c : List Bool) → length c ≡ option_count history → projection t c ≡ map text_of (lines_of (replay c history) file))
 
 -- on each valid choice, the new file of an import has the texts of the conditional text

@@ -1,16 +1,23 @@
 //! Laws of conditional texts. Each function does nothing; what it ensures is the law.
-ghost use Rattle.cov_cond.specs.Laws.{ExportGivesText, ImportGivesText, ImportIsAccepted, ImportMakesFile};
+ghost use Rattle.cov_cond.specs.Laws.{ExportGivesText, ExportedIsRead, ImportGivesText, ImportIsAccepted, ImportMakesFile};
 
 use cov_expr::{reading_follows_grammar, texts_give_their_expressions};
 use cov_vis::laws::tests_have_one_listing;
 
-/// What is exported of a file is read back, and gives on each choice the texts of the file there.
+/// Where no expression is too long, the conditional text of a file is read back, and gives on each choice the texts of the file there.
 pub fn export_gives_text()
     ensures { ExportGivesText }
 {
     reading_follows_grammar();
     texts_give_their_expressions();
     tests_have_one_listing();
+}
+
+/// The lines that `export` answers are read back, and give on each choice the texts of the file there.
+pub fn exported_is_read()
+    ensures { ExportedIsRead }
+{
+    export_gives_text();
 }
 
 /// On each valid choice, the new file of an import has the texts of the conditional text.

@@ -1,6 +1,7 @@
 mod Examples
 pub mod CallerLemmas
 pub mod Fitting
+pub mod Joining
 pub mod Projecting
 pub mod ReadLines
 pub mod ReadSteps

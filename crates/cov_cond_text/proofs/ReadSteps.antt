@@ -1,6 +1,6 @@
 -- What a reader has read, step by step.
 use mathlib.Core.List.{reverse_aux}
-use Rattle.std.proofs.Common.{◌≡◌, ℕ, ◌+◌, true, nat_lt, List, [], ◌∷◌, ◌++◌, map, append-nil, Option, Some, None, Ok, refl, sym, ap, ◌∙◌, arith}
+use Rattle.std.proofs.Common.{◌≡◌, ℕ, ◌+◌, ◌≤◌, true, nat_lt, List, [], ◌∷◌, ◌++◌, map, append-nil, Option, Some, None, Ok, refl, sym, ap, ◌∙◌, arith}
 use Rattle.std.specs.Prelude.{reverse}
 use Rattle.std.specs.List.{sum_by}
 use Rattle.std.proofs.lemmas.Bool.Decides.{nat_tests}
@@ -10,7 +10,7 @@ use Rattle.std.proofs.lemmas.List.Sums.{sum_by-append, sum_by-cons}
 use Rattle.cov_base.specs.declared.limits.TheConstants.{MOST_PARTS}
 use Rattle.cov_expr.specs.Formula.{Formula, False, True, On, Not, And, Or, part_count}
 use Rattle.cov_expr.specs.Naming.{bound_expression, first_unknown, known_or, with_numbers}
-use Rattle.cov_cond_text.specs.Conditional.{joined, line_in, lines_in}
+use Rattle.cov_cond_text.specs.Conditional.{joined, conjunction, line_in, lines_in}
 use Rattle.cov_cond_text.specs.Reading.{conditions_of, parts_of, parts_with, line_read}
 use Rattle.cov_cond_text.specs.Readers.{state_of, done_of, condition_in, weight, HasRoom}
 use Rattle.cov_cond_text.specs.declared.reader.Block.{Block}
@@ -46,7 +46,7 @@ ended-run r new run runs none state group conditions texts =
 abbrev pub weights : List (Formula ℕ) → ℕ
 weights es = sum_by (λ e. part_count e + 1) es
 
-joined-parts : (e : Formula ℕ) (es : List (Formula ℕ)) → part_count (joined e es) ≡ part_count e + weights es
+pub joined-parts : (e : Formula ℕ) (es : List (Formula ℕ)) → part_count (joined e es) ≡ part_count e + weights es
 joined-parts e [] = omega arith
 joined-parts e (f ∷ fs) =
     let rest = joined-parts (And e f) fs in
@@ -71,6 +71,14 @@ weights-items (b ∷ bs) =
     let all = sum_by-cons weight b bs in
     let each = sum_by-cons (λ (d : Formula ℕ). part_count d + 1) b.condition (map condition_in bs) in
     omega (arith, rest, all, each)
+
+-- the conditions of blocks for which there is room have no more parts than the limit
+pub few_parts : (bs : List Block) → sum_by weight bs ≤ MOST_PARTS + 1 → part_count (conjunction (map condition_in bs)) ≤ MOST_PARTS
+few_parts bs h = at (map condition_in bs) (weights-items bs)
+  where
+    at : (es : List (Formula ℕ)) → weights es ≡ sum_by weight bs → part_count (conjunction es) ≤ MOST_PARTS
+    at [] k = omega arith
+    at (e ∷ es) k = let all = parts-weights e es in omega (arith, h, k, all)
 
 -- a condition more is too long where there is no room for its parts and one more
 pub open_few : (r : Reader) (parts : ℕ) → HasRoom r → nat_lt MOST_PARTS (parts_with (conditions_of (state_of r).blocks) parts) ≡ nat_lt r.room (parts + 1)

@@ -3,8 +3,9 @@ use Rattle.std.specs.Prelude.{◌≡◌, ℕ, ◌<◌, ◌≤◌, Bool, true, na
 use Rattle.std.specs.List.{filter, flat_map, AllByRecursion}
 use Rattle.cov_base.specs.Spelling.{is_line_text}
 use Rattle.cov_base.specs.declared.limits.TheConstants.{MOST_PARTS}
-use Rattle.cov_expr.specs.Formula.{Formula, True, And, part_count, reach}
+use Rattle.cov_expr.specs.Formula.{Formula, part_count, reach}
 use Rattle.cov_expr.specs.Validity.{is_valid}
+pub use Rattle.cov_cond_text.specs.Conjunction.{joined, conjunction}
 use Rattle.cov_cond_text.specs.declared.run.Run.{Run}
 
 -- a line of text: its conditions from outside inwards, its text, and how many directives stand before it
@@ -24,16 +25,6 @@ is_in c l = is_valid l.conditions c
 -- the texts whose conditions are all true on a choice, in order
 abbrev pub projection : List CondLine → List Bool → List (List ℕ)
 projection t c = map text_in (filter (is_in c) t)
-
--- an expression and more of them joined by and, to the left
-abbrev pub joined : Formula ℕ → List (Formula ℕ) → Formula ℕ
-joined e [] = e
-joined e (f ∷ fs) = joined (And e f) fs
-
--- the conjunction of conditions, grouped to the left; true where there are none
-abbrev pub conjunction : List (Formula ℕ) → Formula ℕ
-conjunction [] = True
-conjunction (e ∷ es) = joined e es
 
 -- a line by itself
 abbrev pub run_of : CondLine → Run

@@ -1,4 +1,5 @@
 pub mod Conditional
+pub mod Conjunction
 pub mod Forms
 pub mod Readers
 pub mod Reading

@@ -33,7 +33,7 @@ impl Model for CondText {
 
 impl CondText {
     ghost use Rattle.std.specs.Prelude.{◌≡◌, length, IfOk};
-    ghost use Rattle.cov_cond_text.specs.Conditional.{lines_in, projection, runs_of, HasOptionsBelow};
+    ghost use Rattle.cov_cond_text.specs.Conditional.{lines_in, projection, runs_of, AreRuns, HasOptionsBelow};
 
     pub(crate) fn new(runs: Runs) -> CondText
         ensures { result ≡ lines_in runs.runs }
@@ -44,7 +44,8 @@ impl CondText {
     /// Its runs: the lines between two directives that follow one another, where there are any, with the conditions that all have.
     #[tactic(auto, using(crate::proofs::RunLists::runs_are))]
     pub fn runs(&self) -> &[Run]
-        ensures { result.now ≡ runs_of self.now }
+        ensures runs { result.now ≡ runs_of self.now }
+        ensures are { AreRuns result.now }
     {
         self.runs.as_slice()
     }

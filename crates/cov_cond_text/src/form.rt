@@ -1,7 +1,7 @@
 // What a line is by itself.
 ghost use Rattle.std.specs.Prelude.{◌≡◌, length, codes};
 ghost use Rattle.std.specs.Str.{bytes_eq};
-ghost use Rattle.cov_cond_text.specs.Forms.{shown_form, LeastBytes};
+ghost use Rattle.cov_cond_text.specs.Forms.{shown_form, HasLineText, LeastBytes};
 ghost use Rattle.cov_cond_text.specs.Reading.{form_of, text_form};
 
 use cov_base::is_line_text;
@@ -20,6 +20,7 @@ pub(crate) enum Form<'a> {
 /// What a line is.
 pub(crate) fn form_of(line: &[u8]) -> Form<'_>
     ensures form { shown_form result ≡ form_of line.now }
+    ensures spelt { HasLineText (shown_form result) }
     ensures least { LeastBytes (form_of line.now) (length line.now) }
 {
     if let Some(expression) = line.strip_prefix(b"#if ") {
@@ -63,7 +64,8 @@ fn is_end_word(word: &[u8]) -> bool
 }
 
 fn text_form(text: &[u8]) -> Form<'_>
-    ensures { shown_form result ≡ text_form text.now }
+    ensures form { shown_form result ≡ text_form text.now }
+    ensures spelt { HasLineText (shown_form result) }
 {
     if is_line_text(text) {
         return Form::Text(text);

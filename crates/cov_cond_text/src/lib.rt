@@ -2,14 +2,18 @@
 #![tactic(auto)]
 
 mod cond_text;
+mod conditions;
 mod fault;
 mod form;
+mod line_texts;
 mod reader;
 mod reading;
 mod run;
 mod steps;
 
 pub use cond_text::CondText;
+pub use conditions::Conditions;
 pub use fault::CondFault;
+pub use line_texts::LineTexts;
 pub use reading::read;
-pub use run::{Conditions, Run};
+pub use run::Run;

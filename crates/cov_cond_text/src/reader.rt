@@ -1,12 +1,15 @@
 // A conditional text while it is read.
-ghost use Rattle.std.specs.Prelude.{◌≡◌, ◌<◌, ◌≤◌, ◌+◌, ◌^◌, ◌++◌, ◌∷◌, [], false, length, map, IfOk, IfNone, IfSome, OnOk, OnSome};
+ghost use Rattle.std.specs.Prelude.{◌≡◌, ◌<◌, ◌≤◌, ◌+◌, ◌^◌, ◌++◌, ◌∷◌, [], true, length, map, IfOk, IfNone, IfSome, OnOk, OnSome};
+ghost use Rattle.std.specs.List.{sum_by};
+ghost use Rattle.cov_base.specs.Spelling.{is_line_text};
+ghost use Rattle.cov_base.specs.declared.limits.TheConstants.{MOST_PARTS};
 ghost use Rattle.cov_cond_text.specs.Reading.{nothing_read, line_read, after_directive};
 ghost use Rattle.cov_cond_text.specs.Readers.{state_of, done_of, condition_in, weight, HasRoom, IsFurther};
 
-use crate::CondFault;
-use crate::run::{Conditions, Run, Runs};
-use cov_base::{MOST_PARTS, Memory, Text, Texts};
-use cov_expr::{Expr, Part};
+use crate::run::{Run, Runs};
+use crate::{Conditions, LineTexts};
+use cov_base::{List, MOST_PARTS, Memory, Text};
+use cov_expr::Expr;
 use std::alloc::Global;
 use std::mem;
 
@@ -25,7 +28,7 @@ pub(crate) struct Reader {
     pub(crate) alloc: Global,
     pub(crate) runs: Runs,
     /// The texts since the last directive.
-    pub(crate) texts: Texts,
+    pub(crate) texts: LineTexts,
     /// From outside inwards.
     pub(crate) blocks: Vec<Block>,
     /// How many parts more the conditions of open blocks may have, each with one for the `&` before it.
@@ -43,7 +46,7 @@ impl Reader {
         Reader {
             alloc,
             runs: Runs::new(alloc),
-            texts: Texts::new(alloc),
+            texts: LineTexts::new(alloc),
             blocks: Vec::new(alloc),
             room: MOST_PARTS + 1,
             directives: 0,
@@ -52,6 +55,7 @@ impl Reader {
 
     /// Takes a text that isn't a directive.
     pub(crate) fn take_text(&mut self, text: &[u8]) -> Result<(), Memory>
+        requires spelt { is_line_text text.now ≡ true }
         requires room { HasRoom self.old }
         requires next { self.old.runs.next ≤ self.old.directives }
         ensures done { OnOk result (done_of self.new ≡ done_of self.old ++ line_read (state_of self.old) text.now ∷ []) }
@@ -66,6 +70,7 @@ impl Reader {
 
     /// Ends the run of the texts since the last directive.
     pub(crate) fn end_run(&mut self) -> Result<(), Memory>
+        requires room { HasRoom self.old }
         requires next { self.old.runs.next ≤ self.old.directives }
         ensures done { OnOk result (done_of self.new ≡ done_of self.old) }
         ensures none { OnOk result (self.new.texts ≡ []) }
@@ -77,8 +82,8 @@ impl Reader {
         if self.texts.is_empty() {
             return Ok(());
         }
-        let conditions = copy_conditions(self.alloc, self.blocks.as_slice())?;
-        let texts = mem::replace(&mut self.texts, Texts::new(self.alloc));
+        let conditions = conditions_of(self.alloc, self.blocks.as_slice())?;
+        let texts = mem::replace(&mut self.texts, LineTexts::new(self.alloc));
         self.runs.push(Run {
             group: self.directives,
             conditions,
@@ -153,10 +158,18 @@ impl Reader {
 }
 
 // The conditions of blocks.
-fn copy_conditions(alloc: Global, blocks: &[Block]) -> Result<Conditions, Memory>
+#[tactic(auto, using(crate::proofs::ReadSteps::few_parts))]
+fn conditions_of(alloc: Global, blocks: &[Block]) -> Result<Conditions, Memory>
+    requires { sum_by weight blocks.now ≤ MOST_PARTS + 1 }
     ensures { IfOk result (λ conditions. conditions ≡ map condition_in blocks.now) }
 {
-    let mut conditions = Conditions::new(alloc);
+    Ok(Conditions::new(copy_conditions(alloc, blocks)?))
+}
+
+fn copy_conditions(alloc: Global, blocks: &[Block]) -> Result<List<Expr>, Memory>
+    ensures { IfOk result (λ conditions. conditions ≡ map condition_in blocks.now) }
+{
+    let mut conditions = List::new(alloc);
     for block in blocks {
         conditions.push(block.condition.copy(alloc)?)?;
     }

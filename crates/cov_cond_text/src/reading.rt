@@ -51,6 +51,7 @@ fn take_all(reader: &mut Reader, lines: &[Text], options: &Options) -> Result<()
     requires none { done_of reader.old ≡ [] }
     requires room { HasRoom reader.old }
     requires next { reader.old.runs.next ≤ reader.old.directives }
+    ensures room { OnOk result (HasRoom reader.new) }
     ensures next { OnOk result (reader.new.runs.next ≤ reader.new.directives) }
     ensures read { OnOk result (read_text options.now.names lines.now ≡ Ok (done_of reader.new)) }
     ensures fault { IfErr result (IsFaultOf (read_text options.now.names lines.now)) }
@@ -92,7 +93,8 @@ pub fn read(alloc: Global, lines: &Texts, options: &Options) -> Result<CondText,
 
 // The text that was read.
 fn finish(mut reader: Reader) -> Result<CondText, CondFault>
-    requires { reader.runs.next ≤ reader.directives }
+    requires room { HasRoom reader }
+    requires next { reader.runs.next ≤ reader.directives }
     ensures text { IfOk result (λ text. text ≡ done_of reader) }
     ensures fault { IfErr result (λ fault. fault ≡ faults.Memory) }
 {

@@ -2,13 +2,11 @@
 ghost use Rattle.std.specs.Prelude.{◌≡◌, ◌<◌, ◌≤◌, ◌+◌, ◌++◌, ◌∷◌, [], length, OnOk, OnErr};
 ghost use Rattle.cov_cond_text.specs.Conditional.{AreRuns};
 
-use cov_base::{List, Memory, Texts};
-use cov_expr::Expr;
+use crate::conditions::Conditions;
+use crate::line_texts::LineTexts;
+use cov_base::Memory;
 use std::alloc::Global;
 use std::marker::Model;
-
-/// Conditions, from outside inwards.
-pub type Conditions = List<Expr>;
 
 /// Lines without a directive between them, which have the same conditions.
 #[derive(Drop)]
@@ -16,7 +14,7 @@ pub struct Run {
     /// How many directives stand before them.
     pub group: u32,
     pub conditions: Conditions,
-    pub texts: Texts,
+    pub texts: LineTexts,
 }
 
 /// Runs in order. Each has a line, and stands behind more directives than those before it.

@@ -8,7 +8,6 @@ use Rattle.cov_engine.specs.declared.prepared.Receipt.{Receipt}
 use Rattle.cov_history.specs.Verdict.{verdict}
 use Rattle.cov_history.specs.declared.refusal.Refusal.{Refusal}
 use Rattle.cov_loop.specs.Answers.{Gives, kind_of}
-use Rattle.cov_loop.specs.Outcome.{Outcome}
 use Rattle.cov_loop.specs.declared.answer.Reply.{Reply}
 use Rattle.cov_loop.specs.declared.ending.Ending.{Ending}
 use Rattle.cov_script.specs.Replies.{IsCodeOf}

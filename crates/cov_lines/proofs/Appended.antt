@@ -24,7 +24,7 @@ use Rattle.cov_store.specs.Stands.{IsStored}
 use Rattle.cov_store.specs.declared.appending.AppendFault.{AppendFault}
 use Rattle.cov_store.specs.declared.appending.AppendFault.TheVariants as faults
 use Rattle.cov_lines.specs.Acting.{Changes, Stops}
-use Rattle.cov_lines.specs.Adding.{HasReceipt, added_as, appended_ending, ended_by}
+use Rattle.cov_lines.specs.Adding.{HasReceipt, StopsCommand, added_as, appended_ending, ended_by}
 use Rattle.cov_lines.specs.Finding.{Found, ◌>>=◌}
 use Rattle.cov_lines.specs.States.{State, with_command, with_sessions}
 use Rattle.cov_lines.specs.Step.{appended}
@@ -42,6 +42,11 @@ refusal-stops st k r h = record {
   same = refl;
   told = refusal-code st.history k r h;
 }
+
+-- why a command that is only tried isn't accepted
+pub stops_command : (history : List Command) (k : Command) (r : Refusal) → RefusedBy r (verdict history k) → StopsCommand history k (refusal_stop r)
+stops_command history k refusals.Memory h = tt
+stops_command history k r h = (ap (option_map refusal_code) h, refusal-code history k r h)
 
 -- the state of a history, of the sessions that are open with their views, and of the names of trees
 abbrev pub state_of : List Command → List SessionValue → List (List ℕ) → State

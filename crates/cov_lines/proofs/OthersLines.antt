@@ -1,5 +1,5 @@
 -- A line that isn't a session's own leaves it as it is but for its sides, and the history up to its base.
-use Rattle.std.proofs.Common.{◌≡◌, ◌∙◌, refl, sym, ap, subst, ℕ, ◌≤◌, Bool, true, false, nat_lt, List, [], ◌∷◌, ◌++◌, length, Option, Some, None, Result, Ok, Err, ok_or, option_map, arith}
+use Rattle.std.proofs.Common.{◌≡◌, ◌∙◌, refl, sym, ap, subst, ℕ, ◌≤◌, Bool, true, false, nat_lt, List, [], ◌∷◌, ◌++◌, length, Option, Some, None, Result, Ok, Err, ok_or, option_map, take, arith}
 use Rattle.std.specs.Prelude.{if◌then◌else◌}
 use Rattle.std.specs.Str.{bytes_eq}
 use Rattle.std.proofs.lemmas.List.{length-append, take-append-le}
@@ -10,21 +10,28 @@ use Rattle.cov_script.specs.Lines.{form_of}
 use Rattle.cov_script.specs.declared.code.Code.{Code}
 use Rattle.cov_script.specs.declared.code.Code.TheVariants.{BadName, Long, NoSession, NoSuchLine, NoSuchPath, TreeTaken}
 use Rattle.cov_script.specs.Grouping.{grouped}
+use Rattle.cov_script.specs.declared.grouped.AnalysisLine.{AnalysisLine}
+use Rattle.cov_script.specs.declared.grouped.AnalysisLine.TheVariants as analysis_lines
 use Rattle.cov_script.specs.declared.grouped.Declaration.{Declaration}
 use Rattle.cov_script.specs.declared.grouped.Declaration.TheVariants as declarations
 use Rattle.cov_script.specs.declared.grouped.EditLine.{EditLine}
 use Rattle.cov_script.specs.declared.grouped.EditLine.TheVariants as edit_lines
 use Rattle.cov_script.specs.declared.grouped.GroupedLine.{GroupedLine}
 use Rattle.cov_script.specs.declared.grouped.GroupedLine.TheVariants as groups
+use Rattle.cov_script.specs.declared.grouped.PastLine.{PastLine}
+use Rattle.cov_script.specs.declared.grouped.PastLine.TheVariants as past_lines
 use Rattle.cov_script.specs.declared.grouped.Question.{Question}
 use Rattle.cov_script.specs.declared.grouped.Question.TheVariants as questions
 use Rattle.cov_script.specs.declared.grouped.SessionLine.{SessionLine}
 use Rattle.cov_script.specs.declared.grouped.SessionLine.TheVariants as session_lines
+use Rattle.cov_script.specs.declared.grouped.TreeLine.{TreeLine}
+use Rattle.cov_script.specs.declared.grouped.TreeLine.TheVariants as tree_lines
 use Rattle.cov_script.specs.declared.line.Line.{Line}
 use Rattle.cov_script.specs.declared.line.LineSyntax.{LineSyntax}
 use Rattle.cov_edit.specs.declared.command.Command.{Command}
 use Rattle.cov_edit.specs.declared.command.Command.TheVariants as commands
 use Rattle.cov_edit.specs.declared.edit.Edit.{Edit}
+use Rattle.cov_edit.specs.History.{option_count}
 use Rattle.cov_edit.specs.Replay.{replay}
 use Rattle.cov_view.specs.Paths.{path_node}
 use Rattle.cov_history.specs.Sessions.{commit_of}
@@ -39,12 +46,13 @@ use Rattle.cov_session.specs.Siding.{side_fault, with_side}
 use Rattle.cov_session.specs.declared.fault.SessionFault.{SessionFault}
 use Rattle.cov_engine.specs.Visibility.{is_no_line}
 use Rattle.cov_alt.specs.Sides.{sides_at}
-use Rattle.cov_codes.specs.Codes.{alt_code, refusal_code, session_code, syntax_code}
-use Rattle.cov_lines.specs.Editing.{directory_of}
-use Rattle.cov_lines.specs.Finding.{Found, ◌>>=◌, by_code, completed_choice, found_choice, found_expression, found_option, found_partial}
+use Rattle.cov_cond.specs.Exporting.{exported}
+use Rattle.cov_cond.specs.Fitting.{directory_of}
+use Rattle.cov_codes.specs.Codes.{alt_code, export_code, refusal_code, session_code, syntax_code}
+use Rattle.cov_lines.specs.Finding.{Found, ◌>>=◌, by_code, completed_choice, found_choice, found_expression, found_option, found_partial, whole_choice}
 use Rattle.cov_lines.specs.Isolation.{HasSession, begins_or_ends, has_form, is_boundary, is_own, is_turn, without_sides, works_in, UnsidedSession}
 use Rattle.cov_lines.specs.States.{State, with_command, with_sessions, with_tree}
-use Rattle.cov_lines.specs.Step.{Act, Done, acted, added, appended, as_outcome, checked_out, committed, compared, completed, constrained, declared, defaulted, deleted, dropped, ended, file_told, inserted, is_taken, listed_at, made_in, moved, node_at, opened, plainly, preferred, presence_told, refreshed, removed, renamed, replaced, served, served_declaration, served_edit, served_question, served_session, shown, side_changed, step, told, upgraded}
+use Rattle.cov_lines.specs.Step.{Act, Done, acted, added, analysed, appended, as_outcome, blamed, checked_out, choice_then, committed, compared, completed, conditions_told, constrained, declared, defaulted, deleted, dropped, ended, file_exported, file_in, file_told, inserted, is_taken, listed_at, logged, made_in, moved, nearest_told, node_at, opened, past_told, past_written, plainly, preferred, presence_told, refreshed, removed, renamed, replaced, served, served_analysis, served_declaration, served_edit, served_past, served_question, served_session, served_tree, shown, side_changed, step, told, upgraded}
 use Rattle.cov_lines.proofs.NamedSessions.{named-before, named-changed, named-has, named-kept, named-left, same-name}
 use Rattle.cov_lines.proofs.OwnActs.{named-there}
 
@@ -188,7 +196,7 @@ module _ (name : List ℕ) (s : UnsidedSession) (before : List Command) where
     declaration-leaves declarations.Upgrade = on-command st has commands.Upgrade _
 
     question-leaves : (question : Question) → Leaves (served_question st question)
-    unfolding served_question completed shown listed_at told file_told compared presence_told
+    unfolding served_question completed shown listed_at told file_told compared conditions_told file_exported presence_told
     question-leaves (questions.Complete bindings) = on-found (found_choice st.history bindings) _ (λ c. has)
     question-leaves (questions.Show n path) = on-found (node_at st n path) _ (λ file. told_in-leaves _ _ _)
     question-leaves (questions.List n path) = on-found (node_at st n path) _ (λ dir. listed_in-leaves _ _ _)
@@ -197,23 +205,50 @@ module _ (name : List ℕ) (s : UnsidedSession) (before : List Command) where
     question-leaves (questions.Alt bindings token path) =
         on-found (found_partial st.history bindings) _ (λ partial. on-found (found_option st.history token) _ (λ option. on-found (completed_choice st.history partial) _ (λ c.
         on-found (by_code alt_code (sides_at st.history c option path)) _ (λ ls. has))))
+    question-leaves (questions.Conditional bindings path) =
+        on-found (found_choice st.history bindings) _ (λ c. on-found (file_in (replay c st.history) path) _ (λ file.
+        on-found (by_code export_code (exported st.history file)) _ (λ ls. has)))
     question-leaves (questions.Presence line) = on-found (if is_no_line st.history line then Err NoSuchLine else Ok line) _ (λ there. has)
+
+    analysis-leaves : (line : AnalysisLine) → Leaves (served_analysis st line)
+    unfolding served_analysis analysed nearest_told
+    analysis-leaves analysis_lines.Analyse = has
+    analysis-leaves (analysis_lines.Nearest bindings) =
+        on-found (found_partial st.history bindings) _ (λ partial. on-found (whole_choice (option_count st.history) partial) _ (λ c. has))
+
+    past-leaves : (line : PastLine) → Leaves (served_past st line)
+    unfolding served_past logged blamed past_told file_told
+    past-leaves (past_lines.Log bindings) = on-found (found_choice st.history bindings) _ (λ c. has)
+    past-leaves (past_lines.Blame bindings path) =
+        on-found (found_choice st.history bindings) _ (λ c. on-found (file_in (replay c st.history) path) _ (λ file. has))
+    past-leaves (past_lines.Past position bindings path) =
+        on-found (found_partial st.history bindings) _ (λ partial. on-found (choice_then st partial position) _ (λ c.
+        on-found (ok_or (path_node (replay c (take position st.history)).rows 0 path) NoSuchPath) _ (λ node. told_in-leaves _ _ _)))
 
     plainly-leaves : (act : Act) → Leaves act → LeavesDone (plainly act)
     plainly-leaves (Ok done) h = h
     plainly-leaves (Err code) h = tt
 
+    tree-leaves : (line : TreeLine) → LeavesDone (served_tree st line)
+    unfolding served_tree checked_out past_written
+    tree-leaves (tree_lines.Checkout tree bindings) =
+        on-found-done (found_partial st.history bindings) _ (λ partial. on-found-done (if is_taken st tree then Err TreeTaken else Ok tree) _ (λ new.
+        on-found-done (completed_choice st.history partial) _ (λ c. has-tree new)))
+    tree-leaves (tree_lines.PastOut tree position bindings) =
+        on-found-done (found_partial st.history bindings) _ (λ partial. on-found-done (if is_taken st tree then Err TreeTaken else Ok tree) _ (λ new.
+        on-found-done (choice_then st partial position) _ (λ c. has-tree new)))
+
     -- lines of others of every group
     served-leaves : (line : GroupedLine) → works_in name line ≡ false → begins_or_ends name line ≡ false → LeavesDone (served st line)
-    unfolding served checked_out
+    unfolding served
     served-leaves groups.Silent other turned = has
     served-leaves (groups.Declaration declaration) other turned = plainly-leaves (served_declaration st declaration) (declaration-leaves declaration)
     served-leaves (groups.Session line) other turned = plainly-leaves (served_session st line) (session-leaves line turned)
     served-leaves (groups.Edit n edit) other turned = plainly-leaves (served_edit st n edit) (edit-leaves n edit other)
     served-leaves (groups.Question question) other turned = plainly-leaves (served_question st question) (question-leaves question)
-    served-leaves (groups.Checkout tree bindings) other turned =
-        on-found-done (found_partial st.history bindings) _ (λ partial. on-found-done (if is_taken st tree then Err TreeTaken else Ok tree) _ (λ new.
-        on-found-done (completed_choice st.history partial) _ (λ c. has-tree new)))
+    served-leaves (groups.Analysis line) other turned = plainly-leaves (served_analysis st line) (analysis-leaves line)
+    served-leaves (groups.Past line) other turned = plainly-leaves (served_past st line) (past-leaves line)
+    served-leaves (groups.Tree line) other turned = tree-leaves line
 
     acted-leaves : (line : List ℕ) → is_own name line ≡ false → is_boundary name line ≡ false → LeavesDone (acted st line)
     unfolding acted

@@ -35,14 +35,15 @@ use Rattle.cov_session.specs.Named.{with_session}
 use Rattle.cov_session.specs.Open.{NamedSession}
 use Rattle.cov_session.specs.declared.fault.SessionFault.{SessionFault}
 use Rattle.cov_codes.specs.Codes.{session_code, syntax_code}
-use Rattle.cov_lines.specs.Editing.{directory_of, last_name, line_ref, node_ref}
+use Rattle.cov_cond.specs.Fitting.{directory_of, last_name}
+use Rattle.cov_lines.specs.Editing.{line_ref, node_ref}
 use Rattle.cov_lines.specs.Finding.{Found, ◌>>=◌, by_code}
 use Rattle.cov_lines.specs.Isolation.{HasSession, SeeAlike, UnsidedSession, asks_in, has_form, is_own, without_sides, works_in}
 use Rattle.cov_lines.specs.Replies.{directory_reply, seen_reply}
 use Rattle.cov_lines.specs.States.{State, with_sessions}
 use Rattle.cov_lines.specs.Step.{Act, Done, acted, added, as_outcome, deleted, inserted, listed_at, made_in, moved, node_at, plainly, ref_at, removed, renamed, replaced, served, served_edit, served_question, shown, step}
 use Rattle.cov_lines.proofs.NamedSessions.{same-name}
-use Rattle.cov_lines.proofs.OwnActs.{IsNamed, IsQuiet, IsQuietFault, added-is, fault-quiet, fault_on, has-grown, has-named, named-there, node-is, node_on, view_on, with_more}
+use Rattle.cov_lines.proofs.OwnActs.{IsNamed, IsQuiet, IsQuietFault, added-is, fault-quiet, fault_on, has-grown, has-named, node-is, node_on, view_on, with_more}
 
 -- two acts are refused by one code, or tell the same and leave states that see a session alike
 abbrev pub AreAlike : List ℕ → Act → Act → Type 0

@@ -28,7 +28,7 @@ use Rattle.cov_lines.specs.Seeing.{IsNamed, IsNodeAt}
 use Rattle.cov_lines.specs.States.{State}
 use Rattle.cov_script.specs.declared.code.Code.TheVariants.{NoSession, NoSuchPath}
 use Rattle.cov_lines.specs.Finding.{◌>>=◌}
-use Rattle.cov_lines.specs.Editing.{directory_of, last_name}
+use Rattle.cov_cond.specs.Fitting.{directory_of, last_name}
 use Rattle.cov_lines.specs.Step.{made, made_in, node_at}
 use Rattle.cov_session.specs.Named.{named}
 use Rattle.cov_session.specs.Open.{NamedSession, numbers_at_base, table_of}
@@ -69,8 +69,15 @@ has-parts law bytes (lines.Discard n) h = tt
 has-parts law bytes (lines.Cat c p) h = tt
 has-parts law bytes (lines.Checkout t c) h = tt
 has-parts law bytes (lines.Alt c t p) h = tt
+has-parts law bytes (lines.Conditional c p) h = tt
 has-parts law bytes (lines.Presence n) h = tt
 has-parts law bytes lines.Upgrade h = tt
+has-parts law bytes lines.Analyse h = tt
+has-parts law bytes (lines.Nearest c) h = tt
+has-parts law bytes (lines.Log c) h = tt
+has-parts law bytes (lines.Blame c p) h = tt
+has-parts law bytes (lines.Past n c p) h = tt
+has-parts law bytes (lines.PastOut t n c) h = tt
 
 found-there : (p : Row → Bool) (rows : List Row) (r : Row) → find p rows ≡ Some r → list_any (λ (q : Row). nat_eq q.node r.node) rows ≡ true
 found-there p [] r h = absurd (cc)

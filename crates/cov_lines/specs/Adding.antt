@@ -1,19 +1,23 @@
 -- What a command that a line adds comes to.
-use Rattle.std.specs.Prelude.{◌≡◌, ℕ, ◌+◌, List, length, Option, Result, Ok, Err}
+use Rattle.std.specs.Prelude.{◌≡◌, ℕ, ◌+◌, List, length, Option, Some, option_map, Result, Ok, Err}
 use Rattle.cov_edit.specs.declared.command.Command.{Command}
+use Rattle.cov_edit.specs.History.{option_count}
 use Rattle.cov_engine.specs.States.{receipt_number}
 use Rattle.cov_engine.specs.declared.prepared.Receipt.{Receipt}
+use Rattle.cov_history.specs.Verdict.{verdict}
 use Rattle.cov_loop.specs.declared.ending.Ending.{Ending}
 use Rattle.cov_loop.specs.declared.ending.Ending.TheVariants as endings
-use Rattle.cov_script.specs.Replies.{constraint_reply, prefer_reply, default_reply, upgrade_reply, commit_reply}
+use Rattle.cov_script.specs.Replies.{constraint_reply, prefer_reply, default_reply, upgrade_reply, commit_reply, IsCodeOf}
 use Rattle.cov_store.specs.declared.appending.AppendFault.{AppendFault}
 use Rattle.cov_store.specs.declared.appending.AppendFault.TheVariants as faults
 use Rattle.cov_lines.specs.Finding.{Found, ◌>>=◌}
 use Rattle.cov_session.specs.Named.{left_by}
 use Rattle.cov_lines.specs.States.{State, with_sessions}
 use Rattle.cov_lines.specs.Step.{Act, appended}
+use Rattle.cov_codes.specs.Codes.{refusal_code}
 use Rattle.cov_codes.specs.Stops.{refusal_stop}
 use Rattle.cov_codes.specs.declared.stop.Stop.{Stop}
+use Rattle.cov_codes.specs.declared.stop.Stop.TheVariants as stops
 use Rattle.cov_lines.specs.declared.handled.Addition.{Addition}
 use Rattle.cov_lines.specs.declared.handled.Confirmation.{Confirmation}
 use Rattle.cov_lines.specs.declared.handled.Confirmation.TheVariants as confirmations
@@ -49,3 +53,12 @@ abbrev pub added_as : Result Receipt AppendFault → Result (Result Receipt Stop
 added_as (Ok receipt) = Ok (Ok receipt)
 added_as (Err (faults.Refused refusal)) = Ok (Err (refusal_stop refusal))
 added_as (Err faults.DiskFault) = Err endings.DiskFault
+
+-- a commit of no session is appended; the reply gives the position that the history then has
+abbrev pub commit_added : State → Command → Act
+commit_added st command = appended st command >>= (λ next. Ok (next, commit_reply (length st.history + 1)))
+
+-- why a command isn't accepted: memory is wanting, or the history refuses it by a code that can be told
+abbrev pub StopsCommand : List Command → Command → Stop → Type 0
+StopsCommand history command stops.Memory = Unit {0}
+StopsCommand history command (stops.Refused code) = (option_map refusal_code (verdict history command) ≡ Some code) × IsCodeOf (option_count history) code

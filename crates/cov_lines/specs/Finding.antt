@@ -11,6 +11,7 @@ use Rattle.cov_script.specs.declared.code.Code.TheVariants as codes
 use Rattle.cov_edit.specs.declared.command.Command.{Command}
 use Rattle.cov_edit.specs.History.{options_of}
 use Rattle.cov_history.specs.Completing.{completed_in}
+use Rattle.cov_hist.specs.Past.{first_open, values_of}
 use Rattle.cov_codes.specs.Codes.{name_code, bind_code}
 
 -- what is found, or the code by which the line is refused
@@ -52,3 +53,12 @@ completed_choice history partial = as_found (completed_in history partial)
 -- the choice to which the rules complete bindings
 abbrev pub found_choice : List Command → List (List ℕ × Bool) → Found (List Bool)
 found_choice history bindings = found_partial history bindings >>= completed_choice history
+
+-- a choice, unless an option is left open
+abbrev pub unless_open : Option ℕ → List Bool → Found (List Bool)
+unless_open None choice = Ok choice
+unless_open (Some option) choice = Err (codes.Incomplete option)
+
+-- the choice that bindings of each of so many options are; the least that isn't bound is open
+abbrev pub whole_choice : ℕ → List (ℕ × Bool) → Found (List Bool)
+whole_choice count partial = unless_open (first_open count partial) (values_of count partial)

@@ -11,22 +11,29 @@ use Rattle.cov_script.specs.Lines.{form_of}
 use Rattle.cov_script.specs.declared.code.Code.{Code}
 use Rattle.cov_script.specs.declared.code.Code.TheVariants.{BadName, Long, NoSession, NoSuchLine, NoSuchPath, TreeTaken}
 use Rattle.cov_script.specs.Grouping.{grouped}
+use Rattle.cov_script.specs.declared.grouped.AnalysisLine.{AnalysisLine}
+use Rattle.cov_script.specs.declared.grouped.AnalysisLine.TheVariants as analysis_lines
 use Rattle.cov_script.specs.declared.grouped.Declaration.{Declaration}
 use Rattle.cov_script.specs.declared.grouped.Declaration.TheVariants as declarations
 use Rattle.cov_script.specs.declared.grouped.EditLine.{EditLine}
 use Rattle.cov_script.specs.declared.grouped.EditLine.TheVariants as edit_lines
 use Rattle.cov_script.specs.declared.grouped.GroupedLine.{GroupedLine}
 use Rattle.cov_script.specs.declared.grouped.GroupedLine.TheVariants as groups
+use Rattle.cov_script.specs.declared.grouped.PastLine.{PastLine}
+use Rattle.cov_script.specs.declared.grouped.PastLine.TheVariants as past_lines
 use Rattle.cov_script.specs.declared.grouped.Question.{Question}
 use Rattle.cov_script.specs.declared.grouped.Question.TheVariants as questions
 use Rattle.cov_script.specs.declared.grouped.SessionLine.{SessionLine}
 use Rattle.cov_script.specs.declared.grouped.SessionLine.TheVariants as session_lines
+use Rattle.cov_script.specs.declared.grouped.TreeLine.{TreeLine}
+use Rattle.cov_script.specs.declared.grouped.TreeLine.TheVariants as tree_lines
 use Rattle.cov_script.specs.declared.line.Line.{Line}
 use Rattle.cov_script.specs.declared.line.Line.TheVariants as lines
 use Rattle.cov_script.specs.declared.line.LineSyntax.{LineSyntax}
 use Rattle.cov_edit.specs.declared.command.Command.{Command}
 use Rattle.cov_edit.specs.declared.command.Command.TheVariants as commands
 use Rattle.cov_edit.specs.declared.edit.Edit.{Edit}
+use Rattle.cov_edit.specs.History.{option_count}
 use Rattle.cov_edit.specs.Replay.{replay}
 use Rattle.cov_view.specs.Paths.{path_node}
 use Rattle.cov_history.specs.Sessions.{commit_of}
@@ -38,14 +45,15 @@ use Rattle.cov_session.specs.Open.{NamedSession}
 use Rattle.cov_session.specs.declared.fault.SessionFault.{SessionFault}
 use Rattle.cov_engine.specs.Visibility.{is_no_line}
 use Rattle.cov_alt.specs.Sides.{sides_at}
+use Rattle.cov_cond.specs.Exporting.{exported}
+use Rattle.cov_cond.specs.Fitting.{directory_of}
 use Rattle.cov_loop.specs.Outcome.{Outcome, unchanged}
 use Rattle.cov_store.specs.Stands.{IsStored}
-use Rattle.cov_codes.specs.Codes.{alt_code, refusal_code, session_code, syntax_code}
-use Rattle.cov_lines.specs.Editing.{directory_of}
+use Rattle.cov_codes.specs.Codes.{alt_code, export_code, refusal_code, session_code, syntax_code}
 use Rattle.cov_session.specs.Faults.{unless}
-use Rattle.cov_lines.specs.Finding.{Found, ◌>>=◌, by_code, completed_choice, found_choice, found_expression, found_option, found_partial}
+use Rattle.cov_lines.specs.Finding.{Found, ◌>>=◌, by_code, completed_choice, found_choice, found_expression, found_option, found_partial, whole_choice}
 use Rattle.cov_lines.specs.States.{State, with_command, with_sessions}
-use Rattle.cov_lines.specs.Step.{Act, Done, acted, added, appended, as_outcome, checked_out, committed, compared, completed, constrained, declared, defaulted, deleted, dropped, file_told, inserted, is_taken, listed_at, made_in, moved, node_at, opened, plainly, preferred, presence_told, refreshed, removed, renamed, replaced, served, served_declaration, served_edit, served_question, served_session, shown, side_changed, step, told, upgraded}
+use Rattle.cov_lines.specs.Step.{Act, Done, acted, added, analysed, appended, as_outcome, blamed, checked_out, choice_then, committed, compared, completed, conditions_told, constrained, declared, defaulted, deleted, dropped, file_exported, file_in, file_told, inserted, is_taken, listed_at, logged, made_in, moved, nearest_told, node_at, opened, past_told, past_written, plainly, preferred, presence_told, refreshed, removed, renamed, replaced, served, served_analysis, served_declaration, served_edit, served_past, served_question, served_session, served_tree, shown, side_changed, step, told, upgraded}
 use Rattle.cov_lines.specs.Storing.{count, stored}
 
 -- whether there is no reply
@@ -151,7 +159,7 @@ module _ (st : State) where
   dropped_keeps n = found_keeps (ok_or (named st.sessions n) NoSession) _ (λ s. (refl, refl))
 
   pub question_keeps : (question : Question) → Keeps (served_question st question)
-  unfolding served_question completed shown listed_at told file_told compared presence_told
+  unfolding served_question completed shown listed_at told file_told compared conditions_told file_exported presence_told
   question_keeps (questions.Complete bindings) = found_keeps (found_choice st.history bindings) _ (λ c. (refl, refl))
   question_keeps (questions.Show n path) = found_keeps (node_at st n path) _ (λ file. told_keeps _ _ _ refl)
   question_keeps (questions.List n path) = found_keeps (node_at st n path) _ (λ dir. listed_keeps _ _ _ refl)
@@ -160,7 +168,25 @@ module _ (st : State) where
   question_keeps (questions.Alt bindings token path) =
       found_keeps (found_partial st.history bindings) _ (λ partial. found_keeps (found_option st.history token) _ (λ option. found_keeps (completed_choice st.history partial) _ (λ c.
       found_keeps (by_code alt_code (sides_at st.history c option path)) _ (λ ls. (refl, refl)))))
+  question_keeps (questions.Conditional bindings path) =
+      found_keeps (found_choice st.history bindings) _ (λ c. found_keeps (file_in (replay c st.history) path) _ (λ file.
+      found_keeps (by_code export_code (exported st.history file)) _ (λ ls. (refl, refl))))
   question_keeps (questions.Presence line) = found_keeps (if is_no_line st.history line then Err NoSuchLine else Ok line) _ (λ there. (refl, refl))
+
+  pub analysis_keeps : (line : AnalysisLine) → Keeps (served_analysis st line)
+  unfolding served_analysis analysed nearest_told
+  analysis_keeps analysis_lines.Analyse = (refl, refl)
+  analysis_keeps (analysis_lines.Nearest bindings) =
+      found_keeps (found_partial st.history bindings) _ (λ partial. found_keeps (whole_choice (option_count st.history) partial) _ (λ c. (refl, refl)))
+
+  pub past_keeps : (line : PastLine) → Keeps (served_past st line)
+  unfolding served_past logged blamed past_told file_told
+  past_keeps (past_lines.Log bindings) = found_keeps (found_choice st.history bindings) _ (λ c. (refl, refl))
+  past_keeps (past_lines.Blame bindings path) =
+      found_keeps (found_choice st.history bindings) _ (λ c. found_keeps (file_in (replay c st.history) path) _ (λ file. (refl, refl)))
+  past_keeps (past_lines.Past position bindings path) =
+      found_keeps (found_partial st.history bindings) _ (λ partial. found_keeps (choice_then st partial position) _ (λ c.
+      found_keeps (ok_or (path_node (replay c (take position st.history)).rows 0 path) NoSuchPath) _ (λ node. told_keeps _ _ _ refl)))
 
   declaration_adds : (declaration : Declaration) → Adds (served_declaration st declaration)
   unfolding served_declaration declared constrained preferred defaulted upgraded
@@ -179,6 +205,17 @@ module _ (st : State) where
   checkout_grows tree bindings =
       found_grows (found_partial st.history bindings) _ (λ partial. found_grows (if is_taken st tree then Err TreeTaken else Ok tree) _ (λ new.
       found_grows (completed_choice st.history partial) _ (λ c. (inl refl, refl))))
+
+  past_grows : (tree : List ℕ) (position : ℕ) (bindings : List (List ℕ × Bool)) → Grows (past_written st tree position bindings)
+  unfolding past_written
+  past_grows tree position bindings =
+      found_grows (found_partial st.history bindings) _ (λ partial. found_grows (if is_taken st tree then Err TreeTaken else Ok tree) _ (λ new.
+      found_grows (choice_then st partial position) _ (λ c. (inl refl, refl))))
+
+  tree_grows : (line : TreeLine) → Grows (served_tree st line)
+  unfolding served_tree
+  tree_grows (tree_lines.Checkout tree bindings) = checkout_grows tree bindings
+  tree_grows (tree_lines.PastOut tree position bindings) = past_grows tree position bindings
 
   kept_grows : (act : Act) → Keeps act → Grows (plainly act)
   kept_grows (Ok done) h = (inl h.0, h.1)
@@ -203,7 +240,9 @@ module _ (st : State) where
   served_grows (groups.Session line) = inr (session_grows line)
   served_grows (groups.Edit n edit) = inr (kept_grows (served_edit st n edit) (edit_keeps n edit))
   served_grows (groups.Question question) = inr (kept_grows (served_question st question) (question_keeps question))
-  served_grows (groups.Checkout tree bindings) = inr (checkout_grows tree bindings)
+  served_grows (groups.Analysis line) = inr (kept_grows (served_analysis st line) (analysis_keeps line))
+  served_grows (groups.Past line) = inr (kept_grows (served_past st line) (past_keeps line))
+  served_grows (groups.Tree line) = inr (tree_grows line)
 
   -- a line is silent and does nothing, or keeps the history or adds a command, and its reply says ok
   acted_grows : (line : List ℕ) → ((form_of line ≡ Ok lines.Nothing) × (acted st line ≡ Ok (record { state = st; reply = []; rows = [] }))) ⊎ Grows (acted st line)

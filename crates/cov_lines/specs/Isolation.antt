@@ -29,6 +29,7 @@ asks_in name (questions.Show n path) = bytes_eq n name
 asks_in name (questions.List n path) = bytes_eq n name
 asks_in name (questions.Cat bindings path) = false
 asks_in name (questions.Alt bindings token path) = false
+asks_in name (questions.Conditional bindings path) = false
 asks_in name (questions.Presence line) = false
 
 -- whether a line edits, shows or lists in the session of a name
@@ -38,7 +39,9 @@ works_in name (groups.Declaration declaration) = false
 works_in name (groups.Session line) = false
 works_in name (groups.Edit n edit) = bytes_eq n name
 works_in name (groups.Question question) = asks_in name question
-works_in name (groups.Checkout tree bindings) = false
+works_in name (groups.Analysis line) = false
+works_in name (groups.Past line) = false
+works_in name (groups.Tree line) = false
 
 -- whether the session of a name is opened or refreshed
 abbrev pub is_start : List ℕ → SessionLine → Bool
@@ -63,7 +66,9 @@ of_session test (groups.Declaration declaration) = false
 of_session test (groups.Session line) = test line
 of_session test (groups.Edit n edit) = false
 of_session test (groups.Question question) = false
-of_session test (groups.Checkout tree bindings) = false
+of_session test (groups.Analysis line) = false
+of_session test (groups.Past line) = false
+of_session test (groups.Tree line) = false
 
 -- whether a line opens or refreshes the session of a name
 abbrev pub begins : List ℕ → GroupedLine → Bool

@@ -1,5 +1,6 @@
 pub mod Acting
 pub mod Adding
+pub mod Analysing
 pub mod Editing
 pub mod Finding
 pub mod Growth

@@ -1,6 +1,12 @@
 -- The texts of replies that aren't one line of a form alone.
 use Rattle.std.specs.Prelude.{ℕ, ◌+◌, List, [], ◌∷◌, ◌++◌, length, map, Option, Some, None}
-use Rattle.std.specs.List.{concat}
+use Rattle.std.specs.List.{concat, range_with_len}
+use Rattle.cov_expr.specs.Formula.{Formula}
+use Rattle.cov_analyse.specs.States.{option_state, rule_state}
+use Rattle.cov_analyse.specs.declared.analysis.OptionState.{OptionState}
+use Rattle.cov_analyse.specs.declared.analysis.OptionState.TheVariants as option_states
+use Rattle.cov_analyse.specs.declared.analysis.RuleState.{RuleState}
+use Rattle.cov_analyse.specs.declared.analysis.RuleState.TheVariants as rule_states
 use Rattle.cov_vis.specs.Listings.{ListingValue}
 use Rattle.cov_vis.specs.declared.listing.Child.{Child}
 use Rattle.cov_vis.specs.declared.listing.Child.TheVariants as children
@@ -8,7 +14,9 @@ use Rattle.cov_vis.specs.declared.listing.ListingEntry.{ListingEntry}
 use Rattle.cov_alt.specs.declared.line.AltLine.{AltLine}
 use Rattle.cov_alt.specs.declared.line.Mark.{Mark}
 use Rattle.cov_alt.specs.declared.line.Mark.TheVariants as marks
-use Rattle.cov_script.specs.Replies.{alt_line, count_reply, cat_line, list_line, new_line_reply, plain_reply, shown_line, where_line, where_reply}
+use Rattle.cov_hist.specs.declared.rows.BlameRow.{BlameRow}
+use Rattle.cov_hist.specs.declared.rows.LogRow.{LogRow}
+use Rattle.cov_script.specs.Replies.{alt_line, blame_line, count_reply, cat_line, dead_line, forced_line, free_line, list_line, log_line, needed_line, new_line_reply, plain_reply, redundant_line, shown_line, where_line, where_reply}
 use Rattle.cov_script.specs.declared.target.Target.{Target}
 use Rattle.cov_script.specs.declared.target.Target.TheVariants as targets
 use Rattle.cov_view.specs.declared.listing.DirRow.{DirRow}
@@ -85,3 +93,36 @@ entry_lines names i (e ∷ es) = entry_line names i e ∷ entry_lines names (i +
 -- the reply that tells a listing
 abbrev pub presence_reply : List (List ℕ) → ListingValue → List ℕ
 presence_reply names l = where_reply (length l.entries) (target_of l.root) ++ concat (entry_lines names 0 l.entries)
+
+-- an option by what the rules make of it
+abbrev pub option_line : List (List ℕ) → ℕ → OptionState → List ℕ
+option_line names option option_states.Dead = dead_line names option
+option_line names option option_states.Forced = forced_line names option
+option_line names option (option_states.Free off on) = free_line names option off on
+
+-- a constraint by its number and what it adds to the others
+abbrev pub rule_line : List (List ℕ) → ℕ → RuleState → List ℕ
+rule_line names rule rule_states.Redundant = redundant_line rule
+rule_line names rule (rule_states.Needed c) = needed_line rule names c
+
+-- what constraints make of an option
+abbrev pub told_option : List (List ℕ) → List (Formula ℕ) → ℕ → List ℕ
+told_option names constraints option = option_line names option (option_state (length names) constraints option)
+
+-- what one of constraints adds to the others
+abbrev pub told_rule : List (List ℕ) → List (Formula ℕ) → ℕ → List ℕ
+told_rule names constraints rule = rule_line names rule (rule_state (length names) constraints rule)
+
+-- the reply that tells of each option what the constraints make of it, and then of each constraint what it adds to the others
+abbrev pub analysis_reply : List (List ℕ) → List (Formula ℕ) → List ℕ
+analysis_reply names constraints =
+    (count_reply (length names + length constraints) ++ concat (map (told_option names constraints) (range_with_len 0 (length names))))
+    ++ concat (map (told_rule names constraints) (range_with_len 1 (length constraints)))
+
+-- a commit with how many of its edits apply
+abbrev pub logged_line : LogRow → List ℕ
+logged_line r = log_line r.position r.edits
+
+-- a line with the commit that it comes from
+abbrev pub blamed_line : BlameRow → List ℕ
+blamed_line r = blame_line r.position r.line r.text

@@ -1,5 +1,5 @@
 -- The model of the program: what one line of a script does.
-use Rattle.std.specs.Prelude.{ℕ, ◌+◌, Bool, true, false, nat_lt, List, [], ◌∷◌, ◌++◌, length, map, take, ok_or, option_map, Ok, Err, if◌then◌else◌}
+use Rattle.std.specs.Prelude.{ℕ, ◌+◌, Bool, true, false, nat_lt, List, [], ◌∷◌, ◌++◌, length, map, take, ok_or, option_map, unwrap_or, Ok, Err, if◌then◌else◌}
 use Rattle.std.specs.List.{list_any}
 use Rattle.std.specs.Str.{bytes_eq}
 use Rattle.cov_base.specs.Lines.{lines_of as script_lines}
@@ -12,18 +12,24 @@ use Rattle.cov_base.specs.declared.limits.TheConstants.{MOST_SCRIPT_LINE_BYTES}
 use Rattle.cov_expr.specs.Formula.{Formula, True}
 use Rattle.cov_script.specs.Grouping.{grouped}
 use Rattle.cov_script.specs.Lines.{form_of}
+use Rattle.cov_script.specs.declared.grouped.AnalysisLine.{AnalysisLine}
+use Rattle.cov_script.specs.declared.grouped.AnalysisLine.TheVariants as analysis_lines
 use Rattle.cov_script.specs.declared.grouped.Declaration.{Declaration}
 use Rattle.cov_script.specs.declared.grouped.Declaration.TheVariants as declarations
 use Rattle.cov_script.specs.declared.grouped.EditLine.{EditLine}
 use Rattle.cov_script.specs.declared.grouped.EditLine.TheVariants as edit_lines
 use Rattle.cov_script.specs.declared.grouped.GroupedLine.{GroupedLine}
 use Rattle.cov_script.specs.declared.grouped.GroupedLine.TheVariants as groups
+use Rattle.cov_script.specs.declared.grouped.PastLine.{PastLine}
+use Rattle.cov_script.specs.declared.grouped.PastLine.TheVariants as past_lines
 use Rattle.cov_script.specs.declared.grouped.Question.{Question}
 use Rattle.cov_script.specs.declared.grouped.Question.TheVariants as questions
 use Rattle.cov_script.specs.declared.grouped.SessionLine.{SessionLine}
 use Rattle.cov_script.specs.declared.grouped.SessionLine.TheVariants as session_lines
+use Rattle.cov_script.specs.declared.grouped.TreeLine.{TreeLine}
+use Rattle.cov_script.specs.declared.grouped.TreeLine.TheVariants as tree_lines
 use Rattle.cov_script.specs.declared.line.LineField.{LineField}
-use Rattle.cov_script.specs.Replies.{refused_reply, option_reply, constraint_reply, prefer_reply, default_reply, upgrade_reply, complete_reply, open_reply, refresh_reply, plain_reply, new_line_reply, commit_reply}
+use Rattle.cov_script.specs.Replies.{refused_reply, option_reply, constraint_reply, prefer_reply, default_reply, upgrade_reply, complete_reply, open_reply, refresh_reply, plain_reply, new_line_reply, commit_reply, nearest_reply, text_line}
 use Rattle.cov_script.specs.declared.code.Code.{Code}
 use Rattle.cov_script.specs.declared.code.Code.TheVariants.{Long, BadName, NoSession, NoSuchLine, NoSuchPath, NotFile, NotDirectory, TreeTaken}
 use Rattle.cov_edit.specs.declared.edit.Edit.{Edit}
@@ -44,17 +50,24 @@ use Rattle.cov_history.specs.Sessions.{Session, seen, commit_of}
 use Rattle.cov_history.specs.Verdict.{verdict}
 use Rattle.cov_engine.specs.Visibility.{is_no_line, presence_of}
 use Rattle.cov_alt.specs.Sides.{sides_at}
+use Rattle.cov_analyse.specs.Bounding.{distance}
+use Rattle.cov_analyse.specs.Nearest.{nearest}
+use Rattle.cov_hist.specs.Holding.{holding}
+use Rattle.cov_hist.specs.Origins.{blame}
+use Rattle.cov_hist.specs.Past.{choice_at}
+use Rattle.cov_cond.specs.Exporting.{exported}
+use Rattle.cov_cond.specs.Fitting.{directory_of, last_name}
 use Rattle.cov_out.specs.declared.row.OutRow.{OutRow}
 use Rattle.cov_session.specs.Calls.{opened_among, refreshed_among, side_set, taken}
 use Rattle.cov_session.specs.Counting.{line_made, own_lines}
 use Rattle.cov_session.specs.Named.{named, side_of, with_session, without}
 use Rattle.cov_session.specs.Open.{NamedSession}
 use Rattle.cov_loop.specs.Outcome.{Outcome, answers}
-use Rattle.cov_codes.specs.Codes.{alt_code, syntax_code, refusal_code, session_code}
-use Rattle.cov_lines.specs.Editing.{directory_of, last_name, ref_in, line_ref}
+use Rattle.cov_codes.specs.Codes.{alt_code, export_code, past_code, syntax_code, refusal_code, session_code}
+use Rattle.cov_lines.specs.Editing.{ref_in, line_ref}
 use Rattle.cov_session.specs.Faults.{unless}
-use Rattle.cov_lines.specs.Finding.{Found, by_code, ◌>>=◌, completed_choice, found_option, found_expression, found_partial, found_choice}
-use Rattle.cov_lines.specs.Replies.{directory_reply, edit_reply, file_reply, lines_reply, marked_line, presence_reply, seen_reply}
+use Rattle.cov_lines.specs.Finding.{Found, by_code, ◌>>=◌, completed_choice, found_option, found_expression, found_partial, found_choice, whole_choice}
+use Rattle.cov_lines.specs.Replies.{analysis_reply, blamed_line, directory_reply, edit_reply, file_reply, lines_reply, logged_line, marked_line, presence_reply, seen_reply}
 use Rattle.cov_lines.specs.States.{State, starting, with_command, with_sessions, with_tree}
 use Rattle.cov_lines.specs.Written.{rows_in, tree_reply}
 
@@ -287,7 +300,67 @@ compared st bindings token path = do
   ls ← by_code alt_code (sides_at st.history choice option path)
   Ok (st, lines_reply marked_line ls)
 
--- whether a checkout has used a name
+-- the file at a path of a variant
+abbrev pub file_in : Variant → List (List ℕ) → Found ℕ
+file_in v path = do
+  node ← ok_or (path_node v.rows 0 path) NoSuchPath
+  (if is_dir v.rows node then Err NotFile else Ok node)
+
+-- a file is told with all its variants, as conditional text
+unfoldable pub file_exported : State → ℕ → Act
+file_exported st file = do
+  ls ← by_code export_code (exported st.history file)
+  Ok (st, lines_reply text_line ls)
+
+-- the file at a path in the variant of the choice to which the rules complete bindings is told with all its variants, as conditional
+-- text
+unfoldable pub conditions_told : State → List (List ℕ × Bool) → List (List ℕ) → Act
+conditions_told st bindings path = do
+  c ← found_choice st.history bindings
+  file ← file_in (replay c st.history) path
+  file_exported st file
+
+-- what the constraints make of each option, and what each of them adds to the others, is told
+unfoldable pub analysed : State → Act
+analysed st = Ok (st, analysis_reply (options_of st.history) (constraints_of st.history))
+
+-- the valid choice that is nearest to one, the first where there are more; in a history on which none is valid, that one
+abbrev pub nearest_in : List Command → List Bool → List Bool
+nearest_in history c = unwrap_or (nearest (option_count history) (constraints_of history) c) c
+
+-- the valid choice is told that is nearest to the one that bindings of all options are
+unfoldable pub nearest_told : State → List (List ℕ × Bool) → Act
+nearest_told st bindings = do
+  partial ← found_partial st.history bindings
+  choice ← whole_choice (option_count st.history) partial
+  Ok (st, nearest_reply (distance choice (nearest_in st.history choice)) (options_of st.history) (nearest_in st.history choice))
+
+-- the commits are told whose ambition is true on the choice to which the rules complete bindings
+unfoldable pub logged : State → List (List ℕ × Bool) → Act
+logged st bindings = do
+  c ← found_choice st.history bindings
+  Ok (st, lines_reply logged_line (holding st.history c))
+
+-- the lines of a file are told in the variant of the choice to which the rules complete bindings, each with the commit that it comes
+-- from
+unfoldable pub blamed : State → List (List ℕ × Bool) → List (List ℕ) → Act
+blamed st bindings path = do
+  c ← found_choice st.history bindings
+  file ← file_in (replay c st.history) path
+  Ok (st, lines_reply blamed_line (blame st.history c file))
+
+-- the choice that a partial one is at a position
+abbrev pub choice_then : State → List (ℕ × Bool) → ℕ → Found (List Bool)
+choice_then st partial position = by_code past_code (choice_at st.history partial position)
+
+-- the lines of a file are told as they were at a position, in the variant of the choice that bindings were then
+unfoldable pub past_told : State → ℕ → List (List ℕ × Bool) → List (List ℕ) → Act
+past_told st position bindings path = do
+  partial ← found_partial st.history bindings
+  c ← choice_then st partial position
+  file_told st (replay c (take position st.history)) path
+
+-- whether a checkout, of now or of the past, has used a name
 abbrev pub is_taken : State → List ℕ → Bool
 is_taken st tree = list_any (bytes_eq tree) st.trees
 
@@ -302,6 +375,14 @@ checked_out st tree bindings = do
   new ← (if is_taken st tree then Err TreeTaken else Ok tree)
   choice ← completed_choice st.history partial
   Ok (written st new (tree_of (replay choice st.history)))
+
+-- a tree is written as it was at a position: that of the variant of the choice that bindings were then
+unfoldable pub past_written : State → List ℕ → ℕ → List (List ℕ × Bool) → Found Done
+past_written st tree position bindings = do
+  partial ← found_partial st.history bindings
+  new ← (if is_taken st tree then Err TreeTaken else Ok tree)
+  choice ← choice_then st partial position
+  Ok (written st new (tree_of (replay choice (take position st.history))))
 
 -- what a declaration does
 unfoldable pub served_declaration : State → Declaration → Act
@@ -337,7 +418,24 @@ served_question st (questions.Show name path) = shown st name path
 served_question st (questions.List name path) = listed_at st name path
 served_question st (questions.Cat bindings path) = told st bindings path
 served_question st (questions.Alt bindings token path) = compared st bindings token path
+served_question st (questions.Conditional bindings path) = conditions_told st bindings path
 served_question st (questions.Presence line) = presence_told st line
+
+-- what a line is answered that asks what the rules come to
+unfoldable pub served_analysis : State → AnalysisLine → Act
+served_analysis st analysis_lines.Analyse = analysed st
+served_analysis st (analysis_lines.Nearest bindings) = nearest_told st bindings
+
+-- what a line is answered that asks what the history tells of its past
+unfoldable pub served_past : State → PastLine → Act
+served_past st (past_lines.Log bindings) = logged st bindings
+served_past st (past_lines.Blame bindings path) = blamed st bindings path
+served_past st (past_lines.Past position bindings path) = past_told st position bindings path
+
+-- what a line does that writes a tree
+unfoldable pub served_tree : State → TreeLine → Found Done
+served_tree st (tree_lines.Checkout tree bindings) = checked_out st tree bindings
+served_tree st (tree_lines.PastOut tree position bindings) = past_written st tree position bindings
 
 -- what a line of each group does
 unfoldable pub served : State → GroupedLine → Found Done
@@ -346,7 +444,9 @@ served st (groups.Declaration declaration) = plainly (served_declaration st decl
 served st (groups.Session line) = plainly (served_session st line)
 served st (groups.Edit name edit) = plainly (served_edit st name edit)
 served st (groups.Question question) = plainly (served_question st question)
-served st (groups.Checkout tree bindings) = checked_out st tree bindings
+served st (groups.Analysis line) = plainly (served_analysis st line)
+served st (groups.Past line) = plainly (served_past st line)
+served st (groups.Tree line) = served_tree st line
 
 -- what a line does
 unfoldable pub acted : State → List ℕ → Found Done

@@ -90,7 +90,7 @@ impl Server {
     }
 
     // Adds a command, with which the session ends that is to, counts it if it is a commit, and makes the reply.
-    fn add<D: Disk>(&mut self, addition: Addition, disk: &mut D) -> Result<Reply, Ending>
+    pub(crate) fn add<D: Disk>(&mut self, addition: Addition, disk: &mut D) -> Result<Reply, Ending>
         requires gate { IfSome (D.contents disk.old) (gated self.old.state) }
         ensures gives { IfOk result
             (Gives (as_outcome self.old.state (plainly (command_added self.old.state addition)))

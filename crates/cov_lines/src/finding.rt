@@ -4,9 +4,10 @@ ghost use Rattle.std.specs.List.{list_all};
 ghost use Rattle.cov_expr.specs.Formula.{reach};
 ghost use Rattle.cov_edit.specs.History.{first_false_in, option_count};
 ghost use Rattle.cov_lines.specs.Acting.{Finds};
-ghost use Rattle.cov_lines.specs.Finding.{completed_choice, found_choice, found_expression, found_option, found_partial};
+ghost use Rattle.cov_lines.specs.Finding.{completed_choice, found_choice, found_expression, found_option, found_partial, whole_choice};
 
 use crate::state::ServerState;
+use crate::whole::whole_choice;
 use cov_base::{Choice, OptionId, Text};
 use cov_codes::Stop;
 use cov_expr::{Expr, Partial, RawChoice, RawExpr};
@@ -58,6 +59,20 @@ impl ServerState {
     {
         open_options_are_declared();
         Ok(self.engine.complete(partial)?)
+    }
+
+    /// The choice that a partial one is, which is to bind each option.
+    pub(crate) fn find_whole(&self, partial: &Partial) -> Result<Choice, Stop>
+        ensures found { Finds
+            (whole_choice (option_count self.now.state.history) partial.now)
+            self.now.state result }
+        ensures whole { IfOk result (λ choice.
+            length choice ≡ option_count self.now.state.history) }
+    {
+        match whole_choice(partial, self.engine.options().count()) {
+            Ok(choice) => Ok(choice),
+            Err(option) => Err(Stop::Refused(Code::Incomplete { option })),
+        }
     }
 
     /// The choice to which the rules complete bindings.

@@ -2,12 +2,17 @@
 #![tactic(auto)]
 
 mod adding;
+mod analysing;
 mod answering;
+mod conditional;
 mod declaring;
 mod editing;
 mod finding;
 mod handled;
+mod importing;
 pub mod laws;
+mod nearest_choices;
+mod past;
 mod presence;
 mod reply;
 mod seeing;
@@ -18,6 +23,7 @@ mod state;
 mod sweeping;
 mod telling;
 mod tree_names;
+mod whole;
 mod writing;
 
 pub use server::Server;

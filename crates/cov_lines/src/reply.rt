@@ -4,7 +4,11 @@ ghost use Rattle.cov_lines.specs.Replies.{lines_reply, mark_byte};
 
 use cov_alt::{AltLine, Mark};
 use cov_base::{FileRow, Memory, Text};
-use cov_script::{alt_line, append_cat_line, list_line, reply_count, show_line};
+use cov_hist::{BlameRow, LogRow};
+use cov_script::{
+    alt_line, append_blame_line, append_cat_line, append_log_line, append_text_line, list_line,
+    reply_count, show_line,
+};
 use cov_view::{DirRow, ViewLine};
 use std::alloc::Global;
 
@@ -58,6 +62,36 @@ impl Told for AltLine {
     fn tell(&self, alloc: Global, reply: &mut Text) -> Result<(), Memory> {
         let line = alt_line(alloc, mark_byte(self.mark), self.line, &self.text)?;
         reply.append(line.as_slice())
+    }
+}
+
+impl Told for Text {
+    ghost use Rattle.cov_script.specs.Replies.{text_line};
+
+    ghost line = { text_line };
+
+    fn tell(&self, _alloc: Global, reply: &mut Text) -> Result<(), Memory> {
+        append_text_line(reply, self)
+    }
+}
+
+impl Told for LogRow {
+    ghost use Rattle.cov_lines.specs.Replies.{logged_line};
+
+    ghost line = { logged_line };
+
+    fn tell(&self, _alloc: Global, reply: &mut Text) -> Result<(), Memory> {
+        append_log_line(reply, self.position, self.edits)
+    }
+}
+
+impl Told for BlameRow {
+    ghost use Rattle.cov_lines.specs.Replies.{blamed_line};
+
+    ghost line = { blamed_line };
+
+    fn tell(&self, _alloc: Global, reply: &mut Text) -> Result<(), Memory> {
+        append_blame_line(reply, self.position, self.line, &self.text)
     }
 }
 

@@ -4,20 +4,20 @@ ghost use Rattle.cov_edit.specs.History.{option_count};
 ghost use Rattle.cov_lines.specs.Acting.{Acts, Handles};
 ghost use Rattle.cov_lines.specs.Growth.{Keeps};
 ghost use Rattle.cov_lines.specs.States.{State};
-ghost use Rattle.cov_lines.specs.Step.{Act, acted, plainly, refused, served, served_declaration, served_edit, served_question, served_session};
+ghost use Rattle.cov_lines.specs.Step.{Act, acted, plainly, refused, served, served_analysis, served_declaration, served_edit, served_past, served_question, served_session, served_tree};
 ghost use Rattle.cov_lines.specs.Texts.{EditHasParts, HasParts};
 ghost use Rattle.cov_loop.specs.Answers.{Gives};
 ghost use Rattle.cov_script.specs.Replies.{IsCodeOf};
 
 use crate::handled::Handled;
 use crate::state::ServerState;
-use cov_base::{Kind, LineNo, MOST_SCRIPT_LINE_BYTES, Memory, Name, Text};
+use cov_base::{Kind, LineNo, MOST_SCRIPT_LINE_BYTES, Memory, Name, Position, Text};
 use cov_codes::Stop;
 use cov_loop::{Answer, Reply};
 use cov_out::OutRows;
 use cov_script::{
-    Code, Declaration, EditLine, GroupedLine, Question, SessionLine, lines_read_as_spelt,
-    read_line, reply_refused,
+    AnalysisLine, Code, Declaration, EditLine, GroupedLine, PastLine, Question, SessionLine,
+    TreeLine, lines_read_as_spelt, read_line, reply_refused,
 };
 use std::alloc::Global;
 
@@ -61,7 +61,9 @@ impl ServerState {
             GroupedLine::Session(line) => self.serve_session(line),
             GroupedLine::Edit { name, edit } => as_done(self.alloc, self.serve_edit(&name, edit)),
             GroupedLine::Question(question) => as_done(self.alloc, self.serve_question(question)),
-            GroupedLine::Checkout { tree, choice } => self.check_out(&tree, &choice),
+            GroupedLine::Analysis(line) => as_done(self.alloc, self.serve_analysis(line)),
+            GroupedLine::Past(line) => as_done(self.alloc, self.serve_past(line)),
+            GroupedLine::Tree(line) => self.serve_tree(line),
         }
     }
 
@@ -130,7 +132,47 @@ impl ServerState {
                 token,
                 path,
             } => self.compare(&choice, token, &path),
+            Question::Conditional { choice, path } => self.tell_conditional(&choice, &path),
             Question::Presence { line } => self.presence(LineNo::new(line)),
+        }
+    }
+
+    #[tactic(auto, unfolding(crate::specs::Step::served_analysis))]
+    fn serve_analysis(&mut self, line: AnalysisLine) -> Result<Text, Stop>
+        ensures { Acts (served_analysis self.old.state line) self.old.state self.new.state result }
+    {
+        match line {
+            AnalysisLine::Analyse => self.analyse(),
+            AnalysisLine::Nearest { choice } => self.nearest(&choice),
+        }
+    }
+
+    #[tactic(auto, unfolding(crate::specs::Step::served_past))]
+    fn serve_past(&mut self, line: PastLine) -> Result<Text, Stop>
+        ensures { Acts (served_past self.old.state line) self.old.state self.new.state result }
+    {
+        match line {
+            PastLine::Log { choice } => self.log(&choice),
+            PastLine::Blame { choice, path } => self.blame(&choice, &path),
+            PastLine::Past {
+                position,
+                choice,
+                path,
+            } => self.tell_past(Position::new(position), &choice, &path),
+        }
+    }
+
+    #[tactic(auto, unfolding(crate::specs::Step::served_tree))]
+    fn serve_tree(&mut self, line: TreeLine) -> Result<Handled, Stop>
+        ensures { Handles (served_tree self.old.state line) self.old.state self.new.state result }
+    {
+        match line {
+            TreeLine::Checkout { tree, choice } => self.check_out(&tree, &choice),
+            TreeLine::PastOut {
+                tree,
+                position,
+                choice,
+            } => self.write_past(&tree, Position::new(position), &choice),
         }
     }
 }

@@ -2,19 +2,22 @@
 ghost use Rattle.std.specs.Prelude.{◌≡◌};
 ghost use Rattle.cov_lines.specs.States.{starting};
 
+use crate::nearest_choices::NearestChoices;
 use crate::tree_names::TreeNames;
 use cov_engine::Engine;
 use cov_session::Sessions;
 use std::alloc::Global;
 use std::marker::Model;
 
-/// What the script has made so far: the history, the sessions that are open, and the names of the trees that were written.
+/// What the script has made so far: the history, the sessions that are open, and the names of the trees that were written; and one
+/// analysis of the constraints, which no contract tells.
 #[derive(Drop)]
 pub(crate) struct ServerState {
     pub(crate) alloc: Global,
     pub(crate) engine: Engine,
     pub(crate) sessions: Sessions,
     pub(crate) trees: TreeNames,
+    pub(crate) nearest: NearestChoices,
 }
 
 impl Model for ServerState {
@@ -63,6 +66,7 @@ impl ServerState {
             engine,
             sessions: Sessions::new(alloc),
             trees: TreeNames::new(alloc),
+            nearest: NearestChoices::new(),
         }
     }
 }

@@ -1,4 +1,5 @@
 // How a choice and a file are told: a file in the variant of a choice, on both sides of an option, or as a session sees it.
+ghost use Rattle.std.specs.Prelude.{take};
 ghost use Rattle.cov_edit.specs.Replay.{replay};
 ghost use Rattle.cov_lines.specs.Acting.{Acts};
 ghost use Rattle.cov_lines.specs.Step.{compared, completed, file_told, listed_at, shown, told};
@@ -6,7 +7,7 @@ ghost use Rattle.cov_lines.specs.Step.{compared, completed, file_told, listed_at
 use crate::reply::lines_reply;
 use crate::state::ServerState;
 use cov_alt::alt;
-use cov_base::{Choice, Name, Path, Text};
+use cov_base::{Choice, Name, Path, Position, Text};
 use cov_codes::Stop;
 use cov_expr::RawChoice;
 use cov_script::reply_complete;
@@ -28,15 +29,24 @@ impl ServerState {
             self.old.state self.new.state result }
     {
         let choice = self.find_choice(choice)?;
-        self.tell_at(choice, path)
+        self.tell_now(choice, path)
     }
 
-    #[tactic(auto, unfolding(crate::specs::Step::file_told))]
-    fn tell_at(&self, choice: Choice, path: &Path) -> Result<Text, Stop>
+    // Tells the lines of a file of the variant of a whole choice.
+    fn tell_now(&self, choice: Choice, path: &Path) -> Result<Text, Stop>
         ensures { Acts (file_told self.now.state (replay choice self.now.state.history) path.now)
             self.now.state self.now.state result }
     {
-        let at = self.engine.position();
+        self.tell_at(choice, self.engine.position(), path)
+    }
+
+    /// Tells the lines of a file of the variant of a choice at a position.
+    #[tactic(auto, unfolding(crate::specs::Step::file_told))]
+    pub(crate) fn tell_at(&self, choice: Choice, at: Position, path: &Path) -> Result<Text, Stop>
+        ensures { Acts (file_told self.now.state
+            (replay choice (take at self.now.state.history)) path.now)
+            self.now.state self.now.state result }
+    {
         let file = self.engine.file_at(choice, at, path.as_slice())?;
         let lines = self.engine.lines_at(file, choice, at)?;
         Ok(lines_reply(self.alloc, lines.as_slice())?)

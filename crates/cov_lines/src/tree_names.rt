@@ -8,7 +8,7 @@ use indexmap::IndexSet;
 use std::alloc::Global;
 use std::marker::Model;
 
-/// The names of the trees that accepted checkouts of a run have used, in their order, each once.
+/// The names of the trees that accepted checkouts of a run have used, of now or of the past, in their order, each once.
 #[derive(Drop)]
 pub(crate) struct TreeNames {
     names: IndexSet<Vec<u8>>,

@@ -1,5 +1,5 @@
 // How a tree is written: its rows, and the reply that comes after them.
-ghost use Rattle.std.specs.Prelude.{◌≡◌, ◌<◌, ◌^◌, length, IfOk};
+ghost use Rattle.std.specs.Prelude.{◌≡◌, ◌<◌, ◌^◌, length, take, IfOk};
 ghost use Rattle.cov_edit.specs.Replay.{replay};
 ghost use Rattle.cov_lines.specs.Acting.{Handles};
 ghost use Rattle.cov_lines.specs.Step.{checked_out};
@@ -8,7 +8,7 @@ ghost use Rattle.cov_view.specs.Tree.{tree_of};
 
 use crate::handled::Handled;
 use crate::state::ServerState;
-use cov_base::{Choice, Kind, Memory, Name, Text};
+use cov_base::{Choice, Kind, Memory, Name, Position, Text};
 use cov_codes::Stop;
 use cov_engine::Engine;
 use cov_expr::RawChoice;
@@ -40,9 +40,21 @@ impl ServerState {
         ensures { IfOk result
             (TellsTree tree.now (tree_of (replay choice self.now.state.history))) }
     {
+        self.make_tree_at(tree, choice, self.engine.position())
+    }
+
+    /// The rows and the reply of the tree of a choice at a position.
+    pub(crate) fn make_tree_at(
+        &self,
+        tree: &Name,
+        choice: Choice,
+        at: Position,
+    ) -> Result<Reply, Memory>
+        ensures { IfOk result (TellsTree tree.now
+            (tree_of (replay choice (take at self.now.state.history)))) }
+    {
         // That the count of nodes fits 32 bits bounds the rows for the proof.
         let _nodes = self.engine.counts();
-        let at = self.engine.position();
         let view = Engine::view(self.engine.visible(), choice, at)?;
         let rows = view.tree();
         close_view(view);

@@ -1,6 +1,7 @@
 mod crashes;
 mod demo;
 mod faults;
+mod imports;
 mod plain;
 mod rows;
 mod running;

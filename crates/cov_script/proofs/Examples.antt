@@ -36,13 +36,13 @@ sessions : map form_of (codes "open s a=on for a & b" ∷ codes "side s a | !b" 
 unfolding is_utf8 chars encode
 sessions = refl
 
-variants : map form_of (codes "checkout t -" ∷ codes "checkout t a=off" ∷ codes "alt d=on d /m" ∷ codes "where 1" ∷ [])
-    ≡ Ok (lines.Checkout (codes "t") []) ∷ Ok (lines.Checkout (codes "t") ((codes "a", false) ∷ [])) ∷ Ok (lines.Alt ((codes "d", true) ∷ []) (codes "d") (codes "m" ∷ [])) ∷ Ok (lines.Presence 1) ∷ []
+variants : map form_of (codes "checkout t -" ∷ codes "checkout t a=off" ∷ codes "alt d=on d /m" ∷ codes "cond d=on /m" ∷ codes "cond - /" ∷ codes "where 1" ∷ [])
+    ≡ Ok (lines.Checkout (codes "t") []) ∷ Ok (lines.Checkout (codes "t") ((codes "a", false) ∷ [])) ∷ Ok (lines.Alt ((codes "d", true) ∷ []) (codes "d") (codes "m" ∷ [])) ∷ Ok (lines.Conditional ((codes "d", true) ∷ []) (codes "m" ∷ [])) ∷ Ok (lines.Conditional [] []) ∷ Ok (lines.Presence 1) ∷ []
 unfolding is_utf8 chars encode
 variants = refl
 
-places_of_variants : map form_of (codes "checkout t" ∷ codes "checkout - t" ∷ codes "checkout t/ -" ∷ codes "alt - a m" ∷ codes "alt -  /m" ∷ codes "where" ∷ codes "where +1" ∷ codes "where 1 " ∷ [])
-    ≡ map at (10 ∷ 11 ∷ 9 ∷ 8 ∷ 6 ∷ 5 ∷ 6 ∷ 7 ∷ [])
+places_of_variants : map form_of (codes "checkout t" ∷ codes "checkout - t" ∷ codes "checkout t/ -" ∷ codes "alt - a m" ∷ codes "alt -  /m" ∷ codes "cond" ∷ codes "cond -" ∷ codes "cond /m -" ∷ codes "cond - m" ∷ codes "cond - /m " ∷ codes "where" ∷ codes "where +1" ∷ codes "where 1 " ∷ [])
+    ≡ map at (10 ∷ 11 ∷ 9 ∷ 8 ∷ 6 ∷ 4 ∷ 6 ∷ 5 ∷ 7 ∷ 9 ∷ 5 ∷ 6 ∷ 7 ∷ [])
 unfolding is_utf8 chars encode
 places_of_variants = refl
 
@@ -50,6 +50,27 @@ places_of_variants = refl
 upgrades : map form_of (codes "upgrade" ∷ codes "upgrade " ∷ codes "upgrade x" ∷ codes "upgrades" ∷ codes " upgrade" ∷ [])
     ≡ Ok lines.Upgrade ∷ at 7 ∷ at 7 ∷ at 0 ∷ at 0 ∷ []
 upgrades = refl
+
+-- the rules are analysed as a whole; a choice is bound by its name
+analyses : map form_of (codes "analyse" ∷ codes "analyse " ∷ codes "analyse a" ∷ codes "nearest a=on,b=off" ∷ codes "nearest -" ∷ codes "nearest" ∷ codes "nearest a" ∷ codes "nearest - " ∷ [])
+    ≡ Ok lines.Analyse ∷ at 7 ∷ at 7 ∷ Ok (lines.Nearest ((codes "a", true) ∷ (codes "b", false) ∷ [])) ∷ Ok (lines.Nearest []) ∷ at 7 ∷ at 8 ∷ at 9 ∷ []
+analyses = refl
+
+-- a position is a number without a sign and without leading zeros
+positions : map form_of (codes "past 3 d=on /m" ∷ codes "past 4294967295 - /" ∷ codes "past 03 - /m" ∷ codes "past +3 - /m" ∷ codes "past" ∷ codes "past 3 -" ∷ codes "past d=on 3 /m" ∷ codes "past 3 - m" ∷ codes "past 3 - /m " ∷ [])
+    ≡ Ok (lines.Past 3 ((codes "d", true) ∷ []) (codes "m" ∷ [])) ∷ Ok (lines.Past 4294967295 [] []) ∷ at 5 ∷ at 5 ∷ at 4 ∷ at 8 ∷ at 5 ∷ at 9 ∷ at 11 ∷ []
+unfolding is_utf8 chars encode
+positions = refl
+
+written_pasts : map form_of (codes "pastout t 3 d=off" ∷ codes "pastout t 0 -" ∷ codes "pastout t" ∷ codes "pastout t/ 3 -" ∷ codes "pastout t -" ∷ codes "pastout t 4294967296 -" ∷ codes "pastout t 3 /m" ∷ codes "pastout t 3 - " ∷ [])
+    ≡ Ok (lines.PastOut (codes "t") 3 ((codes "d", false) ∷ [])) ∷ Ok (lines.PastOut (codes "t") 0 []) ∷ at 9 ∷ at 8 ∷ at 10 ∷ at 10 ∷ at 12 ∷ at 13 ∷ []
+unfolding is_utf8 chars encode
+written_pasts = refl
+
+pasts : map form_of (codes "log d=off" ∷ codes "log" ∷ codes "log - -" ∷ codes "blame d=on /d/m" ∷ codes "blame -" ∷ codes "blame /m -" ∷ codes "blame - m" ∷ codes "blame - /m " ∷ [])
+    ≡ Ok (lines.Log ((codes "d", false) ∷ [])) ∷ at 3 ∷ at 5 ∷ Ok (lines.Blame ((codes "d", true) ∷ []) (codes "d" ∷ codes "m" ∷ [])) ∷ at 7 ∷ at 6 ∷ at 8 ∷ at 10 ∷ []
+unfolding is_utf8 chars encode
+pasts = refl
 
 -- a text has at most 4,096 bytes and no line's end
 texts : map form_of ((codes "insert s /m 0 " ++ replicate 4097 120) ∷ (codes "insert s /m 0 a" ++ 10 ∷ codes "b") ∷ [])

@@ -349,8 +349,15 @@ behind_keyword keywords.Drop f size bs starts e = was_made _ _ _ f (λ x. was_on
 behind_keyword keywords.Cat f size bs starts e = was_made _ _ _ f (λ x. was_two _ bindings_of path_of refl refl size bs x starts) e
 behind_keyword keywords.Checkout f size bs starts e = was_made _ _ _ f (λ x. was_two _ name_of bindings_of refl refl size bs x starts) e
 behind_keyword keywords.Alt f size bs starts e = was_made _ _ _ f (λ x. was_three _ bindings_of token_of path_of refl refl refl size bs x starts) e
+behind_keyword keywords.Cond f size bs starts e = was_made _ _ _ f (λ x. was_two _ bindings_of path_of refl refl size bs x starts) e
 behind_keyword keywords.Where f size bs starts e = was_made _ _ _ f (λ x. was_one _ number_of refl size bs x starts) e
 behind_keyword keywords.Upgrade f size bs starts e = was_bare keywords.Upgrade size bs lines.Upgrade f refl e
+behind_keyword keywords.Analyse f size bs starts e = was_bare keywords.Analyse size bs lines.Analyse f refl e
+behind_keyword keywords.Nearest f size bs starts e = was_made _ _ _ f (λ x. was_one _ bindings_of refl size bs x starts) e
+behind_keyword keywords.Log f size bs starts e = was_made _ _ _ f (λ x. was_one _ bindings_of refl size bs x starts) e
+behind_keyword keywords.Blame f size bs starts e = was_made _ _ _ f (λ x. was_two _ bindings_of path_of refl refl size bs x starts) e
+behind_keyword keywords.Past f size bs starts e = was_made _ _ _ f (λ x. was_three _ number_of bindings_of path_of refl refl refl size bs x starts) e
+behind_keyword keywords.PastOut f size bs starts e = was_made _ _ _ f (λ x. was_three _ name_of number_of bindings_of refl refl refl size bs x starts) e
 
 was_spoken : (o : Option Keyword) (rest : Rest) (f : Line) → if_keyword o rest ≡ Ok f → (k : Keyword) × (o ≡ Some k) × (line_behind k rest ≡ Ok f)
 was_spoken None rest f h = cc

@@ -97,8 +97,15 @@ HasForm line (lines.Discard n) = One (codes "drop") name_of n line
 HasForm line (lines.Cat c p) = Two (codes "cat") bindings_of path_of c p line
 HasForm line (lines.Checkout t c) = Two (codes "checkout") name_of bindings_of t c line
 HasForm line (lines.Alt c t p) = Behind (codes "alt") bindings_of token_of c t (IsField path_of p) line
+HasForm line (lines.Conditional c p) = Two (codes "cond") bindings_of path_of c p line
 HasForm line (lines.Presence n) = One (codes "where") number_of n line
 HasForm line lines.Upgrade = line ≡ codes "upgrade"
+HasForm line lines.Analyse = line ≡ codes "analyse"
+HasForm line (lines.Nearest c) = One (codes "nearest") bindings_of c line
+HasForm line (lines.Log c) = One (codes "log") bindings_of c line
+HasForm line (lines.Blame c p) = Two (codes "blame") bindings_of path_of c p line
+HasForm line (lines.Past n c p) = Behind (codes "past") number_of bindings_of n c (IsField path_of p) line
+HasForm line (lines.PastOut t n c) = Behind (codes "pastout") name_of number_of t n (IsField bindings_of c) line
 
 -- a line reads as a form exactly where it is spelt by it
 abbrev pub ReadsAsSpelt : Type 0

@@ -1,12 +1,15 @@
 -- The groups of lines.
 use Rattle.cov_script.specs.declared.line.Line.{Line}
 use Rattle.cov_script.specs.declared.line.Line.TheVariants as lines
+use Rattle.cov_script.specs.declared.grouped.AnalysisLine.TheVariants as analyses
 use Rattle.cov_script.specs.declared.grouped.Declaration.TheVariants as declarations
 use Rattle.cov_script.specs.declared.grouped.EditLine.TheVariants as edits
 use Rattle.cov_script.specs.declared.grouped.GroupedLine.{GroupedLine}
 use Rattle.cov_script.specs.declared.grouped.GroupedLine.TheVariants as groups
+use Rattle.cov_script.specs.declared.grouped.PastLine.TheVariants as pasts
 use Rattle.cov_script.specs.declared.grouped.Question.TheVariants as questions
 use Rattle.cov_script.specs.declared.grouped.SessionLine.TheVariants as sessions
+use Rattle.cov_script.specs.declared.grouped.TreeLine.TheVariants as trees
 
 -- what a line says, by its group
 abbrev pub grouped : Line → GroupedLine
@@ -32,7 +35,14 @@ grouped (lines.Refresh name) = groups.Session (sessions.Refresh name)
 grouped (lines.Commit name) = groups.Session (sessions.Commit name)
 grouped (lines.Discard name) = groups.Session (sessions.Discard name)
 grouped (lines.Cat choice path) = groups.Question (questions.Cat choice path)
-grouped (lines.Checkout tree choice) = groups.Checkout tree choice
+grouped (lines.Checkout tree choice) = groups.Tree (trees.Checkout tree choice)
 grouped (lines.Alt choice token path) = groups.Question (questions.Alt choice token path)
+grouped (lines.Conditional choice path) = groups.Question (questions.Conditional choice path)
 grouped (lines.Presence line) = groups.Question (questions.Presence line)
 grouped lines.Upgrade = groups.Declaration declarations.Upgrade
+grouped lines.Analyse = groups.Analysis analyses.Analyse
+grouped (lines.Nearest choice) = groups.Analysis (analyses.Nearest choice)
+grouped (lines.Log choice) = groups.Past (pasts.Log choice)
+grouped (lines.Blame choice path) = groups.Past (pasts.Blame choice path)
+grouped (lines.Past position choice path) = groups.Past (pasts.Past position choice path)
+grouped (lines.PastOut tree position choice) = groups.Tree (trees.PastOut tree position choice)

@@ -16,7 +16,7 @@ pub data Kind : Type 0 where
   Choice : Kind
   Switch : Kind
   For : Kind
-  StoreLine : Kind
+  Number : Kind
   EditLine : Kind
   Expression : Kind
   Text : Kind
@@ -30,7 +30,7 @@ is_of NewPath bytes = is_some (new_path_of bytes)
 is_of Choice bytes = is_some (bindings_of bytes)
 is_of Switch bytes = is_some (switch_of bytes)
 is_of For bytes = is_some (word_of (codes "for") bytes)
-is_of StoreLine bytes = is_some (number_of bytes)
+is_of Number bytes = is_some (number_of bytes)
 is_of EditLine bytes = is_some (line_field_of bytes)
 is_of Expression bytes = is_ok (parsed bytes)
 is_of Text bytes = is_line_text bytes
@@ -70,8 +70,15 @@ word_for keywords.Drop = codes "drop"
 word_for keywords.Cat = codes "cat"
 word_for keywords.Checkout = codes "checkout"
 word_for keywords.Alt = codes "alt"
+word_for keywords.Cond = codes "cond"
 word_for keywords.Where = codes "where"
 word_for keywords.Upgrade = codes "upgrade"
+word_for keywords.Analyse = codes "analyse"
+word_for keywords.Nearest = codes "nearest"
+word_for keywords.Log = codes "log"
+word_for keywords.Blame = codes "blame"
+word_for keywords.Past = codes "past"
+word_for keywords.PastOut = codes "pastout"
 
 -- the kinds of the fields behind a keyword
 abbrev pub kinds_behind : Keyword → List Kind
@@ -98,5 +105,12 @@ kinds_behind keywords.Drop = Name ∷ []
 kinds_behind keywords.Cat = Choice ∷ Path ∷ []
 kinds_behind keywords.Checkout = Name ∷ Choice ∷ []
 kinds_behind keywords.Alt = Choice ∷ Token ∷ Path ∷ []
-kinds_behind keywords.Where = StoreLine ∷ []
+kinds_behind keywords.Cond = Choice ∷ Path ∷ []
+kinds_behind keywords.Where = Number ∷ []
 kinds_behind keywords.Upgrade = []
+kinds_behind keywords.Analyse = []
+kinds_behind keywords.Nearest = Choice ∷ []
+kinds_behind keywords.Log = Choice ∷ []
+kinds_behind keywords.Blame = Choice ∷ Path ∷ []
+kinds_behind keywords.Past = Number ∷ Choice ∷ Path ∷ []
+kinds_behind keywords.PastOut = Name ∷ Number ∷ Choice ∷ []

@@ -16,7 +16,7 @@ use Rattle.cov_script.specs.declared.line.LineSyntax.TheVariants.{Syntax}
 
 -- the keywords
 abbrev pub every_keyword : List Keyword
-every_keyword = keywords.Option ∷ keywords.Constraint ∷ keywords.Prefer ∷ keywords.Default ∷ keywords.Complete ∷ keywords.Open ∷ keywords.Side ∷ keywords.MakeDir ∷ keywords.MakeFile ∷ keywords.Rename ∷ keywords.Move ∷ keywords.Remove ∷ keywords.Insert ∷ keywords.Delete ∷ keywords.Replace ∷ keywords.Show ∷ keywords.List ∷ keywords.Refresh ∷ keywords.Commit ∷ keywords.Drop ∷ keywords.Cat ∷ keywords.Checkout ∷ keywords.Alt ∷ keywords.Where ∷ keywords.Upgrade ∷ []
+every_keyword = keywords.Option ∷ keywords.Constraint ∷ keywords.Prefer ∷ keywords.Default ∷ keywords.Complete ∷ keywords.Open ∷ keywords.Side ∷ keywords.MakeDir ∷ keywords.MakeFile ∷ keywords.Rename ∷ keywords.Move ∷ keywords.Remove ∷ keywords.Insert ∷ keywords.Delete ∷ keywords.Replace ∷ keywords.Show ∷ keywords.List ∷ keywords.Refresh ∷ keywords.Commit ∷ keywords.Drop ∷ keywords.Cat ∷ keywords.Checkout ∷ keywords.Alt ∷ keywords.Cond ∷ keywords.Where ∷ keywords.Upgrade ∷ keywords.Analyse ∷ keywords.Nearest ∷ keywords.Log ∷ keywords.Blame ∷ keywords.Past ∷ keywords.PastOut ∷ []
 
 -- each keyword with its bytes
 abbrev pub words : List (List ℕ × Keyword)
@@ -110,8 +110,15 @@ line_behind keywords.Drop rest = made (alone name_of rest) (λ n. lines.Discard 
 line_behind keywords.Cat rest = made (pair bindings_of path_of rest) (λ a. lines.Cat a.0 a.1)
 line_behind keywords.Checkout rest = made (pair name_of bindings_of rest) (λ a. lines.Checkout a.0 a.1)
 line_behind keywords.Alt rest = made (triple bindings_of token_of path_of rest) (λ a. lines.Alt a.0 a.1 a.2)
+line_behind keywords.Cond rest = made (pair bindings_of path_of rest) (λ a. lines.Conditional a.0 a.1)
 line_behind keywords.Where rest = made (alone number_of rest) (λ n. lines.Presence n)
 line_behind keywords.Upgrade rest = at_end lines.Upgrade rest
+line_behind keywords.Analyse rest = at_end lines.Analyse rest
+line_behind keywords.Nearest rest = made (alone bindings_of rest) (λ c. lines.Nearest c)
+line_behind keywords.Log rest = made (alone bindings_of rest) (λ c. lines.Log c)
+line_behind keywords.Blame rest = made (pair bindings_of path_of rest) (λ a. lines.Blame a.0 a.1)
+line_behind keywords.Past rest = made (triple number_of bindings_of path_of rest) (λ a. lines.Past a.0 a.1 a.2)
+line_behind keywords.PastOut rest = made (triple name_of number_of bindings_of rest) (λ a. lines.PastOut a.0 a.1 a.2)
 
 -- the line that follows a keyword, if there is one
 abbrev pub if_keyword : Option Keyword → Rest → Result Line LineSyntax

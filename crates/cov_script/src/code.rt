@@ -17,6 +17,11 @@ pub enum Code {
     },
     /// An expression has more than `MOST_TOKENS` tokens.
     TooLong,
+    /// This line, of a file or of a conditional text, is the first whose expression has more than `MOST_TOKENS` tokens; or, of a
+    /// text, behind which too much is open.
+    TooLongAt {
+        line: u32,
+    },
     /// The line has more than `MOST_SCRIPT_LINE_BYTES` bytes.
     Long,
     /// No option may have that name.
@@ -53,7 +58,8 @@ pub enum Code {
     TooManySessions,
     /// The ambition of a session isn't true on its choice.
     OutsideAmbition,
-    /// The option is the first of a side, from the left, that was declared after the base of its session.
+    /// The option is the first of a side, from the left, that was declared after the base of its session, or the least of a choice
+    /// that was declared after a position.
     LateOption {
         option: OptionId,
     },
@@ -123,6 +129,8 @@ pub enum Code {
     },
     /// A tree of that name was written in this run.
     TreeTaken,
+    /// The history has fewer commands.
+    NoSuchPosition,
 }
 
 /// The words of a refusal, without a line's end.
@@ -141,7 +149,7 @@ fn word_of(code: &Code) -> &'static [u8]
 {
     match code {
         Code::Syntax { .. } => b"syntax",
-        Code::TooLong => b"too-long",
+        Code::TooLong | Code::TooLongAt { .. } => b"too-long",
         Code::Long => b"long",
         Code::BadName => b"bad-name",
         Code::Exists => b"exists",
@@ -181,6 +189,7 @@ fn word_of(code: &Code) -> &'static [u8]
         Code::Loop { .. } => b"loop",
         Code::SideInvalid { .. } => b"side-invalid",
         Code::TreeTaken => b"tree-taken",
+        Code::NoSuchPosition => b"no-such-position",
     }
 }
 
@@ -196,6 +205,7 @@ fn append_detail(
 {
     match code {
         Code::Syntax { at } => append_number(alloc, text, *at as u64),
+        Code::TooLongAt { line } => append_number(alloc, text, *line as u64),
         Code::Invalid { rule } => append_number(alloc, text, *rule as u64),
         Code::EditLost { index } => append_number(alloc, text, *index as u64),
         Code::BadRecord { edit } => append_number(alloc, text, *edit as u64),

@@ -58,8 +58,26 @@ pub(crate) fn read_behind(
             token,
             path,
         }),
+        Keyword::Cond => pair(alloc, unread).map(|(choice, path)| Line::Conditional {
+            choice,
+            path,
+        }),
         Keyword::Where => alone(alloc, unread).map(|line| Line::Presence { line }),
         Keyword::Upgrade => end(unread, Line::Upgrade),
+        Keyword::Analyse => end(unread, Line::Analyse),
+        Keyword::Nearest => alone(alloc, unread).map(|choice| Line::Nearest { choice }),
+        Keyword::Log => alone(alloc, unread).map(|choice| Line::Log { choice }),
+        Keyword::Blame => pair(alloc, unread).map(|(choice, path)| Line::Blame { choice, path }),
+        Keyword::Past => triple(alloc, unread).map(|(position, choice, path)| Line::Past {
+            position,
+            choice,
+            path,
+        }),
+        Keyword::PastOut => triple(alloc, unread).map(|(tree, position, choice)| Line::PastOut {
+            tree,
+            position,
+            choice,
+        }),
     }
 }
 

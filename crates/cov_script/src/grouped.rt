@@ -16,8 +16,10 @@ pub enum GroupedLine {
     /// It edits in the session of a name.
     Edit { name: Name, edit: EditLine },
     Question(Question),
+    Analysis(AnalysisLine),
+    Past(PastLine),
     /// It alone writes rows of a tree.
-    Checkout { tree: Name, choice: RawChoice },
+    Tree(TreeLine),
 }
 
 /// A line that adds an option or a rule, or upgrades the history.
@@ -113,8 +115,50 @@ pub enum Question {
         token: Text,
         path: Path,
     },
+    Conditional {
+        choice: RawChoice,
+        path: Path,
+    },
     Presence {
         line: u32,
+    },
+}
+
+/// A line that asks what the rules come to.
+#[derive(Drop)]
+pub enum AnalysisLine {
+    Analyse,
+    Nearest { choice: RawChoice },
+}
+
+/// A line that asks what the history tells of its past.
+#[derive(Drop)]
+pub enum PastLine {
+    Log {
+        choice: RawChoice,
+    },
+    Blame {
+        choice: RawChoice,
+        path: Path,
+    },
+    Past {
+        position: u32,
+        choice: RawChoice,
+        path: Path,
+    },
+}
+
+/// A line that writes a tree: of a variant of now, or of one of a position.
+#[derive(Drop)]
+pub enum TreeLine {
+    Checkout {
+        tree: Name,
+        choice: RawChoice,
+    },
+    PastOut {
+        tree: Name,
+        position: u32,
+        choice: RawChoice,
     },
 }
 
@@ -192,7 +236,9 @@ impl Line {
             Line::Commit { name } => GroupedLine::Session(SessionLine::Commit { name }),
             Line::Discard { name } => GroupedLine::Session(SessionLine::Discard { name }),
             Line::Cat { choice, path } => GroupedLine::Question(Question::Cat { choice, path }),
-            Line::Checkout { tree, choice } => GroupedLine::Checkout { tree, choice },
+            Line::Checkout { tree, choice } => {
+                GroupedLine::Tree(TreeLine::Checkout { tree, choice })
+            }
             Line::Alt {
                 choice,
                 token,
@@ -202,8 +248,33 @@ impl Line {
                 token,
                 path,
             }),
+            Line::Conditional { choice, path } => {
+                GroupedLine::Question(Question::Conditional { choice, path })
+            }
             Line::Presence { line } => GroupedLine::Question(Question::Presence { line }),
             Line::Upgrade => GroupedLine::Declaration(Declaration::Upgrade),
+            Line::Analyse => GroupedLine::Analysis(AnalysisLine::Analyse),
+            Line::Nearest { choice } => GroupedLine::Analysis(AnalysisLine::Nearest { choice }),
+            Line::Log { choice } => GroupedLine::Past(PastLine::Log { choice }),
+            Line::Blame { choice, path } => GroupedLine::Past(PastLine::Blame { choice, path }),
+            Line::Past {
+                position,
+                choice,
+                path,
+            } => GroupedLine::Past(PastLine::Past {
+                position,
+                choice,
+                path,
+            }),
+            Line::PastOut {
+                tree,
+                position,
+                choice,
+            } => GroupedLine::Tree(TreeLine::PastOut {
+                tree,
+                position,
+                choice,
+            }),
         }
     }
 }

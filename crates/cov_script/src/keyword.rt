@@ -28,12 +28,19 @@ pub(crate) enum Keyword {
     Cat,
     Checkout,
     Alt,
+    Cond,
     Where,
     Upgrade,
+    Analyse,
+    Nearest,
+    Log,
+    Blame,
+    Past,
+    PastOut,
 }
 
 /// Each keyword with its bytes.
-const WORDS: [(&[u8], Keyword); 25] = [
+const WORDS: [(&[u8], Keyword); 32] = [
     (b"option", Keyword::Option),
     (b"constraint", Keyword::Constraint),
     (b"prefer", Keyword::Prefer),
@@ -57,8 +64,15 @@ const WORDS: [(&[u8], Keyword); 25] = [
     (b"cat", Keyword::Cat),
     (b"checkout", Keyword::Checkout),
     (b"alt", Keyword::Alt),
+    (b"cond", Keyword::Cond),
     (b"where", Keyword::Where),
     (b"upgrade", Keyword::Upgrade),
+    (b"analyse", Keyword::Analyse),
+    (b"nearest", Keyword::Nearest),
+    (b"log", Keyword::Log),
+    (b"blame", Keyword::Blame),
+    (b"past", Keyword::Past),
+    (b"pastout", Keyword::PastOut),
 ];
 
 impl Keyword {

@@ -110,10 +110,35 @@ pub enum Line {
         token: Text,
         path: Path,
     },
+    Conditional {
+        choice: RawChoice,
+        path: Path,
+    },
     Presence {
         line: u32,
     },
     Upgrade,
+    Analyse,
+    Nearest {
+        choice: RawChoice,
+    },
+    Log {
+        choice: RawChoice,
+    },
+    Blame {
+        choice: RawChoice,
+        path: Path,
+    },
+    Past {
+        position: u32,
+        choice: RawChoice,
+        path: Path,
+    },
+    PastOut {
+        tree: Name,
+        position: u32,
+        choice: RawChoice,
+    },
 }
 
 /// Why a line has no form.

@@ -1,7 +1,7 @@
 // The texts of replies. Each function but `whole` gives one line with its end.
 ghost use Rattle.std.specs.Prelude.{◌≡◌, ◌<◌, ◌≤◌, ◌++◌, [], IfOk, OnOk, codes, get_or, length};
 ghost use Rattle.std.specs.List.{concat};
-ghost use Rattle.cov_script.specs.Replies.{option_reply, constraint_reply, prefer_reply, default_reply, upgrade_reply, complete_reply, open_reply, refresh_reply, plain_reply, new_line_reply, count_reply, commit_reply, shown_line, cat_line, kind_letter, list_line, refused_reply, numbered, based, checkout_reply, alt_line, where_reply, where_line, IsCodeOf};
+ghost use Rattle.cov_script.specs.Replies.{option_reply, constraint_reply, prefer_reply, default_reply, upgrade_reply, complete_reply, open_reply, refresh_reply, plain_reply, new_line_reply, count_reply, commit_reply, shown_line, cat_line, kind_letter, list_line, refused_reply, numbered, based, checkout_reply, alt_line, text_line, where_reply, where_line, dead_line, forced_line, free_line, redundant_line, needed_line, nearest_reply, log_line, blame_line, IsCodeOf};
 
 use crate::code::{Code, code_text};
 use crate::target::{Target, append_target};
@@ -63,7 +63,7 @@ pub fn reply_open(alloc: Global, base: Position, options: &Options, choice: Choi
     requires { length choice ≤ length options.now.names }
     ensures { IfOk result (λ text. text ≡ open_reply base options.now.names choice) }
 {
-    based(alloc, "ok open ", base, options, choice)
+    based(alloc, "ok open ", base.number(), options, choice)
 }
 
 /// The reply to a session that is refreshed, with its new base and the choice that it has there.
@@ -71,7 +71,7 @@ pub fn reply_refresh(alloc: Global, base: Position, options: &Options, choice: C
     requires { length choice ≤ length options.now.names }
     ensures { IfOk result (λ text. text ≡ refresh_reply base options.now.names choice) }
 {
-    based(alloc, "ok refresh ", base, options, choice)
+    based(alloc, "ok refresh ", base.number(), options, choice)
 }
 
 /// The reply that says no more than that a line is accepted.
@@ -181,6 +181,14 @@ pub fn alt_line(alloc: Global, mark: u8, line: LineNo, text: &Text) -> ReplyText
     spaced(alloc, head.as_slice(), text.as_slice())
 }
 
+/// Appends a line of a conditional text to a reply; nothing but the reply takes memory.
+pub fn append_text_line(reply: &mut Text, line: &Text) -> Result<(), Memory>
+    ensures { OnOk result (reply.new ≡ reply.old ++ text_line line.now) }
+{
+    reply.append(line.as_slice())?;
+    reply.append(b"\n")
+}
+
 /// The first line of the reply that tells a listing, with the number of its entries.
 pub fn reply_where(alloc: Global, count: u64, root: Target) -> ReplyText
     ensures { IfOk result (λ text. text ≡ where_reply count root) }
@@ -210,6 +218,93 @@ pub fn where_line(
     append_target(alloc, &mut text, on)?;
     text.append(b"\n")?;
     Ok(text)
+}
+
+/// An option that no valid choice has on.
+pub fn dead_line(alloc: Global, options: &Options, option: OptionId) -> ReplyText
+    requires { option < length options.now.names }
+    ensures { IfOk result (λ text. text ≡ dead_line options.now.names option) }
+{
+    spaced(alloc, b"dead", options.name(option))
+}
+
+/// An option that no valid choice has off.
+pub fn forced_line(alloc: Global, options: &Options, option: OptionId) -> ReplyText
+    requires { option < length options.now.names }
+    ensures { IfOk result (λ text. text ≡ forced_line options.now.names option) }
+{
+    spaced(alloc, b"forced", options.name(option))
+}
+
+/// An option that is neither, with a choice that has it off and one that has it on.
+pub fn free_line(
+    alloc: Global,
+    options: &Options,
+    option: OptionId,
+    off: Choice,
+    on: Choice,
+) -> ReplyText
+    requires option { option < length options.now.names }
+    requires off { length off ≤ length options.now.names }
+    requires on { length on ≤ length options.now.names }
+    ensures { IfOk result (λ text. text ≡ free_line options.now.names option off on) }
+{
+    let off = print_choice(alloc, options, off)?;
+    let on = print_choice(alloc, options, on)?;
+    let mut text = Text::from_slice(alloc, b"free")?;
+    append_word(&mut text, options.name(option))?;
+    append_word(&mut text, off.as_slice())?;
+    spaced(alloc, text.as_slice(), on.as_slice())
+}
+
+/// A constraint, by its number from 1, that the others imply.
+pub fn redundant_line(alloc: Global, rule: u32) -> ReplyText
+    ensures { IfOk result (λ text. text ≡ redundant_line rule) }
+{
+    numbered(alloc, "redundant ", rule as u64)
+}
+
+/// A constraint, by its number from 1, that the others don't imply, with a choice that meets those and not it.
+pub fn needed_line(alloc: Global, rule: u32, options: &Options, choice: Choice) -> ReplyText
+    requires { length choice ≤ length options.now.names }
+    ensures { IfOk result (λ text. text ≡ needed_line rule options.now.names choice) }
+{
+    based(alloc, "needed ", rule, options, choice)
+}
+
+/// The reply that tells the nearest valid choice, with the number of options on which it differs.
+pub fn reply_nearest(alloc: Global, changed: u8, options: &Options, choice: Choice) -> ReplyText
+    requires { length choice ≤ length options.now.names }
+    ensures { IfOk result (λ text. text ≡ nearest_reply changed options.now.names choice) }
+{
+    based(alloc, "ok nearest ", changed as u32, options, choice)
+}
+
+/// Appends a commit, by its position, with how many edits of it are told; nothing but the reply takes memory.
+pub fn append_log_line(reply: &mut Text, position: Position, edits: u32) -> Result<(), Memory>
+    ensures { OnOk result (reply.new ≡ reply.old ++ log_line position edits) }
+{
+    let mut number = Buffer::new();
+    reply.append(number.format(position.number()).as_bytes())?;
+    reply.append(b" ")?;
+    let mut count = Buffer::new();
+    reply.append(count.format(edits).as_bytes())?;
+    reply.append(b"\n")
+}
+
+/// Appends a line of a file, behind the position of the commit that it comes from; nothing but the reply takes memory.
+pub fn append_blame_line(
+    reply: &mut Text,
+    position: Position,
+    line: LineNo,
+    text: &Text,
+) -> Result<(), Memory>
+    ensures { OnOk result (reply.new ≡ reply.old ++ blame_line position line text.now) }
+{
+    let mut number = Buffer::new();
+    reply.append(number.format(position.number()).as_bytes())?;
+    reply.append(b" ")?;
+    append_cat_line(reply, line, text)
 }
 
 /// The reply to a line that is refused.
@@ -250,14 +345,13 @@ fn numbered(alloc: Global, words: &str, number: u64) -> ReplyText
     Ok(Text::from(format!(in alloc; "{words}{number}\n")?))
 }
 
-// A line of words, and a base and a choice behind them.
-fn based(alloc: Global, words: &str, base: Position, options: &Options, choice: Choice) -> ReplyText
+// A line of words, and a number and a choice behind them.
+fn based(alloc: Global, words: &str, number: u32, options: &Options, choice: Choice) -> ReplyText
     requires { length choice ≤ length options.now.names }
-    ensures { IfOk result (λ text. text ≡ based words.now base options.now.names choice) }
+    ensures { IfOk result (λ text. text ≡ based words.now number options.now.names choice) }
 {
-    let base = base.number();
     let choice = print_choice(alloc, options, choice)?;
-    let head = format!(in alloc; "{words}{base}")?;
+    let head = format!(in alloc; "{words}{number}")?;
     spaced(alloc, head.as_bytes(), choice.as_slice())
 }
 

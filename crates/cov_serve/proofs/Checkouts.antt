@@ -17,7 +17,7 @@ use Rattle.cov_script.specs.declared.line.Line.TheVariants as lines
 use Rattle.cov_lines.specs.Finding.{Found, ◌>>=◌, by_code, completed_choice, found_partial}
 use Rattle.cov_lines.specs.Growth.{without_reply}
 use Rattle.cov_lines.specs.States.{State}
-use Rattle.cov_lines.specs.Step.{Done, acted, as_outcome, checked_out, is_taken, served, step}
+use Rattle.cov_lines.specs.Step.{Done, acted, as_outcome, checked_out, is_taken, served, served_tree, step}
 
 -- the first of them, and the others
 abbrev pub first_checkout : List ℕ
@@ -71,7 +71,7 @@ module _ (st : State) where
       found_kept (completed_choice st.history partial) _ (λ c. refl)))
 
   acted_kept : (line : List ℕ) → IsCheckout line → Kept (acted st line)
-  unfolding acted served
+  unfolding acted served served_tree
   acted_kept line (tree, bindings, is) = at (nat_lt MOST_SCRIPT_LINE_BYTES (length line))
     where
       at : (long : Bool) → Kept ((if long then Err Long else Ok line) >>= (λ short. by_code syntax_code (form_of short) >>= (λ form. served st (grouped form))))

@@ -3,37 +3,42 @@ use Rattle.std.proofs.Common.{◌≡◌, ◌∙◌, ◌⊎◌, inl, inr, refl, s
 use Rattle.std.proofs.lemmas.Bool.{false≢true}
 use Rattle.cov_base.specs.Causes.{Rose}
 use Rattle.cov_base.specs.declared.limits.TheConstants.{TOO_MANY_SCRIPT_BYTES}
+use Rattle.cov_edit.specs.History.{options_of}
 use Rattle.cov_edit.specs.declared.command.Command.{Command}
 use Rattle.cov_io.specs.Progress.{CountsGiven}
-use Rattle.cov_loop.specs.Counts.{Counts}
+use Rattle.cov_import.specs.Taking.{taken_in}
+use Rattle.cov_loop.specs.Counts.{Counts, counts}
 use Rattle.cov_loop.specs.Turns.{WritesFront, output}
 use Rattle.cov_loop.proofs.CallerLemmas.{fault_turn}
 use Rattle.cov_out.specs.declared.row.OutRow.{OutRow}
-use Rattle.cov_serve.specs.Jobs.{ComesTo, EndsAs, IsCaused, IsSettled, IsShort, IsStore, JobOutcome, NoneRose, OnEnd, RowsPrecede, StandsForFront, StandsForTold, StartsFrom, TellsUnopened, history_after, outcome, replies, rows_of, served_demo, served_script, served_status}
+use Rattle.cov_serve.specs.Jobs.{ComesTo, EndsAs, IsCaused, IsSettled, IsShort, IsStore, JobOutcome, NoneRose, OnEnd, RowsPrecede, StandsForFront, StandsForTold, StartsFrom, TellsUnopened, history_after, outcome, replies, rows_of, served_demo, served_import, served_script, served_status, told_of_none}
 use Rattle.cov_script.specs.Demonstration.{checkout_lines, made_lines}
 use Rattle.cov_lines.specs.Laws.{rows_told}
-use Rattle.cov_serve.specs.Program.{EndsServed, OnServed, PutsLast, ReadsAs, StopsDemo, StopsServing, TellsFault, check_line, demo_line, usage_line}
+use Rattle.cov_serve.specs.Program.{EndsServed, OnServed, PutsLast, ReadsAs, StopsDemo, StopsServing, TellsFault, check_line, damaged_line, demo_line, not_a_store_line, usage_line}
 use Rattle.cov_lines.specs.States.{starting}
 use Rattle.cov_lines.specs.Step.{model, step}
 use Rattle.cov_serve.specs.TextServing.{rows_after}
+use Rattle.cov_serve.specs.declared.job.Job.{Job}
 use Rattle.cov_serve.specs.declared.job.Job.TheVariants.{OnStore, Unknown}
 use Rattle.cov_serve.specs.declared.job.StoreJob.{StoreJob}
-use Rattle.cov_serve.specs.declared.job.StoreJob.TheVariants.{Run, Check, Demo}
+use Rattle.cov_serve.specs.declared.job.StoreJob.TheVariants.{Run, Check, Demo, Import}
 use Rattle.cov_serve.specs.declared.status.Status.{Status}
 use Rattle.cov_serve.specs.declared.status.Status.TheVariants as statuses
 use Rattle.cov_store.specs.Stands.{StandsFor}
 use Rattle.cov_store.specs.declared.damage.StoreFault.{StoreFault}
 use Rattle.cov_serve.proofs.Checkouts.{checkout_answered, checkouts_are, first_checkout, other_checkouts}
 use Rattle.cov_serve.proofs.Crashing.{front_first, told_none}
+use Rattle.cov_serve.proofs.Imports.{import_front, import_precedes, import_reads, import_told}
 use Rattle.cov_serve.proofs.Turns.{front_stands_told, rows_precede, rows_precede_told, told_stands_told}
 use Rattle.cov_serve.proofs.TurnsAfter.{front_start, rows_precede_after, told_unwritten}
-use Rattle.cov_serve.proofs.Unopened.{Fails, IsCut, Tells, cut_end, cut_unless, cut_unserved, fails_stops, none_written, put_tells, tells_ends, tells_front, tells_rows, tells_rows_first, tells_unless, tells_whole, unopened_tells}
+use Rattle.cov_serve.proofs.Unopened.{Fails, IsCut, Tells, cut_end, cut_unless, cut_unserved, fails_stops, none_written, put_tells, reads_as, tells_ends, tells_front, tells_rows, tells_rows_first, tells_unless, tells_whole, unopened_tells}
 
 -- what a job over a store asks of the disk is a history
 pub reads_of : (job : StoreJob) (contents left : Option (List ℕ)) (history : List Command) (text : List ℕ) → StartsFrom (OnStore job) contents left history text → ReadsAs contents history
 reads_of Run contents left history text (reads, is) = reads
 reads_of Check contents left history text reads = reads
 reads_of (Demo number) contents left history text reads = reads
+reads_of (Import path) contents left history text (reads, is) = reads
 
 -- before anything is done
 module _ (job : StoreJob) (history : List Command) (text : List ℕ) where
@@ -48,6 +53,8 @@ module _ (job : StoreJob) (history : List Command) (text : List ℕ) where
           let made = made_lines number in
           rows_precede_after history made checkout_lines (demo_line number) first_checkout other_checkouts checkouts_are (checkout_answered (model history made).state) before rows written grown
           (inl (wrote, none_written rows (rows_after step (starting history) made checkout_lines) grown grew))
+      at (Import path) =
+          import_precedes history (taken_in history path text) before rows written grown (none_written before (replies (served_import history path text).turns) written wrote) grew
 
   pub front_at_start : (image : List ℕ) → StandsFor image history → StandsForFront history (outcome (OnStore job) history text).turns image
   front_at_start image h = at job
@@ -56,6 +63,7 @@ module _ (job : StoreJob) (history : List Command) (text : List ℕ) where
       at Run = front_first history text image h
       at Check = front_stands_told statuses.Done (check_line history) history image h
       at (Demo number) = front_start history (made_lines number) checkout_lines (demo_line number) image h
+      at (Import path) = import_front history (taken_in history path text) image h
 
   pub told_at_start : (image : List ℕ) → StandsFor image history → StandsForTold history (outcome (OnStore job) history text).turns [] image
   told_at_start image h = at job
@@ -67,6 +75,7 @@ module _ (job : StoreJob) (history : List Command) (text : List ℕ) where
           let made = made_lines number in
           told_unwritten history made checkout_lines (demo_line number) first_checkout other_checkouts checkouts_are (checkout_answered (model history made).state) [] image refl
           (front_start history made checkout_lines (demo_line number) image h)
+      at (Import path) = import_told history (taken_in history path text) image h
 
 -- nothing is told of a store, since the run was cut short
 pub record Stopped (job : StoreJob) (all : JobOutcome) (sink sink' disk disk' : ℕ) (old new : Option (List ℕ)) (status : Status) : Type 0 where
@@ -82,6 +91,7 @@ pub stopped_stands : (job : StoreJob) (history : List Command) (text : List ℕ)
 stopped_stands Run history text contents sink sink' disk disk' status cut h settled = absurd (cut_unserved sink sink' disk disk' status cut settled)
 stopped_stands Check history text contents sink sink' disk disk' status cut h settled = h
 stopped_stands (Demo number) history text contents sink sink' disk disk' status cut h settled = absurd (cut_unserved sink sink' disk disk' status cut settled)
+stopped_stands (Import path) history text contents sink sink' disk disk' status cut h settled = absurd (cut_unserved sink sink' disk disk' status cut settled)
 
 -- a store isn't opened: nothing is told of it, or one line is
 abbrev pub Fell : StoreJob → JobOutcome → ℕ → ℕ → ℕ → ℕ → Option (List ℕ) → Option (List ℕ) → Status → Type 0
@@ -206,6 +216,100 @@ module _ (old new : Counts) where
       at statuses.TooMuch (given, ended, ends) e =
           absurd (few_enough TOO_MANY_SCRIPT_BYTES (length text) old.given new.given given (given_few left left' text counts is) few)
       at status h e = absurd h
+
+  pub import_caused : (path : List (List ℕ)) (contents : Option (List ℕ)) (status : Status) → IfSome contents IsStore → (status ≡ statuses.TreesFault → ⊥) → StopsServing old new status
+      → IsCaused (OnStore (Import path)) contents old new status
+  import_caused path contents statuses.Done store trees h = (refl, store)
+  import_caused path contents statuses.SomeRefused store trees h = (refl, store)
+  import_caused path contents statuses.NoMemory store trees h = tt
+  import_caused path contents statuses.ReadFault store trees h = (refl, h)
+  import_caused path contents statuses.WriteFault store trees h = h
+  import_caused path contents statuses.DiskFault store trees h = (refl, h)
+  import_caused path contents statuses.TreesFault store trees h = absurd (trees refl)
+  import_caused path contents statuses.TooMuch store trees (given, ended, ends) = (refl, turned TOO_MANY_SCRIPT_BYTES old.given new.given given, ends)
+  import_caused path contents status store trees h = absurd h
+
+  -- a text that isn't too long is read to its end, and then taken in or refused, where nothing fails
+  pub import_unless : (path : List (List ℕ)) (left left' : Option (List ℕ)) (history : List Command) (text : List ℕ) (status : Status) → (status ≡ statuses.TreesFault → ⊥) → StopsServing old new status
+      → OnServed status (λ refused. ((served_import history path text).status ≡ served_status refused) × (left' ≡ Some [])) → CountsGiven left left' old.given new.given → left ≡ Some text
+      → IsShort (served_import history path text).reads left → NoneRose (OnStore (Import path)) (served_import history path text) old new
+      → (status ≡ (served_import history path text).status) ⊎ (status ≡ statuses.NoMemory)
+  import_unless path left left' history text status trees stops ended counts is short none = at status trees stops ended
+    where
+      reads : (served_import history path text).reads ≡ true
+      reads = import_reads history (taken_in history path text)
+
+      few : length text < TOO_MANY_SCRIPT_BYTES
+      few = subst (IsShort true) is (subst (λ r. IsShort r left) reads short)
+
+      at : (status : Status) → (status ≡ statuses.TreesFault → ⊥) → StopsServing old new status → OnServed status (λ refused. ((served_import history path text).status ≡ served_status refused) × (left' ≡ Some []))
+          → (status ≡ (served_import history path text).status) ⊎ (status ≡ statuses.NoMemory)
+      at statuses.Done trees h e = inl (sym e.0)
+      at statuses.SomeRefused trees h e = inl (sym e.0)
+      at statuses.NoMemory trees h e = inr refl
+      at statuses.ReadFault trees h e = absurd (none.source reads h)
+      at statuses.WriteFault trees h e = absurd (none.sink h)
+      at statuses.DiskFault trees h e = absurd (none.disk refl h)
+      at statuses.TreesFault trees h e = absurd (trees refl)
+      at statuses.TooMuch trees (given, ended, ends) e =
+          absurd (few_enough TOO_MANY_SCRIPT_BYTES (length text) old.given new.given given (given_few left left' text counts is) few)
+      at status trees h e = absurd h
+
+-- a run whose trees aren't called doesn't end by a fault of theirs
+pub treeless : (source source' sink sink' disk disk' given given' ends ends' : ℕ) (status : Status) → StopsServing (counts source sink disk 0 given ends) (counts source' sink' disk' 0 given' ends') status
+    → status ≡ statuses.TreesFault → ⊥
+treeless source source' sink sink' disk disk' given given' ends ends' status stops e =
+    let rose : Rose 0 0 = subst (StopsServing (counts source sink disk 0 given ends) (counts source' sink' disk' 0 given' ends')) e stops in
+    absurd (omega (arith, rose))
+
+-- a store that is opened takes a conditional text in
+pub record TakesIn (contents left : Option (List ℕ)) (path : List (List ℕ)) (all : JobOutcome) : Type 0 where
+  pub history : List Command
+  pub text : List ℕ
+  pub reads : ReadsAs contents history
+  pub left_is : left ≡ Some text
+  pub is : all ≡ served_import history path text
+
+pub takes_in : (path : List (List ℕ)) (contents left : Option (List ℕ)) (all : JobOutcome) → ComesTo (OnStore (Import path)) contents left all → (TellsUnopened contents all → ⊥) → TakesIn contents left path all
+takes_in path contents left all (inl (history, text, (reads, left_is), is)) opened = record { history = history; text = text; reads = reads; left_is = left_is; is = is }
+takes_in path contents left all (inr (opens, tells)) opened = absurd (opened tells)
+
+-- nothing is done, since no memory is to be had for the words
+pub nothing_stands : (job : Job) (history : List Command) (text : List ℕ) (contents : Option (List ℕ)) → ReadsAs contents history → IsSettled job statuses.NoMemory
+    → IfSome contents (λ image. StandsFor image (history_after history (outcome job history text).turns))
+nothing_stands (OnStore Run) history text contents reads settled = absurd settled
+nothing_stands (OnStore Check) history text contents reads settled = reads_as contents history reads
+nothing_stands (OnStore (Demo number)) history text contents reads settled = absurd settled
+nothing_stands (OnStore (Import path)) history text contents reads settled = absurd settled
+nothing_stands Unknown history text contents reads settled = reads_as contents history reads
+
+pub nothing_fronts : (job : Job) (history : List Command) (text image : List ℕ) → StandsFor image history → StandsForFront history (outcome job history text).turns image
+nothing_fronts (OnStore job) history text image h = front_at_start job history text image h
+nothing_fronts Unknown history text image h = front_stands_told statuses.Usage usage_line history image h
+
+pub nothing_told : (job : Job) (history : List Command) (text image : List ℕ) → StandsFor image history → StandsForTold history (outcome job history text).turns [] image
+nothing_told (OnStore job) history text image h = told_at_start job history text image h
+nothing_told Unknown history text image h = told_stands_told statuses.Usage usage_line history [] image h
+
+module _ (before : List ℕ) (rows : List OutRow) (written : Option (List ℕ)) (grown : Option (List OutRow)) (wrote : written ≡ Some before) (grew : grown ≡ Some rows) where
+  untold_precedes : (status : Status) (line : List ℕ) (all : JobOutcome) → all ≡ told_of_none status line → RowsPrecede all.turns before rows written grown
+  untold_precedes status line all is =
+      subst (λ o. RowsPrecede o.turns before rows written grown) (sym is) (rows_precede_told status line [] before rows written grown (none_written before line written wrote) grew)
+
+  unopened_precedes : (contents : Option (List ℕ)) (all : JobOutcome) → TellsUnopened contents all → RowsPrecede all.turns before rows written grown
+  unopened_precedes None all tells = absurd tells
+  unopened_precedes (Some image) all (inl (none, is)) = untold_precedes statuses.NotAStore not_a_store_line all is
+  unopened_precedes (Some image) all (inr (number, cause, damage, is)) = untold_precedes (statuses.Damaged number cause) (damaged_line (options_of damage.history) number cause) all is
+
+  made_precedes : (job : Job) (history : List Command) (text : List ℕ) → RowsPrecede (outcome job history text).turns before rows written grown
+  made_precedes (OnStore job) history text = none_precede job history text before rows written grown wrote grew
+  made_precedes Unknown history text = rows_precede_told statuses.Usage usage_line history before rows written grown (none_written before usage_line written wrote) grew
+
+pub nothing_precedes : (job : Job) (contents left : Option (List ℕ)) (all : JobOutcome) → ComesTo job contents left all
+    → (before : List ℕ) (rows : List OutRow) (written : Option (List ℕ)) (grown : Option (List OutRow)) → written ≡ Some before → grown ≡ Some rows → RowsPrecede all.turns before rows written grown
+nothing_precedes job contents left all (inl (history, text, starts, is)) before rows written grown wrote grew =
+    subst (λ o. RowsPrecede o.turns before rows written grown) (sym is) (made_precedes before rows written grown wrote grew job history text)
+nothing_precedes job contents left all (inr (opens, tells)) before rows written grown wrote grew = unopened_precedes before rows written grown wrote grew contents all tells
 
 -- what holds at the end of a script, of a run that came to it
 pub served_on : (status : Status) (P : Type 0) → OnServed status (λ refused. P) → EndsServed status → P

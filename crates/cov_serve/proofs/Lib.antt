@@ -10,3 +10,6 @@ pub mod Turns
 pub mod Runs
 pub mod TurnsAfter
 pub mod Unopened
+pub mod Commits
+pub mod Imports
+pub mod Words

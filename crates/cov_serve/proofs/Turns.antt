@@ -101,7 +101,7 @@ module _ (status : Status) (line : List ℕ) (history : List Command) where
       sym (ap (λ (x : Turn). x.history) same)
   stays (t ∷ n ∷ ts) us e = absurd (cc)
 
-  no_rows : (ts us : List Turn) → turns_told ≡ ts ++ us → rows_of ts ≡ []
+  pub no_rows : (ts us : List Turn) → turns_told ≡ ts ++ us → rows_of ts ≡ []
   no_rows [] us e = refl
   no_rows (t ∷ []) us e =
       let same : record { reply = line; rows = []; history = history } ≡ t = cc in

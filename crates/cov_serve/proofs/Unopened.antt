@@ -72,7 +72,7 @@ writes_all before line None new h is = absurd (cc)
 writes_all before line (Some old) new h is = let same : old ≡ before = cc in h ∙ ap (λ b. Some (b ++ line)) same
 
 -- what holds of each status holds of that of a run that came to its end
-on_any_end : (status : Status) (P : Type 0) → P → OnEnd status P
+pub on_any_end : (status : Status) (P : Type 0) → P → OnEnd status P
 on_any_end statuses.Done P h = h
 on_any_end statuses.SomeRefused P h = h
 on_any_end statuses.Usage P h = h

@@ -1,37 +1,59 @@
 -- What the words of the program come to.
-use Rattle.std.specs.Prelude.{◌≡◌, ◌⊎◌, ℕ, ◌+◌, ◌<◌, ◌≤◌, Bool, true, false, List, [], ◌∷◌, ◌++◌, length, take, Option, Some, None, IfSome, codes, if◌then◌else◌}
+use Rattle.std.specs.Prelude.{◌≡◌, ◌⊎◌, ℕ, ◌+◌, ◌<◌, ◌≤◌, Bool, true, false, List, [], ◌∷◌, ◌++◌, length, take, Option, Some, None, IfSome, Ok, Err, codes, if◌then◌else◌}
+use Rattle.std.specs.List.{list_all}
 use Rattle.cov_base.specs.Causes.{Rose}
 use Rattle.cov_base.specs.Lines.{lines_of}
+use Rattle.cov_base.specs.Spelling.{is_name}
 use Rattle.cov_base.specs.declared.limits.TheConstants.{TOO_MANY_SCRIPT_BYTES}
 use Rattle.cov_edit.specs.History.{options_of}
 use Rattle.cov_edit.specs.declared.command.Command.{Command}
+use Rattle.cov_import.specs.Taking.{taken_in}
 use Rattle.cov_journal.specs.Reading.{IsNoStore}
 use Rattle.cov_loop.specs.Counts.{Counts}
 use Rattle.cov_loop.specs.Outcome.{Outcome, answers}
 use Rattle.cov_out.specs.declared.row.OutRow.{OutRow}
 use Rattle.cov_script.specs.Demonstration.{checkout_lines, made_lines}
-use Rattle.cov_serve.specs.Program.{EndsServed, ReadsAs, check_line, damaged_line, demo_line, demo_number, is_lone, not_a_store_line, usage_line}
+use Rattle.cov_script.specs.Replies.{commit_reply, refused_reply}
+use Rattle.cov_serve.specs.Program.{EndsServed, ReadsAs, check_line, damaged_line, demo_line, demo_number, import_path, is_lone, not_a_store_line, usage_line}
+use Rattle.cov_lines.specs.Finding.{Found}
 use Rattle.cov_lines.specs.States.{State, starting}
 use Rattle.cov_lines.specs.Step.{model, step}
 use Rattle.cov_serve.specs.declared.job.Job.{Job}
 use Rattle.cov_serve.specs.declared.job.Job.TheVariants.{OnStore, Unknown}
-use Rattle.cov_serve.specs.declared.job.StoreJob.TheVariants.{Run, Check, Demo}
+use Rattle.cov_serve.specs.declared.job.StoreJob.TheVariants.{Run, Check, Demo, Import}
 use Rattle.cov_serve.specs.declared.status.Status.{Status}
 use Rattle.cov_serve.specs.declared.status.Status.TheVariants as statuses
 use Rattle.cov_store.specs.Damages.{HasDamage, IsUnopened}
 use Rattle.cov_store.specs.Stands.{StandsFor}
 use Rattle.cov_store.specs.declared.damage.StoreDamage.{StoreDamage}
 
--- the job of the word demo, by the number behind it
-abbrev pub demo_job : Option ℕ → Job
-demo_job None = Unknown
-demo_job (Some number) = OnStore (Demo number)
+-- a path has a name, and each of its names is spelt as one
+abbrev pub IsNewPath : List (List ℕ) → Type 0
+IsNewPath path = (0 < length path) × (list_all is_name path ≡ true)
+
+-- the job of the word import, by the path behind it
+abbrev pub import_job : Option (List (List ℕ)) → Job
+import_job None = Unknown
+import_job (Some path) = OnStore (Import path)
+
+-- the job of the word demo, by the number behind it, or another one
+abbrev pub demo_job : Option ℕ → Job → Job
+demo_job None other = other
+demo_job (Some number) other = OnStore (Demo number)
 
 -- the job that words are of
 abbrev pub job_of : List (List ℕ) → Job
 job_of words =
     if is_lone (codes "run") words then OnStore Run
-    else (if is_lone (codes "check") words then OnStore Check else demo_job (demo_number words))
+    else (if is_lone (codes "check") words then OnStore Check else demo_job (demo_number words) (import_job (import_path words)))
+
+-- the path of an import has a last name, and each is spelt as one
+abbrev pub IsNamed : Job → Type 0
+IsNamed (OnStore Run) = Unit {0}
+IsNamed (OnStore Check) = Unit {0}
+IsNamed (OnStore (Demo number)) = Unit {0}
+IsNamed (OnStore (Import path)) = IsNewPath path
+IsNamed Unknown = Unit {0}
 
 -- whether a job opens the disk
 abbrev pub opens_disk : Job → Bool
@@ -43,6 +65,7 @@ abbrev pub reads_source : Job → Bool
 reads_source (OnStore Run) = true
 reads_source (OnStore Check) = false
 reads_source (OnStore (Demo number)) = false
+reads_source (OnStore (Import path)) = true
 reads_source Unknown = false
 
 -- whether it writes rows of trees
@@ -50,6 +73,7 @@ abbrev pub writes_trees : Job → Bool
 writes_trees (OnStore Run) = true
 writes_trees (OnStore Check) = false
 writes_trees (OnStore (Demo number)) = true
+writes_trees (OnStore (Import path)) = false
 writes_trees Unknown = false
 
 -- whether a part of its work can be refused
@@ -57,6 +81,7 @@ abbrev pub can_refuse : Job → Bool
 can_refuse (OnStore Run) = true
 can_refuse (OnStore Check) = false
 can_refuse (OnStore (Demo number)) = false
+can_refuse (OnStore (Import path)) = true
 can_refuse Unknown = false
 
 -- whether all that it adds is stored before the first byte is written
@@ -64,6 +89,7 @@ abbrev pub stores_first : Job → Bool
 stores_first (OnStore Run) = false
 stores_first (OnStore Check) = true
 stores_first (OnStore (Demo number)) = true
+stores_first (OnStore (Import path)) = false
 stores_first Unknown = true
 
 -- one reply of a run, the rows of trees that are written before it, and the history that is stored by then
@@ -152,11 +178,32 @@ told_line status line history = record {
 abbrev pub told_of_none : Status → List ℕ → JobOutcome
 told_of_none status line = told_line status line []
 
+-- commits that are added, one turn each
+abbrev pub commit_turns : List Command → List Command → List Turn
+commit_turns history [] = []
+commit_turns history (command ∷ commands) =
+    record { reply = commit_reply (length history + 1); rows = []; history = history ++ command ∷ [] } ∷ commit_turns (history ++ command ∷ []) commands
+
+-- commits are added, or one line tells the code that refuses them, and the history stays as it is
+abbrev pub imported_by : List Command → Found (List Command) → JobOutcome
+imported_by history (Ok commits) = record { turns = commit_turns history commits; status = statuses.Done; reads = true; writes = false }
+imported_by history (Err code) = record {
+  turns = record { reply = refused_reply (options_of history) code; rows = []; history = history } ∷ [];
+  status = statuses.SomeRefused;
+  reads = true;
+  writes = false;
+}
+
+-- a conditional text is added as a new file at a path
+abbrev pub served_import : List Command → List (List ℕ) → List ℕ → JobOutcome
+served_import history path text = imported_by history (taken_in history path text)
+
 -- what a job comes to over a history and the text of the source
 abbrev pub outcome : Job → List Command → List ℕ → JobOutcome
 outcome (OnStore Run) history text = served_script history text
 outcome (OnStore Check) history text = told_line statuses.Done (check_line history) history
 outcome (OnStore (Demo number)) history text = served_demo history number
+outcome (OnStore (Import path)) history text = served_import history path text
 outcome Unknown history text = told_line statuses.Usage usage_line history
 
 -- a job begins with this history, if it opens the disk, and with this text, if it reads the source; what it doesn't touch may be any
@@ -164,6 +211,7 @@ abbrev pub StartsFrom : Job → Option (List ℕ) → Option (List ℕ) → List
 StartsFrom (OnStore Run) contents left history text = ReadsAs contents history × (left ≡ Some text)
 StartsFrom (OnStore Check) contents left history text = ReadsAs contents history
 StartsFrom (OnStore (Demo number)) contents left history text = ReadsAs contents history
+StartsFrom (OnStore (Import path)) contents left history text = ReadsAs contents history × (left ≡ Some text)
 StartsFrom Unknown contents left history text = Unit {0}
 
 -- an image is no store, or damaged, and this is told
@@ -227,12 +275,13 @@ pub record RowsPrecede (turns : List Turn) (bytes_before : List ℕ) (rows_befor
   pub first : (ts us : List Turn) → turns ≡ ts ++ us
       → length (replies ts) ≤ length bytes → length (rows_of ts) ≤ length rows
 
--- a status with which the disk is known to have the whole history that a job leaves: that of a script served to its end, and any of
--- a job that adds nothing
+-- a status with which the disk is known to have the whole history that a job leaves: that of a run that came to its end, and any of a
+-- job that adds nothing
 abbrev pub IsSettled : Job → Status → Type 0
 IsSettled (OnStore Run) status = EndsServed status
 IsSettled (OnStore Check) status = Unit {0}
 IsSettled (OnStore (Demo number)) status = EndsServed status
+IsSettled (OnStore (Import path)) status = EndsServed status
 IsSettled Unknown status = Unit {0}
 
 -- an image stands for the history with the first few of the commands that the turns add

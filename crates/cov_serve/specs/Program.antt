@@ -1,5 +1,5 @@
 -- What a run of the program promises.
-use Rattle.std.specs.Prelude.{◌≡◌, ℕ, Bool, true, false, List, [], ◌∷◌, ◌++◌, length, Option, Some, None, codes, if◌then◌else◌}
+use Rattle.std.specs.Prelude.{◌≡◌, ℕ, zero, suc, Bool, true, false, List, [], ◌∷◌, ◌++◌, length, Option, Some, None, codes, if◌then◌else◌}
 use Rattle.std.specs.Fmt.{decimal}
 use Rattle.std.specs.Str.{bytes_eq}
 use Rattle.cov_base.specs.Causes.{Rose}
@@ -8,9 +8,11 @@ use Rattle.cov_io.specs.Devices.{AppendsAll, AppendsSome}
 use Rattle.cov_io.specs.Progress.{Progress}
 use Rattle.cov_loop.specs.Counts.{Counts}
 use Rattle.cov_loop.specs.Turns.{TooMuchSince}
-use Rattle.cov_script.specs.Fields.{long_number_of}
-use Rattle.cov_script.specs.Replies.{code_text, IsCodeOf}
+use Rattle.cov_script.specs.Fields.{long_number_of, new_path_of}
+use Rattle.cov_script.specs.Replies.{code_text, refused_reply, IsCodeOf}
 use Rattle.cov_codes.specs.Codes.{refusal_code}
+use Rattle.cov_codes.specs.declared.stop.Stop.{Stop}
+use Rattle.cov_codes.specs.declared.stop.Stop.TheVariants as stops
 use Rattle.cov_serve.specs.declared.status.Status.{Status}
 use Rattle.cov_serve.specs.declared.status.Status.TheVariants as statuses
 use Rattle.cov_store.specs.Stands.{StandsFor}
@@ -26,7 +28,7 @@ is_lone wanted words = false
 
 -- what is written where the words are of no form
 abbrev pub usage_line : List ℕ
-usage_line = codes "usage: covstore run | check | demo N\n"
+usage_line = codes "usage: covstore run | check | demo N | import PATH\n"
 
 -- what is written where a store is whole
 abbrev pub check_line : List Command → List ℕ
@@ -36,6 +38,11 @@ check_line history = codes "ok " ++ (decimal (length history) ++ codes " records
 abbrev pub demo_number : List (List ℕ) → Option ℕ
 demo_number (word ∷ number ∷ []) = if bytes_eq word (codes "demo") then long_number_of number else None
 demo_number words = None
+
+-- the path behind the word import, if the words are these two; it isn't that of the root
+abbrev pub import_path : List (List ℕ) → Option (List (List ℕ))
+import_path (word ∷ path ∷ []) = if bytes_eq word (codes "import") then new_path_of path else None
+import_path words = None
 
 -- what is written where the script that a number stands for was served
 abbrev pub demo_line : ℕ → List ℕ
@@ -132,3 +139,31 @@ StopsDemo statuses.WriteFault sink sink' disk disk' trees trees' = Rose sink sin
 StopsDemo statuses.DiskFault sink sink' disk disk' trees trees' = Rose disk disk'
 StopsDemo statuses.TreesFault sink sink' disk disk' trees trees' = Rose trees trees'
 StopsDemo status sink sink' disk disk' trees trees' = ⊥
+
+-- why the adding of commits ends as it does
+abbrev pub StopsAdding : Status → ℕ → ℕ → ℕ → ℕ → Type 0
+StopsAdding statuses.Done sink sink' disk disk' = Unit {0}
+StopsAdding statuses.NoMemory sink sink' disk disk' = Unit {0}
+StopsAdding statuses.WriteFault sink sink' disk disk' = Rose sink sink'
+StopsAdding statuses.DiskFault sink sink' disk disk' = Rose disk disk'
+StopsAdding status sink sink' disk disk' = ⊥
+
+-- it is told why a text isn't taken in, these options being declared
+abbrev pub TellsStop : List (List ℕ) → Stop → Option (List ℕ) → Option (List ℕ) → ℕ → ℕ → Status → Type 0
+TellsStop names stops.Memory old new sink sink' status = PutsNone statuses.NoMemory old new status
+TellsStop names (stops.Refused code) old new sink sink' status = PutsLast statuses.SomeRefused (refused_reply names code) old new sink sink' status
+
+-- a line tells a refusal; there is none where memory is wanting
+abbrev pub IsLineOf : List (List ℕ) → Stop → List ℕ → Type 0
+IsLineOf names stops.Memory line = ⊥
+IsLineOf names (stops.Refused code) line = line ≡ refused_reply names code
+
+-- the code of a refusal names only options among so many
+abbrev pub StopCanBeTold : ℕ → Stop → Type 0
+StopCanBeTold count stops.Memory = Unit {0}
+StopCanBeTold count (stops.Refused code) = IsCodeOf count code
+
+-- a text of so many lines, each of which asks for a commit
+abbrev pub commit_text : ℕ → List ℕ
+commit_text zero = []
+commit_text (suc n) = 120 ∷ 10 ∷ commit_text n

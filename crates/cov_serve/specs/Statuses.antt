@@ -1,6 +1,8 @@
 -- How the program ends.
 use Rattle.std.specs.Prelude.{ℕ}
 use Rattle.cov_base.specs.Causes.{Rose}
+use Rattle.cov_io.specs.declared.reading.LineFault.{LineFault}
+use Rattle.cov_io.specs.declared.reading.LineFault.TheVariants as faults
 use Rattle.cov_loop.specs.declared.ending.Ending.{Ending}
 use Rattle.cov_loop.specs.declared.ending.Ending.TheVariants as endings
 use Rattle.cov_serve.specs.declared.status.Status.{Status}
@@ -30,6 +32,23 @@ status_of endings.WriteFault = WriteFault
 status_of endings.DiskFault = DiskFault
 status_of endings.TreesFault = TreesFault
 status_of endings.TooMuch = TooMuch
+
+-- how a run ends whose source can't be read to its end
+abbrev pub fault_status : LineFault → Status
+fault_status faults.ReadFault = ReadFault
+fault_status faults.TooMuch = TooMuch
+fault_status faults.Memory = NoMemory
+
+-- how a run ends whose commits were added to such an ending
+abbrev pub added_status : Ending → Status
+added_status endings.Done = Done
+added_status endings.SomeRefused = Done
+added_status endings.NoMemory = NoMemory
+added_status endings.ReadFault = ReadFault
+added_status endings.WriteFault = WriteFault
+added_status endings.DiskFault = DiskFault
+added_status endings.TreesFault = TreesFault
+added_status endings.TooMuch = TooMuch
 
 -- why a line ends the run, the counts of faults of the sink, the disk and the trees being known before and after
 abbrev pub StopsWithStatus : Status → ℕ → ℕ → ℕ → ℕ → ℕ → ℕ → Type 0

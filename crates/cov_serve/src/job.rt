@@ -1,13 +1,15 @@
 // What the words after the program's name ask for.
-ghost use Rattle.std.specs.Prelude.{◌≡◌};
-ghost use Rattle.cov_serve.specs.Jobs.{job_of};
-ghost use Rattle.cov_serve.specs.Program.{demo_number, is_lone};
+ghost use Rattle.std.specs.Prelude.{◌≡◌, None, IfOk, IfSome, OnErr};
+ghost use Rattle.cov_script.specs.Fields.{below_root, new_path_of};
+ghost use Rattle.cov_serve.specs.Jobs.{IsNamed, IsNewPath, import_job, job_of};
+ghost use Rattle.cov_serve.specs.Program.{demo_number, import_path, is_lone};
 
-use cov_base::Texts;
+use cov_base::{BadName, Memory, MemoryOr, Path, Texts};
 use cov_script::read_long_number;
+use std::alloc::Global;
 
 /// What the program is asked to do.
-#[derive(Clone, Copy)]
+#[derive(Drop)]
 pub(crate) enum Job {
     /// Something with the store of the disk, which is opened first.
     OnStore(StoreJob),
@@ -16,7 +18,7 @@ pub(crate) enum Job {
 }
 
 /// What is done with a store that was opened.
-#[derive(Clone, Copy)]
+#[derive(Drop)]
 pub(crate) enum StoreJob {
     /// A script is served.
     Run,
@@ -24,21 +26,29 @@ pub(crate) enum StoreJob {
     Check,
     /// The script that a number stands for is served, and what its checkouts are replied is told.
     Demo(u64),
+    /// A conditional text is read to its end, and added as a new file at a path, which isn't that of the root.
+    Import(Path),
+}
+
+impl StoreJob {
+    /// Gives up a job of a store that isn't opened.
+    pub(crate) fn close(self) {}
 }
 
 /// The job that words are of.
-pub(crate) fn job_of(words: &Texts) -> Job
-    ensures { result ≡ job_of words.now }
+pub(crate) fn job_of(alloc: Global, words: &Texts) -> Result<Job, Memory>
+    ensures job { IfOk result (λ job. job ≡ job_of words.now) }
+    ensures named { IfOk result IsNamed }
 {
     if is_lone(words, b"run") {
-        return Job::OnStore(StoreJob::Run);
+        return Ok(Job::OnStore(StoreJob::Run));
     }
     if is_lone(words, b"check") {
-        return Job::OnStore(StoreJob::Check);
+        return Ok(Job::OnStore(StoreJob::Check));
     }
     match demo_number(words) {
-        Some(number) => Job::OnStore(StoreJob::Demo(number)),
-        None => Job::Unknown,
+        Some(number) => Ok(Job::OnStore(StoreJob::Demo(number))),
+        None => import_job(alloc, words),
     }
 }
 
@@ -65,4 +75,52 @@ fn demo_number(words: &Texts) -> Option<u64>
         }
         _ => None,
     }
+}
+
+fn import_job(alloc: Global, words: &Texts) -> Result<Job, Memory>
+    ensures job { IfOk result (λ job. job ≡ import_job (import_path words.now)) }
+    ensures named { IfOk result IsNamed }
+{
+    match import_path(alloc, words) {
+        Ok(Some(path)) => Ok(Job::OnStore(StoreJob::Import(path))),
+        Ok(None) => Ok(Job::Unknown),
+        Err(Memory) => Err(Memory),
+    }
+}
+
+// The path behind the word `import`, if the words are these two.
+fn import_path(alloc: Global, words: &Texts) -> Result<Option<Path>, Memory>
+    ensures path { IfOk result (λ path. path ≡ import_path words.now) }
+    ensures named { IfOk result (λ path. IfSome path IsNewPath) }
+{
+    match words.as_slice() {
+        [word, path] => {
+            if word.as_slice() == b"import".as_slice() {
+                return new_path(alloc, path.as_slice());
+            }
+            Ok(None)
+        }
+        _ => Ok(None),
+    }
+}
+
+// The path that bytes spell, if they spell one other than `/`.
+fn new_path(alloc: Global, bytes: &[u8]) -> Result<Option<Path>, Memory>
+    ensures path { IfOk result (λ path. path ≡ new_path_of bytes.now) }
+    ensures named { IfOk result (λ path. IfSome path IsNewPath) }
+{
+    match Path::read(alloc, bytes) {
+        Ok(path) => Ok(below_root(path)),
+        Err(MemoryOr::Refused(BadName)) => Ok(None),
+        Err(MemoryOr::Memory) => Err(Memory),
+    }
+}
+
+fn below_root(path: Path) -> Option<Path>
+    ensures { result ≡ below_root (Some path) }
+{
+    if path.is_empty() {
+        return None;
+    }
+    Some(path)
 }

@@ -1,9 +1,10 @@
-// The lines that end a run: how many records a store has, which script was served, and why a store can't be opened.
+// The lines that end a run: how many records a store has, which script was served, why a text isn't taken in, and why a store can't be
+// opened.
 ghost use Rattle.std.specs.Prelude.{◌≡◌, ◌≢◌, ◌≤◌, ◌++◌, List, ℕ, IfOk, OnOk, codes, length};
 ghost use Rattle.cov_edit.specs.declared.command.Command.{Command};
 ghost use Rattle.cov_script.specs.Replies.{code_text, IsCodeOf};
 ghost use Rattle.cov_codes.specs.Codes.{refusal_code};
-ghost use Rattle.cov_serve.specs.Program.{cause_text, check_line, damaged_line, demo_line, DamageCanBeTold, IsCauseOf, PutsLast, TellsFault};
+ghost use Rattle.cov_serve.specs.Program.{cause_text, check_line, damaged_line, demo_line, DamageCanBeTold, IsCauseOf, IsLineOf, PutsLast, StopCanBeTold, TellsFault};
 ghost use Rattle.cov_serve.specs.declared.status.Status.TheVariants.{Damaged, WriteFault};
 
 use crate::status::Status;
@@ -12,7 +13,7 @@ use cov_codes::Stop;
 use cov_engine::Refusal;
 use cov_expr::Options;
 use cov_io::Sink;
-use cov_script::code_text;
+use cov_script::{code_text, reply_refused};
 use cov_store::{StoreDamage, StoreFault};
 use std::alloc::Global;
 
@@ -66,6 +67,17 @@ pub(crate) fn put_last<K: Sink>(line: &[u8], status: Status, out: &mut K) -> Sta
     match out.put(line) {
         Ok(()) => status,
         Err(Failed) => Status::WriteFault,
+    }
+}
+
+/// The line that tells a refusal, unless memory is wanting.
+pub(crate) fn refused_line(alloc: Global, options: &Options, stop: &Stop) -> Result<Text, Memory>
+    requires { StopCanBeTold (length options.now.names) stop.now }
+    ensures { IfOk result (IsLineOf options.now.names stop.now) }
+{
+    match stop {
+        Stop::Refused(code) => reply_refused(alloc, options, code),
+        Stop::Memory => Err(Memory),
     }
 }
 

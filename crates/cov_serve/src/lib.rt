@@ -2,6 +2,7 @@
 #![tactic(auto)]
 
 mod demo;
+mod import;
 mod job;
 mod last_line;
 pub mod laws;

@@ -19,6 +19,7 @@ ghost use Rattle.cov_serve.specs.declared.status.Status.TheVariants.{Done, NoMem
 ghost use Rattle.cov_store.specs.Stands.{StandsFor, IsStored, gate_of};
 
 use crate::demo::serve_demo;
+use crate::import::serve_import;
 use crate::job::{Job, StoreJob, job_of};
 use crate::last_line::{check_line, put_last, tell_fault};
 use crate::status::Status;
@@ -31,11 +32,13 @@ use cov_out::Trees;
 use std::alloc::Global;
 
 /// The line that tells the words.
-const USAGE: &[u8] = b"usage: covstore run | check | demo N\n";
+const USAGE: &[u8] = b"usage: covstore run | check | demo N | import PATH\n";
 
 /// Does what the words after the program's name say. `run` opens the store and serves the script, line by line: stores what a line
 /// adds, writes its rows of trees, one call each, and then puts its reply in one call. `check` opens the store, and tells how many
-/// records it has. `demo N` serves the script that the number N stands for, and tells what its checkouts are replied. A store that
+/// records it has. `demo N` serves the script that the number N stands for, and tells what its checkouts are replied. `import PATH` opens
+/// the store, reads the source to its end as a conditional text, and adds it as a new file at the path: stores one commit after
+/// another, and puts the reply to each in one call; or it puts one line that tells why the text isn't taken in. A store that
 /// can't be opened is told in one line. All else writes the usage line. The first failing call ends the run. Want of memory may
 /// come at any moment.
 pub fn run<S: Source, K: Sink, D: Disk, T: Trees>(
@@ -144,16 +147,21 @@ pub fn run<S: Source, K: Sink, D: Disk, T: Trees>(
         (S.given script.new) (S.ends script.new)) →
         (result ≡ all.status) ⊎ (result ≡ NoMemory) }
 {
-    match job_of(words) {
-        Job::OnStore(job) => match Server::open(alloc, disk) {
+    match job_of(alloc, words) {
+        Ok(Job::OnStore(job)) => match Server::open(alloc, disk) {
             Ok(server) => match job {
                 StoreJob::Run => serve_opened(alloc, server, script, out, disk, trees),
                 StoreJob::Check => put_checked(alloc, server, out),
                 StoreJob::Demo(number) => serve_demo(alloc, server, number, out, disk, trees),
+                StoreJob::Import(path) => serve_import(alloc, server, &path, script, out, disk),
             },
-            Err(fault) => tell_fault(alloc, fault, out),
+            Err(fault) => {
+                job.close();
+                tell_fault(alloc, fault, out)
+            }
         },
-        Job::Unknown => put_last(USAGE, Status::Usage, out),
+        Ok(Job::Unknown) => put_last(USAGE, Status::Usage, out),
+        Err(Memory) => Status::NoMemory,
     }
 }
 

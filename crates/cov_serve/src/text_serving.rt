@@ -17,8 +17,8 @@ use cov_loop::{Ending, LineServer, serve_all};
 use cov_out::Trees;
 use std::alloc::Global;
 
-// Serves the lines of a text, to its end or to the first failing call.
-fn serve_text<V: LineServer, K: Sink, D: Disk, T: Trees>(
+/// Serves the lines of a text, to its end or to the first failing call.
+pub(crate) fn serve_text<V: LineServer, K: Sink, D: Disk, T: Trees>(
     alloc: Global,
     server: &mut V,
     text: Text,

@@ -1,8 +1,9 @@
-// A script that is at hand, and a sink for replies that aren't told.
+// A script that is at hand, a sink for replies that aren't told, and trees of which no row is written.
 ghost use Rattle.std.specs.Prelude.{◌≡◌};
 
 use cov_base::{Failed, Numbers, Text};
 use cov_io::{MemorySource, Sink, Source};
+use cov_out::Trees;
 use std::alloc::Global;
 use std::marker::Model;
 
@@ -64,6 +65,26 @@ impl Sink for Unwritten {
     ghost faults = { λ s. 0 };
 
     fn put(&mut self, _bytes: &[u8]) -> Result<(), Failed> {
+        Ok(())
+    }
+}
+
+/// Trees for lines that write no row.
+#[derive(Drop)]
+pub(crate) struct NoTrees {}
+
+impl Trees for NoTrees {
+    ghost use Rattle.std.specs.Prelude.{None};
+
+    ghost rows = { λ s. None };
+
+    ghost faults = { λ s. 0 };
+
+    fn make_dir(&mut self, _path: &[u8]) -> Result<(), Failed> {
+        Ok(())
+    }
+
+    fn put_file(&mut self, _path: &[u8], _bytes: &[u8]) -> Result<(), Failed> {
         Ok(())
     }
 }

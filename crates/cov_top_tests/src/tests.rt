@@ -1,8 +1,11 @@
+mod analyses;
+mod conditional;
 mod edit_sides;
 mod endings;
 mod interleavings;
 mod limits;
 mod lines;
+mod pasts;
 mod refusals;
 mod running;
 mod scripts;

@@ -17,7 +17,7 @@ const UNTOUCHED: Fails = Fails {
 };
 
 /// Words of no form.
-const WORDS: [&[&str]; 12] = [
+const WORDS: [&[&str]; 16] = [
     &[],
     &["run", "x"],
     &["check", "x"],
@@ -27,6 +27,10 @@ const WORDS: [&[&str]; 12] = [
     &["demo", "+1"],
     &["demo", "18446744073709551616"],
     &["demo", "1", "2"],
+    &["import"],
+    &["import", "/"],
+    &["import", "m"],
+    &["import", "/m", "/n"],
     &["--help"],
     &["--version"],
     &["Run"],
@@ -38,7 +42,7 @@ fn other_words_are_told_the_words(rt: HostRuntime) -> Result<(), Fail> {
         let case = Case {
             words,
             script: b"option a\n",
-            replies: b"usage: covstore run | check | demo N\n",
+            replies: b"usage: covstore run | check | demo N | import PATH\n",
             rows: &[],
         };
         let end = end_from(rt.alloc(), &case, UNTOUCHED, &EMPTY, &EMPTY)?;

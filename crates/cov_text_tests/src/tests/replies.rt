@@ -8,10 +8,11 @@ use cov_base::{
 };
 use cov_expr::Options;
 use cov_script::{
-    Code, Target, alt_line, cat_line, list_line, reply_checkout, reply_commit, reply_complete,
-    reply_constraint, reply_count, reply_default, reply_new_line, reply_open, reply_option,
-    reply_plain, reply_prefer, reply_refresh, reply_refused, reply_upgrade, reply_where, show_line,
-    where_line, whole,
+    Code, Target, alt_line, append_blame_line, append_log_line, cat_line, dead_line, forced_line,
+    free_line, list_line, needed_line, redundant_line, reply_checkout, reply_commit,
+    reply_complete, reply_constraint, reply_count, reply_default, reply_nearest, reply_new_line,
+    reply_open, reply_option, reply_plain, reply_prefer, reply_refresh, reply_refused,
+    reply_upgrade, reply_where, show_line, where_line, whole,
 };
 use std::alloc::Global;
 use std::test::Fail;
@@ -34,6 +35,15 @@ fn add_lines(alloc: Global, words: &Text, empty: &Text, lines: &mut Texts) -> Re
     lines.push(show_line(alloc, LineRef::New(3), empty)?)?;
     lines.push(cat_line(alloc, LineNo::new(13), empty)?)?;
     lines.push(alt_line(alloc, b'+', LineNo::new(2), words)?)
+}
+
+// The lines that tell a commit.
+fn add_pasts(alloc: Global, lines: &mut Texts) -> Result<(), Memory> {
+    let words = Text::from_slice(alloc, b"one  two")?;
+    let mut told = Text::new(alloc);
+    append_log_line(&mut told, Position::new(41), 0)?;
+    append_blame_line(&mut told, Position::new(7), LineNo::new(13), &words)?;
+    lines.push(told)
 }
 
 // The lines that tell a node.
@@ -106,6 +116,21 @@ fn add_choices(alloc: Global, options: &Options, lines: &mut Texts) -> Result<()
     add_code(alloc, options, &late, lines)
 }
 
+// The lines that tell what rules come to, where there are two options.
+fn add_states(alloc: Global, options: &Options, lines: &mut Texts) -> Result<(), Memory> {
+    if options.count() != 2 {
+        return Ok(());
+    }
+    let (first, second) = (OptionId::new(0), OptionId::new(1));
+    let (off, on) = (Choice::new(1, 2), Choice::new(3, 2));
+    lines.push(dead_line(alloc, options, first)?)?;
+    lines.push(forced_line(alloc, options, second)?)?;
+    lines.push(free_line(alloc, options, second, off, on)?)?;
+    lines.push(redundant_line(alloc, 1)?)?;
+    lines.push(needed_line(alloc, 2, options, off)?)?;
+    lines.push(reply_nearest(alloc, 2, options, on)?)
+}
+
 // The refusals of a variant that isn't a tree, where there are two options.
 fn add_faults(alloc: Global, options: &Options, lines: &mut Texts) -> Result<(), Memory> {
     if options.count() != 2 {
@@ -127,6 +152,7 @@ fn add_faults(alloc: Global, options: &Options, lines: &mut Texts) -> Result<(),
 // The other refused replies that tell a number or a name, and those that tell neither.
 fn add_refused(alloc: Global, options: &Options, lines: &mut Texts) -> Result<(), Memory> {
     add_code(alloc, options, &Code::Syntax { at: 0 }, lines)?;
+    add_code(alloc, options, &Code::TooLongAt { line: 7 }, lines)?;
     let name = Text::from_slice(alloc, b"for")?;
     add_code(alloc, options, &Code::UnknownOption { name }, lines)?;
     add_code(alloc, options, &Code::Invalid { rule: 2 }, lines)?;
@@ -137,13 +163,14 @@ fn add_refused(alloc: Global, options: &Options, lines: &mut Texts) -> Result<()
     add_code(alloc, options, &outside, lines)?;
     add_code(alloc, options, &Code::OutsideSide, lines)?;
     add_code(alloc, options, &Code::TreeTaken, lines)?;
+    add_code(alloc, options, &Code::NoSuchPosition, lines)?;
     add_code(alloc, options, &Code::NoVariantLeft, lines)?;
     add_code(alloc, options, &Code::Upgraded, lines)?;
     add_code(alloc, options, &Code::SessionExists, lines)?;
     add_code(alloc, options, &Code::TooManySessions, lines)
 }
 
-const REPLIES: &str = "ok 39
+const REPLIES: &str = "ok 48
 ok option 63
 ok constraint 256
 ok prefer 1
@@ -154,6 +181,8 @@ ok +0
 ok commit 7
 12 one  two
 +3 \n13 \n+ 2 one  two
+41 0
+7 13 one  two
 d Makefile
 f Makefile
 ok checkout t 8 64 e3b0c44298fc1c149afbf4c8996fb92427ae41e4649b934ca495991b7852b855
@@ -166,10 +195,17 @@ ok refresh 10 a=on,b=off
 refused repeated b
 refused incomplete a
 refused late-option b
+dead a
+forced b
+free b a=on,b=off a=on,b=on
+redundant 1
+needed 2 a=on,b=off
+ok nearest 2 a=on,b=on
 refused clash 3 12 in a=off,b=on
 refused orphan 12 in a=off,b=on
 refused loop 12 in -
 refused syntax 0
+refused too-long 7
 refused unknown-option for
 refused invalid 2
 refused edit-lost 16383
@@ -177,6 +213,7 @@ refused side-invalid off 1
 refused outside-side 1
 refused outside-side
 refused tree-taken
+refused no-such-position
 refused no-variant-left
 refused upgraded
 refused session-exists
@@ -187,10 +224,12 @@ refused too-many-sessions
 fn joined(alloc: Global, options: &mut Options, lines: &mut Texts) -> Result<Text, Fail> {
     declare_two(alloc, options)?;
     add_accepted(alloc, lines)?;
+    add_pasts(alloc, lines)?;
     add_nodes(alloc, lines)?;
     add_tree(alloc, lines)?;
     add_listing(alloc, options, lines)?;
     add_choices(alloc, options, lines)?;
+    add_states(alloc, options, lines)?;
     add_faults(alloc, options, lines)?;
     add_refused(alloc, options, lines)?;
     let first = reply_count(alloc, lines.len() as u64)?;

@@ -31,8 +31,15 @@ fn keyword_of(line: &Line) -> &'static str {
         Line::Cat { .. } => "cat",
         Line::Checkout { .. } => "checkout",
         Line::Alt { .. } => "alt",
+        Line::Conditional { .. } => "cond",
         Line::Presence { .. } => "where",
         Line::Upgrade => "upgrade",
+        Line::Analyse => "analyse",
+        Line::Nearest { .. } => "nearest",
+        Line::Log { .. } => "log",
+        Line::Blame { .. } => "blame",
+        Line::Past { .. } => "past",
+        Line::PastOut { .. } => "pastout",
     }
 }
 
@@ -44,7 +51,7 @@ fn place_of(read: &Result<Line, LineSyntax>) -> Option<u32> {
     }
 }
 
-const FORMS: [(&[u8], &str); 43] = [
+const FORMS: [(&[u8], &str); 52] = [
     (b"", ""),
     (b"#x", ""),
     (b"# option", ""),
@@ -85,12 +92,21 @@ const FORMS: [(&[u8], &str); 43] = [
     (b"checkout t -", "checkout"),
     (b"alt - a /m", "alt"),
     (b"alt d=on d /m", "alt"),
+    (b"cond - /m", "cond"),
+    (b"cond d=on /d/m", "cond"),
     (b"where 0", "where"),
     (b"where 1", "where"),
     (b"upgrade", "upgrade"),
+    (b"analyse", "analyse"),
+    (b"nearest -", "nearest"),
+    (b"nearest a=on,b=off", "nearest"),
+    (b"log d=off", "log"),
+    (b"blame - /m", "blame"),
+    (b"past 0 - /m", "past"),
+    (b"pastout t 3 d=off", "pastout"),
 ];
 
-const PLACES: [(&[u8], u32); 65] = [
+const PLACES: [(&[u8], u32); 73] = [
     (b"optoin a", 0),
     (b"option", 6),
     (b"option ", 7),
@@ -149,7 +165,15 @@ const PLACES: [(&[u8], u32); 65] = [
     (b"cat a=on /m\r", 9),
     (b"checkout t/ a=off", 9),
     (b"alt - a", 7),
+    (b"cond -", 6),
+    (b"cond - /m x", 9),
     (b"where 00", 6),
+    (b"analyse ", 7),
+    (b"nearest a", 8),
+    (b"log - -", 5),
+    (b"blame -", 7),
+    (b"past 03 - /m", 5),
+    (b"pastout t -", 10),
     (b"where +1", 6),
     (b"where ", 6),
     (b"upgrade ", 7),

@@ -1,9 +1,9 @@
-// The lines of a file with an option on and with it off, and on which choices a line is.
+// The lines of a file with an option on and with it off, with all its variants, and on which choices a line is.
 use crate::tests::running::{DONE, Parts, SOME_REFUSED, Step, parts_are_served};
 use std::test::Fail;
 
 // A line whose anchor is absent from a variant, and the newest of two behind one anchor.
-const ANCHORED: [Step; 19] = [
+const ANCHORED: [Step; 20] = [
     (b"option d", b"ok option 0"),
     (b"open s d=on for true", b"ok open 1 d=on"),
     (b"mkfile s /m", b"ok"),
@@ -23,10 +23,11 @@ const ANCHORED: [Step; 19] = [
     (b"cat d=off /m", b"ok 3\n1 A\n4 X\n3 C"),
     (b"where 2", b"ok 1 0\n0 d F T"),
     (b"alt d=on d /m", b"ok 4\n= 1 A\n= 4 X\n+ 2 B\n= 3 C"),
+    (b"cond d=on /m", b"ok 6\nA\nX\n#if d\nB\n#endif\nC"),
 ];
 
 // Lines are deleted everywhere and where an option is on.
-const DELETED: [Step; 12] = [
+const DELETED: [Step; 13] = [
     (b"open s d=on for true", b"ok open 5 d=on"),
     (b"delete s /m 2", b"ok"),
     (b"commit s", b"ok commit 6"),
@@ -39,6 +40,7 @@ const DELETED: [Step; 12] = [
     (b"cat d=on /m", b"ok 2\n1 A\n3 C"),
     (b"cat d=off /m", b"ok 3\n1 A\n4 X\n3 C"),
     (b"where 4", b"ok 1 0\n0 d T F"),
+    (b"cond d=on /m", b"ok 5\nA\n#if !d\nX\n#endif\nC"),
 ];
 
 // A constraint leaves one side alone.

@@ -283,14 +283,87 @@ const BYTES: [Step; 5] = [
 
 const BYTES_ROWS: [Row; 2] = [(b"t", None), (b"t/m", Some(b"\xff\xfe\0 \r\n"))];
 
+// Trees of the past, by the rules of then. A name that one of them used is taken for those of now, and the other way round; it is told
+// before a position that isn't there.
+const THEN: [Step; 37] = [
+    (b"option d", b"ok option 0"),
+    (b"open s d=on for true", b"ok open 1 d=on"),
+    (b"mkfile s /m", b"ok"),
+    (b"insert s /m 0 A", b"ok +0"),
+    (b"commit s", b"ok commit 2"),
+    (b"open s d=on for d", b"ok open 2 d=on"),
+    (b"insert s /m 1 B", b"ok +0"),
+    (b"commit s", b"ok commit 3"),
+    (b"open s d=on for true", b"ok open 3 d=on"),
+    (b"insert s /m 2 C", b"ok +0"),
+    (b"mkdir s /dir", b"ok"),
+    (b"commit s", b"ok commit 4"),
+    (b"constraint d", b"ok constraint 1"),
+    (
+        b"pastout t 3 d=off",
+        b"ok checkout t 0 1 2fde98247cc46a322ceb910731b602b91c21603f61e4ea53676cc76e0e1fb2de",
+    ),
+    (b"pastout t 9 -", b"refused tree-taken"),
+    (b"pastout u 9 -", b"refused no-such-position"),
+    (b"pastout u 0 d=on", b"refused late-option d"),
+    (b"pastout u 3 -", b"refused incomplete d"),
+    (b"pastout u 5 d=off", b"refused invalid 1"),
+    (b"pastout u 3 e=on,d=on,d=on", b"refused unknown-option e"),
+    (b"pastout u 3 d=on,d=on", b"refused repeated d"),
+    (b"checkout t -", b"refused tree-taken"),
+    (b"checkout t e=on", b"refused unknown-option e"),
+    (
+        b"checkout now d=on",
+        b"ok checkout now 1 1 b676cfcb2908ea997846890d01b3f6a3acb20191c6610a4185bb68c7e6ae9bd6",
+    ),
+    (b"pastout now 3 d=on", b"refused tree-taken"),
+    (
+        b"pastout u 4 d=off",
+        b"ok checkout u 1 1 3de5df17758d731db01496594c22a92bc2a0d0e4464ce788c85a0ee725a8f84c",
+    ),
+    (
+        b"pastout v 0 -",
+        b"ok checkout v 0 0 e3b0c44298fc1c149afbf4c8996fb92427ae41e4649b934ca495991b7852b855",
+    ),
+    (
+        b"pastout w 5 d=on",
+        b"ok checkout w 1 1 b676cfcb2908ea997846890d01b3f6a3acb20191c6610a4185bb68c7e6ae9bd6",
+    ),
+    (b"checkout u d=off", b"refused tree-taken"),
+    (b"pastout", b"refused syntax 7"),
+    (b"pastout t", b"refused syntax 9"),
+    (b"pastout t 3", b"refused syntax 11"),
+    (b"pastout t/ 3 -", b"refused syntax 8"),
+    (b"pastout x -", b"refused syntax 10"),
+    (b"pastout x 03 -", b"refused syntax 10"),
+    (b"pastout x 3 /m", b"refused syntax 12"),
+    (b"pastout x 3 - x", b"refused syntax 13"),
+];
+
+const THEN_ROWS: [Row; 12] = [
+    (b"t", None),
+    (b"t/m", Some(b"A\n")),
+    (b"now", None),
+    (b"now/dir", None),
+    (b"now/m", Some(b"A\nB\nC\n")),
+    (b"u", None),
+    (b"u/dir", None),
+    (b"u/m", Some(b"A\nC\n")),
+    (b"v", None),
+    (b"w", None),
+    (b"w/dir", None),
+    (b"w/m", Some(b"A\nB\nC\n")),
+];
+
 // Steps, the status of a run on them, and the rows that it writes.
-const CASES: [(&[Step], u8, &[Row]); 6] = [
+const CASES: [(&[Step], u8, &[Row]); 7] = [
     (&PLAIN, DONE, &PLAIN_ROWS),
     (&TWICE, SOME_REFUSED, &TWICE_ROWS),
     (&TAKEN, SOME_REFUSED, &TAKEN_ROWS),
     (&UNUSUAL, SOME_REFUSED, &UNUSUAL_ROWS),
     (&EDITED, SOME_REFUSED, &EDITED_ROWS),
     (&BYTES, DONE, &BYTES_ROWS),
+    (&THEN, SOME_REFUSED, &THEN_ROWS),
 ];
 
 // Runs the program on these steps.

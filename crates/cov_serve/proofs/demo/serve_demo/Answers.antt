@@ -21,7 +21,7 @@ use Rattle.cov_serve.proofs.TurnsAfter.{at_texts, front_after, front_ended, fron
 use Rattle.cov_serve.proofs.Unopened.{line_served, none_written, writes_all, writes_some}
 use Rattle.cov_serve.proofs.demo.serve_demo.Given.{Over}
 use Rattle.cov_serve.proofs.demo.serve_demo.Goals as goal
-use Rattle.cov_serve.proofs.demo.serve_demo.Goals.{After-put_demo, After-from, After-close-in-Err}
+use Rattle.cov_serve.proofs.demo.serve_demo.Goals.{After-put_demo, After-from}
 
 -- the script was served to its end: its texts, and what is left and written
 then_texts : (g : Over) (c : After-put_demo g) (history : List Command) → c.args.server.state ≡ starting history → (P : State → List ℕ → List ℕ → Type 0)

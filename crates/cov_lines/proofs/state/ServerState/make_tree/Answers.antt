@@ -1,22 +1,15 @@
-use Rattle.std.proofs.Common.{◌≡◌, ◌∙◌, ap, sym, subst, length, take, arith}
+use Rattle.std.proofs.Common.{◌≡◌, ◌∙◌, ap, subst, length, take}
+use Rattle.std.specs.Prelude.{IfOk}
 use Rattle.std.proofs.Math.Seq.{take-length}
-use Rattle.cov_edit.specs.Numbering.{numbers_of}
 use Rattle.cov_edit.specs.Replay.{replay}
-use Rattle.cov_history.proofs.CallerLemmas.{replay-few}
-use Rattle.cov_view.proofs.CallerLemmas.{length-tree}
-use Rattle.cov_view.specs.Seen.{Seen}
-use Rattle.cov_view.specs.Views.{Shows}
+use Rattle.cov_view.specs.Tree.{tree_of}
+use Rattle.cov_lines.specs.States.{Serving}
+use Rattle.cov_lines.specs.Written.{TellsTree}
 use Rattle.cov_lines.proofs.state.ServerState.make_tree.Goals as goal
 
-pub tell_tree-requires : goal.tell_tree-requires
-tell_tree-requires c =
-    let history = c.self.inside.engine.history in
-    let before = take c.position-at.result history in
-    let v = replay c.args.choice before in
-    let whole : before ≡ history = ap (λ n. take n history) c.position-at.ensures ∙ take-length history in
-    let shows = subst (λ (s : Seen). Shows (numbers_of before) (numbers_of before).addresses s v) (sym c.in_ok-view.ensures) (c.visible.ensures.shows c.position-at.result c.args.choice) in
-    let is = ap length (c.in_ok-rows.ensures.shown (numbers_of before) (numbers_of before).addresses v shows) in
-    let few = length-tree v in
-    let made = replay-few c.args.choice before in
-    let nodes = ap (λ h. (numbers_of h).nodes) whole in
-    omega (arith, is, few, made, nodes, c.counts-nodes.ensures.nodes, c.counts-nodes.type_inv)
+pub returns : goal.returns
+returns c =
+    let st = c.args.self.now.state in
+    let whole : take c.position.result st.history ≡ st.history =
+    ap (λ n. take n st.history) (c.position.ensures ∙ ap (λ (v : Serving). length v.state.history) c.self.view_is) ∙ take-length st.history in
+    subst (λ history. IfOk c.make_tree_at.result (TellsTree c.args.tree.now (tree_of (replay c.args.choice history)))) whole c.make_tree_at.ensures
