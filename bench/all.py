@@ -7,6 +7,7 @@ import subprocess
 import sys
 import time
 
+import analysis
 import checkout
 import comments
 import commits
@@ -24,6 +25,7 @@ import memo
 import opening
 import order
 import overtaking
+import past
 import plans
 import projection
 import renames
@@ -41,7 +43,8 @@ BENCHES = ((comments, 'cov_cli'), (conjunction, 'cov_bench'), (sweeping, 'cov_be
            (order, 'cov_order_bench'), (plans, 'cov_tree_bench'), (lines, 'cov_cli'), (commits, 'cov_cli'), (inserts, 'cov_cli'),
            (renames, 'cov_cli'), (directories, 'cov_cli'), (overtaking, 'cov_cli'), (sessions, 'cov_cli'), (sides, 'cov_cli'), (touched, 'cov_cli'), (variants, 'cov_cli'), (demo, 'cov_cli'),
            (checkout, 'cov_cli'), (projection, 'cov_cli'), (durable, 'cov_cli'), (opening, 'cov_cli'), (stops, 'cov_cli'),
-           (damage, 'cov_cli'), (upgraded, 'cov_cli'), (conditions, 'cov_cli'), (imports, 'cov_cli'))
+           (damage, 'cov_cli'), (upgraded, 'cov_cli'), (conditions, 'cov_cli'), (imports, 'cov_cli'),
+           (analysis, 'cov_cli'), (past, 'cov_cli'))
 
 
 def words():

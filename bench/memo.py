@@ -4,7 +4,7 @@ nodes tell it."""
 import re
 import tempfile
 
-from completion import rules
+from completion import OPTIONS, rules
 from generated import commits, history
 from renames import script
 from timing import Figure, as_script, build, calls, tell
@@ -12,7 +12,7 @@ from timing import Figure, as_script, build, calls, tell
 COMMITS, WINDOW, COMPLETED, RENAMES = 400, 16, 100, 64
 RUNS = {'the generated script': lambda: history(commits(COMMITS)),
         'renames under %d ambitions' % RENAMES: lambda: script(RENAMES),
-        '%d completions, window %d' % (COMPLETED, WINDOW): lambda: rules(WINDOW) + ['complete -'] * COMPLETED}
+        '%d completions, window %d' % (COMPLETED, WINDOW): lambda: rules(OPTIONS, WINDOW) + ['complete -'] * COMPLETED}
 
 
 def is_call(name, *methods):

@@ -116,15 +116,17 @@ class Clock:
     def __init__(self):
         self.elapsed = self.processor = 0
 
-    def run(self, *command, source=None, out=None):
-        """Runs a command that ends well, with another file than this script's as its input or output."""
+    def run(self, *command, source=None, out=None, statuses=(0,)):
+        """Runs a command that ends with one of these statuses, with another file than this script's as its input or output; the status."""
         files = [(os.POSIX_SPAWN_DUP2, file.fileno(), place) for place, file in enumerate((source, out)) if file]
         start = time.perf_counter()
         child = os.posix_spawnp(command[0], command, os.environ, file_actions=files)
         _, status, usage = os.wait4(child, 0)
         self.elapsed += time.perf_counter() - start
-        assert status == 0
         self.processor += usage.ru_utime + usage.ru_stime
+        ended = os.waitstatus_to_exitcode(status)
+        assert ended in statuses, '%s ends with %d' % (command[0], ended)
+        return ended
 
 
 def told(*command):
