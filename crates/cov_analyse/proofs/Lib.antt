@@ -4,5 +4,6 @@ mod Examples
 mod Finding
 mod LeastNumbers
 mod Lower
+mod Orders
 mod Parts
 mod Walked

@@ -1,5 +1,5 @@
 // The analysis of rules.
-ghost use Rattle.std.specs.Prelude.{◌≡◌, ◌<◌, ◌≤◌, ◌-◌, ℕ, List, Bool, [], true, ◌&&◌, not, max, length, find, slice_get, Some, IfOk, OnOk};
+ghost use Rattle.std.specs.Prelude.{◌≡◌, ◌<◌, ◌≤◌, ◌-◌, ℕ, suc, List, Bool, [], true, ◌&&◌, not, max, length, reverse, find, slice_get, Some, IfOk, OnOk};
 ghost use Rattle.cov_base.specs.Choices.{all_choices, is_on};
 ghost use Rattle.cov_base.specs.declared.limits.TheConstants.{CHOICE_WIDTH};
 ghost use Rattle.cov_expr.specs.Formula.{Formula, reach, value};
@@ -7,11 +7,13 @@ ghost use Rattle.cov_expr.specs.Validity.{is_valid};
 ghost use Rattle.cov_dd.specs.Diagrams.{diagram_size, span, value_in, Extends, Stands};
 ghost use Rattle.cov_rules.specs.Installing.{expressions, reach_of};
 ghost use Rattle.cov_vis.specs.Listings.{has_options_below, is_reduced, reads};
-ghost use Rattle.cov_analyse.specs.Analysing.{first_part, last_part, HasParts, HasValid, IsAnalysis, IsAnalysisOf};
+ghost use Rattle.cov_analyse.specs.Analysing.{HasConstraint, HasParts, HasValid, IsAnalysis, IsAnalysisOf};
 ghost use Rattle.cov_analyse.specs.Bounding.{bound_of, distance, is_checked};
 ghost use Rattle.cov_analyse.specs.Nearest.{nearest};
+ghost use Rattle.cov_analyse.specs.Orders.{IsOrder};
 ghost use Rattle.cov_analyse.specs.States.{breaks_only, need_by, option_state, rule_state, state_by};
 
+use crate::ordering::{order_constraints, place_of, reversed};
 use crate::walking::{Nearest, nearest_in};
 use cov_base::{Choice, Memory, Numbers, OptionId, Steps, Uncounted};
 use cov_dd::{Node, TRUE, Table};
@@ -41,10 +43,11 @@ pub enum RuleState {
     Needed { choice: Choice },
 }
 
-/// The constraints of rules, conjoined in a table of its own: the first of them by how many they are, and the last.
+/// The constraints of rules, conjoined in a table of its own in an order: the first of them by how many they are, and the last.
 #[derive(Drop)]
 pub struct Analysis {
     table: Table,
+    order: Numbers,
     before: Numbers,
     behind: Numbers,
     count: u8,
@@ -55,7 +58,7 @@ impl Model for Analysis {
 
     ghost Value = { AnalysisValue };
 
-    ghost view = { λ a. record { table = a.table; before = a.before; behind = a.behind; count = a.count } };
+    ghost view = { λ a. record { table = a.table; order = a.order; before = a.before; behind = a.behind; count = a.count } };
 }
 
 impl Analysis {
@@ -70,6 +73,7 @@ impl Analysis {
         let table = Table::new(alloc)?;
         let analysis = Analysis {
             table,
+            order: Numbers::new(alloc),
             before: Numbers::new(alloc),
             behind: Numbers::new(alloc),
             count,
@@ -78,6 +82,7 @@ impl Analysis {
     }
 
     fn conjoined(self, rules: &Rules) -> Result<Analysis, Memory>
+        requires order { self.order ≡ [] }
         requires before { self.before ≡ [] }
         requires behind { self.behind ≡ [] }
         requires count { self.count ≤ CHOICE_WIDTH }
@@ -87,8 +92,9 @@ impl Analysis {
         ensures count { IfOk result (λ analysis. analysis.count ≡ self.count) }
     {
         let mut analysis = self;
-        match conjoin_all(
+        match conjoin_both(
             &mut analysis.table,
+            &mut analysis.order,
             &mut analysis.before,
             &mut analysis.behind,
             rules,
@@ -115,9 +121,7 @@ impl Analysis {
 
     /// Whether the other constraints imply one, by its number from 1, or else the first choice that meets them and not it.
     pub fn constraint(&mut self, rule: u32) -> Result<RuleState, Memory>
-        requires analysis { IsAnalysis self.old }
-        requires first { 1 ≤ rule }
-        requires last { rule < length self.old.before }
+        requires { HasConstraint rule self.old }
         ensures state { IfOk result (λ state. (es : List (Formula ℕ)) → IsAnalysisOf es self.old →
             state ≡ rule_state self.old.count es rule) }
         ensures kept { (es : List (Formula ℕ)) → IsAnalysisOf es self.old →
@@ -125,8 +129,9 @@ impl Analysis {
         ensures count { self.new.count ≡ self.old.count }
     {
         let all = self.all();
-        let before = self.first(rule - 1);
-        let behind = self.last(rule);
+        let place = place_of(&self.order, rule);
+        let before = self.first(place);
+        let behind = self.last(place);
         let broken = broken_alone(&mut self.table, before, behind, all)?;
         Ok(rule_state(self.table.least(broken, self.count)))
     }
@@ -164,24 +169,24 @@ impl Analysis {
         }
     }
 
-    // The node of the first constraints.
-    fn first(&self, count: u32) -> Node
-        requires { count < length self.now.before }
-        ensures { slice_get self.now.before count ≡ Some result }
+    // The node of the constraints before a place of the order.
+    fn first(&self, place: usize) -> Node
+        requires { place < length self.now.before }
+        ensures { slice_get self.now.before place ≡ Some result }
     {
-        match self.before.get(count as usize) {
+        match self.before.get(place) {
             Some(node) => node,
             None => unreachable!(),
         }
     }
 
-    // The node of the constraints behind so many.
-    fn last(&self, count: u32) -> Node
+    // The node of the constraints behind a place of the order.
+    fn last(&self, place: usize) -> Node
         requires analysis { IsAnalysis self.now }
-        requires count { count < length self.now.before }
-        ensures { slice_get self.now.behind (length self.now.behind - 1 - count) ≡ Some result }
+        requires place { suc place < length self.now.before }
+        ensures { slice_get self.now.behind (length self.now.behind - 2 - place) ≡ Some result }
     {
-        match self.behind.get(self.behind.len() - 1 - count as usize) {
+        match self.behind.get(self.behind.len() - 2 - place) {
             Some(node) => node,
             None => unreachable!(),
         }
@@ -247,61 +252,51 @@ fn broken_alone(table: &mut Table, before: Node, behind: Node, all: Node) -> Res
     table.without(others, all)
 }
 
-// Conjoins the first constraints and the last.
-fn conjoin_all(
+// Conjoins the constraints in an order, and from its last to its first.
+fn conjoin_both(
     table: &mut Table,
+    order: &mut Numbers,
     before: &mut Numbers,
     behind: &mut Numbers,
     rules: &Rules,
 ) -> Result<(), Memory>
+    requires order { order.old ≡ [] }
     requires before { before.old ≡ [] }
     requires behind { behind.old ≡ [] }
+    ensures order { OnOk result (IsOrder (length rules.now.standing.constraints) order.new) }
     ensures before { OnOk result (HasParts table.new before.new
-        (expressions rules.now.standing.constraints)
-        (first_part (expressions rules.now.standing.constraints))) }
+        (expressions rules.now.standing.constraints) order.new) }
     ensures behind { OnOk result (HasParts table.new behind.new
-        (expressions rules.now.standing.constraints)
-        (last_part (expressions rules.now.standing.constraints))) }
+        (expressions rules.now.standing.constraints) (reverse order.new)) }
 {
-    conjoin_first(table, before, rules)?;
-    conjoin_last(table, behind, rules)?;
-    Ok(())
+    order_constraints(order, rules)?;
+    conjoin_all(table, before, rules, order)?;
+    let backward = reversed(order)?;
+    conjoin_all(table, behind, rules, &backward)
 }
 
-// Conjoins the first constraints, from none of them to all.
-fn conjoin_first(table: &mut Table, nodes: &mut Numbers, rules: &Rules) -> Result<(), Memory>
-    requires { nodes.old ≡ [] }
+// Conjoins the first constraints of an order, from none of them to all.
+fn conjoin_all(
+    table: &mut Table,
+    nodes: &mut Numbers,
+    rules: &Rules,
+    order: &Numbers,
+) -> Result<(), Memory>
+    requires order { IsOrder (length rules.now.standing.constraints) order.now }
+    requires none { nodes.old ≡ [] }
     ensures extends { Extends table.old table.new }
     ensures parts { OnOk result (HasParts table.new nodes.new
-        (expressions rules.now.standing.constraints)
-        (first_part (expressions rules.now.standing.constraints))) }
+        (expressions rules.now.standing.constraints) order.now) }
 {
+    let numbers = order.as_slice();
     let mut node = TRUE;
     nodes.push(node)?;
-    let mut rule = 0;
-    while rule < rules.constraints() {
-        rule += 1;
+    let mut done = 0;
+    while done < rules.constraints() {
+        let rule = numbers[done as usize] as u32;
         node = conjoin(table, node, rules.constraint(rule))?;
         nodes.push(node)?;
-    }
-    Ok(())
-}
-
-// Conjoins the last constraints, from none of them to all.
-fn conjoin_last(table: &mut Table, nodes: &mut Numbers, rules: &Rules) -> Result<(), Memory>
-    requires { nodes.old ≡ [] }
-    ensures extends { Extends table.old table.new }
-    ensures parts { OnOk result (HasParts table.new nodes.new
-        (expressions rules.now.standing.constraints)
-        (last_part (expressions rules.now.standing.constraints))) }
-{
-    let mut node = TRUE;
-    nodes.push(node)?;
-    let mut rule = rules.constraints();
-    while rule > 0 {
-        node = conjoin(table, node, rules.constraint(rule))?;
-        nodes.push(node)?;
-        rule -= 1;
+        done += 1;
     }
     Ok(())
 }

@@ -5,6 +5,7 @@ mod analysis;
 mod bounding;
 pub mod laws;
 mod measuring;
+mod ordering;
 mod walking;
 
 pub use analysis::{Analysis, OptionState, RuleState};

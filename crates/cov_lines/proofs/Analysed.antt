@@ -1,6 +1,6 @@
 -- The rules as they are analysed and told.
-use Rattle.std.proofs.Common.{◌≡◌, ℕ, ◌-◌, Bool, true, false, cond, ◌&&◌, not, List, [], ◌∷◌, length, Option, Some, None, refl, sym, ap, subst, ◌∙◌, arith}
-use Rattle.std.specs.List.{AllByRecursion, find}
+use Rattle.std.proofs.Common.{◌≡◌, ℕ, suc, ◌+◌, ◌-◌, Bool, true, false, cond, ◌&&◌, not, List, [], ◌∷◌, ◌++◌, append_assoc, length, map, Option, Some, None, refl, sym, ap, subst, ◌∙◌, arith}
+use Rattle.std.specs.List.{AllByRecursion, concat, find, range_with_len}
 use Rattle.cov_analyse.specs.Analysing.{HasValid}
 use Rattle.cov_analyse.specs.Nearest.{is_nearest, nearest}
 use Rattle.cov_analyse.specs.States.{breaks_only, need_by, option_state, rule_state, state_by}
@@ -57,3 +57,12 @@ module _ (n : ℕ) (es : List (Formula ℕ)) where
 -- the constraints of a history are met, of which a choice is left
 pub has-valid : (history : List Command) (n : ℕ) (es : List (Formula ℕ)) → n ≡ option_count history → es ≡ constraints_of history → LeavesVariant history → HasValid n es
 has-valid history n es count same left = (left.0, left.1 ∙ sym count, ap (λ rules. is_valid rules left.0) same ∙ left.2)
+
+-- a line that is told of a number goes behind what is told, and the lines ahead are those of the numbers behind it
+pub told-more : (line : ℕ → List ℕ) (n left more : ℕ) (reply now all : List ℕ) → left ≡ suc more → now ≡ reply ++ line n → reply ++ concat (map line (range_with_len n left)) ≡ all
+    → now ++ concat (map line (range_with_len (n + 1) more)) ≡ all
+told-more line n left more reply now all next told lines =
+    ap (λ xs. xs ++ concat (map line (range_with_len (n + 1) more))) told
+    ∙ append_assoc reply (line n) (concat (map line (range_with_len (n + 1) more)))
+    ∙ ap (λ k. reply ++ concat (map line (range_with_len n k))) (sym next)
+    ∙ lines

@@ -3,7 +3,7 @@ ghost use Rattle.std.specs.Prelude.{List, ◌≡◌, ◌<◌, ◌∷◌, [], len
 ghost use Rattle.cov_dd.specs.declared.triple.Triple.{Triple};
 ghost use Rattle.cov_expr.specs.Formula.{On};
 ghost use Rattle.cov_rules.specs.Installing.{Holds, expressions};
-ghost use Rattle.cov_analyse.specs.Analysing.{IsAnalysis};
+ghost use Rattle.cov_analyse.specs.Analysing.{HasConstraint};
 
 use cov_analyse::{Analysis, Bounds, Nearest, OptionState, RuleState, check};
 use cov_base::{Choice, Memory, OptionId, Position};
@@ -58,9 +58,8 @@ fn raised_bounds_fail(rt: HostRuntime) -> Result<(), Fail> {
 }
 
 fn check_states(rt: &impl Abort, analysis: &mut Analysis) -> Result<(), Fail>
-    requires analysis { IsAnalysis analysis.old }
     requires option { 0 < analysis.old.count }
-    requires rule { 1 < length analysis.old.before }
+    requires rule { HasConstraint 1 analysis.old }
 {
     assert!(rt; matches!(analysis.option(OptionId::new(0))?, OptionState::Forced));
     assert!(rt; matches!(analysis.constraint(1)?, RuleState::Needed { .. }));

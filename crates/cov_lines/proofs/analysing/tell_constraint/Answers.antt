@@ -5,6 +5,9 @@ use Rattle.cov_lines.specs.Analysing.{IsNeedWithin}
 use Rattle.cov_lines.proofs.Analysed.{need-within}
 use Rattle.cov_lines.proofs.analysing.tell_constraint.Goals as goal
 
+pub constraint-requires : goal.constraint-requires
+constraint-requires c = (constraints_of c.args.engine.now.history, c.requires.analysis, c.requires.first, c.requires.last)
+
 pub rule_line-requires : goal.rule_line-requires
 rule_line-requires c =
     let es = constraints_of c.args.engine.now.history in

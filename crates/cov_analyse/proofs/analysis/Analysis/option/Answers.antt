@@ -13,7 +13,7 @@ sides_of-requires-clause-options c = (all_within _ c.all-all.result (subst IsAna
 
 pub returns-in_err-off-clause-kept : goal.returns-in_err-off-clause-kept
 returns-in_err-off-clause-kept c es is =
-    analysis_later es c.self.inside.table c.sides_of.new.table c.self.inside.before c.self.inside.behind c.self.inside.count c.in_err-off.ensures.extends
+    analysis_later es c.self.inside.table c.sides_of.new.table c.self.inside.order c.self.inside.before c.self.inside.behind c.self.inside.count c.in_err-off.ensures.extends
     (subst (IsAnalysisOf es) (sym c.self.view_is) is)
 
 pub returns-clause-state : goal.returns-clause-state
@@ -24,5 +24,5 @@ returns-clause-state c es is =
 
 pub returns-clause-kept : goal.returns-clause-kept
 returns-clause-kept c es is =
-    analysis_later es c.self.inside.table c.sides_of.new.table c.self.inside.before c.self.inside.behind c.self.inside.count c.in_ok-off.ensures.extends
+    analysis_later es c.self.inside.table c.sides_of.new.table c.self.inside.order c.self.inside.before c.self.inside.behind c.self.inside.count c.in_ok-off.ensures.extends
     (subst (IsAnalysisOf es) (sym c.self.view_is) is)
