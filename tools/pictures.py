@@ -40,7 +40,7 @@ STORE = 'store.cov'
 FIX = (('fix.script', 'run'),)
 READER = (('reader.script', 'run'), ('reader.cond', 'import', '/reader.c'), ('reader-fix.script', 'run'))
 TABLES = (('bench-sessions', 'What a session costs'), ('bench-sides', 'What sides cost'), ('bench-upgrade', 'What an upgrade costs'),
-          ('bench-all', 'The last run of all'))
+          ('bench-analysis', 'What conditional text, analysis and the past cost'), ('bench-all', 'The last run of all'))
 
 
 class Fault(Exception):
