@@ -29,6 +29,7 @@ import past
 import plans
 import projection
 import renames
+import replica
 import sessions
 import sides
 import stops
@@ -44,7 +45,7 @@ BENCHES = ((comments, 'cov_cli'), (conjunction, 'cov_bench'), (sweeping, 'cov_be
            (renames, 'cov_cli'), (directories, 'cov_cli'), (overtaking, 'cov_cli'), (sessions, 'cov_cli'), (sides, 'cov_cli'), (touched, 'cov_cli'), (variants, 'cov_cli'), (demo, 'cov_cli'),
            (checkout, 'cov_cli'), (projection, 'cov_cli'), (durable, 'cov_cli'), (opening, 'cov_cli'), (stops, 'cov_cli'),
            (damage, 'cov_cli'), (upgraded, 'cov_cli'), (conditions, 'cov_cli'), (imports, 'cov_cli'),
-           (analysis, 'cov_cli'), (past, 'cov_cli'))
+           (analysis, 'cov_cli'), (past, 'cov_cli'), (replica, 'cov_cli'))
 
 
 def words():

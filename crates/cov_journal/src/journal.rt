@@ -31,8 +31,8 @@ impl Model for Journal {
     ghost view = { λ j. record { at = j.at; digest = j.digest; spare = vec_capacity j.room } };
 }
 
-/// The digest of a record after the digest before it.
-pub(crate) fn next_digest(before: &[u8; 32], payload: &[u8]) -> [u8; 32]
+/// The digest of a record after the digest before it, which is 32 zero bytes before the first. Takes no memory.
+pub fn next_digest(before: &[u8; 32], payload: &[u8]) -> [u8; 32]
     ensures { result ≡ next_digest before.now payload.now }
 {
     let mut hasher = Sha256::new();

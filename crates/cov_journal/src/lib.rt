@@ -11,6 +11,6 @@ mod reader;
 mod writing;
 
 pub use damage::Damage;
-pub use journal::Journal;
-pub use opening::OpenFault;
+pub use journal::{Journal, next_digest};
+pub use opening::{OpenFault, header};
 pub use reader::{Next, ReadRecordFault, Reader};

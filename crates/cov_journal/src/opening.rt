@@ -13,6 +13,15 @@ use cov_disk::Disk;
 use std::alloc::Global;
 use thiserror::Error;
 
+const HEADER: [u8; 12] = *b"COVSTORE\x00\x00\x00\x01";
+
+/// What a journal of more than 13 bytes begins with. Takes no memory.
+pub fn header() -> [u8; 12]
+    ensures { result ≡ header }
+{
+    HEADER
+}
+
 /// Why a disk can't be opened.
 #[derive(Debug, Drop, Error)]
 pub enum OpenFault {
@@ -151,7 +160,7 @@ fn has_header<D: Disk>(disk: &mut D) -> Result<bool, Failed>
 fn is_header(bytes: [u8; 12]) -> bool
     ensures { HasHeader result bytes }
 {
-    if bytes == *b"COVSTORE\x00\x00\x00\x01" {
+    if bytes == HEADER {
         return true;
     }
     false

@@ -53,6 +53,11 @@ pub record IsPlain (text : List ℕ) (reply : Reply) : Type 0 where
   pub rows : reply.rows ≡ []
   pub answer : reply.answer ≡ kind_of text false
 
+-- a line is done as it is wanted, and its history is as before
+abbrev pub AnswersNow : Found Done → State → State → Result Reply Stop → Type 0
+AnswersNow wanted old new (Ok reply) = IsDone wanted new reply × (new.history ≡ old.history)
+AnswersNow wanted old new (Err stop) = Stops wanted old new stop
+
 -- a line adds a command, and nothing has changed yet
 pub record IsAdding (wanted : Found Done) (old new : State) (a : Addition) : Type 0 where
   pub is : wanted ≡ plainly (command_added old a)

@@ -23,7 +23,9 @@ mod state;
 mod sweeping;
 mod telling;
 mod tree_names;
+mod variant_reader;
 mod whole;
 mod writing;
 
 pub use server::Server;
+pub use variant_reader::VariantReader;

@@ -1,7 +1,7 @@
 // What a line does, by its group, and its reply.
 ghost use Rattle.std.specs.Prelude.{IfOk};
 ghost use Rattle.cov_edit.specs.History.{option_count};
-ghost use Rattle.cov_lines.specs.Acting.{Acts, Handles};
+ghost use Rattle.cov_lines.specs.Acting.{Acts, AnswersNow, Handles};
 ghost use Rattle.cov_lines.specs.Growth.{Keeps};
 ghost use Rattle.cov_lines.specs.States.{State};
 ghost use Rattle.cov_lines.specs.Step.{Act, acted, plainly, refused, served, served_analysis, served_declaration, served_edit, served_past, served_question, served_session, served_tree};
@@ -118,7 +118,7 @@ impl ServerState {
     }
 
     #[tactic(auto, unfolding(crate::specs::Step::served_question))]
-    fn serve_question(&mut self, question: Question) -> Result<Text, Stop>
+    pub(crate) fn serve_question(&mut self, question: Question) -> Result<Text, Stop>
         ensures { Acts (served_question self.old.state question)
             self.old.state self.new.state result }
     {
@@ -182,8 +182,19 @@ fn as_done(alloc: Global, told: Result<Text, Stop>) -> Result<Handled, Stop>
     ensures { (wanted : Act) (old new : State) → Keeps old wanted → Acts wanted old new told →
         Handles (plainly wanted) old new result }
 {
+    match as_reply(alloc, told) {
+        Ok(reply) => Ok(Handled::Done(reply)),
+        Err(stop) => Err(stop),
+    }
+}
+
+/// The reply of a line that adds no command and writes no rows.
+pub(crate) fn as_reply(alloc: Global, told: Result<Text, Stop>) -> Result<Reply, Stop>
+    ensures { (wanted : Act) (old new : State) → Keeps old wanted → Acts wanted old new told →
+        AnswersNow (plainly wanted) old new result }
+{
     match told {
-        Ok(text) => Ok(Handled::Done(Reply::to_done(alloc, text))),
+        Ok(text) => Ok(Reply::to_done(alloc, text)),
         Err(stop) => Err(stop),
     }
 }

@@ -1,7 +1,7 @@
 // How a tree is written: its rows, and the reply that comes after them.
 ghost use Rattle.std.specs.Prelude.{◌≡◌, ◌<◌, ◌^◌, length, take, IfOk};
 ghost use Rattle.cov_edit.specs.Replay.{replay};
-ghost use Rattle.cov_lines.specs.Acting.{Handles};
+ghost use Rattle.cov_lines.specs.Acting.{AnswersNow, Handles};
 ghost use Rattle.cov_lines.specs.Step.{checked_out};
 ghost use Rattle.cov_lines.specs.Written.{TellsTree, bytes_if_file, row_in, rows_in};
 ghost use Rattle.cov_view.specs.Tree.{tree_of};
@@ -21,9 +21,20 @@ use std::alloc::Global;
 impl ServerState {
     /// Makes the tree of the variant of the choice to which the rules complete bindings, and uses its name. Nothing is written
     /// yet: the reply has the rows that are to come before it.
-    #[tactic(auto, unfolding(crate::specs::Step::checked_out))]
     pub(crate) fn check_out(&mut self, tree: &Name, choice: &RawChoice) -> Result<Handled, Stop>
         ensures { Handles (checked_out self.old.state tree.now choice.now)
+            self.old.state self.new.state result }
+    {
+        match self.check_out_now(tree, choice) {
+            Ok(reply) => Ok(Handled::Done(reply)),
+            Err(stop) => Err(stop),
+        }
+    }
+
+    /// The same, as a reply.
+    #[tactic(auto, unfolding(crate::specs::Step::checked_out))]
+    pub(crate) fn check_out_now(&mut self, tree: &Name, choice: &RawChoice) -> Result<Reply, Stop>
+        ensures { AnswersNow (checked_out self.old.state tree.now choice.now)
             self.old.state self.new.state result }
     {
         let partial = self.find_partial(choice)?;
@@ -32,7 +43,7 @@ impl ServerState {
         }
         let choice = self.complete_partial(&partial)?;
         self.trees.add(tree.as_slice())?;
-        Ok(Handled::Done(self.make_tree(tree, choice)?))
+        Ok(self.make_tree(tree, choice)?)
     }
 
     // The rows and the reply of the tree of a choice.

@@ -11,6 +11,6 @@ mod turn;
 
 pub use answer::{Answer, Reply};
 pub use ending::Ending;
-pub use line::serve_line;
+pub use line::{put_reply, serve_line};
 pub use line_server::LineServer;
 pub use turn::serve_all;

@@ -151,8 +151,12 @@ pub(crate) fn serve_long<V: LineServer, K: Sink, T: Trees>(
     }
 }
 
-// Writes the rows, and then the text.
-fn put_reply<K: Sink, T: Trees>(reply: &Reply, out: &mut K, trees: &mut T) -> Result<Answer, Ending>
+/// Writes the rows of a reply, one call each, and then puts its text in one call. Where there is no text, the sink isn't called.
+pub fn put_reply<K: Sink, T: Trees>(
+    reply: &Reply,
+    out: &mut K,
+    trees: &mut T,
+) -> Result<Answer, Ending>
     ensures served { IfOk result (λ answer. answer ≡ reply.now.answer) }
     ensures all { OnOk result (AppendsAll reply.now.text (K.written out.old) (K.written out.new)) }
     ensures some { OnErr result

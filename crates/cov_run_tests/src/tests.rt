@@ -3,6 +3,7 @@ mod demo;
 mod faults;
 mod imports;
 mod plain;
+mod replicas;
 mod rows;
 mod running;
 mod sides;

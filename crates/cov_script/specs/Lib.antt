@@ -7,4 +7,5 @@ pub mod Grouping
 pub mod Kinds
 pub mod Lines
 pub mod Mistakes
+pub mod Readers
 pub mod Replies

@@ -14,6 +14,7 @@ mod line;
 mod number;
 mod plan;
 mod read;
+mod reader;
 mod reply;
 mod target;
 mod unread;
@@ -28,6 +29,7 @@ pub use laws::{lines_read_as_spelt, mistakes_are_placed};
 pub use line::{Line, LineField, LineSyntax};
 pub use number::read_long_number;
 pub use read::read_line;
+pub use reader::reads_variant;
 pub use reply::{
     alt_line, append_blame_line, append_cat_line, append_log_line, append_text_line, cat_line,
     dead_line, forced_line, free_line, list_line, needed_line, redundant_line, reply_checkout,

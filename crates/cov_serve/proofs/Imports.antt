@@ -11,6 +11,7 @@ use Rattle.cov_import.specs.Taking.{StopsTaking, kept_taken, taken_in}
 use Rattle.cov_io.specs.declared.reading.LineFault.{LineFault}
 use Rattle.cov_io.specs.declared.reading.LineFault.TheVariants as faults
 use Rattle.cov_lines.specs.Finding.{Found}
+use Rattle.cov_loop.proofs.CallerLemmas.{same_some}
 use Rattle.cov_loop.specs.Counts.{counts}
 use Rattle.cov_loop.specs.Turns.{AtEnd, WritesFront}
 use Rattle.cov_loop.specs.declared.ending.Ending.{Ending}
@@ -27,7 +28,7 @@ use Rattle.cov_serve.specs.declared.status.Status.TheVariants as statuses
 use Rattle.cov_store.specs.Stands.{StandsFor}
 use Rattle.cov_serve.proofs.Commits.{TurnsOf, front_none, rowless, told_none, turns_of}
 use Rattle.cov_serve.proofs.Turns.{front_stands_told, front_told, no_rows, told_stands_told}
-use Rattle.cov_serve.proofs.Unopened.{appends_none, none_written, writes_all, writes_some}
+use Rattle.cov_serve.proofs.Unopened.{none_written, writes_all, writes_some}
 
 module _ (history : List Command) where
   abbrev refusal : Code → List ℕ
@@ -87,7 +88,7 @@ is_stopped h history path lines text stop same kept stops =
 pub untold : (names : List (List ℕ)) (stop : Stop) (old : Option (List ℕ)) (sink : ℕ) → TellsStop names stop old old sink sink statuses.NoMemory
 untold names stops.Memory old sink = record { is = refl; same = refl }
 untold names (stops.Refused code) old sink = record {
-  front = appends_none (refused_reply names code) old old refl;
+  front = same_some (refused_reply names code) old old refl;
   whole = λ e. let other : statuses.NoMemory ≡ statuses.SomeRefused = e in absurd (cc);
   ends = tt;
 }
@@ -153,7 +154,7 @@ unread_served faults.ReadFault P = tt
 unread_served faults.TooMuch P = tt
 unread_served faults.Memory P = tt
 
-turned_sum : (most was now : ℕ) → was + most ≤ now → most + was ≤ 0 + now
+pub turned_sum : (most was now : ℕ) → was + most ≤ now → most + was ≤ 0 + now
 turned_sum most was now h = omega (arith, h)
 
 pub unread_stops : (fault : LineFault) (source source' sink sink' disk disk' trees trees' given given' ends ends' : ℕ) → StopsReading fault (source_counts source given ends) (source_counts source' given' ends')

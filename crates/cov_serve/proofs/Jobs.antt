@@ -6,20 +6,24 @@ use Rattle.cov_base.specs.declared.limits.TheConstants.{TOO_MANY_SCRIPT_BYTES}
 use Rattle.cov_edit.specs.History.{options_of}
 use Rattle.cov_edit.specs.declared.command.Command.{Command}
 use Rattle.cov_io.specs.Progress.{CountsGiven}
+use Rattle.cov_io.specs.declared.reading.LineFault.{LineFault}
+use Rattle.cov_io.specs.declared.reading.LineFault.TheVariants as line_faults
+use Rattle.cov_import.specs.Sources.{StopsReading, source_counts}
 use Rattle.cov_import.specs.Taking.{taken_in}
 use Rattle.cov_loop.specs.Counts.{Counts, counts}
 use Rattle.cov_loop.specs.Turns.{WritesFront, output}
 use Rattle.cov_loop.proofs.CallerLemmas.{fault_turn}
 use Rattle.cov_out.specs.declared.row.OutRow.{OutRow}
-use Rattle.cov_serve.specs.Jobs.{ComesTo, EndsAs, IsCaused, IsSettled, IsShort, IsStore, JobOutcome, NoneRose, OnEnd, RowsPrecede, StandsForFront, StandsForTold, StartsFrom, TellsUnopened, history_after, outcome, replies, rows_of, served_demo, served_import, served_script, served_status, told_of_none}
+use Rattle.cov_serve.specs.Jobs.{ComesTo, EndsAs, IsCaused, IsSettled, IsShort, IsStore, JobOutcome, NoneRose, OnEnd, RowsPrecede, StandsForFront, StandsForTold, StartsFrom, TellsUnopened, history_after, outcome, replies, rows_of, served_demo, served_import, served_replica, served_script, served_status, told_of_none}
 use Rattle.cov_script.specs.Demonstration.{checkout_lines, made_lines}
 use Rattle.cov_lines.specs.Laws.{rows_told}
 use Rattle.cov_serve.specs.Program.{EndsServed, OnServed, PutsLast, ReadsAs, StopsDemo, StopsServing, TellsFault, check_line, damaged_line, demo_line, not_a_store_line, usage_line}
 use Rattle.cov_lines.specs.States.{starting}
 use Rattle.cov_lines.specs.Step.{model, step}
+use Rattle.cov_serve.specs.Statuses.{fault_status}
 use Rattle.cov_serve.specs.TextServing.{rows_after}
 use Rattle.cov_serve.specs.declared.job.Job.{Job}
-use Rattle.cov_serve.specs.declared.job.Job.TheVariants.{OnStore, Unknown}
+use Rattle.cov_serve.specs.declared.job.Job.TheVariants.{OnStore, Replica, Unknown}
 use Rattle.cov_serve.specs.declared.job.StoreJob.{StoreJob}
 use Rattle.cov_serve.specs.declared.job.StoreJob.TheVariants.{Run, Check, Demo, Import}
 use Rattle.cov_serve.specs.declared.status.Status.{Status}
@@ -28,7 +32,8 @@ use Rattle.cov_store.specs.Stands.{StandsFor}
 use Rattle.cov_store.specs.declared.damage.StoreFault.{StoreFault}
 use Rattle.cov_serve.proofs.Checkouts.{checkout_answered, checkouts_are, first_checkout, other_checkouts}
 use Rattle.cov_serve.proofs.Crashing.{front_first, told_none}
-use Rattle.cov_serve.proofs.Imports.{import_front, import_precedes, import_reads, import_told}
+use Rattle.cov_serve.proofs.Imports.{import_front, import_precedes, import_reads, import_told, turned_sum}
+use Rattle.cov_serve.proofs.Replicas.{reads_text, replica_front, replica_last, replica_precedes, replica_told}
 use Rattle.cov_serve.proofs.Turns.{front_stands_told, rows_precede, rows_precede_told, told_stands_told}
 use Rattle.cov_serve.proofs.TurnsAfter.{front_start, rows_precede_after, told_unwritten}
 use Rattle.cov_serve.proofs.Unopened.{Fails, IsCut, Tells, cut_end, cut_unless, cut_unserved, fails_stops, none_written, put_tells, reads_as, tells_ends, tells_front, tells_rows, tells_rows_first, tells_unless, tells_whole, unopened_tells}
@@ -176,16 +181,16 @@ module _ (old new : Counts) where
   turned : (most was now : ℕ) → most + was ≤ 0 + now → was + most ≤ now
   turned most was now h = omega (arith, h)
 
-  pub served_caused : (contents : Option (List ℕ)) (status : Status) → IfSome contents IsStore → StopsServing old new status → IsCaused (OnStore Run) contents old new status
-  served_caused contents statuses.Done store h = (refl, store)
-  served_caused contents statuses.SomeRefused store h = (refl, store)
-  served_caused contents statuses.NoMemory store h = tt
-  served_caused contents statuses.ReadFault store h = (refl, h)
-  served_caused contents statuses.WriteFault store h = h
-  served_caused contents statuses.DiskFault store h = (refl, h)
-  served_caused contents statuses.TreesFault store h = (refl, h)
-  served_caused contents statuses.TooMuch store (given, ended, ends) = (refl, turned TOO_MANY_SCRIPT_BYTES old.given new.given given, ends)
-  served_caused contents status store h = absurd h
+  pub served_caused : (contents left : Option (List ℕ)) (status : Status) → IfSome contents IsStore → StopsServing old new status → IsCaused (OnStore Run) contents left old new status
+  served_caused contents left statuses.Done store h = store
+  served_caused contents left statuses.SomeRefused store h = (refl, store)
+  served_caused contents left statuses.NoMemory store h = tt
+  served_caused contents left statuses.ReadFault store h = (refl, h)
+  served_caused contents left statuses.WriteFault store h = h
+  served_caused contents left statuses.DiskFault store h = (refl, h)
+  served_caused contents left statuses.TreesFault store h = (refl, h)
+  served_caused contents left statuses.TooMuch store (given, ended, ends) = (refl, turned TOO_MANY_SCRIPT_BYTES old.given new.given given, ends)
+  served_caused contents left status store h = absurd h
 
   given_few : (left left' : Option (List ℕ)) (text : List ℕ) → CountsGiven left left' old.given new.given → left ≡ Some text → new.given ≤ length text + old.given
   given_few None left' text h e = absurd (cc)
@@ -194,6 +199,11 @@ module _ (old new : Counts) where
 
   few_enough : (most few was now : ℕ) → most + was ≤ 0 + now → now ≤ few + was → few < most → ⊥
   few_enough most few was now a b c = omega (arith, a, b, c)
+
+  -- a source that isn't too long doesn't give too much
+  pub not_too_much : (left left' : Option (List ℕ)) (text : List ℕ) → CountsGiven left left' old.given new.given → left ≡ Some text → length text < TOO_MANY_SCRIPT_BYTES
+      → TOO_MANY_SCRIPT_BYTES + old.given ≤ 0 + new.given → ⊥
+  not_too_much left left' text counts is few given = few_enough TOO_MANY_SCRIPT_BYTES (length text) old.given new.given given (given_few left left' text counts is) few
 
   -- a script that isn't too long is served, where nothing fails
   pub served_unless : (left left' : Option (List ℕ)) (history : List Command) (text : List ℕ) (status : Status) → StopsServing old new status
@@ -214,20 +224,20 @@ module _ (old new : Counts) where
       at statuses.DiskFault h e = absurd (none.disk refl h)
       at statuses.TreesFault h e = absurd (none.trees refl h)
       at statuses.TooMuch (given, ended, ends) e =
-          absurd (few_enough TOO_MANY_SCRIPT_BYTES (length text) old.given new.given given (given_few left left' text counts is) few)
+          absurd (not_too_much left left' text counts is few given)
       at status h e = absurd h
 
-  pub import_caused : (path : List (List ℕ)) (contents : Option (List ℕ)) (status : Status) → IfSome contents IsStore → (status ≡ statuses.TreesFault → ⊥) → StopsServing old new status
-      → IsCaused (OnStore (Import path)) contents old new status
-  import_caused path contents statuses.Done store trees h = (refl, store)
-  import_caused path contents statuses.SomeRefused store trees h = (refl, store)
-  import_caused path contents statuses.NoMemory store trees h = tt
-  import_caused path contents statuses.ReadFault store trees h = (refl, h)
-  import_caused path contents statuses.WriteFault store trees h = h
-  import_caused path contents statuses.DiskFault store trees h = (refl, h)
-  import_caused path contents statuses.TreesFault store trees h = absurd (trees refl)
-  import_caused path contents statuses.TooMuch store trees (given, ended, ends) = (refl, turned TOO_MANY_SCRIPT_BYTES old.given new.given given, ends)
-  import_caused path contents status store trees h = absurd h
+  pub import_caused : (path : List (List ℕ)) (contents left : Option (List ℕ)) (status : Status) → IfSome contents IsStore → (status ≡ statuses.TreesFault → ⊥) → StopsServing old new status
+      → IsCaused (OnStore (Import path)) contents left old new status
+  import_caused path contents left statuses.Done store trees h = store
+  import_caused path contents left statuses.SomeRefused store trees h = (refl, store)
+  import_caused path contents left statuses.NoMemory store trees h = tt
+  import_caused path contents left statuses.ReadFault store trees h = (refl, h)
+  import_caused path contents left statuses.WriteFault store trees h = h
+  import_caused path contents left statuses.DiskFault store trees h = (refl, h)
+  import_caused path contents left statuses.TreesFault store trees h = absurd (trees refl)
+  import_caused path contents left statuses.TooMuch store trees (given, ended, ends) = (refl, turned TOO_MANY_SCRIPT_BYTES old.given new.given given, ends)
+  import_caused path contents left status store trees h = absurd h
 
   -- a text that isn't too long is read to its end, and then taken in or refused, where nothing fails
   pub import_unless : (path : List (List ℕ)) (left left' : Option (List ℕ)) (history : List Command) (text : List ℕ) (status : Status) → (status ≡ statuses.TreesFault → ⊥) → StopsServing old new status
@@ -252,8 +262,19 @@ module _ (old new : Counts) where
       at statuses.DiskFault trees h e = absurd (none.disk refl h)
       at statuses.TreesFault trees h e = absurd (trees refl)
       at statuses.TooMuch trees (given, ended, ends) e =
-          absurd (few_enough TOO_MANY_SCRIPT_BYTES (length text) old.given new.given given (given_few left left' text counts is) few)
+          absurd (not_too_much left left' text counts is few given)
       at status trees h e = absurd h
+
+-- the bytes of a journal that aren't too long are read to their end, where nothing fails
+pub unread_unless : (line text : List ℕ) (history : List Command) (fault : LineFault) (left left' : Option (List ℕ)) (source source' sink sink' disk trees trees' given given' ends ends' : ℕ)
+    → StopsReading fault (source_counts source given ends) (source_counts source' given' ends') → CountsGiven left left' given given' → left ≡ Some text → IsShort true left
+    → NoneRose (Replica line) (served_replica line text history) (counts source sink disk trees given ends) (counts source' sink' disk trees' given' ends')
+    → (fault_status fault ≡ (served_replica line text history).status) ⊎ (fault_status fault ≡ statuses.NoMemory)
+unread_unless line text history line_faults.ReadFault left left' source source' sink sink' disk trees trees' given given' ends ends' h counted is short none =
+    absurd (none.source (reads_text line text history) h)
+unread_unless line text history line_faults.TooMuch left left' source source' sink sink' disk trees trees' given given' ends ends' h counted is short none =
+    absurd (not_too_much (counts source sink disk trees given ends) (counts source' sink' disk trees' given' ends') left left' text counted is (subst (IsShort true) is short) (turned_sum TOO_MANY_SCRIPT_BYTES given given' h.0))
+unread_unless line text history line_faults.Memory left left' source source' sink sink' disk trees trees' given given' ends ends' h counted is short none = inr refl
 
 -- a run whose trees aren't called doesn't end by a fault of theirs
 pub treeless : (source source' sink sink' disk disk' given given' ends ends' : ℕ) (status : Status) → StopsServing (counts source sink disk 0 given ends) (counts source' sink' disk' 0 given' ends') status
@@ -281,14 +302,17 @@ nothing_stands (OnStore Run) history text contents reads settled = absurd settle
 nothing_stands (OnStore Check) history text contents reads settled = reads_as contents history reads
 nothing_stands (OnStore (Demo number)) history text contents reads settled = absurd settled
 nothing_stands (OnStore (Import path)) history text contents reads settled = absurd settled
+nothing_stands (Replica line) history text contents reads settled = replica_last line history text contents (reads_as contents history reads)
 nothing_stands Unknown history text contents reads settled = reads_as contents history reads
 
 pub nothing_fronts : (job : Job) (history : List Command) (text image : List ℕ) → StandsFor image history → StandsForFront history (outcome job history text).turns image
 nothing_fronts (OnStore job) history text image h = front_at_start job history text image h
+nothing_fronts (Replica line) history text image h = replica_front line history text image h
 nothing_fronts Unknown history text image h = front_stands_told statuses.Usage usage_line history image h
 
 pub nothing_told : (job : Job) (history : List Command) (text image : List ℕ) → StandsFor image history → StandsForTold history (outcome job history text).turns [] image
 nothing_told (OnStore job) history text image h = told_at_start job history text image h
+nothing_told (Replica line) history text image h = replica_told line history text [] image h
 nothing_told Unknown history text image h = told_stands_told statuses.Usage usage_line history [] image h
 
 module _ (before : List ℕ) (rows : List OutRow) (written : Option (List ℕ)) (grown : Option (List OutRow)) (wrote : written ≡ Some before) (grew : grown ≡ Some rows) where
@@ -303,6 +327,7 @@ module _ (before : List ℕ) (rows : List OutRow) (written : Option (List ℕ)) 
 
   made_precedes : (job : Job) (history : List Command) (text : List ℕ) → RowsPrecede (outcome job history text).turns before rows written grown
   made_precedes (OnStore job) history text = none_precede job history text before rows written grown wrote grew
+  made_precedes (Replica line) history text = replica_precedes line history text before rows written grown wrote grew
   made_precedes Unknown history text = rows_precede_told statuses.Usage usage_line history before rows written grown (none_written before usage_line written wrote) grew
 
 pub nothing_precedes : (job : Job) (contents left : Option (List ℕ)) (all : JobOutcome) → ComesTo job contents left all
@@ -310,6 +335,17 @@ pub nothing_precedes : (job : Job) (contents left : Option (List ℕ)) (all : Jo
 nothing_precedes job contents left all (inl (history, text, starts, is)) before rows written grown wrote grew =
     subst (λ o. RowsPrecede o.turns before rows written grown) (sym is) (made_precedes before rows written grown wrote grew job history text)
 nothing_precedes job contents left all (inr (opens, tells)) before rows written grown wrote grew = unopened_precedes before rows written grown wrote grew contents all tells
+
+-- a line is served over what is taken of the source, or the fault of that is told
+pub record Replicates (left : Option (List ℕ)) (line : List ℕ) (all : JobOutcome) : Type 0 where
+  pub history : List Command
+  pub text : List ℕ
+  pub left_is : left ≡ Some text
+  pub is : all ≡ served_replica line text history
+
+pub replicates : (line : List ℕ) (contents left : Option (List ℕ)) (all : JobOutcome) → ComesTo (Replica line) contents left all → Replicates left line all
+replicates line contents left all (inl (history, text, left_is, is)) = record { history = history; text = text; left_is = left_is; is = is }
+replicates line contents left all (inr (opens, tells)) = absurd (false≢true opens)
 
 -- what holds at the end of a script, of a run that came to it
 pub served_on : (status : Status) (P : Type 0) → OnServed status (λ refused. P) → EndsServed status → P
@@ -344,14 +380,14 @@ pub demo_later : (sink sink' disk disk1 disk' trees trees' : ℕ) (status : Stat
 demo_later sink sink' disk disk1 disk' trees trees' statuses.DiskFault le h = omega (arith, le, h)
 demo_later sink sink' disk disk1 disk' trees trees' status le h = h
 
-pub demo_caused : (number : ℕ) (contents : Option (List ℕ)) (old new : Counts) (status : Status) → IfSome contents IsStore
-    → StopsDemo status old.sink new.sink old.disk new.disk old.trees new.trees → IsCaused (OnStore (Demo number)) contents old new status
-demo_caused number contents old new statuses.Done store h = (refl, store)
-demo_caused number contents old new statuses.NoMemory store h = tt
-demo_caused number contents old new statuses.WriteFault store h = h
-demo_caused number contents old new statuses.DiskFault store h = (refl, h)
-demo_caused number contents old new statuses.TreesFault store h = (refl, h)
-demo_caused number contents old new status store h = absurd h
+pub demo_caused : (number : ℕ) (contents left : Option (List ℕ)) (old new : Counts) (status : Status) → IfSome contents IsStore
+    → StopsDemo status old.sink new.sink old.disk new.disk old.trees new.trees → IsCaused (OnStore (Demo number)) contents left old new status
+demo_caused number contents left old new statuses.Done store h = store
+demo_caused number contents left old new statuses.NoMemory store h = tt
+demo_caused number contents left old new statuses.WriteFault store h = h
+demo_caused number contents left old new statuses.DiskFault store h = (refl, h)
+demo_caused number contents left old new statuses.TreesFault store h = (refl, h)
+demo_caused number contents left old new status store h = absurd h
 
 pub demo_unless : (number : ℕ) (history : List Command) (old new : Counts) (status : Status) → StopsDemo status old.sink new.sink old.disk new.disk old.trees new.trees
     → NoneRose (OnStore (Demo number)) (served_demo history number) old new → (status ≡ statuses.Done) ⊎ (status ≡ statuses.NoMemory)

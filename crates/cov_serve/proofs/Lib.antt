@@ -3,8 +3,10 @@ pub mod Crashing
 pub mod DemoParts
 pub mod DemoScript
 pub mod Endings
+pub mod Feeding
 pub mod Jobs
 pub mod Kept
+pub mod Replicas
 pub mod TextServing
 pub mod Turns
 pub mod Runs

@@ -85,6 +85,46 @@ module _ (history : List Command) (text : List ℕ) where
   pub rows_served : (before : List OutRow) (grown : Option (List OutRow)) → WritesFront before (model history text).rows grown → WritesFront before (rows_of turns) grown
   rows_served before grown h = subst (λ r. WritesFront before r grown) (sym (rows_as (starting history) (lines_of text))) h
 
+-- no turn adds a command
+abbrev pub Stay : List Command → List Turn → Type 0
+Stay history [] = Unit {0}
+Stay history (t ∷ ts) = (t.history ≡ history) × Stay history ts
+
+-- where none does, the history is as before
+pub stay_after : (history : List Command) (ts : List Turn) → Stay history ts → history_after history ts ≡ history
+stay_after history [] stay = refl
+stay_after history (t ∷ ts) (same, stay) = subst (λ h. history_after h ts ≡ history) (sym same) (stay_after history ts stay)
+
+stay_front : (history : List Command) (ts us : List Turn) → Stay history (ts ++ us) → Stay history ts
+stay_front history [] us stay = tt
+stay_front history (t ∷ ts) us (same, stay) = (same, stay_front history ts us stay)
+
+module _ (history : List Command) (all : List Turn) (stay : Stay history all) where
+  last_whole : take (length history) (history_after history all) ≡ history
+  last_whole =
+      ap (take (length history)) (stay_after history all stay ∙ sym (append-nil history)) ∙ take-append_seam history []
+
+  pub last_stays : (image : List ℕ) → StandsFor image history → StandsFor image (history_after history all)
+  last_stays image h = subst (StandsFor image) (sym (stay_after history all stay)) h
+
+  abbrev front_whole : (image : List ℕ) → StandsFor image history → StandsForFront history all image
+  front_whole image h = record {
+    count = length history;
+    least = omega arith;
+    most = subst (λ (hs : List Command). length history ≤ length hs) (sym (stay_after history all stay)) (omega arith);
+    stands = subst (StandsFor image) (sym last_whole) h;
+  }
+
+  pub front_stays : (image : List ℕ) → StandsFor image history → StandsForFront history all image
+  front_stays image h = front_whole image h
+
+  pub told_stays : (bytes image : List ℕ) → StandsFor image history → StandsForTold history all bytes image
+  told_stays bytes image h = record {
+    front = front_whole image h;
+    told = λ ts us e short.
+        subst (λ (hs : List Command). length hs ≤ length history) (sym (stay_after history ts (stay_front history ts us (subst (Stay history) e stay)))) (omega arith);
+  }
+
 -- one line that is told
 module _ (status : Status) (line : List ℕ) (history : List Command) where
   abbrev turns_told : List Turn
@@ -93,14 +133,7 @@ module _ (status : Status) (line : List ℕ) (history : List Command) where
   pub front_told : (before : List ℕ) (written : Option (List ℕ)) → WritesFront before line written → WritesFront before (replies turns_told) written
   front_told before written h = subst (λ r. WritesFront before r written) (sym (append-nil line)) h
 
-  -- no turn of it adds a command, and none has rows
-  stays : (ts us : List Turn) → turns_told ≡ ts ++ us → history_after history ts ≡ history
-  stays [] us e = refl
-  stays (t ∷ []) us e =
-      let same : record { reply = line; rows = []; history = history } ≡ t = cc in
-      sym (ap (λ (x : Turn). x.history) same)
-  stays (t ∷ n ∷ ts) us e = absurd (cc)
-
+  -- no turn of it has rows
   pub no_rows : (ts us : List Turn) → turns_told ≡ ts ++ us → rows_of ts ≡ []
   no_rows [] us e = refl
   no_rows (t ∷ []) us e =
@@ -121,22 +154,8 @@ module _ (status : Status) (line : List ℕ) (history : List Command) where
     first = λ ts us same short. subst (λ (rs : List OutRow). length rs ≤ 0) (sym (no_rows ts us same)) (omega arith);
   }
 
-  whole_history : take (length history) history ≡ history
-  whole_history = ap (take (length history)) (sym (append-nil history)) ∙ take-append_seam history []
-
-  abbrev front_whole : (image : List ℕ) → StandsFor image history → StandsForFront history turns_told image
-  front_whole image h = record {
-    count = length history;
-    least = omega arith;
-    most = omega arith;
-    stands = subst (StandsFor image) (sym whole_history) h;
-  }
-
   pub front_stands_told : (image : List ℕ) → StandsFor image history → StandsForFront history turns_told image
-  front_stands_told image h = front_whole image h
+  front_stands_told image h = front_stays history turns_told (refl, tt) image h
 
   pub told_stands_told : (bytes image : List ℕ) → StandsFor image history → StandsForTold history turns_told bytes image
-  told_stands_told bytes image h = record {
-    front = front_whole image h;
-    told = λ ts us e short. subst (λ (hs : List Command). length hs ≤ length history) (sym (stays ts us e)) (omega arith);
-  }
+  told_stands_told bytes image h = told_stays history turns_told (refl, tt) bytes image h

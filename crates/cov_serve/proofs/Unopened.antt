@@ -8,6 +8,7 @@ use Rattle.cov_edit.specs.declared.command.Command.{Command}
 use Rattle.cov_io.specs.Devices.{AppendsAll, AppendsSome}
 use Rattle.cov_journal.specs.Reading.{IsNoStore}
 use Rattle.cov_journal.proofs.CallerLemmas.{some_to}
+use Rattle.cov_loop.proofs.CallerLemmas.{same_some}
 use Rattle.cov_loop.specs.Counts.{Counts}
 use Rattle.cov_loop.specs.Turns.{WritesFront}
 use Rattle.cov_out.specs.declared.row.OutRow.{OutRow}
@@ -54,20 +55,15 @@ can_be_told (faults.Damaged number (damages.Refused refusal) options) of =
 can_be_told faults.DiskFault of = tt
 can_be_told faults.Memory of = tt
 
--- where nothing is written, no byte of a line is
-pub appends_none : (line : List ℕ) (old new : Option (List ℕ)) → new ≡ old → AppendsSome line old new
-appends_none line None new same = tt
-appends_none line (Some old) new same = ([], line, refl, same ∙ ap Some (sym (append-nil old)))
-
--- the first few bytes of a line are written
-pub writes_some : (before line : List ℕ) (old new : Option (List ℕ)) → AppendsSome line old new → old ≡ Some before → WritesFront before line new
+-- the first few of these are written
+pub writes_some : {X : Type 0} (before line : List X) (old new : Option (List X)) → AppendsSome line old new → old ≡ Some before → WritesFront before line new
 writes_some before line None new h is = absurd (cc)
 writes_some before line (Some old) new (first, rest, front, now) is =
     let same : old ≡ before = cc in
     record { first = first; rest = rest; front = front; is = now ∙ ap (λ b. Some (b ++ first)) same }
 
--- the whole line is written
-pub writes_all : (before line : List ℕ) (old new : Option (List ℕ)) → AppendsAll line old new → old ≡ Some before → new ≡ Some (before ++ line)
+-- all of these are written
+pub writes_all : {X : Type 0} (before line : List X) (old new : Option (List X)) → AppendsAll line old new → old ≡ Some before → new ≡ Some (before ++ line)
 writes_all before line None new h is = absurd (cc)
 writes_all before line (Some old) new h is = let same : old ≡ before = cc in h ∙ ap (λ b. Some (b ++ line)) same
 
@@ -79,6 +75,24 @@ on_any_end statuses.Usage P h = h
 on_any_end statuses.NotAStore P h = h
 on_any_end (statuses.Damaged number cause) P h = h
 on_any_end status P h = tt
+
+-- what follows from what holds at the end holds there
+pub end_to : (status : Status) (P Q : Type 0) → (P → Q) → OnEnd status P → OnEnd status Q
+end_to statuses.Done P Q to h = to h
+end_to statuses.SomeRefused P Q to h = to h
+end_to statuses.Usage P Q to h = to h
+end_to statuses.NotAStore P Q to h = to h
+end_to (statuses.Damaged number cause) P Q to h = to h
+end_to status P Q to h = tt
+
+-- a line that ends a run gives it its status, at the end
+pub last_end : (wanted status : Status) (sink sink' : ℕ) → EndsWithLine wanted sink sink' status → OnEnd status (status ≡ wanted)
+last_end wanted statuses.Done sink sink' e = e
+last_end wanted statuses.SomeRefused sink sink' e = e
+last_end wanted statuses.Usage sink sink' e = e
+last_end wanted statuses.NotAStore sink sink' e = e
+last_end wanted (statuses.Damaged number cause) sink sink' e = e
+last_end wanted status sink sink' e = tt
 
 -- a run is cut short: memory is wanting, or the sink or the disk failed
 abbrev pub IsCut : ℕ → ℕ → ℕ → ℕ → Status → Type 0
@@ -130,11 +144,11 @@ line_unless wanted sink sink' statuses.WriteFault e no_sink = absurd (no_sink e)
 line_unless wanted sink sink' status e no_sink = inl e
 
 -- the cause of a line's status is that of the line
-pub line_caused : (job : Job) (contents : Option (List ℕ)) (old new : Counts) (wanted status : Status) → IsCaused job contents old new wanted
-    → EndsWithLine wanted old.sink new.sink status → IsCaused job contents old new status
-line_caused job contents old new wanted statuses.NoMemory h e = tt
-line_caused job contents old new wanted statuses.WriteFault h e = e
-line_caused job contents old new wanted status h e = subst (IsCaused job contents old new) (sym e) h
+pub line_caused : (job : Job) (contents left : Option (List ℕ)) (old new : Counts) (wanted status : Status) → IsCaused job contents left old new wanted
+    → EndsWithLine wanted old.sink new.sink status → IsCaused job contents left old new status
+line_caused job contents left old new wanted statuses.NoMemory h e = tt
+line_caused job contents left old new wanted statuses.WriteFault h e = e
+line_caused job contents left old new wanted status h e = subst (IsCaused job contents left old new) (sym e) h
 
 -- what holds where a line ends a run that served its script, at that end
 pub line_served : (sink sink' : ℕ) (status : Status) (P : Type 0) → EndsWithLine statuses.Done sink sink' status → (status ≡ statuses.Done → P) → OnServed status (λ refused. P)
@@ -219,7 +233,7 @@ module _ (all : JobOutcome) (sink sink' disk disk' : ℕ) (old new : Option (Lis
     history = [];
     is = is;
     ends = inr cut;
-    front = appends_none line old new same;
+    front = same_some line old new same;
     whole = λ e. absurd (other e);
   }
 
@@ -270,12 +284,12 @@ module _ (all : JobOutcome) (sink sink' disk disk' : ℕ) (old new : Option (Lis
         at faults.Memory h t = (subst (IsCut sink sink' disk disk') (sym t.is) tt, t.same)
 
 -- the cause of the status
-pub fault_caused : (job : StoreJob) (contents : Option (List ℕ)) (old new : Counts) (before now : Option (List ℕ)) (status : Status) (fault : StoreFault)
+pub fault_caused : (job : StoreJob) (contents left : Option (List ℕ)) (old new : Counts) (before now : Option (List ℕ)) (status : Status) (fault : StoreFault)
     → IfSome contents (λ image. IsImageFaultOf image fault) → HasReason old.disk new.disk fault → TellsFault fault before now old.sink new.sink status
-    → IsCaused (OnStore job) contents old new status
-fault_caused job contents old new before now status faults.NotAStore of reason t = line_caused (OnStore job) contents old new statuses.NotAStore status (refl, of) t.ends
-fault_caused job contents old new before now status (faults.Damaged number cause options) of reason t =
-    line_caused (OnStore job) contents old new (statuses.Damaged number cause) status
-    (refl, some_to (λ image. (damage : HasDamage image number cause) × (options.names ≡ options_of damage.history)) (λ image. HasDamage image number cause) (λ image d. d.0) contents of) t.ends
-fault_caused job contents old new before now status faults.DiskFault of reason t = subst (IsCaused (OnStore job) contents old new) (sym t.is) (refl, reason)
-fault_caused job contents old new before now status faults.Memory of reason t = subst (IsCaused (OnStore job) contents old new) (sym t.is) tt
+    → IsCaused (OnStore job) contents left old new status
+fault_caused job contents left old new before now status faults.NotAStore of reason t = line_caused (OnStore job) contents left old new statuses.NotAStore status of t.ends
+fault_caused job contents left old new before now status (faults.Damaged number cause options) of reason t =
+    line_caused (OnStore job) contents left old new (statuses.Damaged number cause) status
+    (some_to (λ image. (damage : HasDamage image number cause) × (options.names ≡ options_of damage.history)) (λ image. HasDamage image number cause) (λ image d. d.0) contents of) t.ends
+fault_caused job contents left old new before now status faults.DiskFault of reason t = subst (IsCaused (OnStore job) contents left old new) (sym t.is) (refl, reason)
+fault_caused job contents left old new before now status faults.Memory of reason t = subst (IsCaused (OnStore job) contents left old new) (sym t.is) tt

@@ -12,14 +12,20 @@ use Rattle.cov_journal.specs.Reading.{IsNoStore}
 use Rattle.cov_loop.specs.Counts.{Counts}
 use Rattle.cov_loop.specs.Outcome.{Outcome, answers}
 use Rattle.cov_out.specs.declared.row.OutRow.{OutRow}
+use Rattle.cov_replica.specs.Laws.{as_store_damage}
+use Rattle.cov_replica.specs.Taken.{taken}
+use Rattle.cov_replica.specs.declared.fault.ReplicaDamage.{ReplicaDamage}
+use Rattle.cov_replica.specs.declared.fault.ReplicaFault.{ReplicaFault}
+use Rattle.cov_replica.specs.declared.fault.ReplicaFault.TheVariants as faults
 use Rattle.cov_script.specs.Demonstration.{checkout_lines, made_lines}
+use Rattle.cov_script.specs.Readers.{reads_variant}
 use Rattle.cov_script.specs.Replies.{commit_reply, refused_reply}
-use Rattle.cov_serve.specs.Program.{EndsServed, ReadsAs, check_line, damaged_line, demo_line, demo_number, import_path, is_lone, not_a_store_line, usage_line}
+use Rattle.cov_serve.specs.Program.{EndsServed, ReadsAs, check_line, damaged_line, demo_line, demo_number, import_path, is_lone, not_a_store_line, replica_line, taken_line, usage_line}
 use Rattle.cov_lines.specs.Finding.{Found}
 use Rattle.cov_lines.specs.States.{State, starting}
 use Rattle.cov_lines.specs.Step.{model, step}
 use Rattle.cov_serve.specs.declared.job.Job.{Job}
-use Rattle.cov_serve.specs.declared.job.Job.TheVariants.{OnStore, Unknown}
+use Rattle.cov_serve.specs.declared.job.Job.TheVariants.{OnStore, Replica, Unknown}
 use Rattle.cov_serve.specs.declared.job.StoreJob.TheVariants.{Run, Check, Demo, Import}
 use Rattle.cov_serve.specs.declared.status.Status.{Status}
 use Rattle.cov_serve.specs.declared.status.Status.TheVariants as statuses
@@ -41,23 +47,34 @@ abbrev pub demo_job : Option ℕ → Job → Job
 demo_job None other = other
 demo_job (Some number) other = OnStore (Demo number)
 
--- the job that words are of
-abbrev pub job_of : List (List ℕ) → Job
-job_of words =
+-- the job that words are of, if they aren't those of a replica
+abbrev pub store_job : List (List ℕ) → Job
+store_job words =
     if is_lone (codes "run") words then OnStore Run
     else (if is_lone (codes "check") words then OnStore Check else demo_job (demo_number words) (import_job (import_path words)))
 
--- the path of an import has a last name, and each is spelt as one
+-- the job of the word replica, by the line behind it, or another one
+abbrev pub replica_job : Option (List ℕ) → Job → Job
+replica_job None other = other
+replica_job (Some line) other = Replica line
+
+-- the job that words are of
+abbrev pub job_of : List (List ℕ) → Job
+job_of words = replica_job (replica_line words) (store_job words)
+
+-- the path of an import has a last name, and each is spelt as one; the line of a replica reads a variant
 abbrev pub IsNamed : Job → Type 0
 IsNamed (OnStore Run) = Unit {0}
 IsNamed (OnStore Check) = Unit {0}
 IsNamed (OnStore (Demo number)) = Unit {0}
 IsNamed (OnStore (Import path)) = IsNewPath path
+IsNamed (Replica line) = reads_variant line ≡ true
 IsNamed Unknown = Unit {0}
 
 -- whether a job opens the disk
 abbrev pub opens_disk : Job → Bool
 opens_disk (OnStore job) = true
+opens_disk (Replica line) = false
 opens_disk Unknown = false
 
 -- whether it reads the source
@@ -66,6 +83,7 @@ reads_source (OnStore Run) = true
 reads_source (OnStore Check) = false
 reads_source (OnStore (Demo number)) = false
 reads_source (OnStore (Import path)) = true
+reads_source (Replica line) = true
 reads_source Unknown = false
 
 -- whether it writes rows of trees
@@ -74,6 +92,7 @@ writes_trees (OnStore Run) = true
 writes_trees (OnStore Check) = false
 writes_trees (OnStore (Demo number)) = true
 writes_trees (OnStore (Import path)) = false
+writes_trees (Replica line) = true
 writes_trees Unknown = false
 
 -- whether a part of its work can be refused
@@ -82,6 +101,7 @@ can_refuse (OnStore Run) = true
 can_refuse (OnStore Check) = false
 can_refuse (OnStore (Demo number)) = false
 can_refuse (OnStore (Import path)) = true
+can_refuse (Replica line) = true
 can_refuse Unknown = false
 
 -- whether all that it adds is stored before the first byte is written
@@ -90,6 +110,7 @@ stores_first (OnStore Run) = false
 stores_first (OnStore Check) = true
 stores_first (OnStore (Demo number)) = true
 stores_first (OnStore (Import path)) = false
+stores_first (Replica line) = true
 stores_first Unknown = true
 
 -- one reply of a run, the rows of trees that are written before it, and the history that is stored by then
@@ -198,12 +219,48 @@ imported_by history (Err code) = record {
 abbrev pub served_import : List Command → List (List ℕ) → List ℕ → JobOutcome
 served_import history path text = imported_by history (taken_in history path text)
 
+-- how many records were taken is told, and then the reply of a line over their history; the history of the disk, if it has one, stays
+abbrev pub answered_replica : List ℕ → List Command → List Command → JobOutcome
+answered_replica line taken history =
+    let answered = step (starting taken) line in
+    record {
+      turns = record { reply = taken_line taken; rows = []; history = history } ∷ record { reply = answered.reply; rows = answered.rows; history = history } ∷ [];
+      status = served_status answered.is_refused;
+      reads = true;
+      writes = true;
+    }
+
+-- one line is told of bytes that were read to their end
+abbrev pub read_line : Status → List ℕ → List Command → JobOutcome
+read_line status line history = record {
+  turns = record { reply = line; rows = []; history = history } ∷ [];
+  status = status;
+  reads = true;
+  writes = false;
+}
+
+-- the fault of the bytes is told; want of memory is none
+abbrev pub faulty_replica : List Command → ReplicaFault → List Command → JobOutcome
+faulty_replica taken faults.NotAStore history = read_line statuses.NotAStore not_a_store_line history
+faulty_replica taken (faults.Damaged number cause) history =
+    read_line (statuses.Damaged number (as_store_damage cause)) (damaged_line (options_of taken) number (as_store_damage cause)) history
+faulty_replica taken (faults.Memory count) history = read_line statuses.NoMemory [] history
+
+abbrev pub replica_by : List ℕ → List Command → Option ReplicaFault → List Command → JobOutcome
+replica_by line taken None history = answered_replica line taken history
+replica_by line taken (Some fault) history = faulty_replica taken fault history
+
+-- a line is served over what is taken of bytes, or their fault is told
+abbrev pub served_replica : List ℕ → List ℕ → List Command → JobOutcome
+served_replica line text history = replica_by line (taken text).history (taken text).fault history
+
 -- what a job comes to over a history and the text of the source
 abbrev pub outcome : Job → List Command → List ℕ → JobOutcome
 outcome (OnStore Run) history text = served_script history text
 outcome (OnStore Check) history text = told_line statuses.Done (check_line history) history
 outcome (OnStore (Demo number)) history text = served_demo history number
 outcome (OnStore (Import path)) history text = served_import history path text
+outcome (Replica line) history text = served_replica line text history
 outcome Unknown history text = told_line statuses.Usage usage_line history
 
 -- a job begins with this history, if it opens the disk, and with this text, if it reads the source; what it doesn't touch may be any
@@ -212,6 +269,7 @@ StartsFrom (OnStore Run) contents left history text = ReadsAs contents history �
 StartsFrom (OnStore Check) contents left history text = ReadsAs contents history
 StartsFrom (OnStore (Demo number)) contents left history text = ReadsAs contents history
 StartsFrom (OnStore (Import path)) contents left history text = ReadsAs contents history × (left ≡ Some text)
+StartsFrom (Replica line) contents left history text = left ≡ Some text
 StartsFrom Unknown contents left history text = Unit {0}
 
 -- an image is no store, or damaged, and this is told
@@ -282,6 +340,7 @@ IsSettled (OnStore Run) status = EndsServed status
 IsSettled (OnStore Check) status = Unit {0}
 IsSettled (OnStore (Demo number)) status = EndsServed status
 IsSettled (OnStore (Import path)) status = EndsServed status
+IsSettled (Replica line) status = Unit {0}
 IsSettled Unknown status = Unit {0}
 
 -- an image stands for the history with the first few of the commands that the turns add
@@ -301,20 +360,45 @@ pub record StandsForTold (history : List Command) (turns : List Turn) (bytes ima
 abbrev pub IsStore : List ℕ → Type 0
 IsStore image = (history : List Command) × StandsFor image history
 
--- the cause of each status, whatever the disk holds
-abbrev pub IsCaused : Job → Option (List ℕ) → Counts → Counts → Status → Type 0
-IsCaused job contents old new statuses.Done = (opens_disk job ≡ true) × IfSome contents IsStore
-IsCaused job contents old new statuses.SomeRefused = (can_refuse job ≡ true) × IfSome contents IsStore
-IsCaused job contents old new statuses.Usage = job ≡ Unknown
-IsCaused job contents old new statuses.NoMemory = Unit {0}
-IsCaused job contents old new statuses.ReadFault = (reads_source job ≡ true) × Rose old.source new.source
-IsCaused job contents old new statuses.WriteFault = Rose old.sink new.sink
-IsCaused job contents old new statuses.DiskFault = (opens_disk job ≡ true) × Rose old.disk new.disk
-IsCaused job contents old new statuses.TreesFault = (writes_trees job ≡ true) × Rose old.trees new.trees
-IsCaused job contents old new statuses.NotAStore = (opens_disk job ≡ true) × IfSome contents IsNoStore
-IsCaused job contents old new (statuses.Damaged number cause) =
-    (opens_disk job ≡ true) × IfSome contents (λ image. HasDamage image number cause)
-IsCaused job contents old new statuses.TooMuch =
+-- bytes have this fault, where it is one of theirs
+abbrev pub IsFaultTaken : Option ReplicaFault → List ℕ → Type 0
+IsFaultTaken fault bytes = (taken bytes).fault ≡ fault
+
+-- bytes have the damage that is told
+abbrev pub IsDamageTaken : ℕ → StoreDamage → List ℕ → Type 0
+IsDamageTaken number cause bytes = (own : ReplicaDamage) × (cause ≡ as_store_damage own) × IsFaultTaken (Some (faults.Damaged number own)) bytes
+
+-- what a job works on is whole: the store of the disk, or what the source holds
+abbrev pub IsWhole : Job → Option (List ℕ) → Option (List ℕ) → Type 0
+IsWhole (OnStore job) contents left = IfSome contents IsStore
+IsWhole (Replica line) contents left = IfSome left (IsFaultTaken None)
+IsWhole Unknown contents left = ⊥
+
+-- it is no store
+abbrev pub IsNone : Job → Option (List ℕ) → Option (List ℕ) → Type 0
+IsNone (OnStore job) contents left = IfSome contents IsNoStore
+IsNone (Replica line) contents left = IfSome left (IsFaultTaken (Some faults.NotAStore))
+IsNone Unknown contents left = ⊥
+
+-- a record of it is the first that is damaged
+abbrev pub IsBroken : Job → ℕ → StoreDamage → Option (List ℕ) → Option (List ℕ) → Type 0
+IsBroken (OnStore job) number cause contents left = IfSome contents (λ image. HasDamage image number cause)
+IsBroken (Replica line) number cause contents left = IfSome left (IsDamageTaken number cause)
+IsBroken Unknown number cause contents left = ⊥
+
+-- the cause of each status, whatever the disk and the source hold
+abbrev pub IsCaused : Job → Option (List ℕ) → Option (List ℕ) → Counts → Counts → Status → Type 0
+IsCaused job contents left old new statuses.Done = IsWhole job contents left
+IsCaused job contents left old new statuses.SomeRefused = (can_refuse job ≡ true) × IsWhole job contents left
+IsCaused job contents left old new statuses.Usage = job ≡ Unknown
+IsCaused job contents left old new statuses.NoMemory = Unit {0}
+IsCaused job contents left old new statuses.ReadFault = (reads_source job ≡ true) × Rose old.source new.source
+IsCaused job contents left old new statuses.WriteFault = Rose old.sink new.sink
+IsCaused job contents left old new statuses.DiskFault = (opens_disk job ≡ true) × Rose old.disk new.disk
+IsCaused job contents left old new statuses.TreesFault = (writes_trees job ≡ true) × Rose old.trees new.trees
+IsCaused job contents left old new statuses.NotAStore = IsNone job contents left
+IsCaused job contents left old new (statuses.Damaged number cause) = IsBroken job number cause contents left
+IsCaused job contents left old new statuses.TooMuch =
     (reads_source job ≡ true) × (old.given + TOO_MANY_SCRIPT_BYTES ≤ new.given) × (new.ends ≡ old.ends)
 
 -- no count of faults rose, of the devices that the outcome has to do with

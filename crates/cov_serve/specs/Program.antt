@@ -9,6 +9,7 @@ use Rattle.cov_io.specs.Progress.{Progress}
 use Rattle.cov_loop.specs.Counts.{Counts}
 use Rattle.cov_loop.specs.Turns.{TooMuchSince}
 use Rattle.cov_script.specs.Fields.{long_number_of, new_path_of}
+use Rattle.cov_script.specs.Readers.{reads_variant}
 use Rattle.cov_script.specs.Replies.{code_text, refused_reply, IsCodeOf}
 use Rattle.cov_codes.specs.Codes.{refusal_code}
 use Rattle.cov_codes.specs.declared.stop.Stop.{Stop}
@@ -28,7 +29,7 @@ is_lone wanted words = false
 
 -- what is written where the words are of no form
 abbrev pub usage_line : List ℕ
-usage_line = codes "usage: covstore run | check | demo N | import PATH\n"
+usage_line = codes "usage: covstore run | check | demo N | import PATH | replica LINE\n"
 
 -- what is written where a store is whole
 abbrev pub check_line : List Command → List ℕ
@@ -43,6 +44,24 @@ demo_number words = None
 abbrev pub import_path : List (List ℕ) → Option (List (List ℕ))
 import_path (word ∷ path ∷ []) = if bytes_eq word (codes "import") then new_path_of path else None
 import_path words = None
+
+-- words with a space before each
+abbrev pub spaced : List (List ℕ) → List ℕ
+spaced [] = []
+spaced (word ∷ words) = codes " " ++ (word ++ spaced words)
+
+-- a line, if it reads a variant
+abbrev pub if_reader : List ℕ → Option (List ℕ)
+if_reader line = if reads_variant line then Some line else None
+
+-- the line that the words behind the word replica are, joined by spaces, if there is a word and the line reads a variant
+abbrev pub replica_line : List (List ℕ) → Option (List ℕ)
+replica_line (word ∷ first ∷ others) = if bytes_eq word (codes "replica") then if_reader (first ++ spaced others) else None
+replica_line words = None
+
+-- what is written where a journal's bytes were taken, of this history
+abbrev pub taken_line : List Command → List ℕ
+taken_line history = codes "ok replica " ++ (decimal (length history) ++ codes "\n")
 
 -- what is written where the script that a number stands for was served
 abbrev pub demo_line : ℕ → List ℕ

@@ -3,6 +3,8 @@ use Rattle.std.specs.Prelude.{ℕ}
 use Rattle.cov_base.specs.Causes.{Rose}
 use Rattle.cov_io.specs.declared.reading.LineFault.{LineFault}
 use Rattle.cov_io.specs.declared.reading.LineFault.TheVariants as faults
+use Rattle.cov_loop.specs.declared.answer.Answer.{Answer}
+use Rattle.cov_loop.specs.declared.answer.Answer.TheVariants as answers
 use Rattle.cov_loop.specs.declared.ending.Ending.{Ending}
 use Rattle.cov_loop.specs.declared.ending.Ending.TheVariants as endings
 use Rattle.cov_serve.specs.declared.status.Status.{Status}
@@ -49,6 +51,12 @@ added_status endings.WriteFault = WriteFault
 added_status endings.DiskFault = DiskFault
 added_status endings.TreesFault = TreesFault
 added_status endings.TooMuch = TooMuch
+
+-- how a run ends whose line was answered so
+abbrev pub answered_status : Answer → Status
+answered_status answers.Accepted = Done
+answered_status answers.Refused = SomeRefused
+answered_status answers.Nothing = Done
 
 -- why a line ends the run, the counts of faults of the sink, the disk and the trees being known before and after
 abbrev pub StopsWithStatus : Status → ℕ → ℕ → ℕ → ℕ → ℕ → ℕ → Type 0

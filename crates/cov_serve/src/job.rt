@@ -1,18 +1,25 @@
 // What the words after the program's name ask for.
-ghost use Rattle.std.specs.Prelude.{◌≡◌, None, IfOk, IfSome, OnErr};
+ghost use Rattle.std.specs.Prelude.{◌≡◌, ◌++◌, None, true, IfOk, IfSome, OnErr};
 ghost use Rattle.cov_script.specs.Fields.{below_root, new_path_of};
-ghost use Rattle.cov_serve.specs.Jobs.{IsNamed, IsNewPath, import_job, job_of};
-ghost use Rattle.cov_serve.specs.Program.{demo_number, import_path, is_lone};
+ghost use Rattle.cov_script.specs.Readers.{reads_variant};
+ghost use Rattle.cov_serve.specs.Jobs.{IsNamed, IsNewPath, import_job, job_of, store_job};
+ghost use Rattle.cov_serve.specs.Program.{demo_number, if_reader, import_path, is_lone, replica_line, spaced};
 
-use cov_base::{BadName, Memory, MemoryOr, Path, Texts};
-use cov_script::read_long_number;
+use cov_base::{BadName, Memory, MemoryOr, Path, Text, Texts};
+use cov_script::{read_long_number, reads_variant};
 use std::alloc::Global;
+
+/// A line of so many bytes isn't read.
+const TOO_MANY_BYTES: usize = 1 << 32;
 
 /// What the program is asked to do.
 #[derive(Drop)]
 pub(crate) enum Job {
     /// Something with the store of the disk, which is opened first.
     OnStore(StoreJob),
+    /// The source is read to its end as the bytes of a store's journal, and a line that reads a variant is served over what was taken.
+    /// No disk is opened.
+    Replica(Text),
     /// The words are of no form.
     Unknown,
 }
@@ -38,6 +45,18 @@ impl StoreJob {
 /// The job that words are of.
 pub(crate) fn job_of(alloc: Global, words: &Texts) -> Result<Job, Memory>
     ensures job { IfOk result (λ job. job ≡ job_of words.now) }
+    ensures named { IfOk result IsNamed }
+{
+    match replica_line(alloc, words) {
+        Ok(Some(line)) => Ok(Job::Replica(line)),
+        Ok(None) => store_job(alloc, words),
+        Err(Memory) => Err(Memory),
+    }
+}
+
+// The job of words that aren't those of a replica.
+fn store_job(alloc: Global, words: &Texts) -> Result<Job, Memory>
+    ensures job { IfOk result (λ job. job ≡ store_job words.now) }
     ensures named { IfOk result IsNamed }
 {
     if is_lone(words, b"run") {
@@ -85,6 +104,50 @@ fn import_job(alloc: Global, words: &Texts) -> Result<Job, Memory>
         Ok(Some(path)) => Ok(Job::OnStore(StoreJob::Import(path))),
         Ok(None) => Ok(Job::Unknown),
         Err(Memory) => Err(Memory),
+    }
+}
+
+// The line that the words behind the word `replica` are, joined by spaces, if it reads a variant. Words of 2^32 bytes want too much
+// memory.
+fn replica_line(alloc: Global, words: &Texts) -> Result<Option<Text>, Memory>
+    ensures line { IfOk result (λ line. line ≡ replica_line words.now) }
+    ensures reads { IfOk result (λ line. IfSome line (λ line. reads_variant line ≡ true)) }
+{
+    match words.as_slice() {
+        [word, first, others @ ..] => {
+            if word.as_slice() == b"replica".as_slice() {
+                return if_reader(alloc, joined(first, others)?);
+            }
+            Ok(None)
+        }
+        _ => Ok(None),
+    }
+}
+
+// Words behind a first one, with one space between two.
+fn joined(first: &Text, others: &[Text]) -> Result<Text, Memory>
+    ensures { IfOk result (λ line. line ≡ first.now ++ spaced others.now) }
+{
+    let mut line = first.copy()?;
+    let mut ahead = others;
+    while let [word, rest @ ..] = ahead {
+        line.append(b" ")?;
+        line.append(word.as_slice())?;
+        ahead = rest;
+    }
+    Ok(line)
+}
+
+// A line, if it reads a variant.
+fn if_reader(alloc: Global, line: Text) -> Result<Option<Text>, Memory>
+    ensures { IfOk result (λ found. found ≡ if_reader line) }
+{
+    if line.len() >= TOO_MANY_BYTES {
+        return Err(Memory);
+    }
+    match reads_variant(alloc, line.as_slice())? {
+        true => Ok(Some(line)),
+        false => Ok(None),
     }
 }
 

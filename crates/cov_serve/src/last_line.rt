@@ -4,7 +4,7 @@ ghost use Rattle.std.specs.Prelude.{◌≡◌, ◌≢◌, ◌≤◌, ◌++◌, L
 ghost use Rattle.cov_edit.specs.declared.command.Command.{Command};
 ghost use Rattle.cov_script.specs.Replies.{code_text, IsCodeOf};
 ghost use Rattle.cov_codes.specs.Codes.{refusal_code};
-ghost use Rattle.cov_serve.specs.Program.{cause_text, check_line, damaged_line, demo_line, DamageCanBeTold, IsCauseOf, IsLineOf, PutsLast, StopCanBeTold, TellsFault};
+ghost use Rattle.cov_serve.specs.Program.{cause_text, check_line, damaged_line, demo_line, taken_line, DamageCanBeTold, IsCauseOf, IsLineOf, PutsLast, StopCanBeTold, TellsFault};
 ghost use Rattle.cov_serve.specs.declared.status.Status.TheVariants.{Damaged, WriteFault};
 
 use crate::status::Status;
@@ -18,7 +18,7 @@ use cov_store::{StoreDamage, StoreFault};
 use std::alloc::Global;
 
 /// The line that tells that a disk holds no store.
-const NOT_A_STORE: &[u8] = b"not-a-store\n";
+pub(crate) const NOT_A_STORE: &[u8] = b"not-a-store\n";
 
 /// Tells why a store isn't opened: in one line, which is put, or by the status alone.
 pub(crate) fn tell_fault<K: Sink>(alloc: Global, fault: StoreFault, out: &mut K) -> Status
@@ -33,25 +33,26 @@ pub(crate) fn tell_fault<K: Sink>(alloc: Global, fault: StoreFault, out: &mut K)
             number,
             cause,
             options,
-        } => tell_damage(alloc, number, cause, options, out),
+        } => tell_damage(alloc, number, cause, &options, out),
         StoreFault::DiskFault => Status::DiskFault,
         StoreFault::Memory => Status::NoMemory,
     }
 }
 
-fn tell_damage<K: Sink>(
+/// Tells which record is damaged, and how. The options are those that the records before it declare.
+pub(crate) fn tell_damage<K: Sink>(
     alloc: Global,
     number: u32,
     cause: StoreDamage,
-    options: Options,
+    options: &Options,
     out: &mut K,
 ) -> Status
-    requires { IsCauseOf (length options.names) cause }
-    ensures told { PutsLast (Damaged number cause) (damaged_line options.names number cause)
+    requires { IsCauseOf (length options.now.names) cause }
+    ensures told { PutsLast (Damaged number cause) (damaged_line options.now.names number cause)
         (K.written out.old) (K.written out.new) (K.faults out.old) (K.faults out.new) result }
     ensures later { K.faults out.old ≤ K.faults out.new }
 {
-    match damaged_line(alloc, &options, number, &cause) {
+    match damaged_line(alloc, options, number, &cause) {
         Ok(line) => put_last(line.as_slice(), Status::Damaged { number, cause }, out),
         Err(Memory) => Status::NoMemory,
     }
@@ -88,6 +89,15 @@ pub(crate) fn check_line(alloc: Global, count: Position) -> Result<Text, Memory>
 {
     let count = count.number();
     Ok(Text::from(format!(in alloc; "ok {count} records\n")?))
+}
+
+/// The line that tells how many records were taken of a journal's bytes.
+pub(crate) fn taken_line(alloc: Global, count: Position) -> Result<Text, Memory>
+    ensures { (history : List Command) → count ≡ length history →
+        IfOk result (λ line. line ≡ taken_line history) }
+{
+    let count = count.number();
+    Ok(Text::from(format!(in alloc; "ok replica {count}\n")?))
 }
 
 /// The line that tells that the script was served that a number stands for.

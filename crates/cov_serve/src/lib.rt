@@ -4,10 +4,12 @@
 mod demo;
 mod import;
 mod job;
+mod journal_source;
 mod last_line;
 pub mod laws;
 mod line;
 mod program;
+mod replica;
 mod status;
 mod text_serving;
 mod text_source;

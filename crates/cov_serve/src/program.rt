@@ -22,6 +22,7 @@ use crate::demo::serve_demo;
 use crate::import::serve_import;
 use crate::job::{Job, StoreJob, job_of};
 use crate::last_line::{check_line, put_last, tell_fault};
+use crate::replica::serve_replica;
 use crate::status::Status;
 use cov_base::{Memory, Texts};
 use cov_disk::Disk;
@@ -32,14 +33,16 @@ use cov_out::Trees;
 use std::alloc::Global;
 
 /// The line that tells the words.
-const USAGE: &[u8] = b"usage: covstore run | check | demo N | import PATH\n";
+const USAGE: &[u8] = b"usage: covstore run | check | demo N | import PATH | replica LINE\n";
 
 /// Does what the words after the program's name say. `run` opens the store and serves the script, line by line: stores what a line
 /// adds, writes its rows of trees, one call each, and then puts its reply in one call. `check` opens the store, and tells how many
 /// records it has. `demo N` serves the script that the number N stands for, and tells what its checkouts are replied. `import PATH` opens
 /// the store, reads the source to its end as a conditional text, and adds it as a new file at the path: stores one commit after
-/// another, and puts the reply to each in one call; or it puts one line that tells why the text isn't taken in. A store that
-/// can't be opened is told in one line. All else writes the usage line. The first failing call ends the run. Want of memory may
+/// another, and puts the reply to each in one call; or it puts one line that tells why the text isn't taken in. `replica LINE` opens no
+/// disk: it reads the source to its end as the bytes of a journal, tells how many records were taken, and serves the line over their
+/// history, if it is a `cat` or a `checkout`; or it tells in one line what is wrong with them. A store that can't be opened is told in
+/// one line. All else writes the usage line. The first failing call ends the run. Want of memory may
 /// come at any moment.
 pub fn run<S: Source, K: Sink, D: Disk, T: Trees>(
     alloc: Global,
@@ -124,7 +127,7 @@ pub fn run<S: Source, K: Sink, D: Disk, T: Trees>(
         (script.new ≡ script.old) × (trees.new ≡ trees.old) }
 
     // Each status has its cause, and no count falls.
-    ensures cause { IsCaused (job_of words.now) (D.contents disk.old)
+    ensures cause { IsCaused (job_of words.now) (D.contents disk.old) (S.left script.old)
         (counts (S.faults script.old) (K.faults out.old) (D.faults disk.old) (T.faults trees.old)
         (S.given script.old) (S.ends script.old))
         (counts (S.faults script.new) (K.faults out.new) (D.faults disk.new) (T.faults trees.new)
@@ -160,6 +163,7 @@ pub fn run<S: Source, K: Sink, D: Disk, T: Trees>(
                 tell_fault(alloc, fault, out)
             }
         },
+        Ok(Job::Replica(line)) => serve_replica(alloc, line.as_slice(), script, out, trees),
         Ok(Job::Unknown) => put_last(USAGE, Status::Usage, out),
         Err(Memory) => Status::NoMemory,
     }

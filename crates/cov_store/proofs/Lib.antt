@@ -1,7 +1,7 @@
 mod Applies
 pub mod CallerLemmas
 mod Framing
-mod Legal
+pub mod Legal
 mod Opens
 mod Replays
 mod Standing

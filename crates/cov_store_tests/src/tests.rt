@@ -1,3 +1,4 @@
 mod applying;
 mod images;
 mod opening;
+mod replicas;

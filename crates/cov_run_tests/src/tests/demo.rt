@@ -17,7 +17,7 @@ const UNREAD: Fails = Fails {
 };
 
 /// What the checkouts are replied, of the script of 7.
-const TOLD: &[u8] =
+pub(crate) const TOLD: &[u8] =
     b"ok checkout t0 8 64 ab2060f1a14ddc43f88a437280129362d146fe9675232433e31bbccbc45cf3f8\n\
 ok checkout t1 8 64 0c8cf35a5f78932545a6064f74111e5822d7817646461347346b8119fc392a66\n\
 ok checkout t2 8 64 1071af4190549b92e1c8f241c6a32a1a5cf1d60d93fc0faa85f47d1309c12b96\n\
@@ -73,6 +73,12 @@ fn ends(
     drop(sink);
     drop(trees);
     Ok((code?, rows, same))
+}
+
+/// Serves the script of 7 over a disk.
+pub(crate) fn make_store(alloc: Global, disk: &mut MemoryDisk) -> Result<(), Memory> {
+    ends(alloc, &DEMO, LAST, UNREAD, disk)?;
+    Ok(())
 }
 
 // The store that the script leaves is whole, and its checkouts give the same trees again.

@@ -17,7 +17,7 @@ const UNTOUCHED: Fails = Fails {
 };
 
 /// Words of no form.
-const WORDS: [&[&str]; 16] = [
+const WORDS: [&[&str]; 23] = [
     &[],
     &["run", "x"],
     &["check", "x"],
@@ -31,6 +31,13 @@ const WORDS: [&[&str]; 16] = [
     &["import", "/"],
     &["import", "m"],
     &["import", "/m", "/n"],
+    &["replica"],
+    &["replica", "x"],
+    &["replica", "cat", "-"],
+    &["replica", "", "cat", "-", "/m"],
+    &["replica", "where", "1"],
+    &["replica", "pastout", "t", "1", "-"],
+    &["replica", "#"],
     &["--help"],
     &["--version"],
     &["Run"],
@@ -42,7 +49,7 @@ fn other_words_are_told_the_words(rt: HostRuntime) -> Result<(), Fail> {
         let case = Case {
             words,
             script: b"option a\n",
-            replies: b"usage: covstore run | check | demo N | import PATH\n",
+            replies: b"usage: covstore run | check | demo N | import PATH | replica LINE\n",
             rows: &[],
         };
         let end = end_from(rt.alloc(), &case, UNTOUCHED, &EMPTY, &EMPTY)?;

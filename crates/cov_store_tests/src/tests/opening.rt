@@ -40,7 +40,8 @@ pub(crate) fn close(_: Store) {}
 
 fn close_fault(_: StoreFault) {}
 
-fn rule_of(refusal: &Refusal) -> Rule {
+/// The rule that a refusal names.
+pub(crate) fn rule_of(refusal: &Refusal) -> Rule {
     match refusal {
         Refusal::Upgraded => Rule::Upgraded,
         Refusal::BadOption => Rule::BadOption,
@@ -114,7 +115,8 @@ fn every_cut_is_told(rt: HostRuntime) -> Result<(), Fail> {
     Ok(())
 }
 
-fn changed(alloc: Global, at: usize, bits: u8) -> Result<Text, Memory> {
+/// The ten records, where these bits of one byte are changed.
+pub(crate) fn changed(alloc: Global, at: usize, bits: u8) -> Result<Text, Memory> {
     let mut bytes = TEN;
     if let Some(byte) = bytes.get_mut(at) {
         *byte ^= bits;

@@ -16,7 +16,7 @@ fn other_words_are_told_the_words(rt: HostRuntime) -> Result<(), Fail> {
     for words in others {
         let case: Case = (
             b"option a\n",
-            b"usage: covstore run | check | demo N | import PATH\n",
+            b"usage: covstore run | check | demo N | import PATH | replica LINE\n",
             USAGE,
         );
         expect(&rt, rt.alloc(), (words, 1, &[1], &[]), case)?;

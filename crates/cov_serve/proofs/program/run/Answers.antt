@@ -8,25 +8,26 @@ use Rattle.cov_journal.proofs.CallerLemmas.{joined, some_to, started}
 use Rattle.cov_loop.specs.Counts.{Counts, counts}
 use Rattle.cov_loop.specs.Keeping.{AreAll}
 use Rattle.cov_loop.specs.Turns.{WritesFront}
-use Rattle.cov_serve.specs.Jobs.{ComesTo, EndsAs, IsCaused, IsReadOut, IsSettled, IsShort, JobOutcome, LeavesDisk, NoneRose, OnEnd, RowsPrecede, StandsForFront, StandsForTold, StartsFrom, history_after, job_of, opens_disk, outcome, reads_source, replies, rows_of, served_demo, served_import, served_script, served_status, stores_first, writes_trees}
+use Rattle.cov_serve.specs.Jobs.{ComesTo, EndsAs, IsCaused, IsReadOut, IsSettled, IsShort, JobOutcome, LeavesDisk, NoneRose, OnEnd, RowsPrecede, StandsForFront, StandsForTold, StartsFrom, history_after, job_of, opens_disk, outcome, reads_source, replies, rows_of, served_demo, served_import, served_replica, served_script, served_status, stores_first, writes_trees}
 use Rattle.cov_serve.specs.Program.{OnServed, PutsLast, ReadsAs, StopsDemo, StopsServing, check_line, usage_line}
 use Rattle.cov_lines.specs.States.{State, starting}
 use Rattle.cov_lines.specs.Step.{model}
-use Rattle.cov_serve.specs.declared.job.Job.TheVariants.{OnStore, Unknown}
+use Rattle.cov_serve.specs.declared.job.Job.TheVariants.{OnStore, Replica, Unknown}
 use Rattle.cov_serve.specs.declared.job.StoreJob.TheVariants.{Run, Check, Demo, Import}
 use Rattle.cov_serve.specs.declared.status.Status.TheVariants.{Done, Usage, NoMemory, TreesFault}
 use Rattle.cov_store.specs.Stands.{IsStored, StandsFor}
 use Rattle.cov_serve.proofs.Crashing.{front_first}
 use Rattle.cov_import.specs.Taking.{taken_in}
 use Rattle.cov_serve.proofs.Imports.{import_precedes, import_reads, import_rows}
-use Rattle.cov_serve.proofs.Jobs.{Demonstrates, Fell, Serves, TakesIn, check_tells, demo_caused, demo_end, demo_later, demo_unless, demonstrates, failed, failed_ends, failed_front, failed_rows, failed_rows_first, failed_unless, failed_whole, front_at_start, import_caused, import_unless, nothing_fronts, nothing_precedes, nothing_stands, nothing_told, reads_of, served_caused, served_done, served_end, served_on, served_unless, serves, stopped_stands, takes_in, told_at_start, treeless, usage_is, usage_tells}
+use Rattle.cov_serve.proofs.Jobs.{Demonstrates, Fell, Replicates, Serves, TakesIn, check_tells, demo_caused, demo_end, demo_later, demo_unless, demonstrates, failed, failed_ends, failed_front, failed_rows, failed_rows_first, failed_unless, failed_whole, front_at_start, import_caused, import_unless, nothing_fronts, nothing_precedes, nothing_stands, nothing_told, reads_of, replicates, served_caused, served_done, served_end, served_on, served_unless, serves, stopped_stands, takes_in, told_at_start, treeless, usage_is, usage_tells}
 use Rattle.cov_serve.proofs.Kept.{opened_adds, opening_leaves, uncalled}
+use Rattle.cov_serve.proofs.Replicas.{reads_text, replica_front, replica_last, replica_last_of, replica_told}
 use Rattle.cov_serve.proofs.Runs.{leaves_weaker, none_more, serving_later}
 use Rattle.cov_serve.proofs.Turns.{front_served, front_stands_told, last_is, replies_as, rows_as, rows_precede, rows_served, told_stands_told}
 use Rattle.cov_serve.proofs.Unopened.{Fails, IsCut, Tells, a_store, can_be_told, fails_stops, fault_caused, line_caused, line_unless, none_written, not_unopened, on_any_end, reads_as, reads_gives, tells_ends, tells_front, tells_rows, tells_rows_first, tells_unless, tells_whole}
 use Rattle.cov_serve.proofs.program.run.Given.{Over}
 use Rattle.cov_serve.proofs.program.run.Goals as goal
-use Rattle.cov_serve.proofs.program.run.Goals.{After-serve_opened, After-serve_demo, After-drop-path-inside, After-put_checked, After-tell_fault, After-put_last}
+use Rattle.cov_serve.proofs.program.run.Goals.{After-serve_opened, After-serve_demo, After-drop-line, After-drop-path-inside, After-put_checked, After-tell_fault, After-put_last}
 
 pub tell_fault-requires : goal.tell_fault-requires
 tell_fault-requires g c = can_be_told c.in-Err-open.fault c.in-Err-open.ensures.verdict
@@ -185,8 +186,8 @@ pub returns-in-Run-clause-cause : goal.returns-in-Run-clause-cause
 returns-in-Run-clause-cause g c =
     let arm = (goal.at.returns-in-Run-clause-cause g c).After-serve_opened in
     let contents = g.D.Disk.contents arm.args.disk.now in
-    subst (λ j. IsCaused j contents (run_old g arm) (run_new g arm) arm.serve_opened.result) (sym (run_is g arm))
-    (served_caused (run_old g arm) (run_new g arm) contents arm.serve_opened.result (a_store contents arm.in-Ok.server.state.history arm.in-Ok.ensures.opened) (run_stops g arm))
+    subst (λ j. IsCaused j contents (g.S.Source.left arm.args.script.now) (run_old g arm) (run_new g arm) arm.serve_opened.result) (sym (run_is g arm))
+    (served_caused (run_old g arm) (run_new g arm) contents (g.S.Source.left arm.args.script.now) arm.serve_opened.result (a_store contents arm.in-Ok.server.state.history arm.in-Ok.ensures.opened) (run_stops g arm))
 
 pub returns-in-Run-clause-complete : goal.returns-in-Run-clause-complete
 returns-in-Run-clause-complete g c all comes short none =
@@ -278,7 +279,8 @@ returns-in-Check-clause-cause g c =
     let contents = g.D.Disk.contents c.args.disk.now in
     let old = (counts (g.S.Source.faults c.args.script.now) (g.K.Sink.faults c.args.out.now) (g.D.Disk.faults c.args.disk.now) (g.T.Trees.faults c.args.trees.now) (g.S.Source.given c.args.script.now) (g.S.Source.ends c.args.script.now)) in
     let new = (counts (g.S.Source.faults c.args.script.now) (g.K.Sink.faults c.put_checked.new.out) (g.D.Disk.faults c.open.new.disk) (g.T.Trees.faults c.args.trees.now) (g.S.Source.given c.args.script.now) (g.S.Source.ends c.args.script.now)) in
-    subst (λ j. IsCaused j contents old new c.put_checked.result) (sym (check_is g arm)) (line_caused (OnStore Check) contents old new Done c.put_checked.result (refl, a_store contents arm.in-Ok.server.state.history arm.in-Ok.ensures.opened) c.put_checked.ensures.puts.ends)
+    subst (λ j. IsCaused j contents (g.S.Source.left c.args.script.now) old new c.put_checked.result) (sym (check_is g arm))
+    (line_caused (OnStore Check) contents (g.S.Source.left c.args.script.now) old new Done c.put_checked.result (a_store contents arm.in-Ok.server.state.history arm.in-Ok.ensures.opened) c.put_checked.ensures.puts.ends)
 
 pub returns-in-Check-clause-complete : goal.returns-in-Check-clause-complete
 returns-in-Check-clause-complete g c all comes short none =
@@ -429,8 +431,8 @@ pub returns-in-Demo-clause-cause : goal.returns-in-Demo-clause-cause
 returns-in-Demo-clause-cause g c =
     let arm = (goal.at.returns-in-Demo-clause-cause g c).After-serve_demo in
     let contents = g.D.Disk.contents arm.args.disk.now in
-    subst (λ j. IsCaused j contents (demo_old g arm) (demo_new g arm) arm.serve_demo.result) (sym (demo_is g arm))
-    (demo_caused arm.in-Demo.number contents (demo_old g arm) (demo_new g arm) arm.serve_demo.result (a_store contents arm.in-Ok.server.state.history arm.in-Ok.ensures.opened) (demo_stops g arm))
+    subst (λ j. IsCaused j contents (g.S.Source.left arm.args.script.now) (demo_old g arm) (demo_new g arm) arm.serve_demo.result) (sym (demo_is g arm))
+    (demo_caused arm.in-Demo.number contents (g.S.Source.left arm.args.script.now) (demo_old g arm) (demo_new g arm) arm.serve_demo.result (a_store contents arm.in-Ok.server.state.history arm.in-Ok.ensures.opened) (demo_stops g arm))
 
 pub returns-in-Demo-clause-complete : goal.returns-in-Demo-clause-complete
 returns-in-Demo-clause-complete g c all comes short none =
@@ -537,8 +539,8 @@ returns-in-Err-open-clause-cause g c =
     let contents = g.D.Disk.contents c.args.disk.now in
     let old = (counts (g.S.Source.faults c.args.script.now) (g.K.Sink.faults c.args.out.now) (g.D.Disk.faults c.args.disk.now) (g.T.Trees.faults c.args.trees.now) (g.S.Source.given c.args.script.now) (g.S.Source.ends c.args.script.now)) in
     let new = (counts (g.S.Source.faults c.args.script.now) (g.K.Sink.faults c.tell_fault.new.out) (g.D.Disk.faults c.open.new.disk) (g.T.Trees.faults c.args.trees.now) (g.S.Source.given c.args.script.now) (g.S.Source.ends c.args.script.now)) in
-    subst (λ j. IsCaused j contents old new c.tell_fault.result) (sym (opening_is g arm))
-    (fault_caused c.in-Ok-OnStore.job contents old new (g.K.Sink.written c.args.out.now) (g.K.Sink.written c.tell_fault.new.out) c.tell_fault.result c.in-Err-open.fault c.in-Err-open.ensures.faulty c.in-Err-open.ensures.cause c.tell_fault.ensures.told)
+    subst (λ j. IsCaused j contents (g.S.Source.left c.args.script.now) old new c.tell_fault.result) (sym (opening_is g arm))
+    (fault_caused c.in-Ok-OnStore.job contents (g.S.Source.left c.args.script.now) old new (g.K.Sink.written c.args.out.now) (g.K.Sink.written c.tell_fault.new.out) c.tell_fault.result c.in-Err-open.fault c.in-Err-open.ensures.faulty c.in-Err-open.ensures.cause c.tell_fault.ensures.told)
 
 pub returns-in-Err-open-clause-complete : goal.returns-in-Err-open-clause-complete
 returns-in-Err-open-clause-complete g c all comes short none =
@@ -611,7 +613,8 @@ returns-in-Ok-Unknown-clause-cause g c =
     let contents = g.D.Disk.contents c.args.disk.now in
     let old = (counts (g.S.Source.faults c.args.script.now) (g.K.Sink.faults c.args.out.now) (g.D.Disk.faults c.args.disk.now) (g.T.Trees.faults c.args.trees.now) (g.S.Source.given c.args.script.now) (g.S.Source.ends c.args.script.now)) in
     let new = (counts (g.S.Source.faults c.args.script.now) (g.K.Sink.faults c.put_last.new.out) (g.D.Disk.faults c.args.disk.now) (g.T.Trees.faults c.args.trees.now) (g.S.Source.given c.args.script.now) (g.S.Source.ends c.args.script.now)) in
-    subst (λ j. IsCaused j contents old new c.put_last.result) (sym (unknown_is g arm)) (line_caused Unknown contents old new Usage c.put_last.result refl c.put_last.ensures.puts.ends)
+    subst (λ j. IsCaused j contents (g.S.Source.left c.args.script.now) old new c.put_last.result) (sym (unknown_is g arm))
+    (line_caused Unknown contents (g.S.Source.left c.args.script.now) old new Usage c.put_last.result refl c.put_last.ensures.puts.ends)
 
 pub returns-in-Ok-Unknown-clause-complete : goal.returns-in-Ok-Unknown-clause-complete
 returns-in-Ok-Unknown-clause-complete g c all comes short none =
@@ -772,8 +775,8 @@ pub returns-in-Import-clause-cause : goal.returns-in-Import-clause-cause
 returns-in-Import-clause-cause g c =
     let arm = (goal.at.returns-in-Import-clause-cause g c).After-drop-path-inside in
     let contents = g.D.Disk.contents arm.args.disk.now in
-    subst (λ j. IsCaused j contents (import_old g arm) (import_new g arm) arm.serve_import.result) (sym (import_is g arm))
-    (import_caused (import_old g arm) (import_new g arm) arm.in-Import.path contents arm.serve_import.result (a_store contents arm.in-Ok.server.state.history arm.in-Ok.ensures.opened) (import_treeless g arm) (import_stops g arm))
+    subst (λ j. IsCaused j contents (g.S.Source.left arm.args.script.now) (import_old g arm) (import_new g arm) arm.serve_import.result) (sym (import_is g arm))
+    (import_caused (import_old g arm) (import_new g arm) arm.in-Import.path contents (g.S.Source.left arm.args.script.now) arm.serve_import.result (a_store contents arm.in-Ok.server.state.history arm.in-Ok.ensures.opened) (import_treeless g arm) (import_stops g arm))
 
 pub returns-in-Import-clause-complete : goal.returns-in-Import-clause-complete
 returns-in-Import-clause-complete g c all comes short none =
@@ -787,6 +790,119 @@ returns-in-Import-clause-complete g c all comes short none =
     (arm.serve_import.ensures.ended s.history s.text (import_begins g arm s.history s.reads) s.left_is) arm.serve_import.ensures.left s.left_is
     (subst (λ (o : JobOutcome). IsShort o.reads left) s.is short)
     (subst (λ j. NoneRose j (served_import s.history path s.text) (import_old g arm) (import_new g arm)) (import_is g arm) (subst (λ o. NoneRose (job_of arm.args.words.now) o (import_old g arm) (import_new g arm)) s.is none)))
+
+-- a line is served over the history of a journal's bytes: its job, and what that begins with
+replica_is : (g : Over) (c : After-drop-line g) → job_of c.args.words.now ≡ Replica c.as_slice.result.now
+replica_is g c = sym c.in-Ok-Replica.ensures.job ∙ c.in-Ok-Replica.field-0-is ∙ ap Replica (sym c.as_slice.ensures)
+
+replica_serves : (g : Over) (c : After-drop-line g) (all : JobOutcome) → ComesTo (job_of c.args.words.now) (g.D.Disk.contents c.args.disk.now) (g.S.Source.left c.args.script.now) all
+    → Replicates (g.S.Source.left c.args.script.now) c.as_slice.result.now all
+replica_serves g c all comes =
+    let contents = g.D.Disk.contents c.args.disk.now in
+    let left = g.S.Source.left c.args.script.now in
+    replicates c.as_slice.result.now contents left all (subst (λ j. ComesTo j contents left all) (replica_is g c) comes)
+
+abbrev replica_old : (g : Over) → After-drop-line g → Counts
+replica_old g c = counts (g.S.Source.faults c.args.script.now) (g.K.Sink.faults c.args.out.now) (g.D.Disk.faults c.args.disk.now) (g.T.Trees.faults c.args.trees.now) (g.S.Source.given c.args.script.now) (g.S.Source.ends c.args.script.now)
+
+abbrev replica_new : (g : Over) → After-drop-line g → Counts
+replica_new g c = counts (g.S.Source.faults c.serve_replica.new.script) (g.K.Sink.faults c.serve_replica.new.out) (g.D.Disk.faults c.args.disk.now) (g.T.Trees.faults c.serve_replica.new.trees) (g.S.Source.given c.serve_replica.new.script) (g.S.Source.ends c.serve_replica.new.script)
+
+pub returns-in-Ok-Replica-clause-ends : goal.returns-in-Ok-Replica-clause-ends
+returns-in-Ok-Replica-clause-ends g c all comes =
+    let arm = (goal.at.returns-in-Ok-Replica-clause-ends g c).After-drop-line in
+    let s = replica_serves g arm all comes in
+    let status = arm.serve_replica.result in
+    subst (λ o. OnEnd status (EndsAs o status (g.S.Source.left arm.serve_replica.new.script))) (sym s.is) (arm.serve_replica.ensures.ends s.history s.text s.left_is)
+
+pub returns-in-Ok-Replica-clause-front : goal.returns-in-Ok-Replica-clause-front
+returns-in-Ok-Replica-clause-front g c all before comes wrote =
+    let arm = (goal.at.returns-in-Ok-Replica-clause-front g c).After-drop-line in
+    let s = replica_serves g arm all comes in
+    subst (λ o. WritesFront before (replies o.turns) (g.K.Sink.written arm.serve_replica.new.out)) (sym s.is) (arm.serve_replica.ensures.front s.history s.text before s.left_is wrote)
+
+pub returns-in-Ok-Replica-clause-whole : goal.returns-in-Ok-Replica-clause-whole
+returns-in-Ok-Replica-clause-whole g c all before comes wrote =
+    let arm = (goal.at.returns-in-Ok-Replica-clause-whole g c).After-drop-line in
+    let s = replica_serves g arm all comes in
+    let written = g.K.Sink.written arm.serve_replica.new.out in
+    subst (λ o. OnEnd arm.serve_replica.result (written ≡ Some (before ++ replies o.turns))) (sym s.is) (arm.serve_replica.ensures.whole s.history s.text before s.left_is wrote)
+
+pub returns-in-Ok-Replica-clause-rows : goal.returns-in-Ok-Replica-clause-rows
+returns-in-Ok-Replica-clause-rows g c all before comes grew =
+    let arm = (goal.at.returns-in-Ok-Replica-clause-rows g c).After-drop-line in
+    let s = replica_serves g arm all comes in
+    subst (λ o. WritesFront before (rows_of o.turns) (g.T.Trees.rows arm.serve_replica.new.trees)) (sym s.is) (arm.serve_replica.ensures.rows s.history s.text before s.left_is grew)
+
+pub returns-in-Ok-Replica-clause-rows_whole : goal.returns-in-Ok-Replica-clause-rows_whole
+returns-in-Ok-Replica-clause-rows_whole g c all before comes grew =
+    let arm = (goal.at.returns-in-Ok-Replica-clause-rows_whole g c).After-drop-line in
+    let s = replica_serves g arm all comes in
+    let grown = g.T.Trees.rows arm.serve_replica.new.trees in
+    subst (λ o. OnEnd arm.serve_replica.result (grown ≡ Some (before ++ rows_of o.turns))) (sym s.is) (arm.serve_replica.ensures.rows_whole s.history s.text before s.left_is grew)
+
+pub returns-in-Ok-Replica-clause-rows_first : goal.returns-in-Ok-Replica-clause-rows_first
+returns-in-Ok-Replica-clause-rows_first g c all before rows comes wrote grew =
+    let arm = (goal.at.returns-in-Ok-Replica-clause-rows_first g c).After-drop-line in
+    let s = replica_serves g arm all comes in
+    subst (λ o. RowsPrecede o.turns before rows (g.K.Sink.written arm.serve_replica.new.out) (g.T.Trees.rows arm.serve_replica.new.trees)) (sym s.is)
+    (arm.serve_replica.ensures.rows_first s.history s.text before rows s.left_is wrote grew)
+
+pub returns-in-Ok-Replica-clause-stands : goal.returns-in-Ok-Replica-clause-stands
+returns-in-Ok-Replica-clause-stands g c history text reads starts settled =
+    let arm = (goal.at.returns-in-Ok-Replica-clause-stands g c).After-drop-line in
+    let contents = g.D.Disk.contents c.args.disk.now in
+    subst (λ j. IfSome contents (λ image. StandsFor image (history_after history (outcome j history text).turns))) (sym (replica_is g arm))
+    (replica_last arm.as_slice.result.now history text contents (reads_as contents history reads))
+
+pub returns-in-Ok-Replica-clause-kept : goal.returns-in-Ok-Replica-clause-kept
+returns-in-Ok-Replica-clause-kept g c leaves =
+    (refl, uncalled g.D.Disk.images g.D.Disk.moment g.D.Disk.images_since c.args.disk.now (g.met.D.Disk.only_now c.args.disk.now))
+
+pub returns-in-Ok-Replica-clause-any_moment : goal.returns-in-Ok-Replica-clause-any_moment
+returns-in-Ok-Replica-clause-any_moment g c history text images starts =
+    let arm = (goal.at.returns-in-Ok-Replica-clause-any_moment g c).After-drop-line in
+    let line = arm.as_slice.result.now in
+    subst (λ j. LeavesOnly g.D.Disk.moment g.D.Disk.images_since c.args.disk.now c.args.disk.now (StandsForFront history (outcome j history text).turns)) (sym (replica_is g arm))
+    (started g.D.Disk.moment g.D.Disk.images_since c.args.disk.now (StandsForFront history (outcome (Replica line) history text).turns)
+    (λ image since. replica_front line history text image (images image (g.met.D.Disk.only_now c.args.disk.now image since))))
+
+pub returns-in-Ok-Replica-clause-acknowledged : goal.returns-in-Ok-Replica-clause-acknowledged
+returns-in-Ok-Replica-clause-acknowledged g c history text before bytes images starts wrote writes image now =
+    let arm = (goal.at.returns-in-Ok-Replica-clause-acknowledged g c).After-drop-line in
+    subst (λ j. StandsForTold history (outcome j history text).turns bytes image) (sym (replica_is g arm)) (replica_told arm.as_slice.result.now history text bytes image (images image now))
+
+pub returns-in-Ok-Replica-clause-stored_first : goal.returns-in-Ok-Replica-clause-stored_first
+returns-in-Ok-Replica-clause-stored_first g c history text before bytes images starts first wrote writes some image now =
+    let arm = (goal.at.returns-in-Ok-Replica-clause-stored_first g c).After-drop-line in
+    subst (λ j. StandsFor image (history_after history (outcome j history text).turns)) (sym (replica_is g arm)) (replica_last_of arm.as_slice.result.now history text image (images image now))
+
+pub returns-in-Ok-Replica-clause-unread : goal.returns-in-Ok-Replica-clause-unread
+returns-in-Ok-Replica-clause-unread g c unless = absurd (false≢true (sym unless ∙ ap reads_source (replica_is g (goal.at.returns-in-Ok-Replica-clause-unread g c).After-drop-line)))
+
+pub returns-in-Ok-Replica-clause-unwritten : goal.returns-in-Ok-Replica-clause-unwritten
+returns-in-Ok-Replica-clause-unwritten g c unless = absurd (false≢true (sym unless ∙ ap writes_trees (replica_is g (goal.at.returns-in-Ok-Replica-clause-unwritten g c).After-drop-line)))
+
+pub returns-in-Ok-Replica-clause-unopened : goal.returns-in-Ok-Replica-clause-unopened
+returns-in-Ok-Replica-clause-unopened g c all opens tells = absurd (false≢true (sym (ap opens_disk (replica_is g (goal.at.returns-in-Ok-Replica-clause-unopened g c).After-drop-line)) ∙ opens))
+
+pub returns-in-Ok-Replica-clause-cause : goal.returns-in-Ok-Replica-clause-cause
+returns-in-Ok-Replica-clause-cause g c =
+    let arm = (goal.at.returns-in-Ok-Replica-clause-cause g c).After-drop-line in
+    let contents = g.D.Disk.contents arm.args.disk.now in
+    subst (λ j. IsCaused j contents (g.S.Source.left arm.args.script.now) (replica_old g arm) (replica_new g arm) arm.serve_replica.result) (sym (replica_is g arm))
+    (arm.serve_replica.ensures.cause contents (g.D.Disk.faults arm.args.disk.now))
+
+pub returns-in-Ok-Replica-clause-complete : goal.returns-in-Ok-Replica-clause-complete
+returns-in-Ok-Replica-clause-complete g c all comes short none =
+    let arm = (goal.at.returns-in-Ok-Replica-clause-complete g c).After-drop-line in
+    let s = replica_serves g arm all comes in
+    let line = arm.as_slice.result.now in
+    let left = g.S.Source.left arm.args.script.now in
+    subst (λ o. (arm.serve_replica.result ≡ o.status) ⊎ (arm.serve_replica.result ≡ NoMemory)) (sym s.is)
+    (arm.serve_replica.ensures.complete s.history s.text (g.D.Disk.faults arm.args.disk.now) s.left_is
+    (subst (λ r. IsShort r left) (reads_text line s.text s.history) (subst (λ (o : JobOutcome). IsShort o.reads left) s.is short))
+    (subst (λ j. NoneRose j (served_replica line s.text s.history) (replica_old g arm) (replica_new g arm)) (replica_is g arm) (subst (λ o. NoneRose (job_of arm.args.words.now) o (replica_old g arm) (replica_new g arm)) s.is none)))
 
 -- no memory is to be had for the words
 pub returns-in-Err-clause-front : goal.returns-in-Err-clause-front

@@ -1,0 +1,5 @@
+pub mod Accepting
+pub mod Feeding
+pub mod Laws
+pub mod Reading
+pub mod Taken
